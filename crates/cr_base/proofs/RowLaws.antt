@@ -1,0 +1,114 @@
+-- Rows and entries spell each other.
+use Rattle.std.proofs.Common.{ℕ, Bool, true, false, cond, ◌≡◌, ◌≤◌, ◌==◌, ◌-◌, List, ◌++◌, length, drop, replicate, refl, sym, ap, subst, ◌∙◌, arith}
+use Rattle.std.proofs.lemmas.Bool.Decides.{nat_tests}
+use Rattle.std.proofs.lemmas.List.{drop-replicate}
+use Rattle.std.proofs.lemmas.Slice.{drop-append-drop}
+use Rattle.cr_base.specs.Words.{role_number, role_at}
+use Rattle.cr_base.specs.Shapes.{kind_number, shape_of, FitsShape, InRange, unused}
+use Rattle.cr_base.specs.Rows.{kind_of, row_of, built, stamped, IsBoundedEntry}
+use Rattle.cr_base.specs.declared.entry.EntryKind.{EntryKind}
+use Rattle.cr_base.specs.declared.entry.EntryKind.TheVariants as kind
+use Rattle.cr_base.specs.declared.entry.Entry.{Entry}
+use Rattle.cr_base.specs.declared.entry.Entry.TheVariants.{Registered, Named}
+use Rattle.cr_base.specs.declared.entry.Stamped.{Stamped}
+use Rattle.cr_base.specs.declared.words.Role.{Role}
+use Rattle.cr_base.specs.declared.words.Role.TheVariants.{Account, Member, Chair}
+use Rattle.cr_base.specs.declared.row.Row.{Row}
+
+-- ---- words and their numbers
+
+role_number-cond : (b : Bool) (x y : Role) → role_number (cond b x y) ≡ cond b (role_number x) (role_number y)
+role_number-cond true x y = refl
+role_number-cond false x y = refl
+
+role_number-at : (n : ℕ) → 1 ≤ n → n ≤ 2 → role_number (role_at n) ≡ n
+role_number-at n l h = simp role_number-cond (grind (arith, nat_tests))
+
+role_at-number : (x : Role) → 1 ≤ role_number x → role_at (role_number x) ≡ x
+role_at-number Account h = absurd (omega arith)
+role_at-number Member h = refl
+role_at-number Chair h = refl
+
+bit : (n : ℕ) → n ≤ 1 → cond (n == 1) 1 0 ≡ n
+bit n h = grind (arith, nat_tests)
+
+bit-back : (o : Bool) → (cond o 1 0 == 1) ≡ o
+bit-back true = refl
+bit-back false = refl
+
+unused-zero : (n : ℕ) → InRange unused n → 0 ≡ n
+unused-zero n h = omega arith
+
+-- ---- from a row to its entry and back
+
+-- a row is the one with its fields
+same_row : (r : Row) (k : EntryKind) (a b : ℕ) (x y : List ℕ) → kind_number k ≡ r.kind → FitsShape (shape_of k) r → 0 ≡ r.n3 → 0 ≡ r.n4 → 0 ≡ r.n5 → a ≡ r.n1 → b ≡ r.n2 → x ≡ r.b1 → y ≡ r.b2 → record { kind = kind_number k; maker = r.maker; more = cond (r.more == 1) 1 0; n1 = a; n2 = b; n3 = 0; n4 = 0; n5 = 0; b1 = x; b2 = y } ≡ r
+same_row r k a b x y hk f h3 h4 h5 h1 h2 hx hy =
+    let o = bit r.more f.more in
+    let e : record { kind = kind_number k; maker = r.maker; more = cond (r.more == 1) 1 0; n1 = a; n2 = b; n3 = 0; n4 = 0; n5 = 0; b1 = x; b2 = y } ≡ record { kind = r.kind; maker = r.maker; more = r.more; n1 = r.n1; n2 = r.n2; n3 = r.n3; n4 = r.n4; n5 = r.n5; b1 = r.b1; b2 = r.b2 } = cc in
+    e
+
+-- the entry that a row spells has that row
+pub row_of-stamped : (k : EntryKind) (r : Row) → kind_number k ≡ r.kind → FitsShape (shape_of k) r → row_of (stamped k r) ≡ r
+row_of-stamped kind.Registered r hk f = same_row r kind.Registered _ _ _ _ hk f (unused-zero _ f.n3) (unused-zero _ f.n4) (unused-zero _ f.n5) refl (unused-zero _ f.n2) refl refl
+row_of-stamped kind.Named r hk f = same_row r kind.Named _ _ _ _ hk f (unused-zero _ f.n3) (unused-zero _ f.n4) (unused-zero _ f.n5) refl (role_number-at r.n2 f.n2.0 f.n2.1) (sym f.b1) (sym f.b2)
+
+built-row_of : (e : Entry) (m : ℕ) (o : Bool) → IsBoundedEntry (record { maker = m; more = o; entry = e }) → built (kind_of e) (row_of (record { maker = m; more = o; entry = e })) ≡ e
+built-row_of (Registered user name digest) m o h = refl
+built-row_of (Named user role) m o h = ap (λ x. Named user x) (role_at-number role h.n2.0)
+
+restamp : (s : Stamped) (p : Bool) (f : Entry) → p ≡ s.more → f ≡ s.entry → ◌≡◌ {A = Stamped} (record { maker = s.maker; more = p; entry = f }) s
+restamp s p f hp hf = let e : ◌≡◌ {A = Stamped} (record { maker = s.maker; more = p; entry = f }) (record { maker = s.maker; more = s.more; entry = s.entry }) = cc in e
+
+-- an entry within its bounds is what its row spells
+pub stamped-row_of : (s : Stamped) → IsBoundedEntry s → stamped (kind_of s.entry) (row_of s) ≡ s
+stamped-row_of s h = restamp s _ _ (bit-back s.more) (built-row_of s.entry s.maker s.more h)
+
+-- ---- the kind of a row
+
+kind_at : ℕ → EntryKind
+kind_at n = cond (n == 1) kind.Registered kind.Named
+
+kind_at-number : (k : EntryKind) → kind_at (kind_number k) ≡ k
+unfolding kind_at
+kind_at-number kind.Registered = refl
+kind_at-number kind.Named = refl
+
+same_kind : (k j : EntryKind) → kind_number k ≡ kind_number j → k ≡ j
+same_kind k j e = sym (kind_at-number k) ∙ ap kind_at e ∙ kind_at-number j
+
+kind_of-built : (k : EntryKind) (r : Row) → kind_of (built k r) ≡ k
+kind_of-built kind.Registered r = refl
+kind_of-built kind.Named r = refl
+
+kind_of-row : (k : EntryKind) (r : Row) (s : Stamped) → kind_number k ≡ r.kind → row_of s ≡ r → kind_of s.entry ≡ k
+kind_of-row k r s hk e = same_kind (kind_of s.entry) k (ap (λ (q : Row). q.kind) e ∙ sym hk)
+
+pub kind_number-row : (s : Stamped) (r : Row) → row_of s ≡ r → kind_number (kind_of s.entry) ≡ r.kind
+kind_number-row s r e = ap (λ (q : Row). q.kind) e
+
+-- ---- which rows are an entry's
+
+-- what a row that fits its kind's shape spells is an entry within its bounds
+pub bounded-stamped : (k : EntryKind) (r : Row) → kind_number k ≡ r.kind → FitsShape (shape_of k) r → IsBoundedEntry (stamped k r)
+bounded-stamped k r hk f =
+    let P : EntryKind → Row → Type 0 = λ j q. FitsShape (shape_of j) q in
+    subst (λ (q : Row). P (kind_of (built k r)) q) (sym (row_of-stamped k r hk f)) (subst (λ (j : EntryKind). P j r) (sym (kind_of-built k r)) f)
+
+-- the row of an entry within its bounds fits its kind's shape
+pub row_fits : (k : EntryKind) (r : Row) (s : Stamped) → kind_number k ≡ r.kind → IsBoundedEntry s → row_of s ≡ r → FitsShape (shape_of k) r
+row_fits k r s hk h e = subst (λ (j : EntryKind). FitsShape (shape_of j) r) (kind_of-row k r s hk e) (subst (λ (q : Row). FitsShape (shape_of (kind_of s.entry)) q) e h)
+
+-- a row spells no other entry
+pub only_one : (k : EntryKind) (r : Row) (s : Stamped) → kind_number k ≡ r.kind → IsBoundedEntry s → row_of s ≡ r → stamped k r ≡ s
+only_one k r s hk h e = subst (λ (j : EntryKind). stamped j r ≡ s) (kind_of-row k r s hk e) (subst (λ (q : Row). stamped (kind_of s.entry) q ≡ s) e (stamped-row_of s h))
+
+-- the entry that a row spells, from its parts
+pub stamped-parts : (k : EntryKind) (r : Row) (m : ℕ) (e : Entry) → m ≡ r.maker → e ≡ built k r → ◌≡◌ {A = Stamped} (stamped k r) (record { maker = m; more = r.more == 1; entry = e })
+stamped-parts k r m e hm he = cc
+
+-- ---- short texts
+
+-- zeros stand behind what was copied in
+pub zeros_behind : (xs : List ℕ) (n : ℕ) → length xs ≡ n → n ≤ 34 → drop n (xs ++ drop n (replicate 34 0)) ≡ replicate (34 - n) 0
+zeros_behind xs n e h = drop-append-drop n (replicate 34 0) xs n (omega arith) e ∙ drop-replicate n 34 0

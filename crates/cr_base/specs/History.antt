@@ -1,0 +1,57 @@
+-- Histories, and what one entry tells: each definition gives the values that the entry adds to one fact, at
+-- most one.
+use Rattle.std.specs.Prelude.{ℕ, List, [], ◌∷◌, Option, ◌&&◌}
+use Rattle.std.specs.List.{flat_map}
+use Rattle.std.specs.Str.{bytes_eq}
+use Rattle.cr_base.specs.declared.entry.Entry.{Entry}
+use Rattle.cr_base.specs.declared.entry.Entry.TheVariants.{Registered, Named}
+use Rattle.cr_base.specs.declared.entry.Stamped.{Stamped}
+use Rattle.cr_base.specs.declared.words.Phase.{Phase}
+use Rattle.cr_base.specs.declared.words.Mode.{Mode}
+use Rattle.cr_base.specs.declared.words.Role.{Role}
+use Rattle.cr_base.specs.Lists.{given, is_number}
+
+-- History: the entries of the accepted commands, in order. Those of one command stand together, and all of them
+-- but the last have the mark `more`.
+abbrev pub History : Type 0
+History = List Stamped
+
+-- a user's number and her name
+pub record Registration : Type 0 where
+  pub user : ℕ
+  pub name : List ℕ
+
+-- what each entry tells, in order
+abbrev pub all_told : {A : Type 0} → (Entry → List A) → History → List A
+all_told told H = flat_map (λ (e : Stamped). told e.entry) H
+
+-- the phase, the mode that it sets
+abbrev pub phase_told : Entry → List Phase
+phase_told _ = []
+
+abbrev pub mode_told : Entry → List Mode
+mode_told _ = []
+
+-- the paper that it makes
+abbrev pub paper_told : Entry → List ℕ
+paper_told _ = []
+
+-- the account that it makes
+abbrev pub registration_told : Entry → List Registration
+registration_told (Registered user name digest) = record { user = user; name = name } ∷ []
+registration_told _ = []
+
+-- the role to which it names the user
+abbrev pub role_told : Option ℕ → Entry → List Role
+role_told u (Named user role) = given (is_number u user) role
+role_told u _ = []
+
+-- the user whom it registers under this name
+abbrev pub number_told : List ℕ → Entry → List ℕ
+number_told name (Registered user name' digest) = given (bytes_eq name' name) user
+number_told name _ = []
+
+-- the user whom it registers under this name with this digest
+abbrev pub caller_told : List ℕ → List ℕ → Entry → List ℕ
+caller_told name digest (Registered user name' digest') = given (bytes_eq name' name && bytes_eq digest' digest) user
+caller_told name digest _ = []

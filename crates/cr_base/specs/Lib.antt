@@ -1,0 +1,13 @@
+pub mod Accounts
+pub mod Bounds
+pub mod Checks
+pub mod Facts
+pub mod History
+pub mod Judging
+pub mod Lists
+pub mod Rows
+pub mod Shapes
+pub mod Short
+pub mod Tables
+pub mod Texts
+pub mod Words

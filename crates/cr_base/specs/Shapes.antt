@@ -1,0 +1,59 @@
+-- What may stand in the fields of a row, kind by kind.
+use Rattle.std.specs.Prelude.{ℕ, ◌≡◌, ◌≤◌, List, [], length}
+use Rattle.cr_base.specs.declared.entry.EntryKind.{EntryKind}
+use Rattle.cr_base.specs.declared.entry.EntryKind.TheVariants.{Registered, Named}
+use Rattle.cr_base.specs.declared.shape.Range.{Range}
+use Rattle.cr_base.specs.declared.shape.Shape.{Shape}
+use Rattle.cr_base.specs.declared.shape.TextKind.{TextKind}
+use Rattle.cr_base.specs.declared.shape.TextKind.TheVariants.{Nothing, Name, Digest}
+use Rattle.cr_base.specs.declared.row.Row.{Row}
+use Rattle.cr_base.specs.Texts.{IsName}
+
+-- the number by which rows tell the kind
+abbrev pub kind_number : EntryKind → ℕ
+kind_number Registered = 1
+kind_number Named = 2
+
+abbrev pub range : ℕ → ℕ → Range
+range low high = record { low = low; high = high }
+
+-- the numbers of users
+abbrev pub users : Range
+users = range 1 9999
+
+-- member and chair
+abbrev pub roles : Range
+roles = range 1 2
+
+-- an unused number is 0
+abbrev pub unused : Range
+unused = range 0 0
+
+abbrev pub shape : Range → Range → TextKind → TextKind → Shape
+shape n1 n2 b1 b2 = record { n1 = n1; n2 = n2; n3 = unused; n4 = unused; n5 = unused; b1 = b1; b2 = b2 }
+
+-- the fields of each kind, a line a kind
+abbrev pub shape_of : EntryKind → Shape
+shape_of Registered = shape users unused Name Digest
+shape_of Named = shape users roles Nothing Nothing
+
+abbrev pub InRange : Range → ℕ → Type 0
+InRange r n = (r.low ≤ n) × (n ≤ r.high)
+
+-- the bytes that a field may hold
+abbrev pub HasText : TextKind → List ℕ → Type 0
+HasText Nothing bytes = bytes ≡ []
+HasText Name bytes = IsName bytes
+HasText Digest bytes = length bytes ≡ 32
+
+-- the row's fields are as the shape wants them; who made it, and the mark, are alike in every kind
+pub record FitsShape (s : Shape) (r : Row) : Type 0 where
+  pub maker : InRange users r.maker
+  pub more : r.more ≤ 1
+  pub n1 : InRange s.n1 r.n1
+  pub n2 : InRange s.n2 r.n2
+  pub n3 : InRange s.n3 r.n3
+  pub n4 : InRange s.n4 r.n4
+  pub n5 : InRange s.n5 r.n5
+  pub b1 : HasText s.b1 r.b1
+  pub b2 : HasText s.b2 r.b2

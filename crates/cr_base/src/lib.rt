@@ -1,0 +1,25 @@
+//! What every crate of the server speaks of: entries and their rows, commands, queries, rules and
+//! replies. The definitions over histories and tables stand in this crate's specs.
+#![tactic(auto)]
+
+mod command;
+mod entry;
+mod numbers;
+mod reply;
+mod row;
+mod shape;
+mod spelling;
+mod standing;
+#[cfg(test)]
+mod tests;
+mod texts;
+mod words;
+
+pub use command::{Command, Query};
+pub use entry::{Account, Digest, Entry, EntryKind, Stamped};
+pub use numbers::{LAST_NUMBER, UserNo};
+pub use reply::{AccountLine, AccountLines, Conference, Receipt, Reply, Rule};
+pub use row::Row;
+pub use standing::Standing;
+pub use texts::{Blob, MAX_SHORT, Short, Text, is_name, is_name_byte};
+pub use words::{Mode, Phase, Role};

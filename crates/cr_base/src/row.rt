@@ -1,0 +1,51 @@
+//! Rows: what a keeper keeps of entries.
+ghost use Rattle.std.specs.Prelude.{◌≡◌, IfOk};
+
+use crate::texts::Blob;
+use std::alloc::{AllocError, Global};
+
+/// What a keeper keeps of one entry. Any numbers and bytes may stand in it: `Stamped::from_row`
+/// tells which rows are an entry's.
+#[derive(Drop, Debug)]
+pub struct Row {
+    /// The number of the entry's kind.
+    pub kind: u64,
+    /// The number of the user who made it.
+    pub maker: u64,
+    /// 1 where another entry of the same command follows, else 0.
+    pub more: u64,
+    /// The first number of the entry, by its kind; 0 where unused, as in the four others.
+    pub n1: u64,
+    /// The second number.
+    pub n2: u64,
+    /// The third number.
+    pub n3: u64,
+    /// The fourth number.
+    pub n4: u64,
+    /// The fifth number.
+    pub n5: u64,
+    /// The first bytes of the entry, by its kind; empty where unused.
+    pub b1: Blob,
+    /// The second bytes of the entry.
+    pub b2: Blob,
+}
+
+impl Row {
+    /// An equal one; an error only for want of memory.
+    pub fn copy(&self, alloc: Global) -> Result<Row, AllocError>
+        ensures { IfOk result (λ row. row ≡ self.now) }
+    {
+        Ok(Row {
+            kind: self.kind,
+            maker: self.maker,
+            more: self.more,
+            n1: self.n1,
+            n2: self.n2,
+            n3: self.n3,
+            n4: self.n4,
+            n5: self.n5,
+            b1: self.b1.copy(alloc)?,
+            b2: self.b2.copy(alloc)?,
+        })
+    }
+}

@@ -1,0 +1,195 @@
+//! Bytes that contracts see as lists.
+ghost use Rattle.std.specs.Prelude.{◌≡◌, ℕ, ◌≤◌, ◌+◌, List, [], length, take, drop, replicate, IfOk, IsTrue, ◌↔◌};
+ghost use Rattle.std.specs.List.{list_all};
+ghost use Rattle.cr_base.specs.Texts.{IsName, is_name as is_name_text, is_name_byte};
+
+use std::alloc::{AllocError, Global};
+use std::hash::{Hash, Hasher};
+use std::marker::Model;
+
+/// Bytes of any length, on the heap. Contracts see the list of its bytes.
+#[derive(Drop, Debug)]
+pub struct Blob {
+    bytes: Vec<u8>,
+}
+
+impl Model for Blob {
+    ghost Value = { List ℕ };
+
+    ghost view = { λ b. b.bytes.items };
+}
+
+impl Blob {
+    /// No bytes; takes no memory.
+    pub fn empty(alloc: Global) -> Blob
+        ensures { result ≡ [] }
+    {
+        Blob {
+            bytes: Vec::new(alloc),
+        }
+    }
+
+    /// A copy of these bytes; an error only for want of memory.
+    pub fn from_slice(alloc: Global, bytes: &[u8]) -> Result<Blob, AllocError>
+        ensures { IfOk result (λ b. b ≡ bytes.now) }
+    {
+        Ok(Blob {
+            bytes: Vec::from_slice(alloc, bytes)?,
+        })
+    }
+
+    /// The bytes.
+    pub fn as_slice(&self) -> &[u8]
+        ensures { result.now ≡ self.now }
+    {
+        self.bytes.as_slice()
+    }
+
+    /// An equal one; an error only for want of memory.
+    pub fn copy(&self, alloc: Global) -> Result<Blob, AllocError>
+        ensures { IfOk result (λ b. b ≡ self.now) }
+    {
+        Blob::from_slice(alloc, self.as_slice())
+    }
+}
+
+/// UTF-8 text of any length, on the heap. Contracts see the list of its bytes.
+#[derive(Drop, Debug)]
+pub struct Text {
+    text: String,
+}
+
+impl Model for Text {
+    ghost use Rattle.std.specs.Prelude.{List, ℕ, string_bytes};
+
+    ghost Value = { List ℕ };
+
+    ghost view = { λ t. string_bytes t.text };
+}
+
+impl Text {
+    /// A copy of a text; an error only for want of memory.
+    pub fn from_str(alloc: Global, text: &str) -> Result<Text, AllocError>
+        ensures { IfOk result (λ t. t ≡ text.now) }
+    {
+        Ok(Text {
+            text: String::from_str(alloc, text)?,
+        })
+    }
+
+    /// The text, lent.
+    pub fn as_str(&self) -> &str
+        ensures { result.now ≡ self.now }
+    {
+        self.text.as_str()
+    }
+
+    /// An equal one; an error only for want of memory.
+    pub fn copy(&self, alloc: Global) -> Result<Text, AllocError>
+        ensures { IfOk result (λ t. t ≡ self.now) }
+    {
+        Text::from_str(alloc, self.as_str())
+    }
+}
+
+/// The most bytes that a `Short` holds.
+pub const MAX_SHORT: usize = 34;
+
+/// At most 34 bytes, kept in place: a name or a tag. Contracts see the list of its bytes.
+#[derive(Clone, Copy, Debug)]
+pub struct Short {
+    bytes: [u8; 34],
+    len: usize,
+}
+
+impl Model for Short {
+    ghost use Rattle.std.specs.Prelude.{◌≡◌, ℕ, ◌≤◌, ◌-◌, List, ◌++◌, length, take, drop, replicate};
+    ghost use Rattle.cr_base.specs.Short.{kept_back, kept_back-view};
+
+    ghost Value = { List ℕ };
+
+    ghost view = { λ s. take s.len s.bytes };
+
+    // The bytes behind the text are zero, so that equal texts are equal values.
+    ghost invariant = { λ s. (s.len ≤ 34) × (length s.bytes ≡ 34) × (drop s.len s.bytes ≡ replicate (34 - s.len) 0) };
+
+    ghost inverse = { kept_back };
+
+    ghost inverse_ok = { kept_back-view };
+}
+
+impl Short {
+    /// A copy of at most 34 bytes.
+    pub fn from_slice(bytes: &[u8]) -> Short
+        requires { length bytes.now ≤ 34 }
+        ensures { result ≡ bytes.now }
+    {
+        let mut kept = [0u8; 34];
+        let len = bytes.len();
+        kept[..len].copy_from_slice(bytes);
+        Short { bytes: kept, len }
+    }
+
+    /// The bytes, at most 34.
+    pub fn as_slice(&self) -> &[u8]
+        ensures value { result.now ≡ self.now }
+        ensures short { length result.now ≤ 34 }
+    {
+        &self.bytes[..self.len]
+    }
+}
+
+impl PartialEq for Short {
+    ghost use Rattle.std.specs.Str.{bytes_eq};
+    ghost use Rattle.std.specs.Cmp.{partial_equiv_from_equiv};
+    ghost use Rattle.std.specs.Cmp.Lexicographic.{nat_list_eq_equiv};
+
+    ghost eq = { bytes_eq };
+
+    ghost laws = { partial_equiv_from_equiv nat_list_eq_equiv };
+
+    fn eq(&self, other: &Short) -> bool {
+        self.as_slice() == other.as_slice()
+    }
+}
+
+impl Eq for Short {
+    ghost use Rattle.std.specs.Cmp.Lexicographic.{nat_list_eq_equiv};
+
+    ghost laws = { nat_list_eq_equiv };
+}
+
+impl Hash for Short {
+    ghost use Rattle.std.proofs.lemmas.Slice.Eq.{bytes_eq-Decides};
+    ghost use Rattle.std.specs.Hash.{slice as fed_slice, u8 as fed_byte, same_Alike};
+
+    ghost hash_input = { fed_slice fed_byte };
+
+    ghost respects_eq = { (same_Alike (fed_slice fed_byte) bytes_eq-Decides).fed };
+
+    fn hash<H: Hasher>(&self, state: &mut H) {
+        self.as_slice().hash(state);
+    }
+}
+
+/// Whether a byte may stand in a name: `a` to `z`, `0` to `9` or `-`.
+pub fn is_name_byte(byte: u8) -> bool
+    ensures { result ≡ is_name_byte byte }
+{
+    byte.is_ascii_lowercase() || byte.is_ascii_digit() || byte == b'-'
+}
+
+/// Whether every byte may stand in a name.
+fn all_name_bytes(bytes: &[u8]) -> bool
+    ensures { result ≡ list_all is_name_byte bytes.now }
+{
+    bytes.iter().all(|byte| is_name_byte(*byte))
+}
+
+/// Whether these bytes are a user's name: 1 to 32 of `a-z0-9-`.
+pub fn is_name(bytes: &[u8]) -> bool
+    ensures name { IsTrue result ↔ IsName bytes.now }
+    ensures test { result ≡ is_name_text bytes.now }
+{
+    !bytes.is_empty() && bytes.len() <= 32 && all_name_bytes(bytes)
+}
