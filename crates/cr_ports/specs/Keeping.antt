@@ -1,0 +1,34 @@
+-- What a keeper's calls do to its rows and to its count of faults.
+use Rattle.std.specs.Prelude.{◌≡◌, ℕ, ◌≤◌, List, ◌++◌, Bool, true, false, Option, Some, None, Result, Ok, Err}
+use Rattle.cr_base.specs.declared.row.Row.{Row}
+use Rattle.cr_ports.specs.Count.{Rises, counted}
+use Rattle.cr_ports.specs.declared.calls.Calls.{Calls}
+use Rattle.cr_ports.specs.declared.keeper.KeeperError.{KeeperError}
+use Rattle.cr_ports.specs.declared.keeper.KeeperError.TheVariants.{Failed}
+
+-- the rows, where they are told, and then these
+abbrev pub and_rows : Option (List Row) → List Row → Option (List Row)
+and_rows None added = None
+and_rows (Some rows) added = Some (rows ++ added)
+
+-- The count never falls, and it rose where the call failed.
+pub record HasCause {T : Type 0} (before now : ℕ) (result : Result T KeeperError) : Type 0 where
+  pub later : before ≤ now
+  pub failed : result ≡ Err Failed → Rises before now
+
+-- a keeper in memory: its rows, its appends and its other calls, numbered apart, and its faults
+pub record Kept : Type 0 where
+  pub rows : List Row
+  pub appends : Calls
+  pub reads : Calls
+  pub faults : ℕ
+
+-- how many faults are counted after a call that is to fail, or isn't
+abbrev pub faults_after : Bool → ℕ → ℕ
+faults_after true faults = counted faults
+faults_after false faults = faults
+
+-- the answer of a call that takes no memory
+abbrev pub answer : {T : Type 0} → Bool → T → Result T KeeperError
+answer true value = Err Failed
+answer false value = Ok value

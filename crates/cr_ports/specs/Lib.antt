@@ -1,0 +1,6 @@
+pub mod Count
+pub mod Calls
+pub mod Stream
+pub mod Script
+pub mod Memory
+pub mod Keeping

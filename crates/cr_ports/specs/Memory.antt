@@ -1,0 +1,49 @@
+-- Streams in memory, as contracts see them, and what each of their calls does.
+use Rattle.std.specs.Prelude.{ℕ, List, length, ◌||◌, ◌&&◌, not, ◌==◌, min, if◌then◌else◌}
+use Rattle.cr_ports.specs.Count.{counted}
+use Rattle.cr_ports.specs.Calls.{fails}
+use Rattle.cr_ports.specs.Script.{moved}
+use Rattle.cr_ports.specs.declared.script.Script.{Script}
+use Rattle.cr_ports.specs.declared.source.ReadStep.{ReadStep}
+use Rattle.cr_ports.specs.declared.source.ReadStep.TheVariants as reads
+use Rattle.cr_ports.specs.declared.sink.WriteStep.{WriteStep}
+use Rattle.cr_ports.specs.declared.sink.WriteStep.TheVariants as writes
+
+-- a source: the bytes that it has left, and how its calls behave
+pub record Input : Type 0 where
+  pub left : List ℕ
+  pub script : Script
+
+-- a read into a buffer of this length
+abbrev pub read_step : Input → ℕ → ReadStep
+read_step s room =
+    if fails s.script.calls then reads.Failed
+    else if length s.left == 0 then reads.End
+    else reads.Got (moved s.script (min (length s.left) room))
+
+-- a sink: the bytes that it took, how many more it has room for, and how its calls behave
+pub record Output : Type 0 where
+  pub taken : List ℕ
+  pub room : ℕ
+  pub script : Script
+
+-- a write of a piece of this length
+abbrev pub write_step : Output → ℕ → WriteStep
+write_step s len =
+    if fails s.script.calls || (s.room == 0 && not (len == 0)) then writes.Failed
+    else writes.Took (moved s.script (min s.room len))
+
+-- how many faults are counted after this call
+abbrev pub read_faults : ReadStep → ℕ → ℕ
+read_faults (reads.Got n) faults = faults
+read_faults reads.End faults = faults
+read_faults reads.Failed faults = counted faults
+
+-- the same of a write
+abbrev pub write_faults : WriteStep → ℕ → ℕ
+write_faults (writes.Took n) faults = faults
+write_faults writes.Failed faults = counted faults
+
+-- a read that never fails, of so many bytes that are left into a buffer of this length
+abbrev pub plain_step : ℕ → ℕ → ReadStep
+plain_step left room = if left == 0 then reads.End else reads.Got (min left room)

@@ -1,0 +1,38 @@
+-- What a read and a write do to the bytes that are left, and to those that were taken, where these are told.
+use Rattle.std.specs.Prelude.{ℕ, ◌<◌, ◌≤◌, List, [], ◌++◌, take, Option, Some, None, ⊤}
+use Rattle.cr_ports.specs.declared.source.ReadStep.{ReadStep}
+use Rattle.cr_ports.specs.declared.source.ReadStep.TheVariants as reads
+use Rattle.cr_ports.specs.declared.sink.WriteStep.{WriteStep}
+use Rattle.cr_ports.specs.declared.sink.WriteStep.TheVariants as writes
+
+-- these bytes, and then what is left, where that is told
+abbrev pub and_left : List ℕ → Option (List ℕ) → Option (List ℕ)
+and_left piece None = None
+and_left piece (Some rest) = Some (piece ++ rest)
+
+-- what was taken, where that is told, and then these bytes
+abbrev pub taken_and : Option (List ℕ) → List ℕ → Option (List ℕ)
+taken_and None piece = None
+taken_and (Some taken) piece = Some (taken ++ piece)
+
+-- the bytes that a read gave
+abbrev pub given : ReadStep → List ℕ → List ℕ
+given (reads.Got n) buf = take n buf
+given reads.End buf = []
+given reads.Failed buf = []
+
+-- from 1 byte to the whole buffer, if any
+abbrev pub FillsWithin : ReadStep → ℕ → Type 0
+FillsWithin (reads.Got n) room = (0 < n) × (n ≤ room)
+FillsWithin reads.End room = ⊤
+FillsWithin reads.Failed room = ⊤
+
+-- the bytes that a write took
+abbrev pub took : WriteStep → List ℕ → List ℕ
+took (writes.Took n) piece = take n piece
+took writes.Failed piece = []
+
+-- not more than the piece has, and something of a piece that isn't empty
+abbrev pub TakesWithin : WriteStep → ℕ → Type 0
+TakesWithin (writes.Took n) len = (n ≤ len) × (0 < len → 0 < n)
+TakesWithin writes.Failed len = ⊤

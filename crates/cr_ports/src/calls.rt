@@ -1,0 +1,37 @@
+//! Which calls of something in memory fail.
+ghost use Rattle.std.specs.Prelude.{◌≡◌};
+
+/// The calls that were made of one kind, numbered from 0, and the numbers of those that fail.
+#[derive(Drop)]
+pub struct Calls {
+    failing: Vec<u64>,
+    made: u64,
+}
+
+impl Calls {
+    ghost use Rattle.cr_ports.specs.Calls.{Advances, fails};
+
+    pub(crate) fn new(failing: Vec<u64>) -> Self
+        ensures failing { result.failing ≡ failing }
+        ensures made { result.made ≡ 0 }
+    {
+        Calls { failing, made: 0 }
+    }
+
+    /// The number of the next call.
+    pub(crate) fn number(&self) -> u64
+        ensures { result ≡ self.now.made }
+    {
+        self.made
+    }
+
+    /// Counts a call. Answers whether it is listed as one that fails.
+    pub(crate) fn begin(&mut self) -> bool
+        ensures listed { result ≡ fails self.old }
+        ensures advances { Advances self.old self.new }
+    {
+        let listed = self.failing.contains(&self.made);
+        self.made = self.made.saturating_add(1);
+        listed
+    }
+}

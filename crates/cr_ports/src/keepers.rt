@@ -1,0 +1,224 @@
+//! Keepers in memory, which tell all their rows.
+ghost use Rattle.std.specs.Prelude.{◌≡◌, ◌≢◌, ◌<◌, ◌++◌, ◌↔◌, ℕ, List, [], IfOk, IfSome, OnOk, OnErr, IsTrue, Some, Result, length, slice_get};
+ghost use Rattle.cr_base.specs.declared.row.Row.{Row};
+ghost use Rattle.cr_ports.specs.Calls.{Advances, fails};
+ghost use Rattle.cr_ports.specs.Count.{Rises};
+ghost use Rattle.cr_ports.specs.Keeping.{HasCause, Kept, and_rows, answer, faults_after};
+
+use crate::calls::Calls;
+use crate::keeper::{Keeper, KeeperError};
+use cr_base::Row;
+use std::alloc::{AllocError, Global};
+use std::marker::Model;
+
+/// Rows in memory. It fails exactly at the calls that are listed.
+///
+/// Contracts see the rows, the lists and the count of faults.
+#[derive(Drop)]
+pub struct MemKeeper {
+    alloc: Global,
+    rows: Vec<Row>,
+    appends: Calls,
+    reads: Calls,
+    faults: u64,
+}
+
+impl Model for MemKeeper {
+    ghost Value = { Kept };
+
+    ghost view = { λ k. record { rows = k.rows.items; appends = k.appends; reads = k.reads; faults = k.faults } };
+}
+
+impl MemKeeper {
+    /// A keeper of no rows, with no call made and no fault counted.
+    ///
+    /// The appends numbered in `failing_appends` fail, and of the other calls, which are numbered
+    /// apart, those in `failing_reads`; both count from 0.
+    pub fn new(alloc: Global, failing_appends: Vec<u64>, failing_reads: Vec<u64>) -> Self
+        ensures rows { result.rows ≡ [] }
+        ensures appends { (result.appends.failing ≡ failing_appends) × (result.appends.made ≡ 0) }
+        ensures reads { (result.reads.failing ≡ failing_reads) × (result.reads.made ≡ 0) }
+        ensures faults { result.faults ≡ 0 }
+    {
+        MemKeeper {
+            alloc,
+            rows: Vec::new(alloc),
+            appends: Calls::new(failing_appends),
+            reads: Calls::new(failing_reads),
+            faults: 0,
+        }
+    }
+
+    /// Counts a call that isn't an append, and fails it where it is listed.
+    fn begin_read(&mut self) -> Result<(), KeeperError>
+        ensures answer { result ≡ answer (fails self.old.reads) tt }
+        ensures cause { HasCause self.old.faults self.new.faults result }
+        ensures faults { self.new.faults ≡ faults_after (fails self.old.reads) self.old.faults }
+        ensures reads { Advances self.old.reads self.new.reads }
+        ensures appends { self.new.appends ≡ self.old.appends }
+        ensures rows { self.new.rows ≡ self.old.rows }
+    {
+        if self.reads.begin() {
+            self.faults = self.faults.saturating_add(1);
+            return Err(KeeperError::Failed);
+        }
+        Ok(())
+    }
+}
+
+/// Puts copies of `added` behind the rows that are there, or changes nothing.
+fn add_copies(alloc: Global, rows: &mut Vec<Row>, added: &[Row]) -> Result<(), AllocError>
+    ensures ok { OnOk result (rows.new.items ≡ rows.old.items ++ added.now) }
+    ensures err { OnErr result (rows.new.items ≡ rows.old.items) }
+{
+    let mut copies = Vec::with_capacity(alloc, added.len())?;
+    for row in added {
+        copies.push(row.copy(alloc)?)?;
+    }
+    rows.append(&mut copies)?;
+    Ok(())
+}
+
+/// Puts copies of `added` behind the rows that are there, or changes nothing. The one error is
+/// want of memory.
+fn keep_copies(alloc: Global, rows: &mut Vec<Row>, added: &[Row]) -> Result<(), KeeperError>
+    ensures ok { OnOk result (rows.new.items ≡ rows.old.items ++ added.now) }
+    ensures err { OnErr result (rows.new.items ≡ rows.old.items) }
+    ensures memory { result ≢ Err KeeperError.Failed }
+{
+    match add_copies(alloc, rows, added) {
+        Ok(()) => Ok(()),
+        Err(_) => Err(KeeperError::OutOfMemory),
+    }
+}
+
+/// A copy of row number `at`. The one error is want of memory.
+fn copy_at(alloc: Global, rows: &[Row], at: u64) -> Result<Row, KeeperError>
+    requires { at < length rows.now }
+    ensures ok { IfOk result (λ row. slice_get rows.now at ≡ Some row) }
+    ensures memory { result ≢ Err KeeperError.Failed }
+{
+    match rows[at as usize].copy(alloc) {
+        Ok(row) => Ok(row),
+        Err(_) => Err(KeeperError::OutOfMemory),
+    }
+}
+
+impl Keeper for MemKeeper {
+    ghost rows = { λ k. Some k.rows };
+
+    ghost faults = { λ k. k.faults };
+
+    fn append_all(&mut self, added: &[Row]) -> Result<(), KeeperError>
+        ensures kept { OnOk result (Some self.new.rows ≡ and_rows (Some self.old.rows) added.now) }
+        ensures refused { OnErr result (Some self.new.rows ≡ Some self.old.rows) }
+        ensures cause { HasCause self.old.faults self.new.faults result }
+
+        // It fails where this append is listed, and nowhere else.
+        ensures failed { (result ≡ Err KeeperError.Failed) ↔ IsTrue (fails self.old.appends) }
+        ensures faults { self.new.faults ≡ faults_after (fails self.old.appends) self.old.faults }
+        ensures appends { Advances self.old.appends self.new.appends }
+        ensures reads { self.new.reads ≡ self.old.reads }
+    {
+        if self.appends.begin() {
+            self.faults = self.faults.saturating_add(1);
+            return Err(KeeperError::Failed);
+        }
+        keep_copies(self.alloc, &mut self.rows, added)
+    }
+
+    fn len(&mut self) -> Result<u64, KeeperError>
+        ensures told { IfOk result (λ n. IfSome (Some self.old.rows) (λ rows. n ≡ length rows)) }
+        ensures same { Some self.new.rows ≡ Some self.old.rows }
+        ensures cause { HasCause self.old.faults self.new.faults result }
+
+        // It fails where this call is listed, and nowhere else.
+        ensures answer { result ≡ answer (fails self.old.reads) (length self.old.rows) }
+        ensures faults { self.new.faults ≡ faults_after (fails self.old.reads) self.old.faults }
+        ensures reads { Advances self.old.reads self.new.reads }
+        ensures appends { self.new.appends ≡ self.old.appends }
+    {
+        self.begin_read()?;
+        Ok(self.rows.len() as u64)
+    }
+
+    fn row(&mut self, at: u64) -> Result<Row, KeeperError>
+        requires { IfSome (Some self.old.rows) (λ rows. at < length rows) }
+        ensures told { IfOk result (λ row. IfSome (Some self.old.rows) (λ rows. slice_get rows at ≡ Some row)) }
+        ensures same { Some self.new.rows ≡ Some self.old.rows }
+        ensures cause { HasCause self.old.faults self.new.faults result }
+
+        // It fails where this call is listed, and nowhere else.
+        ensures failed { (result ≡ Err KeeperError.Failed) ↔ IsTrue (fails self.old.reads) }
+        ensures faults { self.new.faults ≡ faults_after (fails self.old.reads) self.old.faults }
+        ensures reads { Advances self.old.reads self.new.reads }
+        ensures appends { self.new.appends ≡ self.old.appends }
+    {
+        self.begin_read()?;
+        copy_at(self.alloc, &self.rows, at)
+    }
+}
+
+/// Rows in memory. No call fails but for want of memory: its count of faults is 0.
+///
+/// Contracts see the rows.
+#[derive(Drop)]
+pub struct PlainKeeper {
+    alloc: Global,
+    rows: Vec<Row>,
+}
+
+impl Model for PlainKeeper {
+    ghost Value = { List Row };
+
+    ghost view = { λ k. k.rows.items };
+}
+
+impl PlainKeeper {
+    /// A keeper of no rows.
+    pub fn new(alloc: Global) -> Self
+        ensures { result ≡ [] }
+    {
+        PlainKeeper {
+            alloc,
+            rows: Vec::new(alloc),
+        }
+    }
+}
+
+impl Keeper for PlainKeeper {
+    ghost rows = { λ k. Some k };
+
+    ghost faults = { λ _. 0 };
+
+    fn append_all(&mut self, added: &[Row]) -> Result<(), KeeperError>
+        ensures kept { OnOk result (Some self.new ≡ and_rows (Some self.old) added.now) }
+        ensures refused { OnErr result (Some self.new ≡ Some self.old) }
+        ensures cause { HasCause 0 0 result }
+
+        ensures memory { result ≢ Err KeeperError.Failed }
+    {
+        keep_copies(self.alloc, &mut self.rows, added)
+    }
+
+    fn len(&mut self) -> Result<u64, KeeperError>
+        ensures told { IfOk result (λ n. IfSome (Some self.old) (λ rows. n ≡ length rows)) }
+        ensures same { Some self.new ≡ Some self.old }
+        ensures cause { HasCause 0 0 result }
+
+        ensures ok { ◌≡◌ {A = Result ℕ KeeperError} result (Ok (length self.old)) }
+    {
+        Ok(self.rows.len() as u64)
+    }
+
+    fn row(&mut self, at: u64) -> Result<Row, KeeperError>
+        requires { IfSome (Some self.old) (λ rows. at < length rows) }
+        ensures told { IfOk result (λ row. IfSome (Some self.old) (λ rows. slice_get rows at ≡ Some row)) }
+        ensures same { Some self.new ≡ Some self.old }
+        ensures cause { HasCause 0 0 result }
+
+        ensures memory { result ≢ Err KeeperError.Failed }
+    {
+        copy_at(self.alloc, &self.rows, at)
+    }
+}

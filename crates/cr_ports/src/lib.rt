@@ -1,0 +1,29 @@
+//! The outside as traits: what is read, what is written and what keeps rows, each with a meaning and a count of faults.
+//!
+//! A meaning is optional: what stands in memory tells its content, an adapter over a real stream
+//! doesn't. A count of faults never falls, and a call answers that it failed only where the count
+//! rose, or stands at its last value, 2^64 - 1.
+#![tactic(auto)]
+
+mod calls;
+mod keeper;
+mod keepers;
+mod script;
+mod sink;
+mod sinks;
+mod source;
+mod sources;
+mod streams;
+
+pub use calls::Calls;
+pub use keeper::{Keeper, KeeperError};
+pub use keepers::{MemKeeper, PlainKeeper};
+pub use script::Script;
+pub use sink::{Sink, WriteStep};
+pub use sinks::MemSink;
+pub use source::{ReadStep, Source};
+pub use sources::{MemSource, PlainSource};
+pub use streams::{ReadSource, WriteSink};
+
+#[cfg(test)]
+mod tests;

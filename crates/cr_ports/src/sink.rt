@@ -1,0 +1,33 @@
+//! Takes bytes in pieces.
+ghost use Rattle.std.specs.Prelude.{◌≡◌, ◌≤◌, ℕ, List, Option, length};
+ghost use Rattle.cr_ports.specs.Count.{Rises};
+ghost use Rattle.cr_ports.specs.Stream.{taken_and, took, TakesWithin};
+
+/// What one write did.
+#[derive(Clone, Copy, Debug, PartialEq, Eq)]
+pub enum WriteStep {
+    /// So many bytes of the piece's front were taken: at least 1 of a piece that isn't empty.
+    Took(usize),
+    /// Nothing was taken: a fault, which was counted.
+    Failed,
+}
+
+/// Takes bytes in pieces.
+pub trait Sink {
+    /// The bytes that were taken, where the sink tells them.
+    ghost taken: { Self → Option (List ℕ) };
+
+    /// How often a write has failed.
+    ghost faults: { Self → ℕ };
+
+    /// Takes bytes from the front of `piece`, behind those taken before.
+    ///
+    /// To take nothing of a piece that isn't empty is a fault. A failed write takes nothing. A
+    /// write costs at most a look at each byte of `piece`; an adapter's may wait for its stream.
+    fn write(&mut self, piece: &[u8]) -> WriteStep
+        ensures bytes { taken self.new ≡ taken_and (taken self.old) (took result piece.now) }
+        ensures size { TakesWithin result (length piece.now) }
+
+        ensures count { faults self.old ≤ faults self.new }
+        ensures failed { result ≡ WriteStep.Failed → Rises (faults self.old) (faults self.new) };
+}

@@ -1,0 +1,106 @@
+//! A sink in memory, which tells all that it took.
+ghost use Rattle.std.specs.Prelude.{◌≡◌, ◌≤◌, ◌+◌, ◌++◌, [], Some, length, IfOk, vec_len, vec_capacity};
+ghost use Rattle.cr_ports.specs.Count.{Rises};
+ghost use Rattle.cr_ports.specs.Memory.{Output, write_step, write_faults};
+ghost use Rattle.cr_ports.specs.Script.{FollowsScript};
+ghost use Rattle.cr_ports.specs.Stream.{taken_and, took, TakesWithin};
+
+use crate::script::Script;
+use crate::{Sink, WriteStep};
+use std::alloc::{AllocError, Global};
+use std::marker::Model;
+
+/// Takes bytes up to its room, at most as many a call as are listed, and fails exactly at the
+/// calls that are listed and where its room is used up.
+///
+/// Contracts see the bytes that were taken, the room that is left and the lists.
+#[derive(Drop)]
+pub struct MemSink {
+    bytes: Vec<u8>,
+    room: usize,
+    script: Script,
+}
+
+impl Model for MemSink {
+    ghost Value = { Output };
+
+    ghost view = { λ s. record { taken = s.bytes.items; room = s.room; script = s.script } };
+
+    ghost invariant = { λ s. vec_len s.bytes + s.room ≤ vec_capacity s.bytes };
+}
+
+impl MemSink {
+    /// A sink with room for `room` bytes, which is taken here, with no call made and no fault
+    /// counted.
+    ///
+    /// Call number i, from 0, takes at most `pieces[i]` bytes (1, where 0 is listed), and past the
+    /// list's end as many as there is room for. The calls numbered in `failing` fail, and so does
+    /// one whose piece isn't empty where no room is left.
+    ///
+    /// The one error is want of memory.
+    pub fn new(
+        alloc: Global,
+        room: usize,
+        pieces: Vec<usize>,
+        failing: Vec<u64>,
+    ) -> Result<Self, AllocError>
+        ensures taken { IfOk result (λ sink. sink.taken ≡ []) }
+        ensures room { IfOk result (λ sink. sink.room ≡ room) }
+        ensures pieces { IfOk result (λ sink. sink.script.pieces ≡ pieces) }
+        ensures failing { IfOk result (λ sink. sink.script.calls.failing ≡ failing) }
+        ensures calls { IfOk result (λ sink. sink.script.calls.made ≡ 0) }
+        ensures faults { IfOk result (λ sink. sink.script.faults ≡ 0) }
+    {
+        let bytes = Vec::with_capacity(alloc, room)?;
+        Ok(MemSink {
+            bytes,
+            room,
+            script: Script::new(pieces, failing),
+        })
+    }
+
+    /// The bytes that were taken, in order.
+    pub fn taken(&self) -> &[u8]
+        ensures { result.now ≡ self.now.taken }
+    {
+        &self.bytes
+    }
+}
+
+impl Sink for MemSink {
+    ghost taken = { λ s. Some s.taken };
+
+    ghost faults = { λ s. s.script.faults };
+
+    fn write(&mut self, piece: &[u8]) -> WriteStep
+        ensures bytes { Some self.new.taken ≡ taken_and (Some self.old.taken) (took result piece.now) }
+        ensures size { TakesWithin result (length piece.now) }
+        ensures count { self.old.script.faults ≤ self.new.script.faults }
+        ensures failed { result ≡ WriteStep.Failed → Rises self.old.script.faults self.new.script.faults }
+
+        // It fails at the listed calls, where it has no room for a piece, and nowhere else.
+        ensures step { result ≡ write_step self.old (length piece.now) }
+        ensures script { FollowsScript self.old.script self.new.script }
+        ensures faults { self.new.script.faults ≡ write_faults result self.old.script.faults }
+    {
+        let n = self.script.moved(self.room.min(piece.len()));
+        let listed = self.script.begin();
+        if listed || (self.room == 0 && !piece.is_empty()) {
+            self.script.fail();
+            return WriteStep::Failed;
+        }
+        append_within(&mut self.bytes, &piece[..n]);
+        self.room -= n;
+        WriteStep::Took(n)
+    }
+}
+
+/// Appends the piece, for which there is room.
+fn append_within(bytes: &mut Vec<u8>, piece: &[u8])
+    requires { vec_len bytes.old + length piece.now ≤ vec_capacity bytes.old }
+    ensures items { bytes.new.items ≡ bytes.old.items ++ piece.now }
+    ensures len { vec_len bytes.new ≡ vec_len bytes.old + length piece.now }
+    ensures capacity { vec_capacity bytes.old ≤ vec_capacity bytes.new }
+{
+    let _ = bytes.extend_from_slice(piece);
+}

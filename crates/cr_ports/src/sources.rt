@@ -1,0 +1,152 @@
+//! Sources in memory, which tell all that they hold.
+ghost use Rattle.std.specs.Prelude.{◌≡◌, ◌<◌, ◌≤◌, ℕ, List, [], Some, length, take, drop, vec_len, IfSome};
+ghost use Rattle.cr_ports.specs.Count.{Rises};
+ghost use Rattle.cr_ports.specs.Memory.{Input, plain_step, read_step, read_faults};
+ghost use Rattle.cr_ports.specs.Script.{FollowsScript};
+ghost use Rattle.cr_ports.specs.Stream.{and_left, given, FillsWithin};
+
+use crate::script::Script;
+use crate::{ReadStep, Source};
+use std::marker::Model;
+
+/// Gives its bytes in pieces of the lengths that are listed, and fails exactly at the calls that
+/// are listed.
+///
+/// Contracts see the bytes that are left and the lists.
+#[derive(Drop)]
+pub struct MemSource {
+    bytes: Vec<u8>,
+    at: usize,
+    script: Script,
+}
+
+impl Model for MemSource {
+    ghost Value = { Input };
+
+    ghost view = { λ s. record { left = drop s.at s.bytes.items; script = s.script } };
+
+    ghost invariant = { λ s. s.at ≤ vec_len s.bytes };
+}
+
+impl MemSource {
+    /// A source of `bytes`, with no call made and no fault counted.
+    ///
+    /// Call number i, from 0, gives at most `pieces[i]` bytes (1, where 0 is listed), and past the
+    /// list's end as many as the buffer takes. The calls numbered in `failing` fail.
+    pub fn new(bytes: Vec<u8>, pieces: Vec<usize>, failing: Vec<u64>) -> Self
+        ensures left { result.left ≡ bytes.items }
+        ensures pieces { result.script.pieces ≡ pieces }
+        ensures failing { result.script.calls.failing ≡ failing }
+        ensures calls { result.script.calls.made ≡ 0 }
+        ensures faults { result.script.faults ≡ 0 }
+    {
+        MemSource {
+            bytes,
+            at: 0,
+            script: Script::new(pieces, failing),
+        }
+    }
+
+    /// The bytes that no read has given yet.
+    pub fn unread(&self) -> &[u8]
+        ensures { result.now ≡ self.now.left }
+    {
+        &self.bytes[self.at..]
+    }
+}
+
+/// Copies the first `n` bytes of `left` to the front of `buf`.
+fn copy_front(left: &[u8], buf: &mut [u8], n: usize)
+    requires has { n ≤ length left.now }
+    requires fits { n ≤ length buf.old }
+    ensures { take n buf.new ≡ take n left.now }
+{
+    buf[..n].copy_from_slice(&left[..n]);
+}
+
+impl Source for MemSource {
+    ghost left = { λ s. Some s.left };
+
+    ghost faults = { λ s. s.script.faults };
+
+    fn read(&mut self, buf: &mut [u8]) -> ReadStep
+        requires { 0 < length buf.old }
+
+        ensures bytes { Some self.old.left ≡ and_left (given result buf.new) (Some self.new.left) }
+        ensures size { FillsWithin result (length buf.old) }
+        ensures end { result ≡ ReadStep.End → IfSome (Some self.old.left) (λ bytes. bytes ≡ []) }
+        ensures count { self.old.script.faults ≤ self.new.script.faults }
+        ensures failed { result ≡ ReadStep.Failed → Rises self.old.script.faults self.new.script.faults }
+
+        // It fails at the listed calls and at no other, and ends where nothing is left.
+        ensures step { result ≡ read_step self.old (length buf.old) }
+        ensures script { FollowsScript self.old.script self.new.script }
+        ensures faults { self.new.script.faults ≡ read_faults result self.old.script.faults }
+    {
+        let n = self
+            .script
+            .moved((self.bytes.len() - self.at).min(buf.len()));
+        if self.script.begin() {
+            self.script.fail();
+            return ReadStep::Failed;
+        }
+        if self.at == self.bytes.len() {
+            return ReadStep::End;
+        }
+        copy_front(&self.bytes[self.at..], buf, n);
+        self.at += n;
+        ReadStep::Got(n)
+    }
+}
+
+/// Gives as many bytes as the buffer takes, and never fails: its count of faults is 0.
+///
+/// Contracts see the bytes that are left.
+#[derive(Drop)]
+pub struct PlainSource {
+    bytes: Vec<u8>,
+    at: usize,
+}
+
+impl Model for PlainSource {
+    ghost Value = { List ℕ };
+
+    ghost view = { λ s. drop s.at s.bytes.items };
+
+    ghost invariant = { λ s. s.at ≤ vec_len s.bytes };
+}
+
+impl PlainSource {
+    /// A source of `bytes`.
+    pub fn new(bytes: Vec<u8>) -> Self
+        ensures { result ≡ bytes.items }
+    {
+        PlainSource { bytes, at: 0 }
+    }
+}
+
+impl Source for PlainSource {
+    ghost left = { λ s. Some s };
+
+    ghost faults = { λ _. 0 };
+
+    fn read(&mut self, buf: &mut [u8]) -> ReadStep
+        requires { 0 < length buf.old }
+
+        ensures bytes { Some self.old ≡ and_left (given result buf.new) (Some self.new) }
+        ensures size { FillsWithin result (length buf.old) }
+        ensures end { result ≡ ReadStep.End → IfSome (Some self.old) (λ bytes. bytes ≡ []) }
+        ensures count { 0 ≤ 0 }
+        ensures failed { result ≡ ReadStep.Failed → Rises 0 0 }
+
+        ensures step { result ≡ plain_step (length self.old) (length buf.old) }
+    {
+        if self.at == self.bytes.len() {
+            return ReadStep::End;
+        }
+        let n = (self.bytes.len() - self.at).min(buf.len());
+        copy_front(&self.bytes[self.at..], buf, n);
+        self.at += n;
+        ReadStep::Got(n)
+    }
+}
