@@ -1,0 +1,105 @@
+-- Histories that grow by allowed calls.
+use Rattle.std.proofs.Common.{ℕ, ◌≡◌, List, [], ◌∷◌, ◌++◌, refl, sym, ap, subst, ◌∙◌, Option, Result, Ok, Err}
+use Rattle.std.specs.List.{All}
+use Rattle.std.proofs.lemmas.List.Elements.{All-nil, All-append}
+use Rattle.cr_base.specs.declared.command.Command.{Command}
+use Rattle.cr_base.specs.declared.command.Query.{Query}
+use Rattle.cr_base.specs.declared.reply.Rule.{Rule}
+use Rattle.cr_base.specs.Accounts.{number_at, caller_at}
+use Rattle.cr_base.specs.Facts.{number_of, caller_of}
+use Rattle.cr_base.specs.History.{History}
+use Rattle.cr_base.specs.Judging.{Drawn, judge_by_role, answer_by_role}
+use Rattle.cr_base.specs.Rows.{IsBoundedEntry}
+use Rattle.cr_base.specs.Tables.{no_tables, tables_of, FitInTurn}
+use Rattle.cr_policy.specs.View.{view}
+use Rattle.cr_policy.specs.Judge.{judge, answer}
+use Rattle.cr_policy.specs.Legal.{Call, IsAllowed, followed_by, step, LeadsTo, Legal}
+use Rattle.cr_policy.specs.Laws.{ViewSuffices}
+use Rattle.cr_policy.proofs.NumberTies.{number_of-tables, caller_of-tables}
+use Rattle.cr_policy.proofs.TableTies.{FitInTurn-append, judge-tables, answer-tables}
+use Rattle.cr_policy.proofs.GroupLaws.{IsGoodGroup, accepted-good}
+
+-- ---- calls one after another
+
+-- calls that lead on from where others led
+pub LeadsTo-append : (from mid to : History) (calls more : List Call) → LeadsTo from calls mid → LeadsTo mid more to → LeadsTo from (calls ++ more) to
+LeadsTo-append from mid to [] more first then = subst (λ (H : History). LeadsTo H more to) (sym first) then
+LeadsTo-append from mid to (call ∷ calls) more first then = (first.0, LeadsTo-append (step from call) mid to calls more first.1 then)
+
+-- the empty history is legal
+pub Legal-nil : Legal []
+Legal-nil = ([], refl)
+
+-- an allowed call leads from a legal history to a legal one
+pub Legal-step : (H : History) (call : Call) → Legal H → IsAllowed H call → Legal (step H call)
+Legal-step H call legal allowed = (legal.0 ++ call ∷ [], LeadsTo-append [] H (step H call) legal.0 (call ∷ []) legal.1 (allowed, refl))
+
+-- what allowed calls lead to from a legal history is legal
+pub Legal-LeadsTo : (H to : History) (calls : List Call) → Legal H → LeadsTo H calls to → Legal to
+Legal-LeadsTo H to calls legal leads = (legal.0 ++ calls, LeadsTo-append [] H to legal.0 calls legal.1 leads)
+
+-- what is accepted goes behind the history
+pub step-Ok : (H : History) (call : Call) (drawn : Drawn) → judge call.caller (view call.caller H) call.command ≡ Ok drawn → step H call ≡ H ++ drawn.group
+step-Ok H call drawn accepted = ap (followed_by H) accepted
+
+-- a refused call leaves the history
+pub step-Err : (H : History) (call : Call) (rule : Rule) → judge call.caller (view call.caller H) call.command ≡ Err rule → step H call ≡ H
+step-Err H call rule refused = ap (followed_by H) refused
+
+-- the group of an accepted command goes on a legal history
+pub Legal-accepted : (H : History) (caller : Option ℕ) (command : Command) (drawn : Drawn) → Legal H → IsAllowed H (record { caller = caller; command = command }) → judge caller (view caller H) command ≡ Ok drawn → Legal (H ++ drawn.group)
+Legal-accepted H caller command drawn legal allowed accepted =
+    let call : Call = record { caller = caller; command = command } in
+    subst (λ (G : History). Legal G) (step-Ok H call drawn accepted) (Legal-step H call legal allowed)
+
+-- ---- what a legal history keeps
+
+-- each entry fits in its turn, and has a row
+record IsSound (H : History) : Type 0 where
+  fits : FitInTurn no_tables H
+  bounded : All IsBoundedEntry H
+
+followed-sound : (H : History) (call : Call) → IsSound H → IsAllowed H call → (r : Result Drawn Rule) → judge call.caller (view call.caller H) call.command ≡ r → IsSound (followed_by H r)
+followed-sound H call sound allowed (Err rule) is = sound
+followed-sound H call sound allowed (Ok drawn) is =
+    let good = accepted-good (tables_of H) call.caller call.command drawn allowed.bounded (sym (judge-tables call.caller H call.command sound.fits) ∙ is) in
+    record { fits = FitInTurn-append no_tables H drawn.group sound.fits good.fits; bounded = All-append IsBoundedEntry H drawn.group sound.bounded good.bounded }
+
+leads-sound : (from to : History) (calls : List Call) → IsSound from → LeadsTo from calls to → IsSound to
+leads-sound from to [] sound leads = subst (λ (H : History). IsSound H) leads sound
+leads-sound from to (call ∷ calls) sound leads = leads-sound (step from call) to calls (followed-sound from call sound leads.0 (judge call.caller (view call.caller from) call.command) refl) leads.1
+
+legal-sound : (H : History) → Legal H → IsSound H
+legal-sound H legal = leads-sound [] H legal.0 (record { fits = tt; bounded = All-nil IsBoundedEntry }) legal.1
+
+-- each entry of a legal history fits in its turn
+pub Legal-fits : (H : History) → Legal H → FitInTurn no_tables H
+Legal-fits H legal = (legal-sound H legal).fits
+
+-- each entry of a legal history is within its bounds, so that it has a row
+pub Legal-bounded : (H : History) → Legal H → All IsBoundedEntry H
+Legal-bounded H legal = (legal-sound H legal).bounded
+
+-- the group of an accepted command fits the tables in its turn, each of its entries has a row, and there is one
+pub Legal-good_group : (H : History) (caller : Option ℕ) (command : Command) (drawn : Drawn) → Legal H → IsAllowed H (record { caller = caller; command = command }) → judge caller (view caller H) command ≡ Ok drawn → IsGoodGroup (tables_of H) drawn.group
+Legal-good_group H caller command drawn legal allowed accepted =
+    accepted-good (tables_of H) caller command drawn allowed.bounded (sym (judge-tables caller H command (Legal-fits H legal)) ∙ accepted)
+
+-- ---- views and tables of a legal history
+
+-- the users of names, and of names with digests, are those of the tables
+pub Legal-number_of : (name : List ℕ) (H : History) → Legal H → number_of name H ≡ number_at (tables_of H).accounts name
+Legal-number_of name H legal = number_of-tables name H (Legal-fits H legal)
+
+pub Legal-caller_of : (name digest : List ℕ) (H : History) → Legal H → caller_of name digest H ≡ caller_at (tables_of H).accounts name digest
+Legal-caller_of name digest H legal = caller_of-tables name digest H (Legal-fits H legal)
+
+-- judgement and answer by any user's view are those by the tables
+pub Legal-judge : (u : Option ℕ) (H : History) (command : Command) → Legal H → judge u (view u H) command ≡ judge_by_role (tables_of H) u command
+Legal-judge u H command legal = judge-tables u H command (Legal-fits H legal)
+
+pub Legal-answer : (u : Option ℕ) (H : History) (query : Query) → Legal H → answer u (view u H) query ≡ answer_by_role (tables_of H) u query
+Legal-answer u H query legal = answer-tables u H query (Legal-fits H legal)
+
+pub view_suffices : ViewSuffices
+view_suffices = record { commands = λ u H command legal may. Legal-judge u H command legal; queries = λ u H query legal may. Legal-answer u H query legal }

@@ -1,0 +1,9 @@
+pub mod GroupLaws
+pub mod LegalLaws
+pub mod LineTies
+pub mod NumberTies
+pub mod StandingLaws
+pub mod TableTies
+pub mod Tells
+pub mod Walk
+pub mod WitnessLaws

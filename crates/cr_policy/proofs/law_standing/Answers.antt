@@ -1,0 +1,5 @@
+use Rattle.cr_policy.proofs.StandingLaws.{standing_from_view, public_from_view}
+use Rattle.cr_policy.proofs.law_standing.Goals as goal
+
+pub returns : goal.returns
+returns c = record { standing = standing_from_view; public = public_from_view }

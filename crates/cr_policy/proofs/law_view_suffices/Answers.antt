@@ -1,0 +1,5 @@
+use Rattle.cr_policy.proofs.LegalLaws.{view_suffices}
+use Rattle.cr_policy.proofs.law_view_suffices.Goals as goal
+
+pub returns : goal.returns
+returns c = view_suffices

@@ -1,0 +1,62 @@
+-- Legal: which histories come of commands.
+use Rattle.std.specs.Prelude.{ℕ, Bool, false, ◌≡◌, ◌==◌, List, [], ◌∷◌, ◌++◌, Option, Some, None, Result, Ok, Err, IsTrue, IsFalse}
+use Rattle.std.specs.List.{list_any}
+use Rattle.cr_base.specs.declared.command.Command.{Command}
+use Rattle.cr_base.specs.declared.command.Command.TheVariants.{Register}
+use Rattle.cr_base.specs.declared.reply.Rule.{Rule}
+use Rattle.cr_base.specs.History.{History, Registration, all_told, registration_told}
+use Rattle.cr_base.specs.Judging.{Drawn}
+use Rattle.cr_base.specs.Bounds.{IsBoundedCommand}
+use Rattle.cr_policy.specs.View.{view}
+use Rattle.cr_policy.specs.Judge.{judge}
+
+-- ---- who calls
+
+-- the user has registered
+abbrev pub IsRegistered : History → ℕ → Type 0
+IsRegistered H user = IsTrue (list_any (λ (r : Registration). r.user == user) (all_told registration_told H))
+
+-- a user who has registered, or nobody where no login is wanted
+abbrev pub MayAsk : History → Bool → Option ℕ → Type 0
+MayAsk H login None = IsFalse login
+MayAsk H login (Some user) = IsRegistered H user
+
+-- whether a command wants a login
+abbrev pub command_wants_login : Command → Bool
+command_wants_login (Register name digest) = false
+
+-- whose command it is: nobody registers, and every other command is a registered user's
+abbrev pub IsCaller : History → Option ℕ → Command → Type 0
+IsCaller H caller (Register name digest) = caller ≡ None
+
+-- ---- one call
+
+-- a command and who gives it
+pub record Call : Type 0 where
+  pub caller : Option ℕ
+  pub command : Command
+
+-- the caller may give it, and its parts are within the bounds
+pub record IsAllowed (H : History) (call : Call) : Type 0 where
+  pub caller : IsCaller H call.caller call.command
+  pub bounded : IsBoundedCommand call.command
+
+-- a history, and behind it the group that is drawn; as it is where a rule is broken
+abbrev pub followed_by : History → Result Drawn Rule → History
+followed_by H (Ok drawn) = H ++ drawn.group
+followed_by H (Err rule) = H
+
+-- Step: the history after the call, by what Judge gives on the caller's view
+abbrev pub step : History → Call → History
+step H call = followed_by H (judge call.caller (view call.caller H) call.command)
+
+-- ---- many calls
+
+-- each call is allowed when its turn comes, and they lead from one history to the other
+abbrev pub LeadsTo : History → List Call → History → Type 0
+LeadsTo from [] to = from ≡ to
+LeadsTo from (call ∷ calls) to = IsAllowed from call × LeadsTo (step from call) calls to
+
+-- Legal: allowed calls lead from the empty history to this one
+abbrev pub Legal : History → Type 0
+Legal H = (calls : List Call) × LeadsTo [] calls H

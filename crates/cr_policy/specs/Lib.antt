@@ -1,0 +1,9 @@
+pub mod Judge
+pub mod Laws
+pub mod Legal
+pub mod Part
+pub mod Sighting
+pub mod Triggers
+pub mod View
+pub mod ViewFacts
+pub mod Witness

@@ -1,0 +1,35 @@
+-- Sight and View: what an entry shows a user, and what the user sees of a history.
+use Rattle.std.specs.Prelude.{Bool, ℕ, List, [], ◌∷◌, ◌++◌, Option}
+use Rattle.cr_base.specs.declared.entry.Stamped.{Stamped}
+use Rattle.cr_base.specs.Lists.{given}
+use Rattle.cr_base.specs.History.{History}
+use Rattle.cr_policy.specs.Part.{whole}
+use Rattle.cr_policy.specs.Sighting.{Sighting, sighting}
+use Rattle.cr_policy.specs.Triggers.{Reader, reader, Place, TriggerRow, rows, user_named, ◌see◌, applies_any, shows}
+
+-- the rows of the table, and last the entry's own maker's, who sees it whole
+abbrev pub rows_at : Reader → Place → Stamped → List TriggerRow
+rows_at r at e = rows r at e.maker e.entry ++ user_named r e.maker see whole ∷ []
+
+-- whether a row applies, and the parts of those that do, joined; the maker's own has the mark `mine`
+abbrev pub is_seen : Reader → Place → Stamped → Bool
+is_seen r at e = applies_any (rows_at r at e)
+
+abbrev pub joined : Reader → Place → Stamped → Sighting
+joined r at e = sighting (shows (rows_at r at e)) (user_named r e.maker) e
+
+-- Sight: what the entry shows the reader; nothing where no row applies
+abbrev pub sight : Reader → Place → Stamped → List Sighting
+sight r at e = given (is_seen r at e) (joined r at e)
+
+-- what each of the entries shows, where `before` stand before them
+abbrev pub sights : Reader → History → History → List Sighting
+sights r before [] = []
+sights r before (e ∷ after) = sight r (record { before = before; after = after }) e ++ sights r (before ++ e ∷ []) after
+
+abbrev pub View : Type 0
+View = List Sighting
+
+-- View: what the entries show the user, in order, judged at the end of the history
+abbrev pub view : Option ℕ → History → View
+view u H = sights (reader u H) [] H
