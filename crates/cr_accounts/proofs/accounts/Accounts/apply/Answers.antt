@@ -1,0 +1,21 @@
+use Rattle.std.proofs.Common.{arith, ◌∙◌, ◌<◌, ap, length}
+use Rattle.cr_base.specs.Accounts.{with_role}
+use Rattle.cr_base.specs.declared.entry.Entry.TheVariants.{Registered, Named}
+use Rattle.cr_accounts.specs.Seen.{SeenAccounts}
+use Rattle.cr_accounts.proofs.IndexLaws.{indexed-push, with_role-at, fits-along, after-named}
+use Rattle.cr_accounts.proofs.accounts.Accounts.apply.Goals as goal
+
+pub invariant_of-self : goal.invariant_of-self
+invariant_of-self c =
+    let fits = fits-along c.args.self.now.accounts c.self.inside.accounts.items c.args.stamped.now.entry (Registered c.in-Registered.user c.in-Registered.name c.in-Registered.digest) c.requires.fits (ap (λ (v : SeenAccounts). v.accounts) c.self.view_is) c.in-Registered.is in
+    indexed-push c.self.inside.accounts.items _ c.self.inside.by_name c.insert.new.self _ c.in-Registered.user c.self.invariant fits c.push_reserved.ensures.items c.in-Ok.ensures.updates.0
+
+pub returns-in-Named-clause-after : goal.returns-in-Named-clause-after
+returns-in-Named-clause-after c =
+    let same = ap (λ (v : SeenAccounts). v.accounts) c.self.view_is in
+    let fits = fits-along c.args.self.now.accounts c.self.inside.accounts.items c.args.stamped.now.entry (Named c.in-Named.user c.in-Named.role) c.requires.fits same c.in-Named.is in
+    let place = c.place_of.ensures in
+    let within : c.place_of.result < length c.self.inside.accounts.items = omega (arith, fits.0, fits.1, place) in
+    with_role-at c.self.inside.accounts.items c.place_of.result c.index_mut.result.now c.in-Named.role within c.index_mut.ensures.value
+    ∙ ap (λ k. with_role c.self.inside.accounts.items k c.in-Named.role) place
+    ∙ after-named c.self.inside.accounts.items c.args.self.now.accounts c.args.stamped.now.entry c.in-Named.user c.in-Named.role same c.in-Named.is

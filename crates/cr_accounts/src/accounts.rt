@@ -1,0 +1,172 @@
+//! The accounts of a history, by user number and by name.
+ghost use Rattle.std.specs.Prelude.{◌≡◌, ◌≤◌, ◌<◌, ◌+◌, ◌-◌, [], OnOk, IfOk, is_some, unwrap_or, length};
+ghost use Rattle.std.specs.Option.{option_map, option_and_then};
+ghost use Rattle.cr_base.specs.Checks.{judged, register_checks};
+ghost use Rattle.cr_base.specs.Accounts.{accounts_after, account_at, role_at, number_at, caller_at, lines_of, AccountsFit};
+ghost use Rattle.cr_base.specs.declared.words.Role.TheVariants as role;
+
+use cr_base::{
+    Account, AccountLine, AccountLines, Digest, Entry, LAST_NUMBER, Role, Rule, Short, Stamped,
+    UserNo,
+};
+use indexmap::IndexMap;
+use std::alloc::{AllocError, Global};
+use std::marker::Model;
+
+/// Who is registered: at most 9,999 accounts, by user number and by name.
+///
+/// Contracts see the accounts by number, and for how many more entries there is room.
+#[derive(Drop)]
+pub struct Accounts {
+    accounts: Vec<Account>,
+    by_name: IndexMap<Short, UserNo>,
+}
+
+impl Model for Accounts {
+    ghost use Rattle.std.specs.Prelude.{ℕ, ◌-◌, min, vec_len, vec_capacity};
+    ghost use Rattle.indexmap.specs.IndexMap.{spare};
+    ghost use Rattle.cr_accounts.specs.Seen.{SeenAccounts};
+    ghost use Rattle.cr_accounts.specs.Index.{IsIndexed};
+
+    ghost Value = { SeenAccounts };
+
+    ghost view = { λ t. record { accounts = t.accounts.items; room = min (vec_capacity t.accounts - vec_len t.accounts) (spare t.by_name) } };
+
+    ghost invariant = { λ t. IsIndexed t.accounts.items t.by_name };
+}
+
+/// Where the account of a user stands: users are numbered from 1.
+fn place_of(user: UserNo) -> usize
+    ensures { result ≡ user - 1 }
+{
+    user.number() as usize - 1
+}
+
+impl Accounts {
+    /// No accounts; takes no memory.
+    pub fn new(alloc: Global) -> Accounts
+        ensures { result.accounts ≡ [] }
+    {
+        Accounts {
+            accounts: Vec::new(alloc),
+            by_name: IndexMap::new(alloc),
+        }
+    }
+
+    /// How many users are registered, 0 to 9,999; reads no account.
+    pub fn count(&self) -> u64
+        ensures { result ≡ length self.now.accounts }
+    {
+        self.accounts.len() as u64
+    }
+
+    /// The number that a user of this name would have, the count of accounts plus 1, or the first
+    /// broken rule: `NameTaken` where somebody has registered the name, else `FullAccounts` where
+    /// 9,999 users are registered. One look-up by name.
+    pub fn register_check(&self, name: &Short) -> Result<UserNo, Rule>
+        ensures { result ≡ judged (register_checks (is_some (number_at self.now.accounts name.now)) (length self.now.accounts)) (length self.now.accounts + 1) }
+    {
+        if self.number_of(name).is_some() {
+            return Err(Rule::NameTaken);
+        }
+        if self.count() >= LAST_NUMBER {
+            return Err(Rule::FullAccounts);
+        }
+        Ok(UserNo::new(self.count() + 1))
+    }
+
+    /// The user who registered a name, and none where nobody did. One look-up by name.
+    pub fn number_of(&self, name: &Short) -> Option<UserNo>
+        ensures { result ≡ number_at self.now.accounts name.now }
+    {
+        self.by_name.get(name).copied()
+    }
+
+    /// The name of a user, and none where nobody has that number. One read by number.
+    pub fn name_of(&self, user: UserNo) -> Option<Short>
+        ensures { result ≡ option_map (λ a. a.name) (account_at self.now.accounts user) }
+    {
+        let account = self.accounts.get(place_of(user))?;
+        Some(account.name)
+    }
+
+    /// The user who registered a name with this digest of a secret, and none where nobody did: no
+    /// such name, or another digest. One look-up by name, and one read by number.
+    pub fn caller(&self, name: &Short, digest: &Digest) -> Option<UserNo>
+        ensures { result ≡ caller_at self.now.accounts name.now digest.now }
+    {
+        let user = self.number_of(name)?;
+        let account = self.accounts.get(place_of(user))?;
+        if account.digest.as_slice() == digest.as_slice() {
+            Some(user)
+        } else {
+            None
+        }
+    }
+
+    /// The role of a user: `Account` for nobody, and where nobody has that number. One read by
+    /// number.
+    pub fn standing_for(&self, user: &Option<UserNo>) -> Role
+        ensures { result ≡ unwrap_or (option_and_then (role_at self.now.accounts) user.now) role.Account }
+    {
+        let Some(user) = user else {
+            return Role::Account;
+        };
+        match self.accounts.get(place_of(*user)) {
+            Some(account) => account.role,
+            None => Role::Account,
+        }
+    }
+
+    /// Every account, by user number, as everyone sees it; an error only for want of memory. Reads
+    /// and copies each account.
+    pub fn lines(&self, alloc: Global) -> Result<AccountLines, AllocError>
+        ensures { IfOk result (λ lines. lines ≡ lines_of self.now.accounts) }
+    {
+        let mut lines = Vec::with_capacity(alloc, self.accounts.len())?;
+        for account in &self.accounts {
+            lines.push(AccountLine {
+                user: UserNo::new(lines.len() as u64 + 1),
+                name: account.name,
+                role: account.role,
+            })?;
+        }
+        Ok(AccountLines::from_vec(lines))
+    }
+
+    /// Takes the memory that the entries of one command need; an error only for want of memory,
+    /// and the accounts are the same either way.
+    pub fn room(&mut self, group: &[Stamped]) -> Result<(), AllocError>
+        ensures ok { OnOk result (length group.now ≤ self.new.room) }
+        ensures same { self.new.accounts ≡ self.old.accounts }
+        ensures keeps { self.old.room ≤ self.new.room }
+    {
+        self.accounts.reserve(group.len())?;
+        self.by_name.reserve(group.len())
+    }
+
+    /// One more entry, for which there is room; takes no memory.
+    pub fn apply(&mut self, stamped: &Stamped)
+        requires room { 0 < self.old.room }
+        requires fits { AccountsFit self.old.accounts stamped.now.entry }
+        ensures after { self.new.accounts ≡ accounts_after self.old.accounts stamped.now.entry }
+        ensures room { self.old.room ≤ self.new.room + 1 }
+    {
+        match &stamped.entry {
+            Entry::Registered { user, name, digest } => {
+                match self.by_name.insert(*name, *user) {
+                    Ok(_) => {}
+                    Err(_) => unreachable!(),
+                }
+                self.accounts.push_reserved(Account {
+                    name: *name,
+                    digest: *digest,
+                    role: Role::Account,
+                });
+            }
+            Entry::Named { user, role } => {
+                self.accounts[place_of(*user)].role = *role;
+            }
+        }
+    }
+}
