@@ -1,0 +1,4 @@
+pub mod Conference
+pub mod Judged
+pub mod Seen
+pub mod Standing

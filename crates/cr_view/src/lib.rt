@@ -1,0 +1,10 @@
+//! All tables of a conference as one: what a caller is to it, what a command or a query of hers is
+//! answered, and what an accepted command adds. Every look-up is in the tables; no view is made.
+#![tactic(auto)]
+
+mod group;
+mod live;
+#[cfg(test)]
+mod tests;
+
+pub use live::Live;
