@@ -1,0 +1,29 @@
+-- What is true of every book, and what a command did to one.
+use Rattle.std.specs.Prelude.{ℕ, ◌≡◌, ◌++◌, List, Option, Ok, IfSome}
+use Rattle.cr_base.specs.declared.command.Command.{Command}
+use Rattle.cr_base.specs.declared.row.Row.{Row}
+use Rattle.cr_base.specs.declared.reply.Receipt.{Receipt}
+use Rattle.cr_base.specs.History.{History}
+use Rattle.cr_base.specs.Judging.{Drawn}
+use Rattle.cr_base.specs.Rows.{rows_of}
+use Rattle.cr_base.specs.Tables.{Tables, tables_of}
+use Rattle.cr_policy.specs.Judge.{judge}
+use Rattle.cr_policy.specs.View.{view}
+use Rattle.cr_policy.specs.Legal.{Legal}
+
+-- KeptRows: the keeper's rows are those of the history, where it tells them
+abbrev pub IsKept : {K : Type 0} → (K → Option (List Row)) → K → History → Type 0
+IsKept rows keeper log = IfSome (rows keeper) (λ told. told ≡ rows_of log)
+
+-- the history comes of commands, the tables are the history's, and so are the keeper's rows
+pub record IsSound {K : Type 0} (rows : K → Option (List Row)) (log : History) (tables : Tables) (keeper : K) : Type 0 where
+  pub legal : Legal log
+  pub same : tables ≡ tables_of log
+  pub kept : IsKept rows keeper log
+
+-- Judge accepted the command on the caller's view, the receipt is the one drawn, and the history grew by the group drawn
+pub record Accepts (old new : History) (caller : Option ℕ) (command : Command) (receipt : Receipt) : Type 0 where
+  pub drawn : Drawn
+  pub judged : judge caller (view caller old) command ≡ Ok drawn
+  pub receipt_is : receipt ≡ drawn.receipt
+  pub added : new ≡ old ++ drawn.group

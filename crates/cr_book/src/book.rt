@@ -1,0 +1,200 @@
+//! The book: one history, its tables and its keeper.
+ghost use Rattle.std.specs.Prelude.{◌≡◌, ◌≤◌, ◌++◌, ℕ, [], length, IfOk, OnOk, OnErr, IfSome, Ok, Err, ◌≢◌};
+ghost use Rattle.cr_base.specs.declared.reply.Rule.{Rule};
+ghost use Rattle.cr_base.specs.Facts.{number_of, caller_of};
+ghost use Rattle.cr_base.specs.Judging.{wants_login};
+ghost use Rattle.cr_policy.specs.Judge.{judge, answer};
+ghost use Rattle.cr_policy.specs.View.{view};
+ghost use Rattle.cr_policy.specs.Legal.{Legal, IsAllowed, MayAsk};
+ghost use Rattle.cr_ports.specs.Count.{Rises};
+ghost use Rattle.cr_view.specs.Judged.{receipt_or_rule};
+ghost use Rattle.cr_book.specs.Sound.{IsKept, Accepts};
+
+use crate::rows::rows_of;
+use cr_base::{Command, Digest, Query, Receipt, Reply, Rule, Short, Stamped, UserNo};
+use cr_ports::{Keeper, KeeperError};
+use cr_view::Live;
+use std::alloc::{AllocError, Global};
+use std::marker::Model;
+
+/// A history, the tables that it comes to, and the keeper of its rows.
+///
+/// Contracts see the history and the keeper. Of every book it is true that the history is legal, that
+/// the tables are the history's, and that the keeper's rows, where it tells them, are the history's.
+pub struct Book<K: Keeper> {
+    alloc: Global,
+    log: Vec<Stamped>,
+    live: Live,
+    keeper: K,
+}
+
+impl<K: Keeper> Model for Book<K> {
+    ghost use Rattle.cr_book.specs.Seen.{SeenBook};
+
+    ghost Value = { SeenBook K };
+
+    ghost view = { λ b. record { log = b.log.items; keeper = b.keeper } };
+
+    ghost use Rattle.cr_book.specs.Sound.{IsSound};
+
+    ghost invariant = { λ b. IsSound K.rows b.log.items b.live.tables b.keeper };
+}
+
+/// Why a command was not taken.
+#[derive(Clone, Copy, Debug, PartialEq, Eq)]
+pub enum BookError {
+    /// The command breaks this rule.
+    Rule(Rule),
+    /// The keeper failed to keep what the command adds.
+    KeeperFault,
+    /// Memory is wanting.
+    OutOfMemory,
+}
+
+impl<K: Keeper> Book<K> {
+    /// The book of a keeper without rows: its history is empty. Reads no row and takes no memory.
+    pub fn open(alloc: Global, keeper: K) -> Book<K>
+        requires { IfSome (K.rows keeper) (λ rows. rows ≡ []) }
+        ensures empty { result.log ≡ [] }
+        ensures same { result.keeper ≡ keeper }
+    {
+        Book {
+            alloc,
+            log: Vec::new(alloc),
+            live: Live::new(alloc),
+            keeper,
+        }
+    }
+
+    /// Gives the keeper back, which keeps the rows of the history; takes no memory.
+    pub fn close(self) -> K
+        ensures same { result ≡ self.keeper }
+        ensures kept { IsKept K.rows result self.log }
+        ensures legal { Legal self.log }
+    {
+        let Book {
+            alloc: _,
+            log: _,
+            live: _,
+            keeper,
+        } = self;
+        keeper
+    }
+
+    /// Judges a command of this caller, and where no rule is broken, keeps what it adds and applies it.
+    ///
+    /// The caller is nobody on a registration, and the command is within the bounds on its parts. On
+    /// each error the history and the keeper's rows stay as they were. A broken rule is told whatever
+    /// memory there is. `KeeperFault` comes only where the keeper's count of faults rose, or stands at
+    /// its last value; `OutOfMemory` for want of memory alone.
+    pub fn command(
+        &mut self,
+        caller: &Option<UserNo>,
+        command: &Command,
+    ) -> Result<Receipt, BookError>
+        requires { IsAllowed self.old.log (record { caller = caller.now; command = command.now }) }
+
+        ensures accepted { IfOk result (λ receipt. Accepts self.old.log self.new.log caller.now command.now receipt) }
+
+        // A rule is told exactly where Judge gives it, and then nothing changes.
+        ensures rule { (rule : Rule) → judge caller.now (view caller.now self.old.log) command.now ≡ Err rule → result ≡ Err (BookError.Rule rule) }
+        ensures only_rule { (rule : Rule) → result ≡ Err (BookError.Rule rule) → judge caller.now (view caller.now self.old.log) command.now ≡ Err rule }
+        ensures rule_stays { (rule : Rule) → result ≡ Err (BookError.Rule rule) → self.new ≡ self.old }
+
+        ensures log_stays { OnErr result (self.new.log ≡ self.old.log) }
+        ensures rows_stay { OnErr result (K.rows self.new.keeper ≡ K.rows self.old.keeper) }
+        ensures fault { result ≡ Err BookError.KeeperFault → Rises (K.faults self.old.keeper) (K.faults self.new.keeper) }
+        ensures count { K.faults self.old.keeper ≤ K.faults self.new.keeper }
+        ensures legal { Legal self.new.log }
+    {
+        match self.live.judge(caller, command) {
+            Ok(receipt) => self.keep(caller, command, receipt),
+            Err(rule) => Err(BookError::Rule(rule)),
+        }
+    }
+
+    /// Takes the room for what an accepted command adds, keeps it and applies it: after the keeper has
+    /// kept it nothing can fail.
+    fn keep(
+        &mut self,
+        caller: &Option<UserNo>,
+        command: &Command,
+        receipt: Receipt,
+    ) -> Result<Receipt, BookError>
+        requires allowed { IsAllowed self.old.log (record { caller = caller.now; command = command.now }) }
+        requires judged { receipt_or_rule (judge caller.now (view caller.now self.old.log) command.now) ≡ Ok receipt }
+        ensures accepted { IfOk result (λ receipt. Accepts self.old.log self.new.log caller.now command.now receipt) }
+        ensures no_rule { (rule : Rule) → result ≢ Err (BookError.Rule rule) }
+        ensures log_stays { OnErr result (self.new.log ≡ self.old.log) }
+        ensures rows_stay { OnErr result (K.rows self.new.keeper ≡ K.rows self.old.keeper) }
+        ensures fault { result ≡ Err BookError.KeeperFault → Rises (K.faults self.old.keeper) (K.faults self.new.keeper) }
+        ensures count { K.faults self.old.keeper ≤ K.faults self.new.keeper }
+        ensures legal { Legal self.new.log }
+    {
+        let Ok(mut group) = self.live.group(self.alloc, caller, command, &receipt) else {
+            return Err(BookError::OutOfMemory);
+        };
+        let Ok(rows) = rows_of(self.alloc, &group) else {
+            return Err(BookError::OutOfMemory);
+        };
+        if self.live.room(&group).is_err() {
+            return Err(BookError::OutOfMemory);
+        }
+        if self.log.reserve(group.len()).is_err() {
+            return Err(BookError::OutOfMemory);
+        }
+        match self.keeper.append_all(&rows) {
+            Ok(()) => {}
+            Err(KeeperError::Failed) => return Err(BookError::KeeperFault),
+            Err(KeeperError::OutOfMemory) => return Err(BookError::OutOfMemory),
+        }
+        self.live.apply_all(&group);
+        match self.log.append(&mut group) {
+            Ok(()) => Ok(receipt),
+            Err(_) => unreachable!(),
+        }
+    }
+
+    /// The answer to a query of this caller: a registered user, or nobody where the query wants no
+    /// login. An error only for want of memory. `Query::Accounts` costs a walk over all accounts,
+    /// `Query::Phase` nothing that grows.
+    pub fn answer(&self, caller: &Option<UserNo>, query: &Query) -> Result<Reply, AllocError>
+        requires { MayAsk self.now.log (wants_login query.now) caller.now }
+        ensures { IfOk result (λ reply. reply ≡ answer caller.now (view caller.now self.now.log) query.now) }
+    {
+        self.live.answer(self.alloc, caller, query)
+    }
+
+    /// The user whose registration has this name and this digest, and none exactly where nobody's has
+    /// them. One look-up by name; takes no memory.
+    pub fn caller(&self, name: &Short, digest: &Digest) -> Option<UserNo>
+        ensures { result ≡ caller_of name.now digest.now self.now.log }
+    {
+        self.live.caller(name, digest)
+    }
+
+    /// The user who registered this name, and none exactly where nobody did. One look-up by name;
+    /// takes no memory.
+    pub fn number_of(&self, name: &Short) -> Option<UserNo>
+        ensures { result ≡ number_of name.now self.now.log }
+    {
+        self.live.number_of(name)
+    }
+
+    /// Whether a query wants a login; takes no memory.
+    pub fn needs_login(&self, query: &Query) -> bool
+        ensures { result ≡ wants_login query.now }
+    {
+        match query {
+            Query::Accounts | Query::Phase => false,
+        }
+    }
+
+    /// How many entries the history has; takes no memory.
+    pub fn entries(&self) -> u64
+        ensures value { result ≡ length self.now.log }
+        ensures legal { Legal self.now.log }
+    {
+        self.log.len() as u64
+    }
+}

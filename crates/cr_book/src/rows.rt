@@ -1,0 +1,17 @@
+//! The rows that one command's entries are kept in.
+ghost use Rattle.std.specs.Prelude.{◌≡◌, IfOk};
+ghost use Rattle.cr_base.specs.Rows.{rows_of};
+
+use cr_base::{Row, Stamped};
+use std::alloc::{AllocError, Global};
+
+/// The row of each entry, in order; an error only for want of memory.
+pub(crate) fn rows_of(alloc: Global, group: &[Stamped]) -> Result<Vec<Row>, AllocError>
+    ensures { IfOk result (λ rows. rows.items ≡ rows_of group.now) }
+{
+    let mut rows = Vec::new(alloc);
+    for stamped in group {
+        rows.push(stamped.entry.to_row(alloc, stamped.maker, stamped.more)?)?;
+    }
+    Ok(rows)
+}
