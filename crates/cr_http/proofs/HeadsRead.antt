@@ -1,0 +1,56 @@
+-- What was read tells whether the answer is one to HEAD.
+use Rattle.std.proofs.Common.{◌≡◌, ◌∙◌, ℕ, List, length, take, drop, Option, Some, None, Bool, true, false, sym, ap, subst, inl, inr}
+use Rattle.std.specs.Prelude.{◌==◌, nat_lt, nat_le, if◌then◌else◌, slice_range, MatchBool}
+use Rattle.cr_http.specs.declared.framing.Framing.{Framing}
+use Rattle.cr_http.specs.declared.framing.Framing.TheVariants.{Body, Refuse}
+use Rattle.cr_http.specs.declared.refusal.Refusal.TheVariants.{HeadTooLarge}
+use Rattle.cr_http.specs.Found.{Found, whole, refused, clean, cut, with_body, line_feeds, StandsAfter, StandsFrom, StandsAt, IsFramed}
+use Rattle.cr_http.specs.Head.{HeadText, head_text, framing_of, is_head_method}
+use Rattle.cr_http.specs.Place.{blank_end_from, head_at}
+use Rattle.cr_http.specs.ToHead.{IsToHead, IsToHeadBy, IsToHeadFrom}
+
+-- a request or a refusal tells it; an end tells nothing
+abbrev pub TellsHead : Found → Bool → Type 0
+TellsHead (whole h body rest) to_head = to_head ≡ is_head_method h
+TellsHead (refused why head) to_head = to_head ≡ head
+TellsHead clean to_head = ⊥
+TellsHead cut to_head = ⊥
+
+by_body : (h : HeadText) (framing : Framing) (rest : List ℕ) (found : Found) (to_head : Bool) → found ≡ with_body h framing rest → TellsHead found to_head
+    → to_head ≡ is_head_method h
+by_body h (Refuse why) rest found to_head e tells = subst (λ (f : Found). TellsHead f to_head) e tells
+by_body h (Body n) rest found to_head e tells = fits (nat_le n (length rest)) e
+  where
+    fits : (t : Bool) → found ≡ (if t then whole h (take n rest) (drop n rest) else cut) → to_head ≡ is_head_method h
+    fits true e = subst (λ (f : Found). TellsHead f to_head) e tells
+    fits false e = absurd (subst (λ (f : Found). TellsHead f to_head) e tells)
+
+by_after : (bytes rest : List ℕ) (found : Found) (to_head : Bool) → StandsAfter bytes rest found → TellsHead found to_head → IsToHeadBy bytes to_head
+by_after bytes rest found to_head (inl is) tells = inl (is.0, is.1, by_body (head_text is.0) (framing_of (head_text is.0)) rest found to_head is.2 tells)
+by_after bytes rest found to_head (inr is) tells = inr (is.0, subst (λ (f : Found). TellsHead f to_head) is.1 tells)
+
+by_place : (text : List ℕ) (place : Option (ℕ × ℕ)) (found : Found) (to_head : Bool) → StandsFrom text place found → TellsHead found to_head → IsToHeadFrom text place to_head
+by_place text None found to_head is tells = without (nat_lt (length text) 16384) (blank_end_from 0 text == length text) is
+  where
+    without : (t u : Bool) → found ≡ (if t then (if u then clean else cut) else refused HeadTooLarge false) → to_head ≡ false
+    without true true e = absurd (subst (λ (f : Found). TellsHead f to_head) e tells)
+    without true false e = absurd (subst (λ (f : Found). TellsHead f to_head) e tells)
+    without false u e = subst (λ (f : Found). TellsHead f to_head) e tells
+by_place text (Some place) found to_head is tells = many (nat_lt 66 (line_feeds (slice_range text place.0 place.1))) is
+  where
+    many : (t : Bool) → MatchBool t (found ≡ refused HeadTooLarge false) (StandsAfter (slice_range text place.0 place.1) (drop place.1 text) found)
+        → MatchBool t (to_head ≡ false) (IsToHeadBy (slice_range text place.0 place.1) to_head)
+    many true e = subst (λ (f : Found). TellsHead f to_head) e tells
+    many false after = by_after (slice_range text place.0 place.1) (drop place.1 text) found to_head after tells
+
+-- where a request or a refusal stands
+pub to_head_of : (text : List ℕ) (found : Found) (to_head : Bool) → StandsAt text found → TellsHead found to_head → IsToHead text to_head
+to_head_of text found to_head is tells = by_place text (head_at text) found to_head is tells
+
+-- where a head was read, whose body hasn't come yet
+pub to_head_framed : (text : List ℕ) (start end : ℕ) (head : HeadText) (len : ℕ) (to_head : Bool) → IsFramed text start end head len → to_head ≡ is_head_method head
+    → IsToHead text to_head
+to_head_framed text start end head len to_head f is =
+    subst (λ (o : Option (ℕ × ℕ)). IsToHeadFrom text o to_head) (sym f.place)
+    (subst (λ (b : Bool). MatchBool b (to_head ≡ false) (IsToHeadBy (slice_range text start end) to_head)) (sym f.few)
+    (inl (f.tree, f.reads, is ∙ ap is_head_method f.head_is)))

@@ -1,0 +1,137 @@
+-- From what one call knows to what it says of the text.
+use Rattle.std.proofs.Common.{◌≡◌, ℕ, ◌+◌, ◌-◌, ◌<◌, ◌≤◌, List, ◌++◌, length, take, drop, Option, Some, Bool, true, false, refl, sym, ◌∙◌, ap, subst, arith, inl, inr, length-drop}
+use Rattle.std.specs.Prelude.{nat_lt, nat_le, slice_range, MatchBool, if◌then◌else◌, ◌==◌}
+use Rattle.httparse.specs.declared.spans.HeaderSpan.{HeaderSpan}
+use Rattle.httparse.specs.declared.spans.RequestSpans.{RequestSpans}
+use Rattle.httparse.specs.Spans.{IsRequestWithin}
+use Rattle.cr_http.specs.Extent.{spans_head}
+use Rattle.cr_http.specs.declared.framing.Framing.TheVariants.{Body}
+use Rattle.cr_http.specs.declared.refusal.Refusal.TheVariants.{HeadTooLarge, BadHttp}
+use Rattle.std.proofs.lemmas.List.{drop-drop}
+use Rattle.cr_http.specs.declared.place.Place.{Place}
+use Rattle.cr_http.specs.declared.read.RequestRead.TheVariants as reads
+use Rattle.cr_http.specs.Reading.{IsSettled, Lies}
+use Rattle.cr_http.specs.Place.{blank_end_from, head_at}
+use Rattle.cr_http.proofs.Unique.{StandsAt-unique}
+use Rattle.cr_http.specs.Head.{HeadText, framing_of}
+use Rattle.cr_http.specs.Filling.{Moves, NeedsHead}
+use Rattle.cr_http.specs.Found.{Found, whole, refused, cut, with_body, line_feeds, IsNoHead, StandsAfter, StandsFrom, StandsAt, IsFramed, IsFinal, without_head, clean}
+use Rattle.cr_http.proofs.Windows.{head_at-append, head_at_bounds}
+use Rattle.cr_http.proofs.Founds.{slice_range-append}
+
+le_true : (m n : ℕ) → m ≤ n → nat_le m n ≡ true
+le_true m n le = grind arith
+
+le_false : (m n : ℕ) → n < m → nat_le m n ≡ false
+le_false m n lt = grind arith
+
+-- where the head lies, what stands there is what stands after it
+at_place : (text : List ℕ) (start end : ℕ) (found : Found) → head_at text ≡ Some (start, end) → StandsFrom text (Some (start, end)) found → StandsAt text found
+at_place text start end found place is = subst (λ (o : Option (ℕ × ℕ)). StandsFrom text o found) (sym place) is
+
+stands_few : (text : List ℕ) (start end : ℕ) (found : Found) → head_at text ≡ Some (start, end) → nat_lt 66 (line_feeds (slice_range text start end)) ≡ false
+    → StandsAfter (slice_range text start end) (drop end text) found → StandsAt text found
+stands_few text start end found place few is = at_place text start end found place
+    (subst (λ (b : Bool). MatchBool b (found ≡ refused HeadTooLarge false) (StandsAfter (slice_range text start end) (drop end text) found)) (sym few) is)
+
+few_is : (n : ℕ) → n ≤ 66 → nat_lt 66 n ≡ false
+few_is n le = grind arith
+
+pub stands_no_head : (text : List ℕ) (start end : ℕ) → head_at text ≡ Some (start, end) → line_feeds (slice_range text start end) ≤ 66
+    → IsNoHead (slice_range text start end) → StandsAt text (refused BadHttp false)
+stands_no_head text start end place few none = stands_few text start end (refused BadHttp false) place (few_is _ few) (inr (none, refl))
+
+pub framed_stands : (text : List ℕ) (start end : ℕ) (head : HeadText) (len : ℕ) → IsFramed text start end head len
+    → StandsAt text (with_body head (Body len) (drop end text))
+framed_stands text start end head len f =
+    stands_few text start end (with_body head (Body len) (drop end text)) f.place f.few
+    (inl (f.tree, f.reads, ap (λ k. with_body head k (drop end text)) (sym f.framing) ∙ ap (λ h. with_body h (framing_of h) (drop end text)) f.head_is))
+
+pub IsFramed-append : (text more : List ℕ) (start end : ℕ) (head : HeadText) (len : ℕ) → IsFramed text start end head len → IsFramed (text ++ more) start end head len
+IsFramed-append text more start end head len f =
+    let b = head_at_bounds text (start, end) f.place in
+    let same : slice_range (text ++ more) start end ≡ slice_range text start end = slice_range-append text more start end b.0 b.1 in
+    record {
+      place = head_at-append text more (start, end) f.place;
+      few = rw same f.few;
+      tree = f.tree;
+      reads = (f.reads.0, same ∙ f.reads.1);
+      head_is = f.head_is;
+      framing = f.framing;
+    }
+
+pub framed_whole : (text : List ℕ) (start end : ℕ) (head : HeadText) (len : ℕ) → IsFramed text start end head len → end + len ≤ length text
+    → StandsAt text (whole head (take len (drop end text)) (drop len (drop end text)))
+framed_whole text start end head len f le =
+    let d = length-drop end text in
+    let enough : nat_le len (length (drop end text)) ≡ true = le_true len (length (drop end text)) (omega (arith, d, le)) in
+    subst (StandsAt text) (ap (λ b. if b then whole head (take len (drop end text)) (drop len (drop end text)) else cut) enough) (framed_stands text start end head len f)
+
+pub framed_cut : (text : List ℕ) (start end : ℕ) (head : HeadText) (len : ℕ) → IsFramed text start end head len → length text < end + len → StandsAt text cut
+framed_cut text start end head len f lt =
+    let b = head_at_bounds text (start, end) f.place in
+    let d = length-drop end text in
+    let short : nat_le len (length (drop end text)) ≡ false = le_false len (length (drop end text)) (omega (arith, d, b, lt)) in
+    subst (StandsAt text) (ap (λ b. if b then whole head (take len (drop end text)) (drop len (drop end text)) else cut) short) (framed_stands text start end head len f)
+
+-- a head that was framed is still framed once bytes have moved
+pub framed_moved : (left left' : Option (List ℕ)) (text moved : List ℕ) (start end : ℕ) (head : HeadText) (len : ℕ) → Moves left left' text moved
+    → IsFramed text start end head len → IsFramed moved start end head len
+framed_moved left left' text moved start end head len m f =
+    subst (λ (t : List ℕ). IsFramed t start end head len) (sym m.kept) (IsFramed-append text m.got start end head len f)
+
+-- the request that lies in the text once its body has come
+pub request_lies : (left left' : Option (List ℕ)) (old text : List ℕ) (headers : List HeaderSpan) (place : Place) (spans : RequestSpans) (len : ℕ)
+    → Moves left left' old text → IsFramed old place.start place.end (spans_head (slice_range old place.start place.end) headers spans) len
+    → IsRequestWithin (slice_range old place.start place.end) headers spans → place.end + len ≤ length text
+    → Lies reads.Whole text headers (Some (record { place = place; spans = spans; end = place.end + len }))
+request_lies left left' old text headers place spans len m f within full =
+    let s = place.start in
+    let e = place.end in
+    let b = head_at_bounds old (s, e) f.place in
+    let same : slice_range text s e ≡ slice_range old s e = ap (λ t. slice_range t s e) m.kept ∙ slice_range-append old m.got s e b.0 b.1 in
+    let head : spans_head (slice_range old s e) headers spans ≡ spans_head (slice_range text s e) headers spans = ap (λ t. spans_head t headers spans) (sym same) in
+    let n : len ≡ e + len - e = omega arith in
+    let body : take len (drop e text) ≡ slice_range text e (e + len) = ap (λ k. take k (drop e text)) n in
+    let rest : drop len (drop e text) ≡ drop (e + len) text = drop-drop len e text in
+    let stands = framed_whole text s e _ len (framed_moved left left' old text s e _ len m f) full in (
+      record { head = omega (arith, b); body = omega arith; within = full; spans = rw same within },
+      subst (StandsAt text) (λ i. whole (head i) (body i) (rest i)) stands,
+    )
+
+-- the text ends before the body does
+pub body_cut : (left left' : Option (List ℕ)) (old text : List ℕ) (place : Place) (head : HeadText) (len : ℕ)
+    → Moves left left' old text → IsFramed old place.start place.end head len → length text < place.end + len → StandsAt text cut
+body_cut left left' old text place head len m f short =
+    framed_cut text place.start place.end head len (framed_moved left left' old text place.start place.end head len m f) short
+
+short_is : (m n : ℕ) → m < n → nat_lt m n ≡ true
+short_is m n lt = grind arith
+
+fits_is : (m n : ℕ) → nat_le m n ≡ true → m ≤ n
+fits_is m n e = grind arith
+
+past_is : (m n : ℕ) → nat_le m n ≡ false → n < m
+past_is m n e = grind arith
+
+-- where something stands however the text goes on, a head ends or none can
+pub settled_needs_no_head : (text : List ℕ) → IsSettled text → NeedsHead text → ⊥
+settled_needs_no_head text s needs =
+    let is : s.0 ≡ without_head text = subst (λ (o : Option (ℕ × ℕ)). StandsFrom text o s.0) needs.0 s.2 in
+    none (nat_lt (length text) 16384) (blank_end_from 0 text == length text) (short_is (length text) 16384 needs.1) (subst IsFinal is s.1)
+  where
+    none : (t u : Bool) → t ≡ true → IsFinal (if t then (if u then clean else cut) else refused HeadTooLarge false) → ⊥
+    none true true e final = final
+    none true false e final = final
+    none false u e final = absurd (cc)
+
+-- and where its head has a body, the body is there
+pub settled_has_body : (text : List ℕ) (start end : ℕ) (head : HeadText) (len : ℕ) → IsFramed text start end head len → IsSettled text → end + len ≤ length text
+settled_has_body text start end head len f s = there (nat_le (end + len) (length text)) refl
+  where
+    there : (t : Bool) → nat_le (end + len) (length text) ≡ t → end + len ≤ length text
+    there true e = fits_is (end + len) (length text) e
+    there false e =
+        let short : length text < end + len = past_is (end + len) (length text) e in
+        let same = StandsAt-unique text s.0 cut s.2 (framed_cut text start end head len f short) in
+        absurd (subst IsFinal same s.1)

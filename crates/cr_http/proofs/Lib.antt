@@ -1,0 +1,11 @@
+pub mod Places
+pub mod Windows
+pub mod Searching
+pub mod Moving
+pub mod Blocks
+pub mod Founds
+pub mod Fields
+pub mod Unique
+pub mod Judging
+pub mod HeadsRead
+pub mod Answering

@@ -1,0 +1,21 @@
+use Rattle.std.proofs.Common.{◌≡◌, ◌∙◌, ◌+◌, ◌≤◌, ◌++◌, ap, arith, length, take, drop}
+use Rattle.std.proofs.lemmas.List.{with_items_is}
+use Rattle.cr_http.proofs.Blocks.{grown}
+use Rattle.cr_http.proofs.buffer.Buffer.read_more.Goals as goal
+
+pub returns-in-Got-clause-moves : goal.returns-in-Got-clause-moves
+returns-in-Got-clause-moves g c =
+    let b = c.make_room.new.self in
+    let n = c.in-Got.n in
+    let old = c.deref_mut.result.now in
+    let block = c.read_behind.new.block in
+    let len : length block ≡ b.block.len = (let l = c.deref_mut.ensures.len in let k = c.read_behind.auto.block in omega (arith, l, k)) in
+    let within : b.end ≤ length block = (let w = b.within in omega (arith, w, len)) in
+    record {
+      got = take n (drop b.end block);
+      given = c.in-Got.ensures.bytes;
+      kept = ap (λ t. drop b.start (take (b.end + n) t)) (with_items_is b.block block len)
+          ∙ grown b.start b.end n old block b.ordered within c.in-Got.ensures.front
+          ∙ ap (λ t. drop b.start (take b.end t) ++ take n (drop b.end block)) c.deref_mut.ensures.value
+          ∙ ap (λ t. t ++ take n (drop b.end block)) c.make_room.ensures.text;
+    }

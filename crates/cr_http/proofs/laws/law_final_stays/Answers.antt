@@ -1,0 +1,5 @@
+use Rattle.cr_http.proofs.Founds.{StandsAt-append}
+use Rattle.cr_http.proofs.laws.law_final_stays.Goals as goal
+
+pub returns : goal.returns
+returns c = StandsAt-append

@@ -1,0 +1,56 @@
+use Rattle.std.proofs.Common.{arith, refl, inr}
+use Rattle.cr_http.proofs.HeadsRead.{to_head_framed}
+use Rattle.cr_http.proofs.Judging.{request_lies, body_cut, settled_has_body, framed_moved}
+use Rattle.cr_http.proofs.Windows.{head_at_end_le}
+use Rattle.cr_http.specs.Buffer.{text_of}
+use Rattle.cr_http.proofs.read.read_framed.Goals as goal
+
+pub overflow_add-end : goal.overflow_add-end
+overflow_add-end g c =
+    let e = head_at_end_le (text_of c.args.buffer.now) (c.args.place.start, c.args.place.end) c.requires.place in
+    let s = c.in-Framed.ensures.1 in
+    omega (arith, e, s)
+
+pub returns-in-Grew-clause-lies : goal.returns-in-Grew-clause-lies
+returns-in-Grew-clause-lies g c =
+    let judged = rw c.as_slice.ensures at c.in-Framed.ensures in
+    request_lies _ _ (text_of c.args.buffer.now) _ c.judge_head.new.headers c.args.place c.in-Framed.spans c.in-Framed.len c.in-Grew.ensures.moves judged.0 judged.2 (c.in-Grew.ensures.full refl)
+
+pub returns-in-Ended-clause-lies : goal.returns-in-Ended-clause-lies
+returns-in-Ended-clause-lies g c =
+    let judged = rw c.as_slice.ensures at c.in-Framed.ensures in
+    (c.requires.none, body_cut _ _ (text_of c.args.buffer.now) _ c.args.place _ c.in-Framed.len c.in-Ended.ensures.moves judged.0 (c.in-Ended.ensures.short (λ is. cc)))
+
+pub returns-in-Failed-clause-lies : goal.returns-in-Failed-clause-lies
+returns-in-Failed-clause-lies g c =
+    let judged = rw c.as_slice.ensures at c.in-Framed.ensures in
+    (c.requires.none, inr (body_cut _ _ (text_of c.args.buffer.now) _ c.args.place _ c.in-Framed.len c.in-Failed.ensures.moves judged.0 (c.in-Failed.ensures.short (λ is. cc))))
+
+pub returns-in-OutOfMemory-clause-lies : goal.returns-in-OutOfMemory-clause-lies
+returns-in-OutOfMemory-clause-lies g c =
+    let judged = rw c.as_slice.ensures at c.in-Framed.ensures in
+    let framed = framed_moved _ _ (text_of c.args.buffer.now) _ c.args.place.start c.args.place.end _ c.in-Framed.len c.in-OutOfMemory.ensures.moves judged.0 in (
+      c.requires.none,
+      inr (body_cut _ _ (text_of c.args.buffer.now) _ c.args.place _ c.in-Framed.len c.in-OutOfMemory.ensures.moves judged.0 (c.in-OutOfMemory.ensures.short (λ is. cc))),
+      to_head_framed _ c.args.place.start c.args.place.end _ c.in-Framed.len c.in-Framed.to_head framed judged.3,
+    )
+
+pub returns-in-Grew-clause-still : goal.returns-in-Grew-clause-still
+returns-in-Grew-clause-still g c =
+    let judged = rw c.as_slice.ensures at c.in-Framed.ensures in
+    λ settled. (c.in-Grew.ensures.still (settled_has_body (text_of c.args.buffer.now) c.args.place.start c.args.place.end _ c.in-Framed.len judged.0 settled)).0
+
+pub returns-in-Ended-clause-still : goal.returns-in-Ended-clause-still
+returns-in-Ended-clause-still g c =
+    let judged = rw c.as_slice.ensures at c.in-Framed.ensures in
+    λ settled. (c.in-Ended.ensures.still (settled_has_body (text_of c.args.buffer.now) c.args.place.start c.args.place.end _ c.in-Framed.len judged.0 settled)).0
+
+pub returns-in-Failed-clause-still : goal.returns-in-Failed-clause-still
+returns-in-Failed-clause-still g c =
+    let judged = rw c.as_slice.ensures at c.in-Framed.ensures in
+    λ settled. (c.in-Failed.ensures.still (settled_has_body (text_of c.args.buffer.now) c.args.place.start c.args.place.end _ c.in-Framed.len judged.0 settled)).0
+
+pub returns-in-OutOfMemory-clause-still : goal.returns-in-OutOfMemory-clause-still
+returns-in-OutOfMemory-clause-still g c =
+    let judged = rw c.as_slice.ensures at c.in-Framed.ensures in
+    λ settled. (c.in-OutOfMemory.ensures.still (settled_has_body (text_of c.args.buffer.now) c.args.place.start c.args.place.end _ c.in-Framed.len judged.0 settled)).0

@@ -1,0 +1,46 @@
+-- Where a whole request lies in the bytes that were read.
+use Rattle.std.specs.Prelude.{ℕ, ◌≤◌, List, length, map, take, drop, slice_range, Option, Some, None}
+use Rattle.std.specs.Option.{option_map}
+use Rattle.httparse.specs.declared.spans.HeaderSpan.{HeaderSpan}
+use Rattle.httparse.specs.declared.spans.RequestSpans.{RequestSpans}
+use Rattle.httparse.specs.Spans.{IsRequestWithin, span_bytes, header_bytes}
+use Rattle.cr_http.specs.Head.{HeadText, version_of}
+use Rattle.cr_http.specs.Requests.{RequestText}
+use Rattle.cr_http.specs.declared.inbox.Extent.{Extent}
+
+-- the head whose parts the spans cover
+abbrev pub spans_head : List ℕ → List HeaderSpan → RequestSpans → HeadText
+spans_head bytes headers s = record {
+  method = span_bytes bytes s.method;
+  target = span_bytes bytes s.path;
+  version = version_of s.version;
+  fields = map (header_bytes bytes) (take s.headers headers);
+}
+
+-- the request that lies there
+abbrev pub extent_text : List ℕ → List HeaderSpan → Extent → RequestText
+extent_text text headers e = record {
+  head = spans_head (slice_range text e.place.start e.place.end) headers e.spans;
+  body = slice_range text e.place.end e.end;
+}
+
+-- how many bytes a request takes with the empty lines before it
+abbrev pub used : Option Extent → ℕ
+used None = 0
+used (Some e) = e.end
+
+-- The request lies in the text, and its spans in its head.
+pub record IsExtent (text : List ℕ) (headers : List HeaderSpan) (e : Extent) : Type 0 where
+  pub head : e.place.start ≤ e.place.end
+  pub body : e.place.end ≤ e.end
+  pub within : e.end ≤ length text
+  pub spans : IsRequestWithin (slice_range text e.place.start e.place.end) headers e.spans
+
+-- an inbox: the request that was read last, and the bytes that were read and not used
+pub record InboxText : Type 0 where
+  pub request : Option RequestText
+  pub rest : List ℕ
+
+-- the same by where they lie
+abbrev pub inbox_text : List ℕ → List HeaderSpan → Option Extent → InboxText
+inbox_text text headers request = record { request = option_map (extent_text text headers) request; rest = drop (used request) text }

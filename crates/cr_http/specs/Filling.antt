@@ -1,0 +1,41 @@
+-- Bytes go from a source to the inbox.
+use Rattle.std.specs.Prelude.{◌≡◌, ℕ, ◌<◌, ◌≤◌, List, [], ◌++◌, length, Option, Some, None, IfSome}
+use Rattle.cr_ports.specs.Stream.{and_left}
+use Rattle.cr_http.specs.declared.buffer.Fill.{Fill}
+use Rattle.cr_http.specs.declared.buffer.Fill.TheVariants as fills
+use Rattle.cr_http.specs.declared.fill.HeadFill.{HeadFill}
+use Rattle.cr_http.specs.declared.fill.HeadFill.TheVariants as heads
+use Rattle.cr_http.specs.Place.{head_at}
+
+-- The source gave these bytes, and the buffer has them behind its own.
+pub record Moves (left left' : Option (List ℕ)) (old new : List ℕ) : Type 0 where
+  pub got : List ℕ
+  pub given : left ≡ and_left got left'
+  pub kept : new ≡ old ++ got
+
+-- where it is told, nothing is left
+abbrev pub IsAtEnd : Option (List ℕ) → Type 0
+IsAtEnd left = IfSome left (λ bytes. bytes ≡ [])
+
+-- the buffer has more bytes only after a read that gave some
+abbrev pub Grows : Fill → List ℕ → List ℕ → Type 0
+Grows fills.Grew old new = length old < length new
+Grows fills.Ended old new = new ≡ old
+Grows fills.Failed old new = new ≡ old
+Grows fills.OutOfMemory old new = new ≡ old
+
+-- what the inbox has when a search for a head's end is over
+abbrev pub FindsHead : HeadFill → List ℕ → Type 0
+FindsHead (heads.Found place) bytes = head_at bytes ≡ Some (place.start, place.end)
+FindsHead heads.Full bytes = (head_at bytes ≡ None) × (16384 ≤ length bytes)
+FindsHead heads.Ended bytes = (head_at bytes ≡ None) × (length bytes < 16384)
+FindsHead heads.Failed bytes = (head_at bytes ≡ None) × (length bytes < 16384)
+FindsHead heads.OutOfMemory bytes = (head_at bytes ≡ None) × (length bytes < 16384)
+
+-- no head ends in the bytes, and more of them may be looked at
+abbrev pub NeedsHead : List ℕ → Type 0
+NeedsHead bytes = (head_at bytes ≡ None) × (length bytes < 16384)
+
+-- nothing was read
+abbrev pub IsStill : {S : Type 0} → S → S → List ℕ → List ℕ → Type 0
+IsStill source source' bytes bytes' = (source' ≡ source) × (bytes' ≡ bytes)

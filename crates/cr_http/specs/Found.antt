@@ -1,0 +1,75 @@
+-- What stands at the front of a text that is the whole rest of a stream.
+use Rattle.std.specs.Prelude.{◌≡◌, ◌⊎◌, ℕ, [], ◌==◌, nat_lt, nat_le, List, length, take, drop, slice_range, count_by, Bool, false, Option, Some, None, if◌then◌else◌, MatchBool, ◌++◌, ⊤}
+use Rattle.httparse.specs.Grammar.{RequestHead, ReadsRequest}
+use Rattle.cr_http.specs.declared.framing.Framing.{Framing}
+use Rattle.cr_http.specs.declared.framing.Framing.TheVariants.{Body, Refuse}
+use Rattle.cr_http.specs.declared.refusal.Refusal.{Refusal}
+use Rattle.cr_http.specs.declared.refusal.Refusal.TheVariants.{HeadTooLarge, BadHttp}
+use Rattle.cr_http.specs.Place.{blank_end_from, head_at}
+use Rattle.cr_http.specs.Head.{HeadText, head_text, framing_of, is_head_method}
+
+pub data Found : Type 0 where
+  -- a request by its head and body, and what follows it
+  whole : HeadText → List ℕ → List ℕ → Found
+  -- the refusal that closes, and whether its content is left out
+  refused : Refusal → Bool → Found
+  -- the stream ends between requests, or inside one
+  clean cut : Found
+
+-- the text has no head in the bytes that are looked at
+abbrev pub without_head : List ℕ → Found
+without_head text =
+    if nat_lt (length text) 16384 then (if blank_end_from 0 text == length text then clean else cut) else refused HeadTooLarge false
+
+-- a head was read, and this follows it
+abbrev pub with_body : HeadText → Framing → List ℕ → Found
+with_body h (Body n) rest = if nat_le n (length rest) then whole h (take n rest) (drop n rest) else cut
+with_body h (Refuse why) rest = refused why (is_head_method h)
+
+-- how many lines end in these bytes
+abbrev pub line_feeds : List ℕ → ℕ
+line_feeds bytes = count_by (λ b. b == 10) bytes
+
+-- no head of the grammar is these bytes, from the first to the last
+abbrev pub IsNoHead : List ℕ → Type 0
+IsNoHead bytes = (h : RequestHead) → ReadsRequest bytes h [] → ⊥
+
+-- these bytes are a head of the grammar, or are refused
+abbrev pub StandsAfter : List ℕ → List ℕ → Found → Type 0
+StandsAfter bytes rest found =
+    ((h : RequestHead) × ReadsRequest bytes h [] × (found ≡ with_body (head_text h) (framing_of (head_text h)) rest))
+    ⊎ (IsNoHead bytes × (found ≡ refused BadHttp false))
+
+abbrev pub StandsFrom : List ℕ → Option (ℕ × ℕ) → Found → Type 0
+StandsFrom text None found = found ≡ without_head text
+StandsFrom text (Some place) found =
+    MatchBool (nat_lt 66 (line_feeds (slice_range text place.0 place.1)))
+    (found ≡ refused HeadTooLarge false)
+    (StandsAfter (slice_range text place.0 place.1) (drop place.1 text) found)
+
+-- what stands at the front of the text
+abbrev pub StandsAt : List ℕ → Found → Type 0
+StandsAt text found = StandsFrom text (head_at text) found
+
+-- it stands there however the text goes on
+abbrev pub IsFinal : Found → Type 0
+IsFinal (whole h body rest) = ⊤
+IsFinal (refused why head) = ⊤
+IsFinal clean = ⊥
+IsFinal cut = ⊥
+
+-- the same where these bytes follow
+abbrev pub found_and : Found → List ℕ → Found
+found_and (whole h body rest) more = whole h body (rest ++ more)
+found_and (refused why head) more = refused why head
+found_and clean more = clean
+found_and cut more = cut
+
+-- The head between these two places was read, and its body is to have so many bytes.
+pub record IsFramed (text : List ℕ) (start end : ℕ) (head : HeadText) (len : ℕ) : Type 0 where
+  pub place : head_at text ≡ Some (start, end)
+  pub few : nat_lt 66 (line_feeds (slice_range text start end)) ≡ false
+  pub tree : RequestHead
+  pub reads : ReadsRequest (slice_range text start end) tree []
+  pub head_is : head ≡ head_text tree
+  pub framing : framing_of head ≡ Body len

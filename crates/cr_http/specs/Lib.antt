@@ -1,0 +1,11 @@
+pub mod Place
+pub mod Search
+pub mod Buffer
+pub mod Filling
+pub mod Head
+pub mod Values
+pub mod Found
+pub mod ToHead
+pub mod Requests
+pub mod Extent
+pub mod Reading

@@ -1,0 +1,72 @@
+-- What one call of `read_request` says.
+use Rattle.std.specs.Prelude.{◌≡◌, ◌⊎◌, ◌≤◌, ℕ, List, ◌++◌, drop, slice_range, Option, Some, None, IsSomeAnd, ⊤}
+use Rattle.httparse.specs.declared.spans.HeaderSpan.{HeaderSpan}
+use Rattle.httparse.specs.Spans.{IsRequestWithin}
+use Rattle.cr_ports.specs.Stream.{and_left}
+use Rattle.cr_http.specs.declared.inbox.Extent.{Extent}
+use Rattle.cr_http.specs.declared.place.Place.{Place}
+use Rattle.cr_http.specs.declared.read.RequestRead.{RequestRead}
+use Rattle.cr_http.specs.declared.read.RequestRead.TheVariants as reads
+use Rattle.cr_http.specs.declared.judge.Judged.{Judged}
+use Rattle.cr_http.specs.declared.judge.Judged.TheVariants as judged
+use Rattle.cr_http.specs.Extent.{spans_head, extent_text, IsExtent, InboxText}
+use Rattle.cr_http.specs.Filling.{IsAtEnd}
+use Rattle.cr_http.specs.Found.{Found, whole, refused, clean, cut, StandsAt, IsFinal, IsFramed}
+use Rattle.cr_http.specs.Head.{is_head_method}
+use Rattle.cr_http.specs.Requests.{RequestText}
+use Rattle.cr_http.specs.ToHead.{IsToHead}
+
+-- the request stands at the front of the text, and this behind it
+abbrev pub StandsWhole : List ℕ → RequestText → List ℕ → Type 0
+StandsWhole text r rest = StandsAt text (whole r.head r.body rest)
+
+-- a request or a refusal stands at the front of the text, however it goes on
+abbrev pub IsSettled : List ℕ → Type 0
+IsSettled text = (found : Found) × IsFinal found × StandsAt text found
+
+-- all of the text is kept, and no request
+abbrev pub KeepsAll : List ℕ → InboxText → Type 0
+KeepsAll text inbox = (inbox.request ≡ None) × (inbox.rest ≡ text)
+
+-- what the answer says of the text that came so far, and what of it is kept
+abbrev pub Answers : RequestRead → List ℕ → InboxText → Type 0
+Answers reads.Whole text inbox = IsSomeAnd inbox.request (λ r. StandsWhole text r inbox.rest)
+Answers (reads.Refused why to_head) text inbox = StandsAt text (refused why to_head) × KeepsAll text inbox
+Answers reads.Clean text inbox = StandsAt text clean × KeepsAll text inbox
+Answers reads.Cut text inbox = StandsAt text cut × KeepsAll text inbox
+Answers reads.ReadFault text inbox = (StandsAt text clean ⊎ StandsAt text cut) × KeepsAll text inbox
+Answers (reads.OutOfMemory to_head) text inbox = (StandsAt text clean ⊎ StandsAt text cut) × IsToHead text to_head × KeepsAll text inbox
+
+-- the answer is one for a stream that has ended
+abbrev pub AtEndIfEnded : RequestRead → Option (List ℕ) → Type 0
+AtEndIfEnded reads.Whole left = ⊤
+AtEndIfEnded (reads.Refused why to_head) left = ⊤
+AtEndIfEnded reads.Clean left = IsAtEnd left
+AtEndIfEnded reads.Cut left = IsAtEnd left
+AtEndIfEnded reads.ReadFault left = ⊤
+AtEndIfEnded (reads.OutOfMemory to_head) left = ⊤
+
+-- The source gave these bytes; behind those of the inbox they are a text at whose front the answer stands.
+pub record Reads (left left' : Option (List ℕ)) (inbox inbox' : InboxText) (answer : RequestRead) : Type 0 where
+  pub got : List ℕ
+  pub given : left ≡ and_left got left'
+  pub answers : Answers answer (inbox.rest ++ got) inbox'
+  pub ended : AtEndIfEnded answer left'
+
+-- the same by where a request lies in the text
+abbrev pub Lies : RequestRead → List ℕ → List HeaderSpan → Option Extent → Type 0
+Lies reads.Whole text headers None = ⊥
+Lies reads.Whole text headers (Some e) = IsExtent text headers e × StandsWhole text (extent_text text headers e) (drop e.end text)
+Lies (reads.Refused why to_head) text headers request = (request ≡ None) × StandsAt text (refused why to_head)
+Lies reads.Clean text headers request = (request ≡ None) × StandsAt text clean
+Lies reads.Cut text headers request = (request ≡ None) × StandsAt text cut
+Lies reads.ReadFault text headers request = (request ≡ None) × (StandsAt text clean ⊎ StandsAt text cut)
+Lies (reads.OutOfMemory to_head) text headers request = (request ≡ None) × (StandsAt text clean ⊎ StandsAt text cut) × IsToHead text to_head
+
+-- what is known once a head was looked at
+abbrev pub Judges : List ℕ → Place → List HeaderSpan → Judged → Type 0
+Judges text place headers (judged.Framed spans len to_head) =
+    IsFramed text place.start place.end (spans_head (slice_range text place.start place.end) headers spans) len × (len ≤ 4194304)
+    × IsRequestWithin (slice_range text place.start place.end) headers spans
+    × (to_head ≡ is_head_method (spans_head (slice_range text place.start place.end) headers spans))
+Judges text place headers (judged.Refused why to_head) = StandsAt text (refused why to_head)

@@ -1,0 +1,151 @@
+//! The bytes of a connection that were read and not yet used, in one block that grows.
+ghost use Rattle.std.specs.Prelude.{◌≡◌, ◌≤◌, ◌<◌, ◌+◌, ◌-◌, [], length, take, drop, vec_len, OnOk};
+ghost use Rattle.cr_ports.specs.Count.{Rises};
+ghost use Rattle.cr_ports.specs.Stream.{FillsWithin, and_left, given};
+ghost use Rattle.cr_http.specs.Filling.{Moves, IsAtEnd, Grows};
+
+use crate::place::WINDOW;
+use cr_ports::{ReadStep, Source};
+use std::alloc::{AllocError, Global};
+
+/// The least room that a read is given.
+const LEAST_ROOM: usize = 4_096;
+
+/// What one read did.
+#[derive(Clone, Copy, Debug, PartialEq, Eq)]
+pub enum Fill {
+    /// There are more bytes.
+    Grew,
+    /// The stream has ended.
+    Ended,
+    /// The source failed.
+    Failed,
+    /// There is no room for more.
+    OutOfMemory,
+}
+
+/// Bytes that were read and not yet used: those from `start` to `end` of the block. Reads go
+/// straight into the block behind them, and what is used is dropped by moving `start`.
+#[derive(Drop)]
+pub struct Buffer {
+    block: Vec<u8>,
+    start: usize,
+    end: usize,
+    ghost ordered: { start ≤ end },
+    ghost within: { end ≤ vec_len block },
+}
+
+/// Brings the bytes from `start` to `end` to the front of the block.
+fn bring_forward(block: &mut [u8], start: usize, end: usize)
+    requires ordered { start ≤ end }
+    requires within { end ≤ length block.old }
+    ensures { take (end - start) block.new ≡ drop start (take end block.old) }
+{
+    block[..end].rotate_left(start);
+}
+
+/// One read into the block behind its first `end` bytes.
+fn read_behind<S: Source>(source: &mut S, block: &mut [u8], end: usize) -> ReadStep
+    requires { end < length block.old }
+    ensures bytes { S.left source.old ≡ and_left (given result (drop end block.new)) (S.left source.new) }
+    ensures front { take end block.new ≡ take end block.old }
+    ensures size { FillsWithin result (length block.old - end) }
+    ensures end { result ≡ ReadStep.End → IsAtEnd (S.left source.new) }
+    ensures count { S.faults source.old ≤ S.faults source.new }
+    ensures failed { result ≡ ReadStep.Failed → Rises (S.faults source.old) (S.faults source.new) }
+{
+    source.read(&mut block[end..])
+}
+
+impl Buffer {
+    ghost use Rattle.cr_http.specs.Buffer.{text_of};
+
+    /// No bytes and no block yet.
+    pub fn new(alloc: Global) -> Self
+        ensures { text_of result ≡ [] }
+    {
+        Buffer {
+            block: Vec::new(alloc),
+            start: 0,
+            end: 0,
+        }
+    }
+
+    /// The bytes.
+    pub fn as_slice(&self) -> &[u8]
+        ensures { result.now ≡ text_of self.now }
+    {
+        &self.block[self.start..self.end]
+    }
+
+    /// How many there are.
+    pub fn len(&self) -> usize
+        ensures { result ≡ length (text_of self.now) }
+    {
+        self.end - self.start
+    }
+
+    /// Drops the first `n` bytes.
+    pub fn discard(&mut self, n: usize)
+        requires { n ≤ length (text_of self.old) }
+        ensures { text_of self.new ≡ drop n (text_of self.old) }
+    {
+        self.start += n;
+    }
+
+    /// Moves the bytes to the front of the block.
+    fn move_to_front(&mut self)
+        ensures text { text_of self.new ≡ text_of self.old }
+        ensures end { self.new.end + self.old.start ≡ self.old.end }
+        ensures len { vec_len self.new.block ≡ vec_len self.old.block }
+    {
+        bring_forward(&mut self.block, self.start, self.end);
+        self.end -= self.start;
+        self.start = 0;
+    }
+
+    /// Makes the block at least twice as long.
+    fn grow(&mut self) -> Result<(), AllocError>
+        ensures text { text_of self.new ≡ text_of self.old }
+        ensures room { OnOk result (self.new.end < vec_len self.new.block) }
+    {
+        let len = self.block.len();
+        self.block.resize(len + len.max(WINDOW), 0)
+    }
+
+    /// Makes room behind the bytes.
+    fn make_room(&mut self) -> Result<(), AllocError>
+        ensures text { text_of self.new ≡ text_of self.old }
+        ensures room { OnOk result (self.new.end < vec_len self.new.block) }
+    {
+        if self.block.len() - self.end >= LEAST_ROOM {
+            return Ok(());
+        }
+        if self.start >= LEAST_ROOM {
+            self.move_to_front();
+            return Ok(());
+        }
+        self.grow()
+    }
+
+    /// One read, behind the bytes that are there.
+    pub fn read_more<S: Source>(&mut self, source: &mut S) -> Fill
+        ensures moves { Moves (S.left source.old) (S.left source.new) (text_of self.old) (text_of self.new) }
+        ensures grows { Grows result (text_of self.old) (text_of self.new) }
+        ensures ended { result ≡ Fill.Ended → IsAtEnd (S.left source.new) }
+        ensures count { S.faults source.old ≤ S.faults source.new }
+        ensures failed { result ≡ Fill.Failed → Rises (S.faults source.old) (S.faults source.new) }
+    {
+        if self.make_room().is_err() {
+            return Fill::OutOfMemory;
+        }
+        match read_behind(source, &mut self.block, self.end) {
+            ReadStep::Got(n) => {
+                self.end += n;
+                Fill::Grew
+            }
+            ReadStep::End => Fill::Ended,
+            ReadStep::Failed => Fill::Failed,
+        }
+    }
+}

@@ -1,0 +1,82 @@
+//! What a connection has read: the request at hand, lent, and the bytes behind it.
+ghost use Rattle.std.specs.Prelude.{◌≡◌, [], IsSome, IfSome, length};
+ghost use Rattle.cr_http.specs.Buffer.{text_of};
+ghost use Rattle.cr_http.specs.Extent.{InboxText, IsExtent, inbox_text};
+
+use crate::buffer::Buffer;
+use crate::head::{Head, MAX_FIELDS};
+use crate::place::Place;
+use httparse::spans::{EMPTY_HEADER_SPAN, HeaderSpan, RequestSpans};
+use std::alloc::Global;
+use std::marker::Model;
+
+/// Where a whole request lies in the bytes that were read.
+#[derive(Clone, Copy, Debug, PartialEq, Eq)]
+pub struct Extent {
+    /// Its head.
+    pub place: Place,
+    /// The parts of its head, counted from the head's first byte.
+    pub spans: RequestSpans,
+    /// The end of its body, which begins where the head ends.
+    pub end: usize,
+}
+
+/// A whole request, lent by an inbox.
+#[derive(Drop)]
+pub struct Request<'b> {
+    /// Its head.
+    pub head: Head<'b>,
+    /// Its body, of as many bytes as the head says; 4,194,304 at most.
+    pub body: &'b [u8],
+}
+
+/// What a connection has read. It is made once a connection, and keeps one block of bytes, which
+/// grows with the longest request.
+///
+/// Contracts see the request that was read last, if one was, and the bytes that were read and not
+/// used.
+#[derive(Drop)]
+pub struct Inbox {
+    pub(crate) buffer: Buffer,
+    pub(crate) headers: [HeaderSpan; MAX_FIELDS],
+    pub(crate) request: Option<Extent>,
+}
+
+impl Model for Inbox {
+    ghost Value = { InboxText };
+
+    ghost view = { λ i. inbox_text (text_of i.buffer) i.headers i.request };
+
+    ghost invariant = { λ i. IfSome i.request (IsExtent (text_of i.buffer) i.headers) };
+}
+
+impl Inbox {
+    /// An inbox with no request and no bytes. It takes no memory yet.
+    pub fn new(alloc: Global) -> Self
+        ensures request { result.request ≡ None }
+        ensures rest { result.rest ≡ [] }
+    {
+        Inbox {
+            buffer: Buffer::new(alloc),
+            headers: [EMPTY_HEADER_SPAN; MAX_FIELDS],
+            request: None,
+        }
+    }
+
+    /// The request that was read last. It is lent: nothing is copied, and it is there until the
+    /// next one is read.
+    pub fn request(&self) -> Request<'_>
+        requires { IsSome self.now.request }
+        ensures { self.now.request ≡ Some (record { head = result.head; body = result.body.now }) }
+    {
+        let Some(extent) = self.request else {
+            unreachable!()
+        };
+        let text = self.buffer.as_slice();
+        let head = &text[extent.place.start..extent.place.end];
+        Request {
+            head: Head::new(head, extent.spans, &self.headers),
+            body: &text[extent.place.end..extent.end],
+        }
+    }
+}

@@ -1,0 +1,33 @@
+//! Requests out of a stream of bytes, however it is cut into pieces.
+//!
+//! [`read_request`] reads the head and the body of one request (RFC 9112), and refuses what isn't
+//! one, each refusal under its own name. Its contract speaks of the whole text of the stream: what
+//! stands at a place is a relation on texts that knows nothing of pieces, and it is one thing.
+//!
+//! The head is parsed once, by `httparse`, and head and body are lent from the connection's
+//! [`Inbox`], whose one block of bytes is all that is ever allocated.
+#![tactic(auto)]
+
+mod buffer;
+mod fill;
+mod framing;
+mod head;
+mod inbox;
+mod judge;
+mod laws;
+mod place;
+mod read;
+mod refusal;
+mod values;
+
+pub use framing::MAX_BODY;
+pub use head::{Head, MAX_FIELDS, Version};
+pub use inbox::{Inbox, Request};
+pub use laws::{law_final_stays, law_one_reading};
+pub use place::WINDOW;
+pub use read::{RequestRead, read_request};
+pub use refusal::Refusal;
+pub use values::{AllValues, Values};
+
+#[cfg(test)]
+mod tests;

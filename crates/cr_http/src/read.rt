@@ -1,0 +1,151 @@
+//! Reads one request.
+ghost use Rattle.std.specs.Prelude.{◌≡◌, ◌⊎◌, ◌≤◌, ◌<◌, IsSome, length};
+ghost use Rattle.cr_ports.specs.Count.{Rises};
+ghost use Rattle.cr_http.specs.Buffer.{text_of};
+ghost use Rattle.cr_http.specs.Extent.{used};
+ghost use Rattle.cr_http.specs.Filling.{Moves};
+ghost use Rattle.cr_http.specs.Found.{StandsAt, clean, cut};
+ghost use Rattle.cr_http.specs.Place.{head_at};
+ghost use Rattle.cr_http.specs.Reading.{AtEndIfEnded, IsSettled, Lies, Reads};
+
+use crate::buffer::{Buffer, Fill};
+use crate::fill::{HeadFill, fill_head, fill_to};
+use crate::inbox::{Extent, Inbox};
+use crate::judge::{Judged, judge_head};
+use crate::place::{Place, blank_end};
+use crate::refusal::Refusal;
+use cr_ports::Source;
+use httparse::spans::HeaderSpan;
+
+/// What was read.
+#[derive(Clone, Copy, Debug, PartialEq, Eq)]
+pub enum RequestRead {
+    /// A whole request, which the inbox now lends.
+    Whole,
+    /// The connection closes before a whole request was read.
+    Refused {
+        /// Why.
+        why: Refusal,
+        /// Whether the refusal answers HEAD, so that its content is left out. False where the head
+        /// wasn't read so far.
+        to_head: bool,
+    },
+    /// The stream ended between requests.
+    Clean,
+    /// The stream ended inside a request.
+    Cut,
+    /// The source failed before a whole request was read.
+    ReadFault,
+    /// There was no memory for more bytes, before a whole request was read.
+    OutOfMemory {
+        /// Whether what is answered is HEAD. False where the head wasn't read so far.
+        to_head: bool,
+    },
+}
+
+/// Reads the request at the front of the bytes that the inbox has not used and those that the
+/// source has left. The request that the inbox lent before is dropped first.
+///
+/// It reads only where what it has doesn't tell the answer: where a whole request or a refusal
+/// stands in the inbox, the source isn't asked. Where bytes of a head come later, the search goes on
+/// where it stopped. `ReadFault` comes only where the source's count of faults rose, or stands at its
+/// last value. Costs a few looks at each byte of the head, and the reads.
+pub fn read_request<S: Source>(source: &mut S, inbox: &mut Inbox) -> RequestRead
+    ensures reads { Reads (S.left source.old) (S.left source.new) inbox.old inbox.new result }
+    ensures still { IsSettled inbox.old.rest → source.new ≡ source.old }
+    ensures request { result ≡ RequestRead.Whole → IsSome inbox.new.request }
+    ensures count { S.faults source.old ≤ S.faults source.new }
+    ensures fault { result ≡ RequestRead.ReadFault → Rises (S.faults source.old) (S.faults source.new) }
+{
+    if let Some(extent) = inbox.request {
+        inbox.buffer.discard(extent.end);
+        inbox.request = None;
+    }
+    read_into(
+        source,
+        &mut inbox.buffer,
+        &mut inbox.headers,
+        &mut inbox.request,
+    )
+}
+
+/// Reads the request at the front of the buffer's bytes and those that the source has left.
+fn read_into<S: Source>(
+    source: &mut S,
+    buffer: &mut Buffer,
+    headers: &mut [HeaderSpan],
+    request: &mut Option<Extent>,
+) -> RequestRead
+    requires room { length headers.old ≡ 64 }
+    requires none { request.old ≡ None }
+    ensures moves { Moves (S.left source.old) (S.left source.new) (text_of buffer.old) (text_of buffer.new) }
+    ensures lies { Lies result (text_of buffer.new) headers.new request.new }
+    ensures still { IsSettled (text_of buffer.old) → source.new ≡ source.old }
+    ensures ended { AtEndIfEnded result (S.left source.new) }
+    ensures count { S.faults source.old ≤ S.faults source.new }
+    ensures fault { result ≡ RequestRead.ReadFault → Rises (S.faults source.old) (S.faults source.new) }
+{
+    match fill_head(source, buffer) {
+        HeadFill::Found(place) => read_framed(source, buffer, headers, request, place),
+        HeadFill::Full => RequestRead::Refused {
+            why: Refusal::HeadTooLarge,
+            to_head: false,
+        },
+        HeadFill::Ended => at_end(buffer.as_slice()),
+        HeadFill::Failed => RequestRead::ReadFault,
+        HeadFill::OutOfMemory => RequestRead::OutOfMemory { to_head: false },
+    }
+}
+
+/// Reads on behind the head that lies there.
+fn read_framed<S: Source>(
+    source: &mut S,
+    buffer: &mut Buffer,
+    headers: &mut [HeaderSpan],
+    request: &mut Option<Extent>,
+    place: Place,
+) -> RequestRead
+    requires place { head_at (text_of buffer.old) ≡ Some (place.start, place.end) }
+    requires room { length headers.old ≡ 64 }
+    requires none { request.old ≡ None }
+    ensures moves { Moves (S.left source.old) (S.left source.new) (text_of buffer.old) (text_of buffer.new) }
+    ensures lies { Lies result (text_of buffer.new) headers.new request.new }
+    ensures still { IsSettled (text_of buffer.old) → source.new ≡ source.old }
+    ensures ended { AtEndIfEnded result (S.left source.new) }
+    ensures count { S.faults source.old ≤ S.faults source.new }
+    ensures fault { result ≡ RequestRead.ReadFault → Rises (S.faults source.old) (S.faults source.new) }
+{
+    let (spans, len, to_head) = match judge_head(buffer.as_slice(), place, headers) {
+        Judged::Framed {
+            spans,
+            len,
+            to_head,
+        } => (spans, len, to_head),
+        Judged::Refused { why, to_head } => return RequestRead::Refused { why, to_head },
+    };
+    let end = place.end + len;
+    match fill_to(source, buffer, end) {
+        Fill::Grew => {
+            *request = Some(Extent { place, spans, end });
+            RequestRead::Whole
+        }
+        Fill::Ended => RequestRead::Cut,
+        Fill::Failed => RequestRead::ReadFault,
+        Fill::OutOfMemory => RequestRead::OutOfMemory { to_head },
+    }
+}
+
+/// What the end of the stream means where no head is.
+fn at_end(text: &[u8]) -> RequestRead
+    requires none { head_at text.now ≡ None }
+    requires short { length text.now < 16384 }
+    ensures clean { result ≡ RequestRead.Clean → StandsAt text.now clean }
+    ensures cut { result ≡ RequestRead.Cut → StandsAt text.now cut }
+    ensures either { (result ≡ RequestRead.Clean) ⊎ (result ≡ RequestRead.Cut) }
+{
+    if blank_end(text) == text.len() {
+        RequestRead::Clean
+    } else {
+        RequestRead::Cut
+    }
+}
