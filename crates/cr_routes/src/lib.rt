@@ -1,0 +1,19 @@
+//! The paths that the server knows, their methods, and what a method at a path asks for.
+//!
+//! One table lists the paths (`specs/Paths.antt`) and one function what a method asks for there
+//! (`specs/Asks.antt`); the field `Allow` of a 405 answer follows from the two.
+#![tactic(auto)]
+
+mod ask;
+mod laws;
+mod place;
+mod routes;
+#[cfg(test)]
+mod tests;
+mod verb;
+
+pub use ask::Ask;
+pub use laws::law_paths;
+pub use place::Place;
+pub use routes::Routes;
+pub use verb::Verb;

@@ -1,0 +1,34 @@
+//! Methods of HTTP.
+ghost use Rattle.std.specs.Prelude.{◌≡◌};
+
+/// A method that some path of the server answers (RFC 9110, section 9.3).
+#[derive(Clone, Copy, PartialEq, Eq, Debug)]
+pub enum Verb {
+    /// Asks for what a query gives.
+    Get,
+    /// Asks for what GET does, without the content.
+    Head,
+    /// Sends a command.
+    Post,
+}
+
+impl Verb {
+    ghost use Rattle.cr_routes.specs.Verbs.{verb_of};
+
+    /// The method of this name. Names are case-sensitive (RFC 9110, section 9.1), and a method that no path of the
+    /// server answers is None. Costs no allocation.
+    pub fn read(name: &[u8]) -> Option<Verb>
+        ensures { result ≡ verb_of name.now }
+    {
+        if name == b"GET".as_slice() {
+            return Some(Verb::Get);
+        }
+        if name == b"HEAD".as_slice() {
+            return Some(Verb::Head);
+        }
+        if name == b"POST".as_slice() {
+            return Some(Verb::Post);
+        }
+        None
+    }
+}
