@@ -1,0 +1,6 @@
+pub mod Secret
+pub mod Field
+pub mod Json
+pub mod Bodies
+pub mod Credentials
+pub mod Outcome

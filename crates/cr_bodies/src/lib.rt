@@ -1,0 +1,15 @@
+//! What a request tells beside its path and method: a JSON body, and the credentials of a login.
+#![tactic(auto)]
+
+mod body;
+mod bytes;
+mod credentials;
+mod field;
+mod secret;
+#[cfg(test)]
+mod tests;
+
+pub use body::{BodyError, read_register};
+pub use bytes::{after_first, before_first};
+pub use credentials::{Credentials, read_credentials};
+pub use secret::is_secret;
