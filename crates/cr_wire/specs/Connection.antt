@@ -1,0 +1,13 @@
+-- What the field Connection says.
+use Rattle.std.specs.Prelude.{ℕ, List, Bool, ◌==◌, codes}
+use Rattle.std.specs.List.{list_any, slice_split}
+use Rattle.std.specs.Str.{str_eq_ignore_ascii_case}
+use Rattle.httparse.specs.Grammar.{trim_ows}
+
+-- an element is `close`, in any case and the blanks around it aside
+abbrev pub is_close : List ℕ → Bool
+is_close element = str_eq_ignore_ascii_case (trim_ows element) (codes "close")
+
+-- one of the elements between commas is
+abbrev pub has_close : List ℕ → Bool
+has_close value = list_any is_close (slice_split (λ b. b == 44) value)

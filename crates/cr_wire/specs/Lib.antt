@@ -1,0 +1,7 @@
+pub mod Connection
+pub mod Outcome
+pub mod Asked
+pub mod Bounds
+pub mod Caller
+pub mod Wish
+pub mod Wishes

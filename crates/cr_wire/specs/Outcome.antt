@@ -1,0 +1,7 @@
+-- What is told, memory aside.
+use Rattle.std.specs.Prelude.{◌≡◌, Result, Ok, Err}
+use Rattle.std.specs.declared.alloc.AllocError.{AllocError}
+
+abbrev pub Gives : {A : Type 0} → Result A AllocError → A → Type 0
+Gives (Ok x) wanted = x ≡ wanted
+Gives (Err e) wanted = Unit {0}

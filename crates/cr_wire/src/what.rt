@@ -1,0 +1,51 @@
+//! What a request wishes.
+ghost use Rattle.std.specs.Prelude.{◌≡◌};
+
+use cr_base::{Command, Query};
+use cr_bodies::Credentials;
+use cr_routes::{Ask, Place};
+
+/// What a whole request wishes, by its path, its method and its body.
+#[derive(Drop, Debug)]
+pub enum What {
+    /// The path is none of the server's: answered `no_route`.
+    NoRoute,
+    /// The path doesn't answer this method: answered `wrong_method`, with the methods that it answers.
+    WrongMethod(Place),
+    /// The body isn't what the request needs: answered `bad_body`.
+    BadBody(Ask),
+    /// To change something.
+    Command(Command),
+    /// To be told something.
+    Query(Query),
+}
+
+/// What a whole request wishes, who tells so, and in which form the answer comes.
+#[derive(Drop, Debug)]
+pub struct Wish {
+    /// What the field Authorization tells; None where there is no such field, more than one, or one that tells none.
+    pub credentials: Option<Credentials>,
+    /// The answer comes without its content: the method is HEAD.
+    pub is_head: bool,
+    /// The request asks that the connection be closed behind its answer.
+    pub closes: bool,
+    /// What is wished.
+    pub what: What,
+}
+
+impl What {
+    ghost use Rattle.cr_wire.specs.Caller.{reads_credentials};
+
+    /// Whether the field Authorization counts. POST of `/register`, GET and HEAD of `/accounts` and of `/phase` don't
+    /// use it: their caller is nobody. What is no request of these is refused alike to everybody.
+    pub fn reads_credentials(&self) -> bool
+        ensures { result ≡ reads_credentials self.now }
+    {
+        match self {
+            What::NoRoute | What::WrongMethod(_) => true,
+            What::BadBody(Ask::Register | Ask::Accounts | Ask::Phase) => false,
+            What::Command(Command::Register { .. }) => false,
+            What::Query(Query::Accounts | Query::Phase) => false,
+        }
+    }
+}

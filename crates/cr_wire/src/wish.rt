@@ -1,0 +1,67 @@
+//! From a request to its wish.
+ghost use Rattle.std.specs.Prelude.{◌≡◌, codes, IfOk};
+ghost use Rattle.std.specs.List.{list_any};
+ghost use Rattle.cr_http.specs.Head.{values_of};
+ghost use Rattle.cr_wire.specs.Bounds.{IsBoundedWhat};
+ghost use Rattle.cr_wire.specs.Connection.{has_close as has_close_element};
+ghost use Rattle.cr_wire.specs.Outcome.{Gives};
+ghost use Rattle.cr_wire.specs.Wish.{closes as closes_text, credentials_in as credentials_text, wish_text};
+
+use crate::asked::what_of;
+use crate::connection::has_close;
+use crate::what::Wish;
+use cr_bodies::{Credentials, read_credentials};
+use cr_http::{Head, Values, Version};
+use cr_routes::Routes;
+use std::alloc::{AllocError, Global};
+
+// What the only field Authorization tells.
+fn credentials_in(head: &Head<'_>) -> Option<Credentials>
+    ensures { result ≡ credentials_text head.now.fields }
+{
+    match head.values_of(b"authorization") {
+        Values::One(value) => read_credentials(value),
+        _ => None,
+    }
+}
+
+// Whether a field Connection asks for the close.
+fn asks_close(head: &Head<'_>) -> bool
+    ensures { result ≡ list_any has_close_element (values_of (codes "connection") head.now.fields) }
+{
+    let mut values = head.all_values_of(b"connection");
+    'values: while let Some(value) = values.next() {
+        if has_close(value) {
+            return true;
+        }
+    }
+    false
+}
+
+// Whether the request asks that the connection be closed behind its answer.
+fn closes(head: &Head<'_>) -> bool
+    ensures { result ≡ closes_text head.now }
+{
+    head.version() == Version::Http10 || asks_close(head)
+}
+
+/// The wish of a request, by its head and its body. Fails only for want of memory, which the reading of a JSON body
+/// alone takes. Reads the target, the fields' names, the fields Authorization and Connection once, and the body only
+/// where the method and the path want one. A command that is wished is within the bounds on commands.
+pub fn wish_of(
+    alloc: Global,
+    routes: &Routes,
+    head: &Head<'_>,
+    body: &[u8],
+) -> Result<Wish, AllocError>
+    ensures told { Gives result (wish_text (record { head = head.now; body = body.now })) }
+    ensures bounded { IfOk result (λ wish. IsBoundedWhat wish.what) }
+{
+    let what = what_of(alloc, routes, head.method(), head.target(), body)?;
+    Ok(Wish {
+        credentials: credentials_in(head),
+        is_head: head.is_head(),
+        closes: closes(head),
+        what,
+    })
+}
