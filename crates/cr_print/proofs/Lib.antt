@@ -1,0 +1,4 @@
+pub mod Chain
+pub mod Escapes
+pub mod Lists
+pub mod Ready

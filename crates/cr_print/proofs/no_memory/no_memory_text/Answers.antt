@@ -1,0 +1,8 @@
+use Rattle.cr_print.proofs.Ready.{ready_head, ready_whole}
+use Rattle.cr_print.proofs.no_memory.no_memory_text.Goals as goal
+
+pub returns-then-is_head : goal.returns-then-is_head
+returns-then-is_head c = rw c.if-is_head.true ready_head
+
+pub returns-else-is_head : goal.returns-else-is_head
+returns-else-is_head c = rw c.if-is_head.false ready_whole

@@ -1,0 +1,148 @@
+//! Refusals, which are written without memory.
+ghost use Rattle.std.specs.Prelude.{◌≡◌, ◌≤◌, IfSome, length, option_map};
+ghost use Rattle.cr_print.specs.Put.{HasRoom, Puts};
+ghost use Rattle.cr_print.specs.Refused.{closing_name, rule_name, name_of, closing_status, rule_status, status_of, allow_of, refusal_content};
+ghost use Rattle.cr_print.specs.Answers.{refusal_text};
+
+use crate::short::{Short, add, print_short};
+use cr_base::Rule;
+use cr_http::Refusal;
+use cr_routes::Place;
+use http::StatusCode;
+
+/// Why a request is refused.
+#[derive(Clone, Copy, PartialEq, Eq, Debug)]
+pub enum Refused {
+    /// The connection closes before a whole request was read.
+    Closing(Refusal),
+    /// The path is none of the server's (404).
+    NoRoute,
+    /// The path doesn't answer the method (405); the answer names the methods that it answers.
+    WrongMethod(Place),
+    /// The body doesn't spell what the request asks for (400).
+    BadBody,
+    /// A rule of the conference is broken.
+    Rule(Rule),
+    /// What was accepted couldn't be kept (503).
+    KeeperFault,
+    /// Memory ran out (507).
+    NoMemory,
+}
+
+#[tactic(auto, unfolding(crate::specs::Refused::rule_name))]
+fn rule_name(rule: Rule) -> &'static str
+    ensures value { result.now ≡ rule_name rule }
+    ensures short { length result.now ≤ 24 }
+{
+    match rule {
+        Rule::NameTaken => "name_taken",
+        Rule::FullAccounts => "full_accounts",
+    }
+}
+
+#[tactic(auto, unfolding(crate::specs::Refused::closing_name))]
+fn closing_name(refusal: Refusal) -> &'static str
+    ensures value { result.now ≡ closing_name refusal }
+    ensures short { length result.now ≤ 24 }
+{
+    match refusal {
+        Refusal::HeadTooLarge => "head_too_large",
+        Refusal::BadHttp => "bad_http",
+        Refusal::NoHost => "no_host",
+        Refusal::LengthRequired => "length_required",
+        Refusal::BadLength => "bad_length",
+        Refusal::TooLarge => "too_large",
+    }
+}
+
+#[tactic(auto, unfolding(crate::specs::Refused::name_of))]
+fn name(refused: Refused) -> &'static str
+    ensures value { result.now ≡ name_of refused }
+    ensures short { length result.now ≤ 24 }
+{
+    match refused {
+        Refused::Closing(refusal) => closing_name(refusal),
+        Refused::NoRoute => "no_route",
+        Refused::WrongMethod(_) => "wrong_method",
+        Refused::BadBody => "bad_body",
+        Refused::Rule(rule) => rule_name(rule),
+        Refused::KeeperFault => "keeper_fault",
+        Refused::NoMemory => "no_memory",
+    }
+}
+
+#[tactic(auto, unfolding(crate::specs::Refused::rule_status))]
+fn rule_status(rule: Rule) -> StatusCode
+    ensures { result ≡ rule_status rule }
+{
+    match rule {
+        Rule::NameTaken | Rule::FullAccounts => StatusCode::CONFLICT,
+    }
+}
+
+#[tactic(auto, unfolding(crate::specs::Refused::closing_status))]
+fn closing_status(refusal: Refusal) -> StatusCode
+    ensures { result ≡ closing_status refusal }
+{
+    match refusal {
+        Refusal::BadHttp | Refusal::NoHost | Refusal::BadLength => StatusCode::BAD_REQUEST,
+        Refusal::LengthRequired => StatusCode::LENGTH_REQUIRED,
+        Refusal::TooLarge => StatusCode::PAYLOAD_TOO_LARGE,
+        Refusal::HeadTooLarge => StatusCode::REQUEST_HEADER_FIELDS_TOO_LARGE,
+    }
+}
+
+#[tactic(auto, unfolding(crate::specs::Refused::status_of))]
+fn status(refused: Refused) -> StatusCode
+    ensures { result ≡ status_of refused }
+{
+    match refused {
+        Refused::Closing(refusal) => closing_status(refusal),
+        Refused::NoRoute => StatusCode::NOT_FOUND,
+        Refused::WrongMethod(_) => StatusCode::METHOD_NOT_ALLOWED,
+        Refused::BadBody => StatusCode::BAD_REQUEST,
+        Refused::Rule(rule) => rule_status(rule),
+        Refused::KeeperFault => StatusCode::SERVICE_UNAVAILABLE,
+        Refused::NoMemory => StatusCode::INSUFFICIENT_STORAGE,
+    }
+}
+
+#[tactic(auto, unfolding(crate::specs::Refused::allow_of))]
+fn allow(refused: Refused) -> Option<&'static str>
+    ensures value { option_map (λ a. a.now) result ≡ allow_of refused }
+    ensures short { IfSome result (λ a. length a.now ≤ 32) }
+{
+    match refused {
+        Refused::WrongMethod(place) => Some(place.allow()),
+        _ => None,
+    }
+}
+
+fn refusal_content(refused: Refused) -> Short
+    ensures { result.bytes ≡ refusal_content refused }
+{
+    let mut content = Short::new();
+    add(&mut content, "{\"error\":\"");
+    add(&mut content, name(refused));
+    add(&mut content, "\"}");
+    content
+}
+
+/// Appends the answer of a refused request, which can't fail and takes no memory: `into` has room for
+/// 512 bytes. An answer to HEAD has no content, and its `Content-Length` is the content's without it.
+/// With `closes` the answer says that the connection ends behind it.
+#[tactic(auto, unfolding(crate::specs::Answers::refusal_text))]
+pub fn print_refusal(into: &mut Vec<u8>, refused: Refused, is_head: bool, closes: bool)
+    requires { HasRoom into.old 512 }
+    ensures { Puts into.old into.new (refusal_text refused is_head closes) 512 }
+{
+    let content = refusal_content(refused);
+    print_short(
+        into,
+        status(refused),
+        allow(refused),
+        &content,
+        is_head,
+        closes,
+    );
+}
