@@ -1,0 +1,15 @@
+//! The words of the command line, read by `clap`.
+//!
+//! `read_words` gives the job that the words name. `usage_text` is what the program answers to words
+//! that name none.
+#![tactic(auto)]
+
+mod build;
+mod read;
+mod usage;
+
+pub use read::{Job, WordsError, read_words};
+pub use usage::usage_text;
+
+#[cfg(test)]
+mod tests;

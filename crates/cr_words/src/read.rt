@@ -1,0 +1,60 @@
+//! What the words ask for.
+ghost use Rattle.std.specs.Prelude.{◌≡◌, ◌≢◌, Some, [], IfOk, true, map, string_bytes};
+ghost use Rattle.std.specs.Option.{option_and_then};
+ghost use Rattle.clap.specs.Words.{takes, fault_of, subcommand_rows_of};
+ghost use Rattle.cr_words.specs.Words.{confd_words};
+ghost use Rattle.cr_words.specs.Job.{job_named, job_of};
+
+use crate::build::confd_command;
+use clap::ArgMatches;
+use clap::error::ErrorKind;
+use std::alloc::Global;
+
+/// What the program is asked to do.
+#[derive(Clone, Copy, Debug, PartialEq, Eq)]
+pub enum Job {
+    /// One connection over standard input and standard output.
+    Pipe,
+}
+
+/// Why the words name no job.
+#[derive(Clone, Copy, Debug, PartialEq, Eq)]
+pub enum WordsError {
+    /// The words are refused. A call for help counts as refused.
+    Usage,
+    /// Memory ran out.
+    OutOfMemory,
+}
+
+// The job of the subcommand that was used.
+fn named_job(matches: &ArgMatches) -> Option<Job>
+    ensures { result ≡ option_and_then job_named (subcommand_rows_of matches.now) }
+{
+    let (name, _) = matches.subcommand()?;
+    match name {
+        "pipe" => Some(Job::Pipe),
+        _ => None,
+    }
+}
+
+/// The job that the words name, the first of which is the program's name.
+///
+/// `Usage` comes exactly where `clap` refuses the words by `confd_words`, a call for help included.
+/// `OutOfMemory` comes only where memory ran out. What was taken for the reading is given back.
+pub fn read_words(alloc: Global, words: &[String]) -> Result<Job, WordsError>
+    ensures job { IfOk result (λ job. job_of (map string_bytes words.now) ≡ Some job) }
+    ensures taken { IfOk result (λ _. fault_of confd_words (map string_bytes words.now) ≡ []) }
+    ensures refused { result ≡ Err WordsError.Usage → fault_of confd_words (map string_bytes words.now) ≢ [] }
+    ensures passes { takes confd_words (map string_bytes words.now) ≡ true → result ≢ Err WordsError.Usage }
+{
+    let Ok(command) = confd_command(alloc) else {
+        return Err(WordsError::OutOfMemory);
+    };
+    match command.try_get_matches_from(words) {
+        Ok(matches) => named_job(&matches).ok_or(WordsError::Usage),
+        Err(error) => match error.kind() {
+            ErrorKind::OutOfMemory => Err(WordsError::OutOfMemory),
+            _ => Err(WordsError::Usage),
+        },
+    }
+}
