@@ -1,0 +1,10 @@
+pub mod Runs
+pub mod WishRuns
+pub mod Taking
+pub mod Turns
+pub mod TurnLaws
+pub mod Requests
+pub mod Rounds
+pub mod ReadLaws
+pub mod Connections
+pub mod Whole

@@ -1,0 +1,65 @@
+-- Told and Step: what a wish is answered, and what it makes of the history.
+use Rattle.std.specs.Prelude.{ℕ, List, ◌++◌, Option, Some, None, Bool, Result, Ok, Err}
+use Rattle.cr_base.specs.declared.reply.Reply.{Reply}
+use Rattle.cr_base.specs.declared.reply.Reply.TheVariants as replies
+use Rattle.cr_base.specs.declared.reply.Rule.{Rule}
+use Rattle.cr_base.specs.History.{History}
+use Rattle.cr_base.specs.Judging.{Drawn}
+use Rattle.cr_policy.specs.Judge.{judge, answer}
+use Rattle.cr_policy.specs.View.{view}
+use Rattle.cr_print.specs.declared.refused.Refused.TheVariants as refused
+use Rattle.cr_print.specs.Answers.{refusal_text, reply_text}
+use Rattle.cr_wire.specs.declared.what.What.{What}
+use Rattle.cr_wire.specs.declared.what.What.TheVariants.{NoRoute, WrongMethod, BadBody, Command, Query}
+use Rattle.cr_wire.specs.declared.what.Wish.{Wish}
+use Rattle.cr_wire.specs.Caller.{caller}
+
+-- ---- what is answered
+
+-- a command's answer: its receipt, or the first rule that it breaks
+abbrev pub reply_of : Result Drawn Rule → Reply
+reply_of (Ok drawn) = replies.Accepted drawn.receipt
+reply_of (Err rule) = replies.Refused rule
+
+-- the answer's bytes to what a caller wishes, where the connection closes behind it or not
+abbrev pub told_to : Option ℕ → History → Bool → Bool → What → List ℕ
+told_to u H head close NoRoute = refusal_text refused.NoRoute head close
+told_to u H head close (WrongMethod place) = refusal_text (refused.WrongMethod place) head close
+told_to u H head close (BadBody ask) = refusal_text refused.BadBody head close
+told_to u H head close (Command command) = reply_text (reply_of (judge u (view u H) command)) head close
+told_to u H head close (Query query) = reply_text (answer u (view u H) query) head close
+
+-- Told: the answer's bytes to a wish, computed from its caller's view
+unfoldable pub told : History → Wish → Bool → List ℕ
+told H w close = told_to (caller H w) H w.is_head close w.what
+
+-- the answer's bytes where what the wish adds was not kept
+unfoldable pub unkept : Wish → Bool → List ℕ
+unkept w close = refusal_text refused.KeeperFault w.is_head close
+
+-- ---- what is added
+
+-- what a judgement drew, where it accepted
+abbrev pub accepted : Result Drawn Rule → Option Drawn
+accepted (Ok drawn) = Some drawn
+accepted (Err rule) = None
+
+-- what a caller's wish adds, where it is a command that Judge accepts
+abbrev pub drawn_for : Option ℕ → History → What → Option Drawn
+drawn_for u H NoRoute = None
+drawn_for u H (WrongMethod place) = None
+drawn_for u H (BadBody ask) = None
+drawn_for u H (Command command) = accepted (judge u (view u H) command)
+drawn_for u H (Query query) = None
+
+unfoldable pub drawn : History → Wish → Option Drawn
+drawn H w = drawn_for (caller H w) H w.what
+
+-- a history, and behind it what was drawn
+abbrev pub and_drawn : History → Option Drawn → History
+and_drawn H None = H
+and_drawn H (Some d) = H ++ d.group
+
+-- Step: the history after a wish
+abbrev pub step : History → Wish → History
+step H w = and_drawn H (drawn H w)

@@ -1,0 +1,11 @@
+//! One connection, bytes to bytes: a request is read, judged in one turn, and answered.
+#![tactic(auto)]
+
+mod reading;
+mod serve;
+mod turn;
+mod writing;
+
+pub use reading::{Inbox, WishRead, read_wish};
+pub use serve::{Ending, Why, serve_connection};
+pub use writing::{WriteFault, write_reply};

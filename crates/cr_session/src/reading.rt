@@ -1,0 +1,101 @@
+//! Reads one wish from a stream.
+ghost use Rattle.std.specs.Prelude.{◌≡◌, ◌≤◌, [], IfOk, IsSome};
+ghost use Rattle.cr_ports.specs.Count.{Rises};
+ghost use Rattle.cr_session.specs.Reading.{ReadsWish, IsBoundedRead, IsAtHand};
+
+use cr_http::{Refusal, RequestRead, read_request};
+use cr_ports::Source;
+use cr_routes::Routes;
+use cr_wire::{Wish, wish_of};
+use std::alloc::{AllocError, Global};
+use std::marker::Model;
+
+/// What a connection has read and not yet used, and the router. It is made once a connection.
+///
+/// Contracts see the bytes that were read and not used.
+#[derive(Drop)]
+pub struct Inbox {
+    requests: cr_http::Inbox,
+    routes: Routes,
+}
+
+impl Model for Inbox {
+    ghost use Rattle.std.specs.Prelude.{List, ℕ};
+
+    ghost Value = { List ℕ };
+
+    ghost view = { λ i. i.requests.rest };
+}
+
+impl Inbox {
+    /// An inbox with no bytes; an error only for want of memory, which the router takes.
+    pub fn new(alloc: Global) -> Result<Inbox, AllocError>
+        ensures { IfOk result (λ inbox. inbox ≡ []) }
+    {
+        Ok(Inbox {
+            requests: cr_http::Inbox::new(alloc),
+            routes: Routes::new(alloc)?,
+        })
+    }
+}
+
+/// What was read.
+#[derive(Drop)]
+pub enum WishRead {
+    /// A whole request's wish.
+    Wish(Wish),
+    /// What stands there is no request, so the connection closes.
+    Malformed {
+        /// Why.
+        why: Refusal,
+        /// Whether the refusal answers HEAD, so that it has no content.
+        to_head: bool,
+    },
+    /// The stream ended between requests.
+    Clean,
+    /// The stream ended inside a request.
+    Cut,
+    /// The source failed before a whole request was read.
+    ReadFault,
+    /// Memory is wanting.
+    OutOfMemory {
+        /// Whether the request is one to HEAD; false where its head wasn't read so far.
+        to_head: bool,
+    },
+}
+
+/// Reads the request at the front of the bytes that the inbox has not used and those that the source has
+/// left, and gives its wish. What it reads is what the whole text of the stream spells there, however
+/// the source cuts it into pieces. `ReadFault` comes only where the source's count of faults rose, or
+/// stands at its last value; `OutOfMemory` for want of memory alone.
+pub fn read_wish<S: Source>(alloc: Global, source: &mut S, inbox: &mut Inbox) -> WishRead
+    ensures reads { ReadsWish (S.left source.old) (S.left source.new) inbox.old inbox.new result }
+    ensures bounded { IsBoundedRead result }
+    ensures count { S.faults source.old ≤ S.faults source.new }
+    ensures fault { result ≡ WishRead.ReadFault → Rises (S.faults source.old) (S.faults source.new) }
+{
+    match read_request(source, &mut inbox.requests) {
+        RequestRead::Whole => {}
+        RequestRead::Refused { why, to_head } => return WishRead::Malformed { why, to_head },
+        RequestRead::Clean => return WishRead::Clean,
+        RequestRead::Cut => return WishRead::Cut,
+        RequestRead::ReadFault => return WishRead::ReadFault,
+        RequestRead::OutOfMemory { to_head } => return WishRead::OutOfMemory { to_head },
+    }
+    wish_at_hand(alloc, &inbox.routes, &inbox.requests)
+}
+
+/// The wish of the request that the inbox lends.
+fn wish_at_hand(alloc: Global, routes: &Routes, requests: &cr_http::Inbox) -> WishRead
+    requires { IsSome requests.now.request }
+    ensures wish { IsAtHand result requests.now.request }
+    ensures bounded { IsBoundedRead result }
+{
+    let request = requests.request();
+    match wish_of(alloc, routes, &request.head, request.body) {
+        Ok(wish) => WishRead::Wish(wish),
+        Err(_) => WishRead::OutOfMemory {
+            to_head: request.head.is_head(),
+        },
+    }
+}

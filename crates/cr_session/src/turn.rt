@@ -1,0 +1,110 @@
+//! One turn: a wish is judged or answered by the book.
+ghost use Rattle.std.specs.Prelude.{◌≡◌, ◌≤◌, [], OnOk, OnErr};
+ghost use Rattle.cr_base.specs.Judging.{wants_login};
+ghost use Rattle.cr_policy.specs.Legal.{IsAllowed, MayAsk};
+ghost use Rattle.cr_print.specs.Put.{HasRoom};
+ghost use Rattle.cr_wire.specs.Bounds.{IsBoundedWhat};
+ghost use Rattle.cr_wire.specs.Caller.{caller};
+ghost use Rattle.cr_session.specs.Turning.{Turns, JudgesCommand, AnswersQuery, turn_text, MayWantMemory};
+
+use cr_base::{Command, Query, Receipt, Reply, UserNo};
+use cr_book::{Book, BookError};
+use cr_ports::Keeper;
+use cr_print::{Refused, print_receipt, print_refusal, print_reply};
+use cr_wire::{What, Wish};
+use std::alloc::AllocError;
+
+/// What a turn came to.
+#[derive(Drop)]
+pub enum Turn {
+    /// The request is refused.
+    Refused(Refused),
+    /// The command was accepted, kept and applied.
+    Accepted(Receipt),
+    /// The query's answer.
+    Answered(Reply),
+    /// The command was accepted, but the keeper failed to keep it: nothing changed.
+    Lost,
+    /// Memory is wanting: nothing changed.
+    OutOfMemory,
+}
+
+/// Judges or answers a wish. Takes no memory on a refusal.
+pub fn take_turn<K: Keeper>(book: &mut Book<K>, wish: &Wish) -> Turn
+    requires { IsBoundedWhat wish.now.what }
+    ensures turns { Turns result wish.now book.old.log book.new.log (K.faults book.old.keeper) (K.faults book.new.keeper) }
+    ensures count { K.faults book.old.keeper ≤ K.faults book.new.keeper }
+{
+    match &wish.what {
+        What::NoRoute => Turn::Refused(Refused::NoRoute),
+        What::WrongMethod(place) => Turn::Refused(Refused::WrongMethod(*place)),
+        What::BadBody(_) => Turn::Refused(Refused::BadBody),
+        What::Command(command) => {
+            let caller = caller_of(book, wish);
+            judge(book, &caller, command)
+        }
+        What::Query(query) => {
+            let caller = caller_of(book, wish);
+            answer(book, &caller, query)
+        }
+    }
+}
+
+/// Who gives the wish: nobody, where its request doesn't read the credentials.
+fn caller_of<K: Keeper>(book: &Book<K>, wish: &Wish) -> Option<UserNo>
+    ensures { result ≡ caller book.now.log wish.now }
+{
+    if !wish.what.reads_credentials() {
+        return None;
+    }
+    let credentials = wish.credentials.as_ref()?;
+    book.caller(&credentials.name, &credentials.digest)
+}
+
+/// Judges a command.
+fn judge<K: Keeper>(book: &mut Book<K>, caller: &Option<UserNo>, command: &Command) -> Turn
+    requires { IsAllowed book.old.log (record { caller = caller.now; command = command.now }) }
+    ensures judges { JudgesCommand result caller.now command.now book.old.log book.new.log (K.faults book.old.keeper) (K.faults book.new.keeper) }
+    ensures count { K.faults book.old.keeper ≤ K.faults book.new.keeper }
+{
+    match book.command(caller, command) {
+        Ok(receipt) => Turn::Accepted(receipt),
+        Err(BookError::Rule(rule)) => Turn::Refused(Refused::Rule(rule)),
+        Err(BookError::KeeperFault) => Turn::Lost,
+        Err(BookError::OutOfMemory) => Turn::OutOfMemory,
+    }
+}
+
+/// Answers a query.
+fn answer<K: Keeper>(book: &Book<K>, caller: &Option<UserNo>, query: &Query) -> Turn
+    requires { MayAsk book.now.log (wants_login query.now) caller.now }
+    ensures { AnswersQuery result caller.now query.now book.now.log }
+{
+    match book.answer(caller, query) {
+        Ok(reply) => Turn::Answered(reply),
+        Err(_) => Turn::OutOfMemory,
+    }
+}
+
+/// Appends the answer to what a turn came to: only a query's answer may want more memory than the room
+/// that was made before.
+pub fn print_turn(
+    reply: &mut Vec<u8>,
+    turn: &Turn,
+    is_head: bool,
+    closes: bool,
+) -> Result<(), AllocError>
+    requires empty { reply.old.items ≡ [] }
+    requires room { HasRoom reply.old 512 }
+    ensures ok { OnOk result (reply.new.items ≡ turn_text turn.now is_head closes) }
+    ensures err { OnErr result (MayWantMemory turn.now) }
+{
+    match turn {
+        Turn::Refused(refused) => print_refusal(reply, *refused, is_head, closes),
+        Turn::Accepted(receipt) => print_receipt(reply, receipt, is_head, closes),
+        Turn::Answered(answer) => return print_reply(reply, answer, is_head, closes),
+        Turn::Lost => print_refusal(reply, Refused::KeeperFault, is_head, closes),
+        Turn::OutOfMemory => {}
+    }
+    Ok(())
+}
