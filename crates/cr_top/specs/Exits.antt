@@ -1,0 +1,24 @@
+-- The exit of a run, by how its connection ended, and its status.
+use Rattle.std.specs.Prelude.{ℕ}
+use Rattle.cr_session.specs.declared.serve.Ending.{Ending}
+use Rattle.cr_session.specs.declared.serve.Ending.TheVariants as endings
+use Rattle.cr_top.specs.declared.exit.Exit.{Exit}
+use Rattle.cr_top.specs.declared.exit.Exit.TheVariants as exits
+
+-- the exit of a run whose connection ended so
+abbrev pub exit_of : Ending → Exit
+exit_of endings.Clean = exits.Done
+exit_of (endings.Closed why) = exits.Done
+exit_of endings.Cut = exits.Cut
+exit_of endings.ReadFault = exits.ReadFault
+exit_of endings.WriteFault = exits.WriteFault
+exit_of endings.OutOfMemory = exits.OutOfMemory
+
+-- the status that the process ends with
+abbrev pub status_of : Exit → ℕ
+status_of exits.Done = 0
+status_of exits.Cut = 1
+status_of exits.Usage = 2
+status_of exits.ReadFault = 4
+status_of exits.WriteFault = 5
+status_of exits.OutOfMemory = 9

@@ -1,0 +1,5 @@
+pub use Rattle.cr_words.specs.Words.{confd_words}
+pub mod Words
+pub mod Exits
+pub mod Replayed
+pub mod Runs

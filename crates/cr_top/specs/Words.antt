@@ -1,0 +1,20 @@
+-- The words of a command line: clap takes them, or refuses them.
+use Rattle.std.specs.Prelude.{◌≡◌, ◌≢◌, List, [], map, true, String, string_bytes}
+use Rattle.std.specs.declared.alloc.Global.{Global}
+use Rattle.clap.specs.Words.{Text, fault_of, takes}
+use Rattle.cr_words.specs.Words.{confd_words}
+
+abbrev pub texts : List (String Global) → List Text
+texts words = map string_bytes words
+
+-- clap finds no fault in the words
+abbrev pub AreTaken : List (String Global) → Type 0
+AreTaken words = fault_of confd_words (texts words) ≡ []
+
+-- clap finds a fault in the words, or they call for help
+abbrev pub AreRefused : List (String Global) → Type 0
+AreRefused words = fault_of confd_words (texts words) ≢ []
+
+-- clap's own test, which holds of words that it takes
+abbrev pub PassTest : List (String Global) → Type 0
+PassTest words = takes confd_words (texts words) ≡ true

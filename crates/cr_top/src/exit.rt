@@ -1,0 +1,51 @@
+//! How a run ended.
+ghost use Rattle.std.specs.Prelude.{◌≡◌};
+ghost use Rattle.cr_top.specs.Exits.{exit_of, status_of};
+
+use cr_session::Ending;
+
+/// How a run ended.
+#[derive(Clone, Copy, Debug, PartialEq, Eq)]
+pub enum Exit {
+    /// The job was done: the connection's stream ended between requests, or the server closed it.
+    Done,
+    /// The connection's stream ended inside a request.
+    Cut,
+    /// The words name no job, a call for help included.
+    Usage,
+    /// A read of the input failed.
+    ReadFault,
+    /// A write to the output failed.
+    WriteFault,
+    /// Memory is wanting.
+    OutOfMemory,
+}
+
+impl Exit {
+    /// The status that the process ends with: 0, 1, 2, 4, 5 or 9.
+    pub fn code(self) -> u8
+        ensures { result ≡ status_of self }
+    {
+        match self {
+            Exit::Done => 0,
+            Exit::Cut => 1,
+            Exit::Usage => 2,
+            Exit::ReadFault => 4,
+            Exit::WriteFault => 5,
+            Exit::OutOfMemory => 9,
+        }
+    }
+}
+
+/// The exit of a run whose connection ended so.
+pub(crate) fn exit_of(ending: Ending) -> Exit
+    ensures { result ≡ exit_of ending }
+{
+    match ending {
+        Ending::Clean | Ending::Closed(_) => Exit::Done,
+        Ending::Cut => Exit::Cut,
+        Ending::ReadFault => Exit::ReadFault,
+        Ending::WriteFault => Exit::WriteFault,
+        Ending::OutOfMemory => Exit::OutOfMemory,
+    }
+}

@@ -1,0 +1,21 @@
+//! The top call: a command line, an input and an output.
+//!
+//! `top` does what the program's words ask for; `pipe` is one connection from the empty history on.
+#![tactic(auto)]
+
+mod exit;
+mod piping;
+mod run;
+
+pub use exit::Exit;
+pub use piping::pipe;
+pub use run::top;
+
+#[cfg(test)]
+mod tests;
+#[cfg(test)]
+mod tests_bodies;
+#[cfg(test)]
+mod tests_faults;
+#[cfg(test)]
+mod tests_run;

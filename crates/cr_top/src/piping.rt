@@ -1,0 +1,44 @@
+//! One connection, from an empty history on.
+ghost use Rattle.std.specs.Prelude.{◌≡◌, ◌⊎◌, [], ℕ, List, Some, IfSome};
+ghost use Rattle.cr_ports.specs.Count.{Rises};
+ghost use Rattle.cr_top.specs.declared.exit.Exit.{Exit};
+ghost use Rattle.cr_top.specs.Exits.{exit_of};
+ghost use Rattle.cr_top.specs.Runs.{Pipes, outside_of, IsFaultless, AnswersAll};
+
+use cr_book::Book;
+use cr_ports::{Keeper, Sink, Source};
+use cr_session::{Ending, serve_connection};
+use std::alloc::Global;
+
+/// Serves one connection over `input` and `out`, from the empty history on. Tells how it ended, and
+/// hands back the keeper, which keeps the rows of the last history.
+///
+/// The keeper begins without rows. `ReadFault` and `WriteFault` come only where the count of `input`,
+/// of `out` rose, or stands at its last value; `OutOfMemory` for want of memory alone.
+pub fn pipe<K: Keeper, I: Source, O: Sink>(
+    alloc: Global,
+    keeper: K,
+    input: &mut I,
+    out: &mut O,
+) -> (Ending, K)
+    requires { IfSome (K.rows keeper) (λ rows. rows ≡ []) }
+    ensures pipes { Pipes K.rows K.faults result.0 keeper result.1
+        (outside_of (I.left input.old) (O.taken out.old) (I.faults input.old) (O.faults out.old))
+        (outside_of (I.left input.new) (O.taken out.new) (I.faults input.new) (O.faults out.new)) }
+
+    // Where nothing fails, the keeper's calls included, all that the input's bytes spell is answered,
+    // or memory is wanting.
+    ensures answers { (b : List ℕ) → I.left input.old ≡ Some b → IsFaultless
+        (outside_of (I.left input.old) (O.taken out.old) (I.faults input.old) (O.faults out.old))
+        (outside_of (I.left input.new) (O.taken out.new) (I.faults input.new) (O.faults out.new))
+        → (Rises (K.faults keeper) (K.faults result.1) → ⊥)
+        → (exit_of result.0 ≡ Exit.OutOfMemory) ⊎ AnswersAll (exit_of result.0) b
+        (outside_of (I.left input.old) (O.taken out.old) (I.faults input.old) (O.faults out.old))
+        (outside_of (I.left input.new) (O.taken out.new) (I.faults input.new) (O.faults out.new)) }
+    ensures read_fault { result.0 ≡ Ending.ReadFault → Rises (I.faults input.old) (I.faults input.new) }
+    ensures write_fault { result.0 ≡ Ending.WriteFault → Rises (O.faults out.old) (O.faults out.new) }
+{
+    let mut book = Book::open(alloc, keeper);
+    let ending = serve_connection(alloc, &mut book, input, out);
+    (ending, book.close())
+}

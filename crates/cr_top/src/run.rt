@@ -1,0 +1,72 @@
+//! What the program does with its words.
+ghost use Rattle.std.specs.Prelude.{◌≡◌, ◌≢◌, ◌⊎◌, ℕ, List, Some};
+ghost use Rattle.cr_ports.specs.Count.{Rises};
+ghost use Rattle.cr_ports.specs.Stream.{taken_and};
+ghost use Rattle.cr_session.specs.Serving.{TakesPrefix};
+ghost use Rattle.cr_words.specs.Usage.{usage};
+ghost use Rattle.cr_top.specs.Runs.{outside_of, Takes, Refuses, IsFaultless, AnswersAll};
+ghost use Rattle.cr_top.specs.Words.{AreTaken, AreRefused, PassTest};
+
+use crate::exit::{Exit, exit_of};
+use crate::piping::pipe;
+use cr_ports::{PlainKeeper, Sink, Source};
+use cr_session::write_reply;
+use cr_words::{Job, WordsError, read_words, usage_text};
+use std::alloc::Global;
+
+/// Writes how the program is called. Takes no memory.
+fn refuse_words<O: Sink>(out: &mut O) -> Exit
+    ensures usage { result ≡ Exit.Usage → O.taken out.new ≡ taken_and (O.taken out.old) usage }
+    ensures fault { result ≡ Exit.WriteFault → TakesPrefix (O.taken out.old) (O.taken out.new) usage × Rises (O.faults out.old) (O.faults out.new) }
+    ensures either { (result ≡ Exit.Usage) ⊎ (result ≡ Exit.WriteFault) }
+{
+    match write_reply(out, usage_text()) {
+        Ok(()) => Exit::Usage,
+        Err(_) => Exit::WriteFault,
+    }
+}
+
+/// Does what the words ask for, the first of which is the program's name. `pipe` serves one
+/// connection over `input` and `out` from the empty history on, and keeps its rows in memory.
+///
+/// - `Done` comes only where the connection's ending is `Clean` or `Closed`, and `Cut` exactly where it
+///   is `Cut`.
+/// - `Usage` comes exactly where `clap` refuses the words, a call for help included, unless memory is
+///   wanting or the usage line can't be written. Then nothing is read.
+/// - `ReadFault` and `WriteFault` come only where the count of `input`, of `out` rose in this call, or
+///   stands at its last value.
+/// - `OutOfMemory` comes for want of memory alone.
+pub fn top<I: Source, O: Sink>(alloc: Global, words: &[String], input: &mut I, out: &mut O) -> Exit
+    // One connection, from the empty history on: the bytes that out took are the answers that the
+    // wishes are told, each on the caller's view of the history at its turn.
+    ensures takes { AreTaken words.now → Takes result
+        (outside_of (I.left input.old) (O.taken out.old) (I.faults input.old) (O.faults out.old))
+        (outside_of (I.left input.new) (O.taken out.new) (I.faults input.new) (O.faults out.new)) }
+
+    // Where nothing fails, all that the input's bytes spell is answered, or memory is wanting.
+    ensures answers { (b : List ℕ) → AreTaken words.now → I.left input.old ≡ Some b → IsFaultless
+        (outside_of (I.left input.old) (O.taken out.old) (I.faults input.old) (O.faults out.old))
+        (outside_of (I.left input.new) (O.taken out.new) (I.faults input.new) (O.faults out.new))
+        → (result ≡ Exit.OutOfMemory) ⊎ AnswersAll result b
+        (outside_of (I.left input.old) (O.taken out.old) (I.faults input.old) (O.faults out.old))
+        (outside_of (I.left input.new) (O.taken out.new) (I.faults input.new) (O.faults out.new)) }
+
+    // Words that name no job are answered by the usage line, and nothing is read.
+    ensures refuses { AreRefused words.now → Refuses result
+        (outside_of (I.left input.old) (O.taken out.old) (I.faults input.old) (O.faults out.old))
+        (outside_of (I.left input.new) (O.taken out.new) (I.faults input.new) (O.faults out.new)) }
+    ensures usage { result ≡ Exit.Usage → AreRefused words.now }
+    ensures passes { PassTest words.now → result ≢ Exit.Usage }
+
+    ensures read_fault { result ≡ Exit.ReadFault → Rises (I.faults input.old) (I.faults input.new) }
+    ensures write_fault { result ≡ Exit.WriteFault → Rises (O.faults out.old) (O.faults out.new) }
+{
+    match read_words(alloc, words) {
+        Ok(Job::Pipe) => {
+            let (ending, _keeper) = pipe(alloc, PlainKeeper::new(alloc), input, out);
+            exit_of(ending)
+        }
+        Err(WordsError::Usage) => refuse_words(out),
+        Err(WordsError::OutOfMemory) => Exit::OutOfMemory,
+    }
+}
