@@ -1,0 +1,6 @@
+pub mod Sums
+pub mod Prefixes
+pub mod Order
+pub mod Changes
+pub mod Turns
+pub mod Seats

@@ -1,0 +1,7 @@
+pub mod Counts
+pub mod Turns
+pub mod Views
+pub mod Passes
+pub mod Closing
+pub mod Rule
+pub mod Steps

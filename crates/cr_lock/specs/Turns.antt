@@ -1,0 +1,62 @@
+-- The turns of a pass, and how those of two passes are merged.
+use Rattle.std.specs.Prelude.{◌≡◌, ℕ, ◌+◌, ◌≤◌, ◌⊎◌, Bool, ◌&&◌, ◌||◌, nat_lt, ◌==◌, if◌then◌else◌, List, [], ◌∷◌, ◌++◌, length}
+use mathlib.Core.List.{IsPrefix}
+use Rattle.cr_lock.specs.declared.view.Turn.{Turn}
+use Rattle.cr_lock.specs.Counts.{within, total, Every}
+
+module _ {E : Type 0} where
+  -- the turn at this place of the history, which added this group
+  abbrev pub turn_at : ℕ → List E → Bool → Turn E
+  turn_at place group marked = record { place = place; group = group; marked = marked }
+
+  -- the place behind the group
+  abbrev pub end_of : Turn E → ℕ
+  end_of t = t.place + length t.group
+
+  -- in how many of the groups the entry with the number k stands
+  abbrev pub groups_with : ℕ → List (Turn E) → ℕ
+  groups_with k ts = total (λ t. within t.place (end_of t) k) ts
+
+  -- how many of the turns are marked
+  abbrev pub marks : List (Turn E) → ℕ
+  marks ts = total (λ t. if t.marked then 1 else 0) ts
+
+  -- the group stands in the list at its place
+  abbrev pub StandsIn : List E → Turn E → Type 0
+  StandsIn log t = (before : List E) × (length before ≡ t.place) × IsPrefix (before ++ t.group) log
+
+  -- the groups, one behind the other
+  abbrev pub groups_of : List (Turn E) → List E
+  groups_of [] = []
+  groups_of (t ∷ ts) = t.group ++ groups_of ts
+
+  -- t stands behind u: by the place, and at one place by the group's end
+  abbrev pub comes_after : Turn E → Turn E → Bool
+  comes_after t u = nat_lt u.place t.place || (t.place == u.place && nat_lt (end_of u) (end_of t))
+
+  -- with t, before the first turn that it does not come after
+  abbrev pub insert_turn : Turn E → List (Turn E) → List (Turn E)
+  insert_turn t [] = t ∷ []
+  insert_turn t (u ∷ us) = if comes_after t u then u ∷ insert_turn t us else t ∷ u ∷ us
+
+  -- both lists in order; where two turns tie, the first list's comes first
+  abbrev pub merged : List (Turn E) → List (Turn E) → List (Turn E)
+  merged [] us = us
+  merged (t ∷ ts) us = insert_turn t (merged ts us)
+
+  -- the longer of two lists, the first where they are as long
+  abbrev pub longer : List E → List E → List E
+  longer xs ys = if nat_lt (length xs) (length ys) then ys else xs
+
+  -- no turn is at a place before p
+  abbrev pub From : ℕ → List (Turn E) → Type 0
+  From p ts = Every (λ u. p ≤ u.place) ts
+
+  -- no turn's place is before an earlier one's
+  abbrev pub InOrder : List (Turn E) → Type 0
+  InOrder [] = Unit {0}
+  InOrder (t ∷ ts) = From t.place ts × InOrder ts
+
+  -- of two lists one begins the other, and no entry stands in a group of both lists of turns
+  abbrev pub InCommon : List E → List E → List (Turn E) → List (Turn E) → Type 0
+  InCommon xs ys ts us = (IsPrefix xs ys ⊎ IsPrefix ys xs) × ((k : ℕ) → groups_with k ts + groups_with k us ≤ 1)

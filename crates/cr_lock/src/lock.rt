@@ -1,0 +1,288 @@
+//! The lock.
+ghost use Rattle.std.specs.Prelude.{◌≡◌, ℕ, Some, None, ◌+◌, ◌-◌, ◌/◌, ◌^◌, ◌<◌, ◌≤◌, ◌⊎◌, [], ◌∷◌, List, length, IfOk, IfErr, MatchResult};
+ghost use Rattle.std.specs.Fn.{FnOnceReturnsAtMut, FnOnceTakesAtMut};
+ghost use mathlib.Core.List.{IsPrefix};
+ghost use Rattle.cr_lock.specs.declared.view.Role.TheVariants.{Idle, Holding};
+ghost use Rattle.cr_lock.specs.Counts.{has_risen};
+ghost use Rattle.cr_lock.specs.Steps.{view};
+ghost use Rattle.cr_lock.specs.Passes.{first_pass, larger_half, smaller_half, united, after_turn, Agree, Stand};
+ghost use Rattle.cr_lock.specs.Closing.{Closes};
+
+use crate::pass::Pass;
+use crate::rule::HistoryRule;
+use crate::stands::Stands;
+use crate::steps::{Draw, Halve, Look, LookAfterJoin, Next, Note, Unite};
+use crate::view::View;
+use atomic_table::{Refused, Seat, Shared, Table};
+use std::alloc::{AllocError, AllocFailed, Global};
+use std::marker::Model;
+use std::snapshot::Snapshot;
+use std::sync::Wait;
+
+/// The word with the next ticket to be drawn.
+const TICKET: usize = 0;
+
+/// The word with the ticket that is served.
+const SERVING: usize = 1;
+
+/// The word with the length of the history.
+const COUNT: usize = 2;
+
+/// The slot of the value.
+const VALUE: usize = 0;
+
+/// The share of the first pass, and so of all passes together.
+const WHOLE: u64 = 64;
+
+/// The words and the slot, as the passes step on them.
+type Board<T> = Shared<Option<T>, View<<T as Stands>::Entry>, Snapshot<T>, HistoryRule<T>>;
+
+/// One value, with which passes take turns.
+///
+/// Contracts see which `lock` it is, and the value that it was made with, `first`. Threads share it by reference; what
+/// each of them knows is in its [`Pass`]. The crate's page tells a turn step by step.
+#[derive(Drop)]
+pub struct HistoryLock<T: Stands> {
+    table: Table<Option<T>, View<T::Entry>, Snapshot<T>, HistoryRule<T>, Global>,
+}
+
+impl<T: Stands> Model for HistoryLock<T> {
+    ghost use Rattle.std.specs.Prelude.{◌≡◌};
+    ghost use Rattle.cr_lock.specs.Passes.{Origin};
+
+    ghost Value = { Origin T };
+
+    ghost view = { λ l. record { lock = l.table.shared.table_id; first = l.table.shared.key.value } };
+
+    ghost invariant = { λ l. (l.table.shared.table_id.words ≡ 3) × (l.table.shared.table_id.slots ≡ 1) };
+}
+
+/// Why a pass was not split.
+#[derive(Debug, Clone, Copy, PartialEq, Eq, Drop)]
+pub enum SplitError {
+    /// Its share is 1, which can't be halved.
+    Full,
+    /// There is no memory for a second pass. The passes of this lock take none, so it never comes.
+    OutOfMemory,
+}
+
+/// The table's one slot, with the value in it; or, without memory, the value.
+fn one_slot<T>(alloc: Global, value: T) -> Result<Vec<Option<T>, Global>, T>
+    ensures ok { IfOk result (λ v. v.items ≡ Some value ∷ []) }
+    ensures err { IfErr result (λ x. x ≡ value) }
+{
+    let mut slots = Vec::new(alloc);
+    match slots.push(Some(value)) {
+        Ok(()) => Ok(slots),
+        Err(AllocFailed { value }) => {
+            slots.destroy_empty();
+            Err(value.unwrap())
+        }
+    }
+}
+
+/// Draws a ticket, waits until it is served, and takes the value. The pass has then seen what it stands for.
+fn wait_and_take<T: Stands, R: Wait>(
+    rt: &R,
+    shared: &Board<T>,
+    seat: &mut Seat<Option<T>, View<T::Entry>>,
+) -> T
+    requires own { (seat.old.table_id ≡ shared.now.table_id) × (seat.old.me.1 ≡ []) × (shared.now.table_id.words ≡ 3) }
+    requires rests { ((view seat.old).role ≡ Idle) × (0 < (view seat.old).share) × ((view seat.old).turns < 2 ^ 40) }
+    ensures seat { (seat.new.table_id ≡ seat.old.table_id) × (seat.new.me.1 ≡ (0, None) ∷ []) }
+    ensures view { (t : ℕ) × (view seat.new ≡ record (view seat.old) {
+      turns = (view seat.old).turns + 1;
+      seen = T.list result;
+      role = Holding t (T.faults result);
+    }) }
+    ensures seen { IsPrefix (view seat.old).seen (T.list result) }
+{
+    let ticket = shared.fetch_add::<Draw>(seat, TICKET, 1);
+    for _ in rt.forever() {
+        let serving = shared.load::<Look<T>>(seat, SERVING);
+        if serving == ticket {
+            return shared.exchange(seat, VALUE, None).unwrap();
+        }
+        // The sleep compares the low half of the word.
+        shared.park(rt, SERVING, (serving % (1 << 32)) as u32);
+    }
+    unreachable!()
+}
+
+/// Wakes all who sleep, where a ticket behind the one served last was drawn.
+///
+/// Who draws a ticket only after this look finds the next one being served, so it doesn't sleep on an older number, and
+/// a turn that nobody waits behind makes no system call.
+fn wake_waiting<T: Stands>(shared: &Board<T>, served: u64)
+    requires { shared.now.table_id.words ≡ 3 }
+{
+    if shared.peek(TICKET) != served.wrapping_add(1) {
+        shared.wake_all(SERVING);
+    }
+}
+
+impl<T: Stands> HistoryLock<T> {
+    /// A lock round the value, and its first pass. That pass has share 64, no turns, and has seen what the value stands
+    /// for. Without memory the value comes back.
+    pub fn new(alloc: Global, value: T) -> Result<(HistoryLock<T>, Pass<T>), (AllocError, T)>
+        ensures { MatchResult result
+            (λ made. (made.0.first ≡ value) × (made.1 ≡ first_pass made.0.lock (T.list value)))
+            (λ refused. refused.1 ≡ value) }
+    {
+        let about = Snapshot::of(&value);
+        let words = [0, 0, value.entries()];
+        let slots = match one_slot(alloc, value) {
+            Ok(slots) => slots,
+            Err(value) => return Err((AllocError, value)),
+        };
+        match Table::new(alloc, &words, slots, &about) {
+            Ok((table, seat)) => Ok((
+                HistoryLock { table },
+                Pass {
+                    seat,
+                    share: WHOLE,
+                    turns: 0,
+                },
+            )),
+            Err(Refused { mut slots }) => {
+                let only = slots.pop().unwrap();
+                slots.destroy_empty();
+                Err((AllocError, only.unwrap()))
+            }
+        }
+    }
+
+    /// How many turns the pass has made; of a joined one the greater count of the two. It reads one number.
+    pub fn turns(&self, pass: &Pass<T>) -> u64
+        requires { pass.now.lock ≡ self.now.lock }
+        ensures { result ≡ pass.now.turns }
+    {
+        pass.turns
+    }
+
+    /// Waits until it is this pass's turn, calls the act on the value, and gives what the act answers.
+    ///
+    /// The act is lent a value `x` that stands for a history which begins with what the pass had seen, and leaves a
+    /// value `y`. It may only append to the list, and may not lower the count of faults. What it promises of `x`, `y`
+    /// and its answer holds. The pass has then seen what `y` stands for, and its turns are longer by one: the
+    /// length of the history at `x`, what was added, and the mark, set exactly where the count of faults rose or
+    /// stands at its last value. Beside what the act takes it takes no memory.
+    ///
+    /// A pass makes fewer than 2^40 turns, so all passes together draw fewer tickets than a word can count.
+    ///
+    /// A turn that nobody else waits for costs five atomic steps and no system call. Otherwise it wakes all who wait,
+    /// and all but one of them sleep again.
+    pub fn turn<A, F: FnOnce(&mut T) -> A, R: Wait>(&self, rt: &R, pass: &mut Pass<T>, act: F) -> A
+        requires own { pass.old.lock ≡ self.now.lock }
+        requires few { pass.old.turns < 2 ^ 40 }
+        requires takes { (x : T) → IsPrefix pass.old.seen (T.list x) → FnOnceTakesAtMut F.FnOnce act x }
+        requires appends { (x y : T) (r : A) → FnOnceReturnsAtMut F.FnOnce act x r y
+            → IsPrefix (T.list x) (T.list y) × (T.faults x ≤ T.faults y) }
+        ensures turn { (x y : T)
+            × IsPrefix pass.old.seen (T.list x)
+            × IsPrefix (T.list x) (T.list y)
+            × FnOnceReturnsAtMut F.FnOnce act x result y
+            × (pass.new ≡ after_turn pass.old (T.list x) (T.list y) (has_risen (T.faults x) (T.faults y))) }
+        ensures stand { Stand pass.new }
+    {
+        let shared = &self.table.shared;
+        let Pass {
+            seat,
+            share: _,
+            turns,
+        } = pass;
+        let mut value = wait_and_take(rt, shared, seat);
+        let before = value.entries();
+        let answer = act(&mut value);
+        let added = value.entries() - before;
+        let empty = shared.exchange(seat, VALUE, Some(value));
+        let None = empty else { unreachable!() };
+        shared.fetch_add::<Note<T>>(seat, COUNT, added);
+        let served = shared.fetch_add::<Next>(seat, SERVING, 1);
+        wake_waiting(shared, served);
+        *turns += 1;
+        answer
+    }
+
+    /// Two passes in place of one: each has half the share, the first one the larger half, and has seen what
+    /// the pass had seen, with its count of turns. The turns themselves stay with the first one.
+    ///
+    /// `Full` comes exactly where the share is 1; the pass is handed back as it was. It takes no memory.
+    pub fn split(&self, pass: Pass<T>) -> Result<(Pass<T>, Pass<T>), (SplitError, Pass<T>)>
+        requires { pass.lock ≡ self.now.lock }
+        ensures { MatchResult result
+            (λ halves. (1 < pass.share) × (halves.0 ≡ larger_half pass) × (halves.1 ≡ smaller_half pass))
+            (λ refused. (pass.share ≡ 1) × (refused.0 ≡ SplitError.Full) × (refused.1 ≡ pass)) }
+    {
+        if pass.share == 1 {
+            return Err((SplitError::Full, pass));
+        }
+        let Pass {
+            mut seat,
+            share,
+            turns,
+        } = pass;
+        let (larger, smaller) = (share - share / 2, share / 2);
+        let other = self.table.shared.split_seat::<Halve>(&mut seat);
+        let one = Pass {
+            seat,
+            share: larger,
+            turns,
+        };
+        let other = Pass {
+            seat: other,
+            share: smaller,
+            turns,
+        };
+        Ok((one, other))
+    }
+
+    /// One pass in place of two: their shares together, the longer of what they had seen, their turns merged by place,
+    /// and the greater count of turns.
+    ///
+    /// The caller learns that one of the two had seen a beginning of what the other had, and that no entry of the
+    /// history was added by both.
+    pub fn join(&self, one: Pass<T>, other: Pass<T>) -> Pass<T>
+        requires { (one.lock ≡ self.now.lock) × (other.lock ≡ self.now.lock) }
+        ensures both { result ≡ united one other }
+        ensures agree { Agree one other }
+        ensures stand { Stand result }
+    {
+        let Pass {
+            mut seat,
+            share,
+            turns,
+        } = one;
+        let Pass {
+            seat: other_seat,
+            share: other_share,
+            turns: other_turns,
+        } = other;
+        let shared = &self.table.shared;
+        shared.join_seat::<Unite>(&mut seat, other_seat);
+        shared.load::<LookAfterJoin>(&mut seat, SERVING);
+        Pass {
+            seat,
+            share: share + other_share,
+            turns: turns.max(other_turns),
+        }
+    }
+
+    /// The value, when all passes are one again.
+    ///
+    /// It stands for what the pass has seen. Every entry since `new` is in exactly one group of the pass's turns, and the
+    /// groups in order are what came behind the first list. The count of faults rose by at least the number of marks,
+    /// unless it stands at its last value.
+    pub fn close(self, pass: Pass<T>) -> T
+        requires own { pass.lock ≡ self.lock }
+        requires whole { pass.share ≡ 64 }
+        ensures { Closes T.list T.faults self.first pass result }
+    {
+        let HistoryLock { table } = self;
+        let Pass { seat, .. } = pass;
+        let mut closed = table.close_with(seat);
+        let value = closed.take(VALUE).unwrap();
+        closed.free();
+        value
+    }
+}

@@ -1,0 +1,21 @@
+//! The rule of the lock's table.
+use crate::stands::Stands;
+use crate::view::View;
+use atomic_table::TableRule;
+use std::marker::PhantomData;
+use std::snapshot::Snapshot;
+
+/// There is one history, of which each pass has seen a beginning and in which its turns stand.
+/// It holds between any two steps. Its key is the value that the lock was made with.
+pub(crate) struct HistoryRule<T> {
+    of: PhantomData<T>,
+}
+
+impl<T: Stands> TableRule<Option<T>, View<T::Entry>, Snapshot<T>> for HistoryRule<T> {
+    ghost use Rattle.cr_lock.specs.Views.{first_view};
+    ghost use Rattle.cr_lock.specs.Rule.{OneHistory};
+
+    ghost holds = { λ key. OneHistory T.list T.faults key.value };
+
+    ghost first = { λ key. first_view (T.list key.value) };
+}

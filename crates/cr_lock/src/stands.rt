@@ -1,0 +1,21 @@
+//! What a value under the lock stands for.
+ghost use Rattle.std.specs.Prelude.{◌≡◌, ℕ, List, length};
+
+/// A value that stands for a list, its history, and counts its faults.
+///
+/// Turns may append to the list and let the count rise, and do nothing else to the two:
+/// [`HistoryLock::turn`](crate::HistoryLock::turn) asks that of what it is given.
+pub trait Stands {
+    /// What the list is made of. Contracts alone speak of it; no value of it is made.
+    type Entry;
+
+    // The list that a value stands for.
+    ghost list: { Self → List Self.Entry };
+
+    // How many faults a value has counted, as a `u64` that stays at its last value.
+    ghost faults: { Self → ℕ };
+
+    /// The length of the list. It should cost no walk: each turn asks for it twice.
+    fn entries(&self) -> u64
+        ensures { result ≡ length (list self.now) };
+}

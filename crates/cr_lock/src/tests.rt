@@ -1,0 +1,243 @@
+//! Splits down to the last share, and four threads.
+ghost use Rattle.std.specs.Prelude.{◌≡◌, ℕ, List, [], ◌∷◌, ◌++◌, ◌+◌, ◌<◌, ◌≤◌, ◌^◌, length, vec_len, All, OnOk, IfOk, IfSome, MatchResult};
+ghost use Rattle.cr_lock.specs.Passes.{larger_half, smaller_half};
+ghost use Rattle.cr_lock.specs.Turns.{groups_of};
+
+use crate::lock::{HistoryLock, SplitError};
+use crate::pass::Pass;
+use crate::stands::Stands;
+use std::alloc::{AllocError, Global};
+use std::sync::Wait;
+use std::test::Fail;
+use std::thread::{Threads, join};
+
+/// How many turns each thread takes.
+const TURNS: u64 = 1000;
+
+/// Who acted, and which of its acts it was.
+#[derive(Clone, Copy)]
+struct Act {
+    who: u64,
+    step: u64,
+}
+
+/// The acts of all threads, in order.
+#[derive(Drop)]
+struct Acts {
+    log: Vec<Act>,
+}
+
+impl Stands for Acts {
+    type Entry = Act;
+
+    ghost list = { λ a. a.log.items };
+
+    ghost faults = { λ _. 0 };
+
+    fn entries(&self) -> u64 {
+        self.log.len() as u64
+    }
+}
+
+impl Acts {
+    fn record(&mut self, act: Act) -> Result<(), AllocError>
+        ensures { MatchResult result (λ _. self.new.log.items ≡ self.old.log.items ++ act ∷ []) (λ _. self.new.log.items ≡ self.old.log.items) }
+    {
+        self.log.push(act).map_err(|_| AllocError)
+    }
+}
+
+/// Splits the pass until each part has share 1, and puts the parts behind the others.
+fn spread(
+    lock: &HistoryLock<Acts>,
+    pass: Pass<Acts>,
+    passes: &mut Vec<Pass<Acts>>,
+) -> Result<(), AllocError>
+    requires own { pass.lock ≡ lock.now.lock }
+    requires others { All (λ p. (p.lock ≡ lock.now.lock) × (p.share ≡ 1)) passes.old.items }
+    ensures each { OnOk result (All (λ p. (p.lock ≡ lock.now.lock) × (p.share ≡ 1)) passes.new.items) }
+    ensures count { OnOk result (length passes.new.items ≡ length passes.old.items + pass.share) }
+{
+    match lock.split(pass) {
+        Ok((larger, smaller)) => {
+            spread(lock, larger, passes)?;
+            spread(lock, smaller, passes)
+        }
+        Err((_, pass)) => passes.push(pass).map_err(|_| AllocError),
+    }
+}
+
+/// A pass of share 1, after a split that was refused.
+fn refused(lock: &HistoryLock<Acts>, pass: Pass<Acts>) -> Pass<Acts>
+    requires own { pass.lock ≡ lock.now.lock }
+    requires last { pass.share ≡ 1 }
+    ensures { result ≡ pass }
+{
+    let Err((SplitError::Full, pass)) = lock.split(pass) else {
+        unreachable!()
+    };
+    pass
+}
+
+/// All passes in one, each after a split that was refused.
+fn gather(lock: &HistoryLock<Acts>, passes: Vec<Pass<Acts>>) -> Option<Pass<Acts>>
+    requires { All (λ p. (p.lock ≡ lock.now.lock) × (p.share ≡ 1)) passes.items }
+    ensures { IfSome result (λ p. (p.lock ≡ lock.now.lock) × (p.share ≡ length passes.items)) }
+{
+    let mut passes = passes;
+    let mut all = refused(lock, passes.pop()?);
+    while let Some(pass) = passes.pop() {
+        all = lock.join(all, refused(lock, pass));
+    }
+    Some(all)
+}
+
+/// One thread's turns, and whether each found memory.
+fn act_often<R: Wait>(
+    rt: &R,
+    lock: &HistoryLock<Acts>,
+    mut pass: Pass<Acts>,
+    who: u64,
+) -> (Pass<Acts>, Result<(), AllocError>)
+    requires own { pass.lock ≡ lock.now.lock }
+    requires fresh { pass.turns ≡ 0 }
+    ensures own { (result.0.lock ≡ lock.now.lock) × (result.0.share ≡ pass.share) }
+{
+    for step in 0..TURNS {
+        let told = lock.turn(
+            rt,
+            &mut pass,
+            |acts: &mut Acts| acts.record(Act { who, step }),
+        );
+        if told.is_err() {
+            return (pass, told);
+        }
+    }
+    (pass, Ok(()))
+}
+
+/// Two threads' turns, and then one pass.
+fn act_in_two<R: Threads + Wait + Sync>(
+    rt: &R,
+    lock: &HistoryLock<Acts>,
+    one: Pass<Acts>,
+    other: Pass<Acts>,
+    who: u64,
+) -> (Pass<Acts>, Result<(), AllocError>)
+    requires own { (one.lock ≡ lock.now.lock) × (other.lock ≡ lock.now.lock) }
+    requires fresh { (one.turns ≡ 0) × (other.turns ≡ 0) }
+    requires small { who < 2 ^ 32 }
+    ensures own { (result.0.lock ≡ lock.now.lock) × (result.0.share ≡ one.share + other.share) }
+{
+    let ((one, first), (other, second)) = join(
+        rt,
+        || -> (Pass<Acts>, Result<(), AllocError>)
+            requires { (one.lock ≡ lock.now.lock) × (one.turns ≡ 0) }
+            ensures { (result.0.lock ≡ lock.entry.now.lock) × (result.0.share ≡ one.share) }
+        { act_often(rt, lock, one, who) },
+        || -> (Pass<Acts>, Result<(), AllocError>)
+            requires { (other.lock ≡ lock.now.lock) × (other.turns ≡ 0) × (who < 2 ^ 32) }
+            ensures { (result.0.lock ≡ lock.entry.now.lock) × (result.0.share ≡ other.share) }
+        { act_often(rt, lock, other, who + 1) },
+    );
+    (lock.join(one, other), first.and(second))
+}
+
+/// Both halves of a pass.
+fn halve(lock: &HistoryLock<Acts>, pass: Pass<Acts>) -> (Pass<Acts>, Pass<Acts>)
+    requires own { pass.lock ≡ lock.now.lock }
+    requires more { 1 < pass.share }
+    ensures { (result.0 ≡ larger_half pass) × (result.1 ≡ smaller_half pass) }
+{
+    match lock.split(pass) {
+        Ok(halves) => halves,
+        Err(_) => unreachable!(),
+    }
+}
+
+/// The value of a lock that was made with no acts: the groups of the joined pass's turns, in order.
+fn close_all(lock: HistoryLock<Acts>, pass: Pass<Acts>) -> Acts
+    requires own { pass.lock ≡ lock.lock }
+    requires whole { pass.share ≡ 64 }
+    requires empty { lock.first.log.items ≡ [] }
+    ensures { result.log.items ≡ groups_of pass.mine }
+{
+    lock.close(pass)
+}
+
+/// Four threads' turns, and then the value, with the turns that the joined pass counts.
+fn act_in_four<R: Threads + Wait + Sync>(
+    rt: &R,
+    lock: HistoryLock<Acts>,
+    pass: Pass<Acts>,
+) -> Result<(Acts, u64), AllocError>
+    requires own { pass.lock ≡ lock.lock }
+    requires fresh { (pass.share ≡ 64) × (pass.turns ≡ 0) × (lock.first.log.items ≡ []) }
+{
+    let (one, two) = halve(&lock, pass);
+    let (one, three) = halve(&lock, one);
+    let (two, four) = halve(&lock, two);
+    let shared = &lock;
+    let ((one, first), (two, second)) = join(
+        rt,
+        || -> (Pass<Acts>, Result<(), AllocError>)
+            requires { (one.lock ≡ shared.now.lock) × (three.lock ≡ shared.now.lock) × (one.turns ≡ 0) × (three.turns ≡ 0) }
+            ensures { (result.0.lock ≡ shared.entry.now.lock) × (result.0.share ≡ one.share + three.share) }
+        { act_in_two(rt, shared, one, three, 0) },
+        || -> (Pass<Acts>, Result<(), AllocError>)
+            requires { (two.lock ≡ shared.now.lock) × (four.lock ≡ shared.now.lock) × (two.turns ≡ 0) × (four.turns ≡ 0) }
+            ensures { (result.0.lock ≡ shared.entry.now.lock) × (result.0.share ≡ two.share + four.share) }
+        { act_in_two(rt, shared, two, four, 2) },
+    );
+    first.and(second)?;
+    let pass = lock.join(one, two);
+    let turns = lock.turns(&pass);
+    Ok((close_all(lock, pass), turns))
+}
+
+#[test]
+fn splits_to_the_last_share_and_joins_again(rt: HostRuntime) -> Result<(), AllocError> {
+    let alloc: Global = rt.alloc();
+    let Ok((lock, pass)) = HistoryLock::new(
+        alloc,
+        Acts {
+            log: Vec::new(alloc),
+        },
+    ) else {
+        return Err(AllocError);
+    };
+    let mut passes = Vec::new(alloc);
+    spread(&lock, pass, &mut passes)?;
+    assert_eq!(rt; passes.len(), 64);
+    let Some(pass) = gather(&lock, passes) else {
+        return Err(AllocError);
+    };
+    assert_eq!(rt; lock.turns(&pass), 0);
+    let acts = lock.close(pass);
+    assert!(rt; acts.log.is_empty());
+    Ok(())
+}
+
+#[test]
+fn four_threads_share_one_history(rt: HostRuntime) -> Result<(), Fail> {
+    let alloc: Global = rt.alloc();
+    let Ok((lock, pass)) = HistoryLock::new(
+        alloc,
+        Acts {
+            log: Vec::new(alloc),
+        },
+    ) else {
+        return Err(AllocError.into());
+    };
+    let (acts, turns) = act_in_four(&rt, lock, pass)?;
+    assert_eq!(rt; turns, TURNS);
+    assert_eq!(rt; acts.log.len(), 4 * TURNS as usize);
+    let mut steps = [0u64; 4];
+    for act in acts.log.iter() {
+        let next = &mut steps[act.who as usize % 4];
+        assert_eq!(rt; act.step, *next, "of {}", act.who);
+        *next = next.wrapping_add(1);
+    }
+    assert_eq!(rt; steps, [TURNS; 4]);
+    Ok(())
+}

@@ -1,0 +1,55 @@
+//! What a pass knows of the history. These are words of contracts alone: no value of them is ever made.
+use std::collections::LinkedList;
+
+/// One turn of a pass.
+pub struct Turn<E> {
+    /// The length of the history when the turn began.
+    pub place: u64,
+    /// What the turn added, in order; empty where it added nothing.
+    pub group: LinkedList<E>,
+    /// Whether the value's count of faults rose in the turn, or stands at its last value.
+    pub marked: bool,
+}
+
+/// What a pass is doing.
+pub enum Role<E> {
+    /// It is between turns.
+    Idle,
+    /// It has drawn a ticket that isn't served yet, or it hasn't looked since.
+    Waiting {
+        /// The ticket that it drew.
+        ticket: u64,
+    },
+    /// Its ticket is served, and it has the value.
+    Holding {
+        /// The ticket that it drew.
+        ticket: u64,
+        /// The value's count of faults, as it was when the turn began or, once it has noted the turn, as it is.
+        faults: u64,
+    },
+    /// It was just made of two passes, and has not looked yet what the two had in common.
+    Joined {
+        /// What the first one had seen.
+        one_seen: LinkedList<E>,
+        /// What the second one had seen.
+        other_seen: LinkedList<E>,
+        /// The turns of the first one.
+        one_mine: LinkedList<Turn<E>>,
+        /// The turns of the second one.
+        other_mine: LinkedList<Turn<E>>,
+    },
+}
+
+/// What one pass knows, and what it is doing.
+pub struct View<E> {
+    /// How many of the 64 parts of the right to the whole history it has.
+    pub share: u64,
+    /// At least how many turns it has made; after a join the greater count of the two.
+    pub turns: u64,
+    /// The history as it last saw it.
+    pub seen: LinkedList<E>,
+    /// Its turns, in the order of their places.
+    pub mine: LinkedList<Turn<E>>,
+    /// What it is doing.
+    pub role: Role<E>,
+}
