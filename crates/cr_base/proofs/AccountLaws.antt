@@ -10,7 +10,9 @@ use Rattle.std.proofs.lemmas.Slice.Eq.{bytes_eq-Decides}
 use Rattle.std.proofs.lemmas.Iterator.Adapters.{position_from-zero}
 use Rattle.cr_base.specs.Accounts.{number_at, lines_of, lines_from, with_role, AccountsFit}
 use Rattle.cr_base.specs.Checks.{judged, register_checks}
-use Rattle.cr_base.specs.Judging.{number_in}
+use Rattle.cr_base.specs.Judging.{Drawn, number_in, registration_drawn, judge_by_role}
+use Rattle.cr_base.specs.Tables.{Tables}
+use Rattle.cr_base.specs.declared.command.Command.TheVariants.{Register}
 use Rattle.cr_base.specs.declared.entry.Account.{Account}
 use Rattle.cr_base.specs.declared.entry.Entry.TheVariants.{Registered}
 use Rattle.cr_base.specs.declared.reply.AccountLine.{AccountLine}
@@ -117,3 +119,11 @@ registration-fits accounts name digest user h = by (number_at accounts name) (na
         let same : user ≡ count + 1 = cc in
         let few : count < 9999 = grind (arith, nat_tests) in
         (same, omega arith, refl)
+
+-- ---- registrations
+
+-- a registration is judged by the users of names and the number of accounts
+pub judge_by_role-register : (t : Tables) (caller : Option ℕ) (name digest : List ℕ) → judge_by_role t caller (Register name digest) ≡ judged (register_checks (is_some (number_at t.accounts name)) (length t.accounts)) (registration_drawn (length t.accounts + 1) name digest)
+judge_by_role-register t caller name digest =
+    let by : Option ℕ → ℕ → Result Drawn Rule = λ found count. judged (register_checks (is_some found) count) (registration_drawn (count + 1) name digest) in
+    ap (λ found. by found (length (lines_of t.accounts))) (number_in-lines_of t.accounts name) ∙ ap (by (number_at t.accounts name)) (length-lines_of t.accounts)

@@ -1,2 +1,10 @@
 pub mod AccountLaws
+pub mod CheckLaws
+pub mod LastLaws
+pub mod ListLaws
+pub mod PairLaws
+pub mod RisingLists
+pub mod RoleLaws
 pub mod RowLaws
+pub mod TextLaws
+pub mod TieLaws

@@ -3,14 +3,18 @@ use Rattle.std.proofs.Common.{ℕ, Bool, true, false, cond, ◌≡◌, ◌≤◌
 use Rattle.std.proofs.lemmas.Bool.Decides.{nat_tests}
 use Rattle.std.proofs.lemmas.List.{drop-replicate}
 use Rattle.std.proofs.lemmas.Slice.{drop-append-drop}
-use Rattle.cr_base.specs.Words.{role_number, role_at}
+use Rattle.cr_base.specs.Words.{phase_number, phase_at, mode_number, mode_at, role_number, role_at}
 use Rattle.cr_base.specs.Shapes.{kind_number, shape_of, FitsShape, InRange, unused}
 use Rattle.cr_base.specs.Rows.{kind_of, row_of, built, stamped, IsBoundedEntry}
 use Rattle.cr_base.specs.declared.entry.EntryKind.{EntryKind}
 use Rattle.cr_base.specs.declared.entry.EntryKind.TheVariants as kind
 use Rattle.cr_base.specs.declared.entry.Entry.{Entry}
-use Rattle.cr_base.specs.declared.entry.Entry.TheVariants.{Registered, Named}
+use Rattle.cr_base.specs.declared.entry.Entry.TheVariants.{Registered, Named, PhaseSet, ModeSet, Submitted, Conflict}
 use Rattle.cr_base.specs.declared.entry.Stamped.{Stamped}
+use Rattle.cr_base.specs.declared.words.Phase.{Phase}
+use Rattle.cr_base.specs.declared.words.Phase.TheVariants.{Setup, Submission, Bidding, Reviewing, Discussion, Notification, Closed}
+use Rattle.cr_base.specs.declared.words.Mode.{Mode}
+use Rattle.cr_base.specs.declared.words.Mode.TheVariants.{Overt, Blind, Anonymous}
 use Rattle.cr_base.specs.declared.words.Role.{Role}
 use Rattle.cr_base.specs.declared.words.Role.TheVariants.{Account, Member, Chair}
 use Rattle.cr_base.specs.declared.row.Row.{Row}
@@ -29,6 +33,35 @@ role_at-number Account h = absurd (omega arith)
 role_at-number Member h = refl
 role_at-number Chair h = refl
 
+-- a phase by its number, where the numbers are tested one after another
+phase_number-cond : (b : Bool) (x y : Phase) → phase_number (cond b x y) ≡ cond b (phase_number x) (phase_number y)
+phase_number-cond true x y = refl
+phase_number-cond false x y = refl
+
+phase_number-at : (n : ℕ) → n ≤ 6 → phase_number (phase_at n) ≡ n
+phase_number-at n h = simp phase_number-cond (grind (arith, nat_tests))
+
+phase_at-number : (x : Phase) → phase_at (phase_number x) ≡ x
+phase_at-number Setup = refl
+phase_at-number Submission = refl
+phase_at-number Bidding = refl
+phase_at-number Reviewing = refl
+phase_at-number Discussion = refl
+phase_at-number Notification = refl
+phase_at-number Closed = refl
+
+mode_number-cond : (b : Bool) (x y : Mode) → mode_number (cond b x y) ≡ cond b (mode_number x) (mode_number y)
+mode_number-cond true x y = refl
+mode_number-cond false x y = refl
+
+mode_number-at : (n : ℕ) → n ≤ 2 → mode_number (mode_at n) ≡ n
+mode_number-at n h = simp mode_number-cond (grind (arith, nat_tests))
+
+mode_at-number : (x : Mode) → mode_at (mode_number x) ≡ x
+mode_at-number Overt = refl
+mode_at-number Blind = refl
+mode_at-number Anonymous = refl
+
 bit : (n : ℕ) → n ≤ 1 → cond (n == 1) 1 0 ≡ n
 bit n h = grind (arith, nat_tests)
 
@@ -42,20 +75,28 @@ unused-zero n h = omega arith
 -- ---- from a row to its entry and back
 
 -- a row is the one with its fields
-same_row : (r : Row) (k : EntryKind) (a b : ℕ) (x y : List ℕ) → kind_number k ≡ r.kind → FitsShape (shape_of k) r → 0 ≡ r.n3 → 0 ≡ r.n4 → 0 ≡ r.n5 → a ≡ r.n1 → b ≡ r.n2 → x ≡ r.b1 → y ≡ r.b2 → record { kind = kind_number k; maker = r.maker; more = cond (r.more == 1) 1 0; n1 = a; n2 = b; n3 = 0; n4 = 0; n5 = 0; b1 = x; b2 = y } ≡ r
-same_row r k a b x y hk f h3 h4 h5 h1 h2 hx hy =
+same_row : (r : Row) (k : EntryKind) (a b c : ℕ) (x y : List ℕ) → kind_number k ≡ r.kind → FitsShape (shape_of k) r → 0 ≡ r.n4 → 0 ≡ r.n5 → a ≡ r.n1 → b ≡ r.n2 → c ≡ r.n3 → x ≡ r.b1 → y ≡ r.b2 → record { kind = kind_number k; maker = r.maker; more = cond (r.more == 1) 1 0; n1 = a; n2 = b; n3 = c; n4 = 0; n5 = 0; b1 = x; b2 = y } ≡ r
+same_row r k a b c x y hk f h4 h5 h1 h2 h3 hx hy =
     let o = bit r.more f.more in
-    let e : record { kind = kind_number k; maker = r.maker; more = cond (r.more == 1) 1 0; n1 = a; n2 = b; n3 = 0; n4 = 0; n5 = 0; b1 = x; b2 = y } ≡ record { kind = r.kind; maker = r.maker; more = r.more; n1 = r.n1; n2 = r.n2; n3 = r.n3; n4 = r.n4; n5 = r.n5; b1 = r.b1; b2 = r.b2 } = cc in
+    let e : record { kind = kind_number k; maker = r.maker; more = cond (r.more == 1) 1 0; n1 = a; n2 = b; n3 = c; n4 = 0; n5 = 0; b1 = x; b2 = y } ≡ record { kind = r.kind; maker = r.maker; more = r.more; n1 = r.n1; n2 = r.n2; n3 = r.n3; n4 = r.n4; n5 = r.n5; b1 = r.b1; b2 = r.b2 } = cc in
     e
 
 -- the entry that a row spells has that row
 pub row_of-stamped : (k : EntryKind) (r : Row) → kind_number k ≡ r.kind → FitsShape (shape_of k) r → row_of (stamped k r) ≡ r
-row_of-stamped kind.Registered r hk f = same_row r kind.Registered _ _ _ _ hk f (unused-zero _ f.n3) (unused-zero _ f.n4) (unused-zero _ f.n5) refl (unused-zero _ f.n2) refl refl
-row_of-stamped kind.Named r hk f = same_row r kind.Named _ _ _ _ hk f (unused-zero _ f.n3) (unused-zero _ f.n4) (unused-zero _ f.n5) refl (role_number-at r.n2 f.n2.0 f.n2.1) (sym f.b1) (sym f.b2)
+row_of-stamped kind.Registered r hk f = same_row r kind.Registered _ _ _ _ _ hk f (unused-zero _ f.n4) (unused-zero _ f.n5) refl (unused-zero _ f.n2) (unused-zero _ f.n3) refl refl
+row_of-stamped kind.Named r hk f = same_row r kind.Named _ _ _ _ _ hk f (unused-zero _ f.n4) (unused-zero _ f.n5) refl (role_number-at r.n2 f.n2.0 f.n2.1) (unused-zero _ f.n3) (sym f.b1) (sym f.b2)
+row_of-stamped kind.PhaseSet r hk f = same_row r kind.PhaseSet _ _ _ _ _ hk f (unused-zero _ f.n4) (unused-zero _ f.n5) (phase_number-at r.n1 f.n1.1) (unused-zero _ f.n2) (unused-zero _ f.n3) (sym f.b1) (sym f.b2)
+row_of-stamped kind.ModeSet r hk f = same_row r kind.ModeSet _ _ _ _ _ hk f (unused-zero _ f.n4) (unused-zero _ f.n5) (mode_number-at r.n1 f.n1.1) (unused-zero _ f.n2) (unused-zero _ f.n3) (sym f.b1) (sym f.b2)
+row_of-stamped kind.Submitted r hk f = same_row r kind.Submitted _ _ _ _ _ hk f (unused-zero _ f.n4) (unused-zero _ f.n5) refl (unused-zero _ f.n2) (unused-zero _ f.n3) refl refl
+row_of-stamped kind.Conflict r hk f = same_row r kind.Conflict _ _ _ _ _ hk f (unused-zero _ f.n4) (unused-zero _ f.n5) refl refl (bit r.n3 f.n3.1) (sym f.b1) (sym f.b2)
 
 built-row_of : (e : Entry) (m : ℕ) (o : Bool) → IsBoundedEntry (record { maker = m; more = o; entry = e }) → built (kind_of e) (row_of (record { maker = m; more = o; entry = e })) ≡ e
 built-row_of (Registered user name digest) m o h = refl
 built-row_of (Named user role) m o h = ap (λ x. Named user x) (role_at-number role h.n2.0)
+built-row_of (PhaseSet phase) m o h = ap (λ x. PhaseSet x) (phase_at-number phase)
+built-row_of (ModeSet mode) m o h = ap (λ x. ModeSet x) (mode_at-number mode)
+built-row_of (Conflict paper user on) m o h = ap (λ x. Conflict paper user x) (bit-back on)
+built-row_of (Submitted paper title abstract) m o h = refl
 
 restamp : (s : Stamped) (p : Bool) (f : Entry) → p ≡ s.more → f ≡ s.entry → ◌≡◌ {A = Stamped} (record { maker = s.maker; more = p; entry = f }) s
 restamp s p f hp hf = let e : ◌≡◌ {A = Stamped} (record { maker = s.maker; more = p; entry = f }) (record { maker = s.maker; more = s.more; entry = s.entry }) = cc in e
@@ -67,12 +108,16 @@ stamped-row_of s h = restamp s _ _ (bit-back s.more) (built-row_of s.entry s.mak
 -- ---- the kind of a row
 
 kind_at : ℕ → EntryKind
-kind_at n = cond (n == 1) kind.Registered kind.Named
+kind_at n = cond (n == 1) kind.Registered (cond (n == 2) kind.Named (cond (n == 3) kind.PhaseSet (cond (n == 4) kind.ModeSet (cond (n == 5) kind.Submitted kind.Conflict))))
 
 kind_at-number : (k : EntryKind) → kind_at (kind_number k) ≡ k
 unfolding kind_at
 kind_at-number kind.Registered = refl
 kind_at-number kind.Named = refl
+kind_at-number kind.PhaseSet = refl
+kind_at-number kind.ModeSet = refl
+kind_at-number kind.Conflict = refl
+kind_at-number kind.Submitted = refl
 
 same_kind : (k j : EntryKind) → kind_number k ≡ kind_number j → k ≡ j
 same_kind k j e = sym (kind_at-number k) ∙ ap kind_at e ∙ kind_at-number j
@@ -80,6 +125,10 @@ same_kind k j e = sym (kind_at-number k) ∙ ap kind_at e ∙ kind_at-number j
 kind_of-built : (k : EntryKind) (r : Row) → kind_of (built k r) ≡ k
 kind_of-built kind.Registered r = refl
 kind_of-built kind.Named r = refl
+kind_of-built kind.PhaseSet r = refl
+kind_of-built kind.ModeSet r = refl
+kind_of-built kind.Conflict r = refl
+kind_of-built kind.Submitted r = refl
 
 kind_of-row : (k : EntryKind) (r : Row) (s : Stamped) → kind_number k ≡ r.kind → row_of s ≡ r → kind_of s.entry ≡ k
 kind_of-row k r s hk e = same_kind (kind_of s.entry) k (ap (λ (q : Row). q.kind) e ∙ sym hk)

@@ -1,13 +1,14 @@
 -- The table of accounts: what an entry makes of it, and what is read from it.
-use Rattle.std.specs.Prelude.{ℕ, Bool, ◌≡◌, ◌≤◌, ◌+◌, ◌-◌, List, [], ◌∷◌, ◌++◌, length, Option, Some, None, slice_get, slice_set, position, false, if◌then◌else◌}
+use Rattle.std.specs.Prelude.{ℕ, Bool, ◌≡◌, ◌≤◌, ◌+◌, ◌-◌, List, [], ◌∷◌, ◌++◌, length, Option, Some, None, slice_get, slice_set, position, unwrap_or, false, if◌then◌else◌}
 use Rattle.std.specs.Option.{option_map, option_map_or, option_and_then}
 use Rattle.std.specs.Str.{bytes_eq}
 use Rattle.cr_base.specs.declared.words.Role.{Role}
 use Rattle.cr_base.specs.declared.words.Role.TheVariants as role
 use Rattle.cr_base.specs.declared.entry.Account.{Account}
 use Rattle.cr_base.specs.declared.entry.Entry.{Entry}
-use Rattle.cr_base.specs.declared.entry.Entry.TheVariants.{Registered, Named}
+use Rattle.cr_base.specs.declared.entry.Entry.TheVariants.{Registered, Named, PhaseSet, ModeSet, Submitted, Conflict}
 use Rattle.cr_base.specs.declared.reply.AccountLine.{AccountLine}
+use Rattle.cr_base.specs.Lists.{numbered}
 
 -- ---- the state
 
@@ -19,16 +20,24 @@ with_role accounts at role = option_map_or (λ a. slice_set accounts at (record 
 abbrev pub accounts_after : List Account → Entry → List Account
 accounts_after accounts (Registered user name digest) = accounts ++ record { name = name; digest = digest; role = role.Account } ∷ []
 accounts_after accounts (Named user role) = with_role accounts (user - 1) role
+accounts_after accounts (PhaseSet phase) = accounts
+accounts_after accounts (ModeSet mode) = accounts
+accounts_after accounts (Submitted paper title abstract) = accounts
+accounts_after accounts (Conflict paper user on) = accounts
 
 -- ---- what is read
 
 -- the account of a user
 abbrev pub account_at : List Account → ℕ → Option Account
-account_at accounts user = slice_get accounts (user - 1)
+account_at accounts user = numbered accounts user
 
 -- the role of a user, where she has an account
 abbrev pub role_at : List Account → ℕ → Option Role
 role_at accounts user = option_map (λ a. a.role) (account_at accounts user)
+
+-- the role of a user: an account's for nobody, and where nobody has that number
+abbrev pub role_in : List Account → Option ℕ → Role
+role_in accounts user = unwrap_or (option_and_then (role_at accounts) user) role.Account
 
 -- the user with a name
 abbrev pub number_at : List Account → List ℕ → Option ℕ
@@ -57,3 +66,7 @@ lines_of accounts = lines_from 1 accounts
 abbrev pub AccountsFit : List Account → Entry → Type 0
 AccountsFit accounts (Registered user name digest) = (user ≡ length accounts + 1) × (user ≤ 9999) × (number_at accounts name ≡ None)
 AccountsFit accounts (Named user role) = (1 ≤ user) × (user ≤ length accounts)
+AccountsFit accounts (PhaseSet phase) = Unit {0}
+AccountsFit accounts (ModeSet mode) = Unit {0}
+AccountsFit accounts (Submitted paper title abstract) = Unit {0}
+AccountsFit accounts (Conflict paper user on) = (1 ≤ user) × (user ≤ length accounts)

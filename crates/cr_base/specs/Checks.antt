@@ -1,7 +1,15 @@
--- The rules of each command, in order, over plain values: a list of checks, of which the first broken one answers.
-use Rattle.std.specs.Prelude.{ℕ, Bool, nat_le, List, [], ◌∷◌, Result, Ok, Err, if◌then◌else◌}
+-- The rules of each command and query, in order, over plain values: a list of checks, of which the first broken one
+-- answers.
+use Rattle.std.specs.Prelude.{ℕ, Bool, true, false, not, ◌||◌, ◌&&◌, nat_le, List, [], ◌∷◌, Option, is_none, unwrap_or, Result, Ok, Err, if◌then◌else◌}
 use Rattle.cr_base.specs.declared.reply.Rule.{Rule}
 use Rattle.cr_base.specs.declared.reply.Rule.TheVariants as rules
+use Rattle.cr_base.specs.declared.standing.Standing.{Standing}
+use Rattle.cr_base.specs.declared.words.Phase.{Phase}
+use Rattle.cr_base.specs.declared.words.Phase.TheVariants.{Setup, Submission, Bidding, Notification}
+use Rattle.cr_base.specs.declared.words.Role.{Role}
+use Rattle.cr_base.specs.declared.words.Role.TheVariants.{Account}
+use Rattle.cr_base.specs.Phases.{is_from, is_phase, is_next}
+use Rattle.cr_base.specs.Words.{role_number, is_member, is_chair}
 
 -- a rule, and whether it is broken
 pub record Check : Type 0 where
@@ -23,3 +31,100 @@ register_checks taken count =
     taken breaks rules.NameTaken
     ∷ nat_le 9999 count breaks rules.FullAccounts
     ∷ []
+
+-- phase: the caller's standing, the phase now, and the one that is to come
+abbrev pub phase_checks : Standing → Phase → Phase → List Check
+phase_checks by now to =
+    not (is_chair by.role) breaks rules.NotChair
+    ∷ not (is_next now to) breaks rules.WrongPhase
+    ∷ []
+
+-- submit: the caller's standing, how many papers there are, and how many of them are hers
+abbrev pub submit_checks : Standing → ℕ → ℕ → List Check
+submit_checks by count own =
+    not (is_phase by.phase Submission) breaks rules.WrongPhase
+    ∷ nat_le 9999 count breaks rules.FullPapers
+    ∷ nat_le 20 own breaks rules.QuotaPapers
+    ∷ []
+
+-- a paper's page: the caller's standing at the paper, and whether the paper is there
+abbrev pub page_checks : Standing → Bool → List Check
+page_checks by found =
+    not found breaks rules.NoPaper
+    ∷ not (is_member by.role || by.author) breaks rules.NotMember
+    ∷ []
+
+-- name: the caller's standing, the role of the user named, if there is one, and the role that she is to have
+abbrev pub name_checks : Standing → Option Role → Role → List Check
+name_checks by target role =
+    is_none target breaks rules.NoUser
+    ∷ not (is_chair by.role) breaks rules.NotChair
+    ∷ is_from Notification by.phase breaks rules.WrongPhase
+    ∷ nat_le (role_number role) (role_number (unwrap_or target Account)) breaks rules.AlreadyNamed
+    ∷ []
+
+-- mode: the caller's standing, and the phase now
+abbrev pub mode_checks : Standing → Phase → List Check
+mode_checks by now =
+    not (is_chair by.role) breaks rules.NotChair
+    ∷ not (is_phase now Setup) breaks rules.WrongPhase
+    ∷ []
+
+-- ---- conflict
+
+-- it is bidding or later, and no later than the discussion
+abbrev pub is_in_committee : Phase → Bool
+is_in_committee phase = is_from Bidding phase && not (is_from Notification phase)
+
+-- on, in setup or submission: authors declare members
+abbrev pub declare_checks : Standing → Option Role → List Check
+declare_checks by target =
+    not by.author breaks rules.NotAuthor
+    ∷ not (is_member (unwrap_or target Account)) breaks rules.NotAMember
+    ∷ []
+
+-- on, from bidding to discussion: members declare themselves
+abbrev pub own_checks : Standing → List Check
+own_checks by =
+    not (is_member by.role) breaks rules.NotMember
+    ∷ []
+
+-- on, from bidding to discussion: clear chairs declare other members
+abbrev pub other_checks : Standing → Option Role → List Check
+other_checks by target =
+    not (is_chair by.role) breaks rules.NotChair
+    ∷ by.conflicted breaks rules.Conflict
+    ∷ not (is_member (unwrap_or target Account)) breaks rules.NotAMember
+    ∷ []
+
+-- on, later: never
+abbrev pub late_checks : List Check
+late_checks =
+    true breaks rules.WrongPhase
+    ∷ []
+
+-- off: clear chairs, of members who are no authors
+abbrev pub off_checks : Standing → Option Role → Bool → List Check
+off_checks by target author =
+    not (is_chair by.role) breaks rules.NotChair
+    ∷ by.conflicted breaks rules.Conflict
+    ∷ not (is_in_committee by.phase) breaks rules.WrongPhase
+    ∷ not (is_member (unwrap_or target Account)) breaks rules.NotAMember
+    ∷ author breaks rules.AuthorConflict
+    ∷ []
+
+-- which of the five rows it is: on or off, bidding or later, after the discussion, and whether she names herself
+abbrev pub conflict_row : Bool → Bool → Bool → Bool → Standing → Option Role → Bool → List Check
+conflict_row false bidding late herself by target author = off_checks by target author
+conflict_row true false late herself by target author = declare_checks by target
+conflict_row true true true herself by target author = late_checks
+conflict_row true true false true by target author = own_checks by
+conflict_row true true false false by target author = other_checks by target
+
+-- conflict: the caller's standing at the paper, whether the paper is there, the role of the user named, if there is
+-- one, whether it is the caller, whether she is an author, and whether it is turned on
+abbrev pub conflict_checks : Standing → Bool → Option Role → Bool → Bool → Bool → List Check
+conflict_checks by found target herself author on =
+    not found breaks rules.NoPaper
+    ∷ is_none target breaks rules.NoUser
+    ∷ conflict_row on (is_from Bidding by.phase) (is_from Notification by.phase) herself by target author

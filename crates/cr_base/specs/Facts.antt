@@ -1,5 +1,7 @@
--- PublicFacts: what a history says to everyone.
-use Rattle.std.specs.Prelude.{ℕ, List, Option, length, map, Some}
+-- PublicFacts and Ties: what a history says of the conference, of its papers, and of a user.
+use Rattle.std.specs.Prelude.{ℕ, Bool, false, ◌||◌, List, Option, length, map, Some}
+use Rattle.std.specs.List.{flat_map, list_any}
+use Rattle.cr_base.specs.declared.entry.Stamped.{Stamped}
 use Rattle.cr_base.specs.declared.words.Phase.{Phase}
 use Rattle.cr_base.specs.declared.words.Phase.TheVariants.{Setup}
 use Rattle.cr_base.specs.declared.words.Mode.{Mode}
@@ -8,8 +10,10 @@ use Rattle.cr_base.specs.declared.words.Role.{Role}
 use Rattle.cr_base.specs.declared.words.Role.TheVariants.{Account}
 use Rattle.cr_base.specs.declared.reply.AccountLine.{AccountLine}
 use Rattle.cr_base.specs.declared.standing.Standing.{Standing}
-use Rattle.cr_base.specs.Lists.{last, last_or}
-use Rattle.cr_base.specs.History.{History, Registration, all_told, phase_told, mode_told, paper_told, registration_told, role_told, number_told, caller_told}
+use Rattle.cr_base.specs.Lists.{last, last_or, is_number, at_some}
+use Rattle.cr_base.specs.History.{History, Registration, all_told, all_told_by, phase_told, mode_told, paper_told, own_paper_told, author_told, conflict_told, declared_told, title_told, abstract_told, registration_told, role_told, number_told, caller_told}
+
+-- ---- PublicFacts
 
 -- the last phase that was set, else setup
 abbrev pub phase_of : History → Phase
@@ -23,9 +27,9 @@ mode_of H = last_or Blind (all_told mode_told H)
 abbrev pub role_of : Option ℕ → History → Role
 role_of u H = last_or Account (all_told (role_told u) H)
 
--- how many papers there are
-abbrev pub paper_count : History → ℕ
-paper_count H = length (all_told paper_told H)
+-- the papers, in the order of their submission
+abbrev pub papers_of : History → List ℕ
+papers_of H = all_told paper_told H
 
 -- the accounts, in the order of their registration, each with its role
 abbrev pub accounts_of : History → List AccountLine
@@ -39,6 +43,46 @@ number_of name H = last (all_told (number_told name) H)
 abbrev pub caller_of : List ℕ → List ℕ → History → Option ℕ
 caller_of name digest H = last (all_told (caller_told name digest) H)
 
--- Standing: what a user is to the conference
-abbrev pub standing_of : Option ℕ → History → Standing
-standing_of u H = record { phase = phase_of H; mode = mode_of H; role = role_of u H }
+-- ---- Ties
+
+-- the paper's authors, the submitter first
+abbrev pub authors_of : ℕ → History → List ℕ
+authors_of p H = all_told_by (author_told p) H
+
+abbrev pub is_author : Option ℕ → ℕ → History → Bool
+is_author u p H = list_any (is_number u) (authors_of p H)
+
+-- the last entry on the user's conflict with the paper turns it on
+abbrev pub is_declared : Option ℕ → ℕ → History → Bool
+is_declared u p H = last_or false (all_told (conflict_told u p) H)
+
+-- each author is in conflict with her paper, and so is whoever is declared so
+abbrev pub is_conflicted : Option ℕ → ℕ → History → Bool
+is_conflicted u p H = is_author u p H || is_declared u p H
+
+-- whom the paper's authors named in conflict with it
+abbrev pub declared_by_authors : ℕ → History → List ℕ
+declared_by_authors p H = flat_map (λ (e : Stamped). declared_told (is_author (Some e.maker) p H) p e.entry) H
+
+-- Standing: what a user is to the conference, and to a paper, if one is named
+abbrev pub standing_of : Option ℕ → Option ℕ → History → Standing
+standing_of u paper H = record {
+  phase = phase_of H;
+  mode = mode_of H;
+  role = role_of u H;
+  author = at_some (λ p. is_author u p H) paper;
+  conflicted = at_some (λ p. is_conflicted u p H) paper;
+}
+
+-- ---- papers
+
+-- the last title, the last abstract that the paper was given
+abbrev pub title_of : ℕ → History → Option (List ℕ)
+title_of p H = last (all_told (title_told p) H)
+
+abbrev pub abstract_of : ℕ → History → Option (List ℕ)
+abstract_of p H = last (all_told (abstract_told p) H)
+
+-- how many papers the user has submitted
+abbrev pub own_papers_of : Option ℕ → History → ℕ
+own_papers_of u H = length (all_told_by (own_paper_told u) H)

@@ -1,10 +1,10 @@
 -- Histories, and what one entry tells: each definition gives the values that the entry adds to one fact, at
 -- most one.
-use Rattle.std.specs.Prelude.{ℕ, List, [], ◌∷◌, Option, ◌&&◌}
+use Rattle.std.specs.Prelude.{ℕ, Bool, List, [], ◌∷◌, Option, ◌&&◌, ◌==◌}
 use Rattle.std.specs.List.{flat_map}
 use Rattle.std.specs.Str.{bytes_eq}
 use Rattle.cr_base.specs.declared.entry.Entry.{Entry}
-use Rattle.cr_base.specs.declared.entry.Entry.TheVariants.{Registered, Named}
+use Rattle.cr_base.specs.declared.entry.Entry.TheVariants.{Registered, Named, PhaseSet, ModeSet, Submitted, Conflict}
 use Rattle.cr_base.specs.declared.entry.Stamped.{Stamped}
 use Rattle.cr_base.specs.declared.words.Phase.{Phase}
 use Rattle.cr_base.specs.declared.words.Mode.{Mode}
@@ -25,16 +25,52 @@ pub record Registration : Type 0 where
 abbrev pub all_told : {A : Type 0} → (Entry → List A) → History → List A
 all_told told H = flat_map (λ (e : Stamped). told e.entry) H
 
+-- the same, where it counts who made the entry
+abbrev pub all_told_by : {A : Type 0} → (ℕ → Entry → List A) → History → List A
+all_told_by told H = flat_map (λ (e : Stamped). told e.maker e.entry) H
+
 -- the phase, the mode that it sets
 abbrev pub phase_told : Entry → List Phase
+phase_told (PhaseSet phase) = phase ∷ []
 phase_told _ = []
 
 abbrev pub mode_told : Entry → List Mode
+mode_told (ModeSet mode) = mode ∷ []
 mode_told _ = []
 
 -- the paper that it makes
 abbrev pub paper_told : Entry → List ℕ
+paper_told (Submitted paper title abstract) = paper ∷ []
 paper_told _ = []
+
+-- the same, where the user made it
+abbrev pub own_paper_told : Option ℕ → ℕ → Entry → List ℕ
+own_paper_told u maker (Submitted paper title abstract) = given (is_number u maker) paper
+own_paper_told u maker _ = []
+
+-- the author whom it gives the paper, where `maker` made it
+abbrev pub author_told : ℕ → ℕ → Entry → List ℕ
+author_told p maker (Submitted paper title abstract) = given (paper == p) maker
+author_told p maker _ = []
+
+-- whether it turns the user's declared conflict with the paper on or off
+abbrev pub conflict_told : Option ℕ → ℕ → Entry → List Bool
+conflict_told u p (Conflict paper user on) = given (paper == p && is_number u user) on
+conflict_told u p _ = []
+
+-- whom it names in a conflict with the paper, where `authors` made it
+abbrev pub declared_told : Bool → ℕ → Entry → List ℕ
+declared_told authors p (Conflict paper user on) = given (paper == p && authors) user
+declared_told authors p _ = []
+
+-- the title, the abstract that it gives the paper
+abbrev pub title_told : ℕ → Entry → List (List ℕ)
+title_told p (Submitted paper title abstract) = given (paper == p) title
+title_told p _ = []
+
+abbrev pub abstract_told : ℕ → Entry → List (List ℕ)
+abstract_told p (Submitted paper title abstract) = given (paper == p) abstract
+abstract_told p _ = []
 
 -- the account that it makes
 abbrev pub registration_told : Entry → List Registration

@@ -5,9 +5,15 @@ pub mod Facts
 pub mod History
 pub mod Judging
 pub mod Lists
+pub mod Page
+pub mod Pairs
+pub mod Papers
+pub mod Phases
 pub mod Rows
 pub mod Shapes
 pub mod Short
+pub mod Stage
 pub mod Tables
 pub mod Texts
+pub mod Ties
 pub mod Words

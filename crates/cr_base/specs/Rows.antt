@@ -1,17 +1,21 @@
 -- The row of each entry, and the entry of a row.
-use Rattle.std.specs.Prelude.{ℕ, ◌==◌, List, [], if◌then◌else◌, map}
+use Rattle.std.specs.Prelude.{ℕ, Bool, ◌==◌, List, [], if◌then◌else◌, map}
 use Rattle.cr_base.specs.declared.entry.EntryKind.{EntryKind}
 use Rattle.cr_base.specs.declared.entry.EntryKind.TheVariants as kind
 use Rattle.cr_base.specs.declared.entry.Entry.{Entry}
-use Rattle.cr_base.specs.declared.entry.Entry.TheVariants.{Registered, Named}
+use Rattle.cr_base.specs.declared.entry.Entry.TheVariants.{Registered, Named, PhaseSet, ModeSet, Submitted, Conflict}
 use Rattle.cr_base.specs.declared.entry.Stamped.{Stamped}
 use Rattle.cr_base.specs.declared.row.Row.{Row}
-use Rattle.cr_base.specs.Words.{role_number, role_at}
+use Rattle.cr_base.specs.Words.{phase_number, phase_at, mode_number, mode_at, role_number, role_at}
 use Rattle.cr_base.specs.Shapes.{kind_number, shape_of, FitsShape}
 
 abbrev pub kind_of : Entry → EntryKind
 kind_of (Registered user name digest) = kind.Registered
 kind_of (Named user role) = kind.Named
+kind_of (PhaseSet phase) = kind.PhaseSet
+kind_of (ModeSet mode) = kind.ModeSet
+kind_of (Submitted paper title abstract) = kind.Submitted
+kind_of (Conflict paper user on) = kind.Conflict
 
 -- what a row tells of an entry beside its kind, its maker and the mark
 pub record Fields : Type 0 where
@@ -23,19 +27,27 @@ pub record Fields : Type 0 where
   pub b1 : List ℕ
   pub b2 : List ℕ
 
-abbrev pub fields : ℕ → ℕ → List ℕ → List ℕ → Fields
-fields n1 n2 b1 b2 = record { n1 = n1; n2 = n2; n3 = 0; n4 = 0; n5 = 0; b1 = b1; b2 = b2 }
+abbrev pub fields : ℕ → ℕ → ℕ → List ℕ → List ℕ → Fields
+fields n1 n2 n3 b1 b2 = record { n1 = n1; n2 = n2; n3 = n3; n4 = 0; n5 = 0; b1 = b1; b2 = b2 }
+
+-- a mark by its number
+abbrev pub bit_number : Bool → ℕ
+bit_number b = if b then 1 else 0
 
 -- the numbers and bytes of an entry, each in its field
 abbrev pub fields_of : Entry → Fields
-fields_of (Registered user name digest) = fields user 0 name digest
-fields_of (Named user role) = fields user (role_number role) [] []
+fields_of (Registered user name digest) = fields user 0 0 name digest
+fields_of (Named user role) = fields user (role_number role) 0 [] []
+fields_of (PhaseSet phase) = fields (phase_number phase) 0 0 [] []
+fields_of (ModeSet mode) = fields (mode_number mode) 0 0 [] []
+fields_of (Submitted paper title abstract) = fields paper 0 0 title abstract
+fields_of (Conflict paper user on) = fields paper user (bit_number on) [] []
 
 -- the row of an entry
 abbrev pub row_of : Stamped → Row
 row_of s =
     let f = fields_of s.entry in
-    record { kind = kind_number (kind_of s.entry); maker = s.maker; more = if s.more then 1 else 0; n1 = f.n1; n2 = f.n2; n3 = f.n3; n4 = f.n4; n5 = f.n5; b1 = f.b1; b2 = f.b2 }
+    record { kind = kind_number (kind_of s.entry); maker = s.maker; more = bit_number s.more; n1 = f.n1; n2 = f.n2; n3 = f.n3; n4 = f.n4; n5 = f.n5; b1 = f.b1; b2 = f.b2 }
 
 -- RowsOf: one row for each entry, in order
 abbrev pub rows_of : List Stamped → List Row
@@ -49,6 +61,10 @@ IsBoundedEntry s = FitsShape (shape_of (kind_of s.entry)) (row_of s)
 abbrev pub built : EntryKind → Row → Entry
 built kind.Registered r = Registered r.n1 r.b1 r.b2
 built kind.Named r = Named r.n1 (role_at r.n2)
+built kind.PhaseSet r = PhaseSet (phase_at r.n1)
+built kind.ModeSet r = ModeSet (mode_at r.n1)
+built kind.Submitted r = Submitted r.n1 r.b1 r.b2
+built kind.Conflict r = Conflict r.n1 r.n2 (r.n3 == 1)
 
 abbrev pub stamped : EntryKind → Row → Stamped
 stamped k r = record { maker = r.maker; more = r.more == 1; entry = built k r }

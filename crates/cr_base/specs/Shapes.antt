@@ -1,18 +1,22 @@
 -- What may stand in the fields of a row, kind by kind.
 use Rattle.std.specs.Prelude.{ℕ, ◌≡◌, ◌≤◌, List, [], length}
 use Rattle.cr_base.specs.declared.entry.EntryKind.{EntryKind}
-use Rattle.cr_base.specs.declared.entry.EntryKind.TheVariants.{Registered, Named}
+use Rattle.cr_base.specs.declared.entry.EntryKind.TheVariants.{Registered, Named, PhaseSet, ModeSet, Submitted, Conflict}
 use Rattle.cr_base.specs.declared.shape.Range.{Range}
 use Rattle.cr_base.specs.declared.shape.Shape.{Shape}
 use Rattle.cr_base.specs.declared.shape.TextKind.{TextKind}
-use Rattle.cr_base.specs.declared.shape.TextKind.TheVariants.{Nothing, Name, Digest}
+use Rattle.cr_base.specs.declared.shape.TextKind.TheVariants.{Nothing, Name, Digest, Title, Abstract}
 use Rattle.cr_base.specs.declared.row.Row.{Row}
-use Rattle.cr_base.specs.Texts.{IsName}
+use Rattle.cr_base.specs.Texts.{IsName, IsTitle, IsAbstract}
 
 -- the number by which rows tell the kind
 abbrev pub kind_number : EntryKind → ℕ
 kind_number Registered = 1
 kind_number Named = 2
+kind_number PhaseSet = 3
+kind_number ModeSet = 4
+kind_number Submitted = 5
+kind_number Conflict = 10
 
 abbrev pub range : ℕ → ℕ → Range
 range low high = record { low = low; high = high }
@@ -20,6 +24,22 @@ range low high = record { low = low; high = high }
 -- the numbers of users
 abbrev pub users : Range
 users = range 1 9999
+
+-- the numbers of papers
+abbrev pub papers : Range
+papers = range 1 9999
+
+-- setup to closed
+abbrev pub phases : Range
+phases = range 0 6
+
+-- open, blind and anonymous
+abbrev pub modes : Range
+modes = range 0 2
+
+-- off and on
+abbrev pub bit : Range
+bit = range 0 1
 
 -- member and chair
 abbrev pub roles : Range
@@ -29,13 +49,17 @@ roles = range 1 2
 abbrev pub unused : Range
 unused = range 0 0
 
-abbrev pub shape : Range → Range → TextKind → TextKind → Shape
-shape n1 n2 b1 b2 = record { n1 = n1; n2 = n2; n3 = unused; n4 = unused; n5 = unused; b1 = b1; b2 = b2 }
+abbrev pub shape : Range → Range → Range → TextKind → TextKind → Shape
+shape n1 n2 n3 b1 b2 = record { n1 = n1; n2 = n2; n3 = n3; n4 = unused; n5 = unused; b1 = b1; b2 = b2 }
 
 -- the fields of each kind, a line a kind
 abbrev pub shape_of : EntryKind → Shape
-shape_of Registered = shape users unused Name Digest
-shape_of Named = shape users roles Nothing Nothing
+shape_of Registered = shape users unused unused Name Digest
+shape_of Named = shape users roles unused Nothing Nothing
+shape_of PhaseSet = shape phases unused unused Nothing Nothing
+shape_of ModeSet = shape modes unused unused Nothing Nothing
+shape_of Submitted = shape papers unused unused Title Abstract
+shape_of Conflict = shape papers users bit Nothing Nothing
 
 abbrev pub InRange : Range → ℕ → Type 0
 InRange r n = (r.low ≤ n) × (n ≤ r.high)
@@ -45,6 +69,8 @@ abbrev pub HasText : TextKind → List ℕ → Type 0
 HasText Nothing bytes = bytes ≡ []
 HasText Name bytes = IsName bytes
 HasText Digest bytes = length bytes ≡ 32
+HasText Title bytes = IsTitle bytes
+HasText Abstract bytes = IsAbstract bytes
 
 -- the row's fields are as the shape wants them; who made it, and the mark, are alike in every kind
 pub record FitsShape (s : Shape) (r : Row) : Type 0 where

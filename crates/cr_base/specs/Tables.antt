@@ -2,20 +2,32 @@
 use Rattle.std.specs.Prelude.{List, [], ◌∷◌, fold}
 use Rattle.cr_base.specs.declared.entry.Account.{Account}
 use Rattle.cr_base.specs.declared.entry.Stamped.{Stamped}
+use Rattle.cr_base.specs.declared.paper.Paper.{Paper}
 use Rattle.cr_base.specs.History.{History}
 use Rattle.cr_base.specs.Accounts.{accounts_after, AccountsFit}
+use Rattle.cr_base.specs.Stage.{StageState, first_stage, stage_after}
+use Rattle.cr_base.specs.Papers.{papers_after, PapersFit}
+use Rattle.cr_base.specs.Ties.{TiesState, no_ties, ties_after, TiesFit}
 
--- the tables: the accounts by user number
+-- the tables: the stage, the accounts by user number, the papers by their numbers, and who is tied to them
 pub record Tables : Type 0 where
+  pub stage : StageState
   pub accounts : List Account
+  pub papers : List Paper
+  pub ties : TiesState
 
 -- the tables of no entries
 abbrev pub no_tables : Tables
-no_tables = record { accounts = [] }
+no_tables = record { stage = first_stage; accounts = []; papers = []; ties = no_ties }
 
 -- the tables after one more entry
 abbrev pub tables_after : Tables → Stamped → Tables
-tables_after t s = record { accounts = accounts_after t.accounts s.entry }
+tables_after t s = record {
+  stage = stage_after t.stage s.entry;
+  accounts = accounts_after t.accounts s.entry;
+  papers = papers_after t.papers s.maker s.entry;
+  ties = ties_after t.ties s.maker s.entry;
+}
 
 -- the tables after these entries
 abbrev pub tables_from : Tables → History → Tables
@@ -28,6 +40,8 @@ tables_of H = tables_from no_tables H
 -- an entry may come next
 pub record Fits (t : Tables) (s : Stamped) : Type 0 where
   pub accounts : AccountsFit t.accounts s.entry
+  pub papers : PapersFit t.papers s.maker s.entry
+  pub ties : TiesFit t.ties s.entry
 
 -- each of these entries may come next in its turn
 abbrev pub FitInTurn : Tables → History → Type 0

@@ -1,7 +1,10 @@
--- The grammar of names.
-use Rattle.std.specs.Prelude.{ℕ, Bool, ◌≤◌, ◌==◌, ◌||◌, ◌&&◌, nat_le, List, length, IsTrue}
+-- The grammar of names, titles and abstracts.
+use Rattle.std.specs.Prelude.{ℕ, Bool, ◌≤◌, ◌==◌, ◌||◌, ◌&&◌, not, nat_le, List, length, IsTrue}
 use Rattle.std.specs.List.{list_all}
 use Rattle.std.specs.Char.{is_ascii_lowercase, is_ascii_digit}
+use Rattle.std.specs.Str.{is_utf8}
+
+-- ---- names
 
 -- a to z, 0 to 9 and the dash
 abbrev pub is_name_byte : ℕ → Bool
@@ -16,3 +19,31 @@ pub record IsName (text : List ℕ) : Type 0 where
 -- the same as a test
 abbrev pub is_name : List ℕ → Bool
 is_name text = nat_le 1 (length text) && nat_le (length text) 32 && list_all is_name_byte text
+
+-- ---- titles
+
+-- no control character's: none below U+0020, and not U+007F; the bytes of longer characters are from 128 on
+abbrev pub is_title_byte : ℕ → Bool
+is_title_byte b = nat_le 32 b && not (b == 127)
+
+-- a title: UTF-8, 1 to 200 such bytes
+pub record IsTitle (text : List ℕ) : Type 0 where
+  pub some : 1 ≤ length text
+  pub few : length text ≤ 200
+  pub bytes : IsTrue (list_all is_title_byte text)
+  pub utf8 : IsTrue (is_utf8 text)
+
+-- the same as a test
+abbrev pub is_title : List ℕ → Bool
+is_title text = nat_le 1 (length text) && nat_le (length text) 200 && list_all is_title_byte text && is_utf8 text
+
+-- ---- abstracts
+
+-- an abstract: UTF-8, at most 5,000 bytes
+pub record IsAbstract (text : List ℕ) : Type 0 where
+  pub few : length text ≤ 5000
+  pub utf8 : IsTrue (is_utf8 text)
+
+-- the same as a test
+abbrev pub is_abstract : List ℕ → Bool
+is_abstract text = nat_le (length text) 5000 && is_utf8 text

@@ -1,25 +1,107 @@
 -- The words and the numbers of phases, modes and roles.
-use Rattle.std.specs.Prelude.{ℕ, List, codes, ◌==◌, if◌then◌else◌}
+use Rattle.std.specs.Prelude.{ℕ, Bool, true, false, List, [], ◌∷◌, Option, find, codes, ◌==◌, if◌then◌else◌}
+use Rattle.std.specs.Str.{bytes_eq}
 use Rattle.cr_base.specs.declared.words.Phase.{Phase}
-use Rattle.cr_base.specs.declared.words.Phase.TheVariants.{Setup}
+use Rattle.cr_base.specs.declared.words.Phase.TheVariants.{Setup, Submission, Bidding, Reviewing, Discussion, Notification, Closed}
 use Rattle.cr_base.specs.declared.words.Mode.{Mode}
-use Rattle.cr_base.specs.declared.words.Mode.TheVariants.{Blind}
+use Rattle.cr_base.specs.declared.words.Mode.TheVariants.{Overt, Blind, Anonymous}
 use Rattle.cr_base.specs.declared.words.Role.{Role}
 use Rattle.cr_base.specs.declared.words.Role.TheVariants.{Account, Member, Chair}
+
+-- ---- phases
 
 -- the word for a phase
 abbrev pub phase_name : Phase → List ℕ
 phase_name Setup = codes "setup"
+phase_name Submission = codes "submission"
+phase_name Bidding = codes "bidding"
+phase_name Reviewing = codes "reviewing"
+phase_name Discussion = codes "discussion"
+phase_name Notification = codes "notification"
+phase_name Closed = codes "closed"
+
+-- the phases
+abbrev pub phases : List Phase
+phases = Setup ∷ Submission ∷ Bidding ∷ Reviewing ∷ Discussion ∷ Notification ∷ Closed ∷ []
+
+-- the phase of a word
+abbrev pub phase_named : List ℕ → Option Phase
+phase_named name = find (λ phase. bytes_eq name (phase_name phase)) phases
+
+-- a phase by its number in rows, which doesn't say which phase comes first
+abbrev pub phase_number : Phase → ℕ
+phase_number Setup = 0
+phase_number Submission = 1
+phase_number Bidding = 2
+phase_number Reviewing = 3
+phase_number Discussion = 4
+phase_number Notification = 5
+phase_number Closed = 6
+
+-- the phase of a number in rows, from 0 to 6
+abbrev pub phase_at : ℕ → Phase
+phase_at n =
+    if n == 0 then Setup
+    else (if n == 1 then Submission
+    else (if n == 2 then Bidding
+    else (if n == 3 then Reviewing
+    else (if n == 4 then Discussion
+    else (if n == 5 then Notification
+    else Closed)))))
+
+-- ---- modes
 
 -- the word for a mode
 abbrev pub mode_name : Mode → List ℕ
+mode_name Overt = codes "open"
 mode_name Blind = codes "blind"
+mode_name Anonymous = codes "anonymous"
+
+-- the modes
+abbrev pub modes : List Mode
+modes = Overt ∷ Blind ∷ Anonymous ∷ []
+
+-- the mode of a word
+abbrev pub mode_named : List ℕ → Option Mode
+mode_named name = find (λ mode. bytes_eq name (mode_name mode)) modes
+
+-- a mode by its number in rows
+abbrev pub mode_number : Mode → ℕ
+mode_number Overt = 0
+mode_number Blind = 1
+mode_number Anonymous = 2
+
+-- the mode of a number in rows, from 0 to 2
+abbrev pub mode_at : ℕ → Mode
+mode_at n = if n == 0 then Overt else (if n == 1 then Blind else Anonymous)
+
+-- members other than chairs don't see who wrote
+abbrev pub is_anonymous : Mode → Bool
+is_anonymous Overt = false
+is_anonymous Blind = false
+is_anonymous Anonymous = true
+
+-- authors see who reviewed them
+abbrev pub is_overt : Mode → Bool
+is_overt Overt = true
+is_overt Blind = false
+is_overt Anonymous = false
+
+-- ---- roles
 
 -- the word for a role
 abbrev pub role_name : Role → List ℕ
 role_name Account = codes "account"
 role_name Member = codes "member"
 role_name Chair = codes "chair"
+
+-- the roles that somebody may be named to
+abbrev pub named_roles : List Role
+named_roles = Member ∷ Chair ∷ []
+
+-- the role of a word
+abbrev pub role_named : List ℕ → Option Role
+role_named name = find (λ role. bytes_eq name (role_name role)) named_roles
 
 -- a role by its number in rows; a role is at least another where its number is
 abbrev pub role_number : Role → ℕ
@@ -30,3 +112,14 @@ role_number Chair = 2
 -- the role that a row names a user to: 1 is a member, 2 a chair
 abbrev pub role_at : ℕ → Role
 role_at n = if n == 2 then Chair else Member
+
+-- a chair is a member
+abbrev pub is_member : Role → Bool
+is_member Account = false
+is_member Member = true
+is_member Chair = true
+
+abbrev pub is_chair : Role → Bool
+is_chair Account = false
+is_chair Member = false
+is_chair Chair = true

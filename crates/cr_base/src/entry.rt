@@ -1,9 +1,9 @@
 //! The entries of the history: what accepted commands add.
 ghost use Rattle.std.specs.Prelude.{◌≡◌, IfOk};
 
-use crate::numbers::UserNo;
-use crate::texts::Short;
-use crate::words::Role;
+use crate::numbers::{PaperNo, UserNo};
+use crate::texts::{Short, Text};
+use crate::words::{Mode, Phase, Role};
 use std::alloc::{AllocError, Global};
 
 /// The SHA-256 digest of a secret (FIPS 180-4): 32 bytes.
@@ -28,6 +28,34 @@ pub enum Entry {
         /// Member or chair.
         role: Role,
     },
+    /// The conference is in another phase from here on.
+    PhaseSet {
+        /// The phase.
+        phase: Phase,
+    },
+    /// A paper is there from here on; its maker is its first author.
+    Submitted {
+        /// The paper's number: the count of papers before it plus 1.
+        paper: PaperNo,
+        /// Its title: UTF-8, 1 to 200 bytes, no control characters.
+        title: Text,
+        /// Its abstract: UTF-8, at most 5,000 bytes.
+        abstract_: Text,
+    },
+    /// The conference is in another mode from here on.
+    ModeSet {
+        /// The mode.
+        mode: Mode,
+    },
+    /// A user's declared conflict with a paper is on or off from here on.
+    Conflict {
+        /// The paper.
+        paper: PaperNo,
+        /// Who is in conflict with it, or no longer.
+        user: UserNo,
+        /// Whether she is.
+        on: bool,
+    },
 }
 
 /// The kind of an entry.
@@ -37,6 +65,14 @@ pub enum EntryKind {
     Registered,
     /// An [`Entry::Named`].
     Named,
+    /// An [`Entry::PhaseSet`].
+    PhaseSet,
+    /// An [`Entry::Submitted`].
+    Submitted,
+    /// An [`Entry::ModeSet`].
+    ModeSet,
+    /// An [`Entry::Conflict`].
+    Conflict,
 }
 
 /// An entry with its maker, and whether another entry of the same command follows.
@@ -63,7 +99,7 @@ pub struct Account {
 
 impl Entry {
     /// An equal one; an error only for want of memory.
-    pub fn copy(&self, _alloc: Global) -> Result<Entry, AllocError>
+    pub fn copy(&self, alloc: Global) -> Result<Entry, AllocError>
         ensures { IfOk result (λ entry. entry ≡ self.now) }
     {
         match self {
@@ -75,6 +111,22 @@ impl Entry {
             Entry::Named { user, role } => Ok(Entry::Named {
                 user: *user,
                 role: *role,
+            }),
+            Entry::PhaseSet { phase } => Ok(Entry::PhaseSet { phase: *phase }),
+            Entry::ModeSet { mode } => Ok(Entry::ModeSet { mode: *mode }),
+            Entry::Conflict { paper, user, on } => Ok(Entry::Conflict {
+                paper: *paper,
+                user: *user,
+                on: *on,
+            }),
+            Entry::Submitted {
+                paper,
+                title,
+                abstract_,
+            } => Ok(Entry::Submitted {
+                paper: *paper,
+                title: title.copy(alloc)?,
+                abstract_: abstract_.copy(alloc)?,
             }),
         }
     }

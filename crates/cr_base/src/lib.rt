@@ -4,7 +4,11 @@
 
 mod command;
 mod entry;
+mod me;
 mod numbers;
+mod page;
+mod pairs;
+mod paper;
 mod reply;
 mod row;
 mod shape;
@@ -17,9 +21,13 @@ mod words;
 
 pub use command::{Command, Query};
 pub use entry::{Account, Digest, Entry, EntryKind, Stamped};
-pub use numbers::{LAST_NUMBER, UserNo};
+pub use me::{Me, PaperNos};
+pub use numbers::{LAST_NUMBER, PaperNo, UserNo};
+pub use page::{BareKeys, Names, Page};
+pub use pairs::Pair;
+pub use paper::Paper;
 pub use reply::{AccountLine, AccountLines, Conference, Receipt, Reply, Rule};
 pub use row::Row;
 pub use standing::Standing;
-pub use texts::{Blob, MAX_SHORT, Short, Text, is_name, is_name_byte};
+pub use texts::{Blob, MAX_SHORT, Short, Text, is_abstract, is_name, is_name_byte, is_title};
 pub use words::{Mode, Phase, Role};

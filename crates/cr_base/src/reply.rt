@@ -1,19 +1,45 @@
 //! Rules, receipts and replies: what a command or a query is answered.
 ghost use Rattle.std.specs.Prelude.{◌≡◌, [], ◌∷◌, ◌++◌, length, OnOk, OnErr};
 
-use crate::numbers::UserNo;
+use crate::me::Me;
+use crate::numbers::{PaperNo, UserNo};
+use crate::page::Page;
 use crate::texts::Short;
 use crate::words::{Mode, Phase, Role};
 use std::alloc::{AllocError, Global};
 use std::marker::Model;
 
-/// A rule of the conference, broken by a command.
+/// A rule of the conference, broken by a command or a query.
 #[derive(Clone, Copy, Debug, PartialEq, Eq)]
 pub enum Rule {
     /// Somebody has registered the name.
     NameTaken,
     /// 9,999 accounts are registered.
     FullAccounts,
+    /// The caller is no chair.
+    NotChair,
+    /// The phase is another than the one that is wanted.
+    WrongPhase,
+    /// 9,999 papers were submitted.
+    FullPapers,
+    /// The caller has submitted 20 papers.
+    QuotaPapers,
+    /// There is no such paper.
+    NoPaper,
+    /// The caller is no member of the committee, and no author of the paper.
+    NotMember,
+    /// There is no such user.
+    NoUser,
+    /// The user has that role, or a greater one.
+    AlreadyNamed,
+    /// The caller is no author of the paper.
+    NotAuthor,
+    /// The user named is no member of the committee.
+    NotAMember,
+    /// The caller is in conflict with the paper.
+    Conflict,
+    /// The user named is an author of the paper, and stays in conflict with it.
+    AuthorConflict,
 }
 
 /// What an accepted command is answered.
@@ -23,6 +49,33 @@ pub enum Receipt {
     User {
         /// The new user's number.
         user: UserNo,
+    },
+    /// The phase that the conference is in now.
+    Phase {
+        /// The phase.
+        phase: Phase,
+    },
+    /// The paper submitted.
+    Paper {
+        /// Its number.
+        paper: PaperNo,
+    },
+    /// A user has this role now.
+    Named {
+        /// Her name.
+        name: Short,
+        /// The role.
+        role: Role,
+    },
+    /// The mode that the conference goes by now.
+    Mode {
+        /// The mode.
+        mode: Mode,
+    },
+    /// The paper to which something was said.
+    Noted {
+        /// Its number.
+        paper: PaperNo,
     },
 }
 
@@ -81,7 +134,7 @@ impl AccountLines {
 pub struct Conference {
     /// Its mode.
     pub mode: Mode,
-    /// How many papers were submitted: 0, while none can be.
+    /// How many papers were submitted, 0 to 9,999.
     pub papers: u64,
     /// Its phase.
     pub phase: Phase,
@@ -98,4 +151,8 @@ pub enum Reply {
     Accounts(AccountLines),
     /// The answer to `Query::Phase`.
     Conference(Conference),
+    /// The answer to `Query::Page`.
+    Page(Page),
+    /// The answer to `Query::Me`.
+    Me(Me),
 }

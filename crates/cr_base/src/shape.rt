@@ -6,7 +6,7 @@ ghost use Rattle.cr_base.specs.declared.entry.EntryKind.{EntryKind};
 use crate::entry::EntryKind;
 use crate::numbers::LAST_NUMBER;
 use crate::row::Row;
-use crate::texts::is_name;
+use crate::texts::{is_abstract, is_name, is_title};
 
 /// The numbers that a field may hold, both ends among them.
 #[derive(Clone, Copy, Debug, PartialEq, Eq)]
@@ -26,6 +26,10 @@ pub enum TextKind {
     Name,
     /// A digest: 32 bytes.
     Digest,
+    /// A paper's title.
+    Title,
+    /// A paper's abstract.
+    Abstract,
 }
 
 /// What may stand in a row of one kind.
@@ -52,9 +56,18 @@ const USERS: Range = Range {
     high: LAST_NUMBER,
 };
 
+const PAPERS: Range = Range {
+    low: 1,
+    high: LAST_NUMBER,
+};
+
+const PHASES: Range = Range { low: 0, high: 6 };
+
+const MODES: Range = Range { low: 0, high: 2 };
+
 const ROLES: Range = Range { low: 1, high: 2 };
 
-const MARK: Range = Range { low: 0, high: 1 };
+const BIT: Range = Range { low: 0, high: 1 };
 
 const UNUSED: Range = Range { low: 0, high: 0 };
 
@@ -74,6 +87,8 @@ impl TextKind {
             TextKind::Nothing => bytes.is_empty(),
             TextKind::Name => is_name(bytes),
             TextKind::Digest => bytes.len() == 32,
+            TextKind::Title => is_title(bytes),
+            TextKind::Abstract => is_abstract(bytes),
         }
     }
 }
@@ -86,6 +101,10 @@ impl EntryKind {
         match self {
             EntryKind::Registered => 1,
             EntryKind::Named => 2,
+            EntryKind::PhaseSet => 3,
+            EntryKind::ModeSet => 4,
+            EntryKind::Submitted => 5,
+            EntryKind::Conflict => 10,
         }
     }
 
@@ -97,6 +116,10 @@ impl EntryKind {
         match number {
             1 => Some(EntryKind::Registered),
             2 => Some(EntryKind::Named),
+            3 => Some(EntryKind::PhaseSet),
+            4 => Some(EntryKind::ModeSet),
+            5 => Some(EntryKind::Submitted),
+            10 => Some(EntryKind::Conflict),
             _ => None,
         }
     }
@@ -106,8 +129,16 @@ impl EntryKind {
         ensures { result ≡ shape_of self }
     {
         match self {
-            EntryKind::Registered => Shape::of(USERS, UNUSED, TextKind::Name, TextKind::Digest),
-            EntryKind::Named => Shape::of(USERS, ROLES, TextKind::Nothing, TextKind::Nothing),
+            EntryKind::Registered => {
+                Shape::of(USERS, UNUSED, UNUSED, TextKind::Name, TextKind::Digest)
+            }
+            EntryKind::Named => Shape::of_numbers(USERS, ROLES, UNUSED),
+            EntryKind::PhaseSet => Shape::of_numbers(PHASES, UNUSED, UNUSED),
+            EntryKind::ModeSet => Shape::of_numbers(MODES, UNUSED, UNUSED),
+            EntryKind::Submitted => {
+                Shape::of(PAPERS, UNUSED, UNUSED, TextKind::Title, TextKind::Abstract)
+            }
+            EntryKind::Conflict => Shape::of_numbers(PAPERS, USERS, BIT),
         }
     }
 }
@@ -115,13 +146,13 @@ impl EntryKind {
 impl Shape {
     ghost use Rattle.cr_base.specs.Shapes.{shape};
 
-    fn of(n1: Range, n2: Range, b1: TextKind, b2: TextKind) -> Shape
-        ensures { result ≡ shape n1 n2 b1 b2 }
+    fn of(n1: Range, n2: Range, n3: Range, b1: TextKind, b2: TextKind) -> Shape
+        ensures { result ≡ shape n1 n2 n3 b1 b2 }
     {
         Shape {
             n1,
             n2,
-            n3: UNUSED,
+            n3,
             n4: UNUSED,
             n5: UNUSED,
             b1,
@@ -129,12 +160,18 @@ impl Shape {
         }
     }
 
+    fn of_numbers(n1: Range, n2: Range, n3: Range) -> Shape
+        ensures { result ≡ shape n1 n2 n3 TextKind.Nothing TextKind.Nothing }
+    {
+        Shape::of(n1, n2, n3, TextKind::Nothing, TextKind::Nothing)
+    }
+
     /// Whether a row has a maker, a mark and fields as they may be.
     pub(crate) fn fits(&self, row: &Row) -> bool
         ensures { IsTrue result ↔ FitsShape self.now row.now }
     {
         USERS.holds(row.maker)
-            && MARK.holds(row.more)
+            && BIT.holds(row.more)
             && self.n1.holds(row.n1)
             && self.n2.holds(row.n2)
             && self.n3.holds(row.n3)

@@ -5,10 +5,10 @@ ghost use Rattle.cr_base.specs.Rows.{row_of, built, IsBoundedEntry};
 ghost use Rattle.cr_base.specs.declared.entry.Stamped.{Stamped};
 
 use crate::entry::{Digest, Entry, EntryKind, Stamped};
-use crate::numbers::UserNo;
+use crate::numbers::{PaperNo, UserNo};
 use crate::row::Row;
-use crate::texts::{Blob, Short};
-use crate::words::Role;
+use crate::texts::{Blob, Short, Text};
+use crate::words::{Mode, Phase, Role};
 use std::alloc::{AllocError, Global};
 
 impl Entry {
@@ -39,14 +39,52 @@ impl Entry {
                 more,
                 user.number(),
                 role.number(),
+                0,
             )),
+            Entry::PhaseSet { phase } => Ok(without_bytes(
+                alloc,
+                3,
+                maker,
+                more,
+                phase.number(),
+                0,
+                0,
+            )),
+            Entry::ModeSet { mode } => {
+                Ok(without_bytes(alloc, 4, maker, more, mode.number(), 0, 0))
+            }
+            Entry::Conflict { paper, user, on } => Ok(without_bytes(
+                alloc,
+                10,
+                maker,
+                more,
+                paper.number(),
+                user.number(),
+                u64::from(*on),
+            )),
+            Entry::Submitted {
+                paper,
+                title,
+                abstract_,
+            } => Ok(Row {
+                kind: 5,
+                maker,
+                more,
+                n1: paper.number(),
+                n2: 0,
+                n3: 0,
+                n4: 0,
+                n5: 0,
+                b1: Blob::from_slice(alloc, title.as_str().as_bytes())?,
+                b2: Blob::from_slice(alloc, abstract_.as_str().as_bytes())?,
+            }),
         }
     }
 }
 
 /// A row without bytes.
-fn without_bytes(alloc: Global, kind: u64, maker: u64, more: u64, n1: u64, n2: u64) -> Row
-    ensures { result ≡ record { kind = kind; maker = maker; more = more; n1 = n1; n2 = n2; n3 = 0; n4 = 0; n5 = 0; b1 = []; b2 = [] } }
+fn without_bytes(alloc: Global, kind: u64, maker: u64, more: u64, n1: u64, n2: u64, n3: u64) -> Row
+    ensures { result ≡ record { kind = kind; maker = maker; more = more; n1 = n1; n2 = n2; n3 = n3; n4 = 0; n5 = 0; b1 = []; b2 = [] } }
 {
     Row {
         kind,
@@ -54,7 +92,7 @@ fn without_bytes(alloc: Global, kind: u64, maker: u64, more: u64, n1: u64, n2: u
         more,
         n1,
         n2,
-        n3: 0,
+        n3,
         n4: 0,
         n5: 0,
         b1: Blob::empty(alloc),
@@ -73,7 +111,7 @@ fn digest_of(bytes: &Blob) -> Digest
 }
 
 /// The entry of a kind that the fields of a row spell.
-fn entry_from(_alloc: Global, kind: EntryKind, row: &Row) -> Result<Entry, AllocError>
+fn entry_from(alloc: Global, kind: EntryKind, row: &Row) -> Result<Entry, AllocError>
     requires { FitsShape (shape_of kind) row.now }
     ensures { IfOk result (λ entry. entry ≡ built kind row.now) }
 {
@@ -86,6 +124,22 @@ fn entry_from(_alloc: Global, kind: EntryKind, row: &Row) -> Result<Entry, Alloc
         EntryKind::Named => Ok(Entry::Named {
             user: UserNo::new(row.n1),
             role: Role::from_number(row.n2),
+        }),
+        EntryKind::PhaseSet => Ok(Entry::PhaseSet {
+            phase: Phase::from_number(row.n1),
+        }),
+        EntryKind::ModeSet => Ok(Entry::ModeSet {
+            mode: Mode::from_number(row.n1),
+        }),
+        EntryKind::Conflict => Ok(Entry::Conflict {
+            paper: PaperNo::new(row.n1),
+            user: UserNo::new(row.n2),
+            on: row.n3 == 1,
+        }),
+        EntryKind::Submitted => Ok(Entry::Submitted {
+            paper: PaperNo::new(row.n1),
+            title: Text::from_utf8(alloc, row.b1.as_slice())?,
+            abstract_: Text::from_utf8(alloc, row.b2.as_slice())?,
         }),
     }
 }

@@ -1,7 +1,11 @@
-//! What a caller is to the conference.
+//! What a caller is to the conference, and to one paper.
+ghost use Rattle.std.specs.Prelude.{◌≡◌};
+ghost use Rattle.cr_base.specs.Page.{is_clear_member, is_clear_chair};
+
 use crate::words::{Mode, Phase, Role};
 
-/// What the rules ask about a caller: the phase and the mode of the conference, and her role.
+/// What the rules ask about a caller: the phase and the mode of the conference, her role, and how she is
+/// tied to the paper that is asked for. Nobody has no ties, and there are none where no paper is named.
 #[derive(Clone, Copy, Debug, PartialEq, Eq)]
 pub struct Standing {
     /// The conference's phase.
@@ -10,4 +14,24 @@ pub struct Standing {
     pub mode: Mode,
     /// The caller's role; `Account` for nobody.
     pub role: Role,
+    /// Whether she is an author of the paper.
+    pub author: bool,
+    /// Whether she is in conflict with the paper, as each author is.
+    pub conflicted: bool,
+}
+
+impl Standing {
+    /// Whether she is a member of the committee who isn't in conflict with the paper.
+    pub fn is_clear_member(&self) -> bool
+        ensures { result ≡ is_clear_member self.now }
+    {
+        self.role.is_member() && !self.conflicted
+    }
+
+    /// Whether she is a chair who isn't in conflict with the paper.
+    pub fn is_clear_chair(&self) -> bool
+        ensures { result ≡ is_clear_chair self.now }
+    {
+        self.role.is_chair() && !self.conflicted
+    }
 }

@@ -1,11 +1,11 @@
-use crate::{Entry, Role, Row, Short, Stamped, Text, UserNo};
+use crate::{Blob, Entry, PaperNo, Phase, Role, Row, Short, Stamped, Text, UserNo};
 use std::alloc::Global;
 use std::test::Fail;
 
-/// The entries of the first registration, and the fields of their rows.
-fn first_registration() -> [Stamped; 2] {
+/// An entry of each kind.
+fn entries(alloc: Global) -> Result<[Stamped; 4], Fail> {
     let user = UserNo::new(1);
-    [
+    Ok([
         Stamped {
             maker: user,
             more: true,
@@ -23,7 +23,23 @@ fn first_registration() -> [Stamped; 2] {
                 role: Role::Chair,
             },
         },
-    ]
+        Stamped {
+            maker: user,
+            more: false,
+            entry: Entry::PhaseSet {
+                phase: Phase::Discussion,
+            },
+        },
+        Stamped {
+            maker: UserNo::new(9_999),
+            more: false,
+            entry: Entry::Submitted {
+                paper: PaperNo::new(12),
+                title: Text::from_str(alloc, "Schr\u{f6}dinger")?,
+                abstract_: Text::from_str(alloc, "A cat.\n")?,
+            },
+        },
+    ])
 }
 
 fn row_of(alloc: Global, stamped: &Stamped) -> Result<Row, Fail> {
@@ -47,6 +63,23 @@ fn is_entry(read: &Entry, wanted: &Entry) -> bool {
                 role: wanted_role,
             },
         ) => *user == *wanted_user && *role == *wanted_role,
+        (Entry::PhaseSet { phase }, Entry::PhaseSet { phase: wanted }) => *phase == *wanted,
+        (
+            Entry::Submitted {
+                paper,
+                title,
+                abstract_,
+            },
+            Entry::Submitted {
+                paper: wanted_paper,
+                title: wanted_title,
+                abstract_: wanted_abstract,
+            },
+        ) => {
+            *paper == *wanted_paper
+                && title.as_str() == wanted_title.as_str()
+                && abstract_.as_str() == wanted_abstract.as_str()
+        }
         _ => false,
     }
 }
@@ -64,21 +97,29 @@ fn is_stamped(read: &Option<Stamped>, wanted: &Stamped) -> bool {
 }
 
 #[test]
-fn rows_of_the_first_registration(rt: HostRuntime) -> Result<(), Fail> {
+fn rows_of_entries(rt: HostRuntime) -> Result<(), Fail> {
     let alloc = rt.alloc();
-    let wanted: [([u64; 8], &[u8]); 2] = [
-        ([1, 1, 1, 1, 0, 0, 0, 0], b"alice"),
-        ([2, 1, 0, 1, 2, 0, 0, 0], b""),
+    let digest = [7; 32];
+    let wanted: [([u64; 8], &[u8], &[u8]); 4] = [
+        ([1, 1, 1, 1, 0, 0, 0, 0], b"alice", &digest),
+        ([2, 1, 0, 1, 2, 0, 0, 0], b"", b""),
+        ([3, 1, 0, 4, 0, 0, 0, 0], b"", b""),
+        (
+            [5, 9_999, 0, 12, 0, 0, 0, 0],
+            b"Schr\xc3\xb6dinger",
+            b"A cat.\n",
+        ),
     ];
-    let entries = first_registration();
-    for i in 0..2 {
+    let entries = entries(alloc)?;
+    for i in 0..4 {
         let copied = entries[i].copy(alloc)?;
         let row = row_of(alloc, &copied)?.copy(alloc)?;
         let numbers = [
             row.kind, row.maker, row.more, row.n1, row.n2, row.n3, row.n4, row.n5,
         ];
         assert_eq!(rt; numbers, wanted[i].0, "row {i}");
-        assert!(rt; row.b1.as_slice() == wanted[i].1, "bytes of row {i}");
+        let bytes_are_right = row.b1.as_slice() == wanted[i].1 && row.b2.as_slice() == wanted[i].2;
+        assert!(rt; bytes_are_right, "bytes of row {i}");
         let read = Stamped::from_row(alloc, &row)?;
         assert!(rt; is_stamped(&read, &entries[i]), "row {i} is this entry's");
     }
@@ -88,8 +129,8 @@ fn rows_of_the_first_registration(rt: HostRuntime) -> Result<(), Fail> {
 #[test]
 fn rows_of_no_entry(rt: HostRuntime) -> Result<(), Fail> {
     let alloc = rt.alloc();
-    let entries = first_registration();
-    for broken in 0..9 {
+    let entries = entries(alloc)?;
+    for broken in 0..11 {
         let mut row = row_of(alloc, &entries[1])?;
         match broken {
             0 => row.kind = 0,
@@ -100,9 +141,49 @@ fn rows_of_no_entry(rt: HostRuntime) -> Result<(), Fail> {
             5 => row.n1 = 0,
             6 => row.n2 = 3,
             7 => row.n5 = 1,
-            _ => row.b1 = crate::Blob::from_slice(alloc, b"x")?,
+            8 => row.b1 = Blob::from_slice(alloc, b"x")?,
+            // a phase that there isn't, and a kind that isn't there yet
+            9 => {
+                row.kind = 3;
+                row.n1 = 7;
+                row.n2 = 0;
+            }
+            _ => row.kind = 4,
         }
         assert!(rt; Stamped::from_row(alloc, &row)?.is_none(), "case {broken}");
+    }
+    Ok(())
+}
+
+/// Whether a row of a submission with this title and this abstract is an entry's.
+fn is_submission(alloc: Global, title: &[u8], abstract_: &[u8]) -> Result<bool, Fail> {
+    let mut row = row_of(alloc, &entries(alloc)?[3])?;
+    row.b1 = Blob::from_slice(alloc, title)?;
+    row.b2 = Blob::from_slice(alloc, abstract_)?;
+    Ok(Stamped::from_row(alloc, &row)?.is_some())
+}
+
+#[test]
+fn bounds_of_texts(rt: HostRuntime) -> Result<(), Fail> {
+    let alloc = rt.alloc();
+    let long_title = [b't'; 201];
+    let long_abstract = [b'a'; 5_001];
+    let cases: [(&[u8], &[u8], bool); 12] = [
+        (b"", b"", false),
+        (b"t", b"", true),
+        (&long_title[..200], b"", true),
+        (&long_title, b"", false),
+        (b"a\x1fb", b"", false),
+        (b"a\x20b", b"", true),
+        (b"a\x7fb", b"", false),
+        (b"\xc3\xb6", b"", true),
+        (b"\xc3", b"", false),
+        (b"t", &long_abstract[..5_000], true),
+        (b"t", &long_abstract, false),
+        (b"t", b"\n\x7f\xff", false),
+    ];
+    for (title, abstract_, is_entry) in cases {
+        assert_eq!(rt; is_submission(alloc, title, abstract_)?, is_entry);
     }
     Ok(())
 }
@@ -112,8 +193,8 @@ fn texts_are_copied(rt: HostRuntime) -> Result<(), Fail> {
     let alloc = rt.alloc();
     let text = Text::from_str(alloc, "Schr\u{f6}dinger")?.copy(alloc)?;
     assert_eq!(rt; text.as_str(), "Schr\u{f6}dinger");
-    let bytes = crate::Blob::from_slice(alloc, text.as_str().as_bytes())?.copy(alloc)?;
+    let bytes = Blob::from_slice(alloc, text.as_str().as_bytes())?.copy(alloc)?;
     assert!(rt; bytes.as_slice() == b"Schr\xc3\xb6dinger".as_slice());
-    assert!(rt; crate::Blob::empty(alloc).as_slice().is_empty());
+    assert!(rt; Blob::empty(alloc).as_slice().is_empty());
     Ok(())
 }

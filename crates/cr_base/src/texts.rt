@@ -1,7 +1,8 @@
 //! Bytes that contracts see as lists.
 ghost use Rattle.std.specs.Prelude.{◌≡◌, ℕ, ◌≤◌, ◌+◌, List, [], length, take, drop, replicate, IfOk, IsTrue, ◌↔◌};
 ghost use Rattle.std.specs.List.{list_all};
-ghost use Rattle.cr_base.specs.Texts.{IsName, is_name as is_name_text, is_name_byte};
+ghost use Rattle.std.specs.Str.{is_utf8};
+ghost use Rattle.cr_base.specs.Texts.{IsName, IsTitle, IsAbstract, is_name as is_name_text, is_name_byte, is_title as is_title_text, is_title_byte, is_abstract as is_abstract_text};
 
 use std::alloc::{AllocError, Global};
 use std::hash::{Hash, Hasher};
@@ -75,6 +76,17 @@ impl Text {
         Ok(Text {
             text: String::from_str(alloc, text)?,
         })
+    }
+
+    /// A copy of bytes that are UTF-8; an error only for want of memory.
+    pub fn from_utf8(alloc: Global, bytes: &[u8]) -> Result<Text, AllocError>
+        requires { IsTrue (is_utf8 bytes.now) }
+        ensures { IfOk result (λ t. t ≡ bytes.now) }
+    {
+        match str::from_utf8(bytes) {
+            Ok(text) => Text::from_str(alloc, text),
+            Err(_) => unreachable!(),
+        }
     }
 
     /// The text, lent.
@@ -192,4 +204,45 @@ pub fn is_name(bytes: &[u8]) -> bool
     ensures test { result ≡ is_name_text bytes.now }
 {
     !bytes.is_empty() && bytes.len() <= 32 && all_name_bytes(bytes)
+}
+
+/// Whether these bytes are UTF-8.
+fn is_text(bytes: &[u8]) -> bool
+    ensures { result ≡ is_utf8 bytes.now }
+{
+    match str::from_utf8(bytes) {
+        Ok(_) => true,
+        Err(_) => false,
+    }
+}
+
+/// Whether a byte may stand in a title: no control character's.
+fn is_title_byte(byte: u8) -> bool
+    ensures { result ≡ is_title_byte byte }
+{
+    byte >= 0x20 && byte != 0x7f
+}
+
+/// Whether every byte may stand in a title.
+fn all_title_bytes(bytes: &[u8]) -> bool
+    ensures { result ≡ list_all is_title_byte bytes.now }
+{
+    bytes.iter().all(|byte| is_title_byte(*byte))
+}
+
+/// Whether these bytes are a paper's title: UTF-8, 1 to 200 bytes, no character below U+0020 and no
+/// U+007F.
+pub fn is_title(bytes: &[u8]) -> bool
+    ensures title { IsTrue result ↔ IsTitle bytes.now }
+    ensures test { result ≡ is_title_text bytes.now }
+{
+    !bytes.is_empty() && bytes.len() <= 200 && all_title_bytes(bytes) && is_text(bytes)
+}
+
+/// Whether these bytes are a paper's abstract: UTF-8, at most 5,000 bytes.
+pub fn is_abstract(bytes: &[u8]) -> bool
+    ensures abstract_ { IsTrue result ↔ IsAbstract bytes.now }
+    ensures test { result ≡ is_abstract_text bytes.now }
+{
+    bytes.len() <= 5_000 && is_text(bytes)
 }

@@ -1,19 +1,37 @@
 //! Phases, modes and roles, and the words by which requests and answers name them.
 ghost use Rattle.std.specs.Prelude.{◌≡◌, ◌≤◌, length};
-ghost use Rattle.cr_base.specs.Words.{phase_name, mode_name, role_name, role_number, role_at};
+ghost use Rattle.cr_base.specs.Words.{phase_name, phase_named, phase_number, phase_at, mode_name, mode_named, mode_number, mode_at, is_anonymous, is_overt, role_name, role_named, role_number, role_at, is_member, is_chair};
+ghost use Rattle.cr_base.specs.Phases.{phase_place, is_from, is_phase, is_next};
 
-/// A phase of the conference (CoCon's phases; a conference starts in setup).
+/// A phase of the conference (CoCon's phases). A conference starts in setup, and moves on to the next
+/// phase only.
 #[derive(Clone, Copy, Debug, PartialEq, Eq)]
 pub enum Phase {
     /// Accounts register; nothing can be submitted yet.
     Setup,
+    /// Papers are submitted.
+    Submission,
+    /// The committee sees the papers.
+    Bidding,
+    /// Reviews are written.
+    Reviewing,
+    /// The committee sees the reviews, and decides.
+    Discussion,
+    /// Authors see what was decided.
+    Notification,
+    /// Nothing changes any more.
+    Closed,
 }
 
 /// Who sees the names of authors and reviewers; a conference starts in `Blind`.
 #[derive(Clone, Copy, Debug, PartialEq, Eq)]
 pub enum Mode {
+    /// Authors see who reviewed them, and reviewers who wrote. Its word is `open`.
+    Overt,
     /// Authors don't see who reviews them; reviewers see who wrote (single-anonymous).
     Blind,
+    /// Neither sees the other's names (double-anonymous).
+    Anonymous,
 }
 
 /// What a user is to the committee. A chair is a member.
@@ -35,7 +53,96 @@ impl Phase {
     {
         match self {
             Phase::Setup => "setup",
+            Phase::Submission => "submission",
+            Phase::Bidding => "bidding",
+            Phase::Reviewing => "reviewing",
+            Phase::Discussion => "discussion",
+            Phase::Notification => "notification",
+            Phase::Closed => "closed",
         }
+    }
+
+    /// The phase of a word, and none where no phase is called so.
+    pub fn from_name(name: &str) -> Option<Phase>
+        ensures { result ≡ phase_named name.now }
+    {
+        match name {
+            "setup" => Some(Phase::Setup),
+            "submission" => Some(Phase::Submission),
+            "bidding" => Some(Phase::Bidding),
+            "reviewing" => Some(Phase::Reviewing),
+            "discussion" => Some(Phase::Discussion),
+            "notification" => Some(Phase::Notification),
+            "closed" => Some(Phase::Closed),
+            _ => None,
+        }
+    }
+
+    /// Its number in rows, 0 for setup to 6 for closed. It doesn't say which phase comes first.
+    pub fn number(self) -> u64
+        ensures { result ≡ phase_number self }
+    {
+        match self {
+            Phase::Setup => 0,
+            Phase::Submission => 1,
+            Phase::Bidding => 2,
+            Phase::Reviewing => 3,
+            Phase::Discussion => 4,
+            Phase::Notification => 5,
+            Phase::Closed => 6,
+        }
+    }
+
+    /// The phase of a number in rows, from 0 to 6.
+    pub(crate) fn from_number(number: u64) -> Phase
+        ensures { result ≡ phase_at number }
+    {
+        match number {
+            0 => Phase::Setup,
+            1 => Phase::Submission,
+            2 => Phase::Bidding,
+            3 => Phase::Reviewing,
+            4 => Phase::Discussion,
+            5 => Phase::Notification,
+            _ => Phase::Closed,
+        }
+    }
+
+    /// Its place in the order of phases, from 0.
+    fn place(self) -> u64
+        ensures value { result ≡ phase_place self }
+        ensures low { result ≤ 6 }
+    {
+        match self {
+            Phase::Setup => 0,
+            Phase::Submission => 1,
+            Phase::Bidding => 2,
+            Phase::Reviewing => 3,
+            Phase::Discussion => 4,
+            Phase::Notification => 5,
+            Phase::Closed => 6,
+        }
+    }
+
+    /// Whether this is the phase told.
+    pub fn is(self, phase: Phase) -> bool
+        ensures { result ≡ is_phase self phase }
+    {
+        self.place() == phase.place()
+    }
+
+    /// Whether this is the first phase told, or a later one.
+    pub fn is_from(self, first: Phase) -> bool
+        ensures { result ≡ is_from first self }
+    {
+        first.place() <= self.place()
+    }
+
+    /// Whether the phase told follows this one.
+    pub fn is_before(self, next: Phase) -> bool
+        ensures { result ≡ is_next self next }
+    {
+        next.place() == self.place() + 1
     }
 }
 
@@ -46,7 +153,63 @@ impl Mode {
         ensures short { length result.now ≤ 9 }
     {
         match self {
+            Mode::Overt => "open",
             Mode::Blind => "blind",
+            Mode::Anonymous => "anonymous",
+        }
+    }
+
+    /// The mode of a word, and none where no mode is called so.
+    pub fn from_name(name: &str) -> Option<Mode>
+        ensures { result ≡ mode_named name.now }
+    {
+        match name {
+            "open" => Some(Mode::Overt),
+            "blind" => Some(Mode::Blind),
+            "anonymous" => Some(Mode::Anonymous),
+            _ => None,
+        }
+    }
+
+    /// Its number in rows: 0 for open, 1 for blind, 2 for anonymous.
+    pub fn number(self) -> u64
+        ensures { result ≡ mode_number self }
+    {
+        match self {
+            Mode::Overt => 0,
+            Mode::Blind => 1,
+            Mode::Anonymous => 2,
+        }
+    }
+
+    /// The mode of a number in rows, from 0 to 2.
+    pub(crate) fn from_number(number: u64) -> Mode
+        ensures { result ≡ mode_at number }
+    {
+        match number {
+            0 => Mode::Overt,
+            1 => Mode::Blind,
+            _ => Mode::Anonymous,
+        }
+    }
+
+    /// Whether members other than chairs don't see who wrote.
+    pub fn is_anonymous(self) -> bool
+        ensures { result ≡ is_anonymous self }
+    {
+        match self {
+            Mode::Overt | Mode::Blind => false,
+            Mode::Anonymous => true,
+        }
+    }
+
+    /// Whether authors see who reviewed them.
+    pub fn is_overt(self) -> bool
+        ensures { result ≡ is_overt self }
+    {
+        match self {
+            Mode::Overt => true,
+            Mode::Blind | Mode::Anonymous => false,
         }
     }
 }
@@ -61,6 +224,38 @@ impl Role {
             Role::Account => "account",
             Role::Member => "member",
             Role::Chair => "chair",
+        }
+    }
+
+    /// The role that somebody is named to by a word, and none where no such role is called so: nobody is
+    /// named an account.
+    pub fn from_name(name: &str) -> Option<Role>
+        ensures { result ≡ role_named name.now }
+    {
+        match name {
+            "member" => Some(Role::Member),
+            "chair" => Some(Role::Chair),
+            _ => None,
+        }
+    }
+
+    /// Whether it is a member's; a chair is a member.
+    pub fn is_member(self) -> bool
+        ensures { result ≡ is_member self }
+    {
+        match self {
+            Role::Account => false,
+            Role::Member | Role::Chair => true,
+        }
+    }
+
+    /// Whether it is a chair's.
+    pub fn is_chair(self) -> bool
+        ensures { result ≡ is_chair self }
+    {
+        match self {
+            Role::Account | Role::Member => false,
+            Role::Chair => true,
         }
     }
 

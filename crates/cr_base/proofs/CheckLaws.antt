@@ -1,0 +1,36 @@
+-- What a list of checks answers.
+use Rattle.std.proofs.Common.{Bool, true, false, cond, ◌≡◌, List, [], ◌∷◌, refl, ap, Result, Ok, Err}
+use Rattle.cr_base.specs.declared.reply.Rule.{Rule}
+use Rattle.cr_base.specs.Checks.{Check, judged}
+
+-- none of the checks is broken
+abbrev pub NoneBroken : List Check → Type 0
+NoneBroken [] = Unit {0}
+NoneBroken (check ∷ checks) = (check.broken ≡ false) × NoneBroken checks
+
+-- what is accepted breaks no rule, and is what is drawn
+pub judged-Ok : {A : Type 0} (checks : List Check) (drawn given : A) → judged checks drawn ≡ Ok given → NoneBroken checks × (drawn ≡ given)
+judged-Ok [] drawn given h = let e : drawn ≡ given = cc in (tt, e)
+judged-Ok {A} (check ∷ checks) drawn given h = by check.broken refl h (judged-Ok checks drawn given)
+  where
+    by : (b : Bool) → check.broken ≡ b → cond b (Err check.rule) (judged checks drawn) ≡ Ok given → (judged checks drawn ≡ Ok given → NoneBroken checks × (drawn ≡ given)) → ((check.broken ≡ false) × NoneBroken checks) × (drawn ≡ given)
+    by true is e rest = cc
+    by false is e rest = let k = rest e in ((is, k.0), k.1)
+
+-- where none is broken, what is drawn is the answer
+pub judged-none : {A : Type 0} (checks : List Check) (drawn : A) → NoneBroken checks → ◌≡◌ {A = Result A Rule} (judged checks drawn) (Ok drawn)
+judged-none [] drawn none = refl
+judged-none {A} (check ∷ checks) drawn none = by check.broken none.0 (judged-none checks drawn none.1)
+  where
+    by : (b : Bool) → b ≡ false → ◌≡◌ {A = Result A Rule} (judged checks drawn) (Ok drawn) → ◌≡◌ {A = Result A Rule} (cond b (Err check.rule) (judged checks drawn)) (Ok drawn)
+    by true h rest = cc
+    by false h rest = rest
+
+-- a broken rule is told whatever would be drawn
+pub judged-Err : {A B : Type 0} (checks : List Check) (x : A) (y : B) (rule : Rule) → ◌≡◌ {A = Result A Rule} (judged checks x) (Err rule) → ◌≡◌ {A = Result B Rule} (judged checks y) (Err rule)
+judged-Err [] x y rule h = cc
+judged-Err {A} {B} (check ∷ checks) x y rule h = by check.broken h (judged-Err checks x y rule)
+  where
+    by : (b : Bool) → ◌≡◌ {A = Result A Rule} (cond b (Err check.rule) (judged checks x)) (Err rule) → (◌≡◌ {A = Result A Rule} (judged checks x) (Err rule) → ◌≡◌ {A = Result B Rule} (judged checks y) (Err rule)) → ◌≡◌ {A = Result B Rule} (cond b (Err check.rule) (judged checks y)) (Err rule)
+    by true h rest = let e : check.rule ≡ rule = cc in ap (λ (r : Rule). Err r) e
+    by false h rest = rest h

@@ -1,0 +1,88 @@
+-- A paper's page: which keys a caller is told, by her standing at the paper, and what they hold.
+use Rattle.std.specs.Prelude.{ℕ, Bool, false, not, ◌||◌, ◌&&◌, List, Option, Some, None, if◌then◌else◌}
+use Rattle.cr_base.specs.declared.page.BareKeys.{BareKeys}
+use Rattle.cr_base.specs.declared.page.Page.{Page}
+use Rattle.cr_base.specs.declared.standing.Standing.{Standing}
+use Rattle.cr_base.specs.declared.words.Phase.TheVariants.{Bidding, Discussion, Notification}
+use Rattle.cr_base.specs.Phases.{is_from}
+use Rattle.cr_base.specs.Words.{is_anonymous, is_overt, is_member, is_chair}
+
+-- ---- who is told
+
+-- members, and chairs, who are not in conflict with the paper
+abbrev pub is_clear_member : Standing → Bool
+is_clear_member by = is_member by.role && not by.conflicted
+
+abbrev pub is_clear_chair : Standing → Bool
+is_clear_chair by = is_chair by.role && not by.conflicted
+
+-- the title: authors; members from bidding
+abbrev pub gets_title : Standing → Bool
+gets_title by = by.author || (is_member by.role && is_from Bidding by.phase)
+
+-- the abstract: authors; clear members from bidding
+abbrev pub gets_abstract : Standing → Bool
+gets_abstract by = by.author || (is_clear_member by && is_from Bidding by.phase)
+
+-- the authors: authors; clear chairs from bidding; clear members from bidding unless anonymous; everyone, where the
+-- paper is accepted
+abbrev pub shows_author : Standing → Bool → Bool
+shows_author by accepted =
+    by.author
+    || (is_clear_chair by && is_from Bidding by.phase)
+    || (is_clear_member by && not (is_anonymous by.mode) && is_from Bidding by.phase)
+    || accepted
+
+-- whether she is in conflict: members and authors
+abbrev pub gets_conflict : Standing → Bool
+gets_conflict by = is_member by.role || by.author
+
+-- who is declared in conflict: clear chairs from bidding
+abbrev pub gets_conflicts : Standing → Bool
+gets_conflicts by = is_clear_chair by && is_from Bidding by.phase
+
+-- whom the authors declared: authors
+abbrev pub gets_declared : Standing → Bool
+gets_declared by = by.author
+
+-- the keys that have nothing to tell yet
+abbrev pub bare_keys : Standing → BareKeys
+bare_keys by = record {
+  bid = is_clear_member by && is_from Bidding by.phase;
+  bids = is_clear_chair by && is_from Bidding by.phase;
+  decision = (is_clear_member by && is_from Discussion by.phase) || (by.author && is_from Notification by.phase);
+  reviewers =
+      (is_clear_chair by && is_from Bidding by.phase)
+      || (is_clear_member by && is_from Discussion by.phase)
+      || (by.author && is_overt by.mode && is_from Notification by.phase);
+  tags = is_clear_member by && is_from Bidding by.phase;
+  versions = by.author || (is_clear_member by && is_from Bidding by.phase);
+  withdrawn = by.author || (is_member by.role && is_from Bidding by.phase);
+}
+
+-- ---- the page
+
+-- what the keys hold
+pub record PaperTexts : Type 0 where
+  pub title : Option (List ℕ)
+  pub abstract_ : Option (List ℕ)
+  pub authors : List (List ℕ)
+  pub conflicts : List (List ℕ)
+  pub declared : List (List ℕ)
+
+-- the value, where it is told
+abbrev pub where_told : {A : Type 0} → Bool → Option A → Option A
+where_told told value = if told then value else None
+
+-- the page of a paper; no paper is accepted yet, since nothing decides
+abbrev pub page_of : Standing → ℕ → PaperTexts → Page
+page_of by paper texts = record {
+  paper = paper;
+  abstract_ = where_told (gets_abstract by) texts.abstract_;
+  authors = where_told (shows_author by false) (Some texts.authors);
+  conflict = where_told (gets_conflict by) (Some by.conflicted);
+  conflicts = where_told (gets_conflicts by) (Some texts.conflicts);
+  declared = where_told (gets_declared by) (Some texts.declared);
+  title = where_told (gets_title by) texts.title;
+  bare = bare_keys by;
+}
