@@ -1,5 +1,5 @@
 -- Histories that grow by allowed calls.
-use Rattle.std.proofs.Common.{ℕ, ◌≡◌, List, [], ◌∷◌, ◌++◌, refl, sym, ap, subst, ◌∙◌, Option, Result, Ok, Err}
+use Rattle.std.proofs.Common.{ℕ, ◌≡◌, List, [], ◌∷◌, ◌++◌, refl, sym, ap, subst, ◌∙◌, Option, Some, Result, Ok, Err}
 use Rattle.std.specs.List.{All}
 use Rattle.std.proofs.lemmas.List.Elements.{All-nil, All-append}
 use Rattle.cr_base.specs.declared.command.Command.{Command}
@@ -13,10 +13,16 @@ use Rattle.cr_base.specs.Rows.{IsBoundedEntry}
 use Rattle.cr_base.specs.Tables.{no_tables, tables_of, FitInTurn}
 use Rattle.cr_policy.specs.View.{view}
 use Rattle.cr_policy.specs.Judge.{judge, answer}
-use Rattle.cr_policy.specs.Legal.{Call, IsAllowed, followed_by, step, LeadsTo, Legal}
-use Rattle.cr_policy.specs.Laws.{ViewSuffices}
+use Rattle.cr_policy.specs.Legal.{Call, IsUser, IsAllowed, followed_by, step, LeadsTo, Legal}
+use Rattle.cr_policy.specs.Laws.{ViewSuffices, DeclaredFromView}
+use Rattle.cr_policy.proofs.CallerLaws.{caller-makes, caller-registered}
 use Rattle.cr_policy.proofs.NumberTies.{number_of-tables, caller_of-tables}
-use Rattle.cr_policy.proofs.TableTies.{FitInTurn-append, judge-tables, answer-tables}
+use Rattle.cr_policy.proofs.DeclaredLaws.{declared-seen_by_author}
+use Rattle.cr_policy.proofs.InTime.{DeclaresInTime, in_time-nil, in_time-append, accepted-allowed}
+use Rattle.cr_policy.proofs.SizeTies.{sized-tables}
+use Rattle.cr_policy.proofs.JudgeTies.{judge-tables}
+use Rattle.cr_policy.proofs.PageTies.{answer-tables}
+use Rattle.cr_policy.proofs.TableTies.{FitInTurn-append}
 use Rattle.cr_policy.proofs.GroupLaws.{IsGoodGroup, accepted-good}
 
 -- ---- calls one after another
@@ -54,23 +60,29 @@ Legal-accepted H caller command drawn legal allowed accepted =
 
 -- ---- what a legal history keeps
 
--- each entry fits in its turn, and has a row
+-- each entry fits in its turn, and has a row; and conflicts are declared in time
 record IsSound (H : History) : Type 0 where
   fits : FitInTurn no_tables H
   bounded : All IsBoundedEntry H
+  in_time : DeclaresInTime H
 
 followed-sound : (H : History) (call : Call) → IsSound H → IsAllowed H call → (r : Result Drawn Rule) → judge call.caller (view call.caller H) call.command ≡ r → IsSound (followed_by H r)
 followed-sound H call sound allowed (Err rule) is = sound
 followed-sound H call sound allowed (Ok drawn) is =
-    let good = accepted-good (tables_of H) call.caller call.command drawn allowed.bounded (sym (judge-tables call.caller H call.command sound.fits) ∙ is) in
-    record { fits = FitInTurn-append no_tables H drawn.group sound.fits good.fits; bounded = All-append IsBoundedEntry H drawn.group sound.bounded good.bounded }
+    let maker = caller-makes H call.caller call.command sound.fits allowed.caller in
+    let good = accepted-good (tables_of H) call.caller call.command drawn allowed.bounded maker (sized-tables H sound.fits) (sym (judge-tables call.caller H call.command sound.fits) ∙ is) in
+    record {
+      fits = FitInTurn-append no_tables H drawn.group sound.fits good.fits;
+      bounded = All-append IsBoundedEntry H drawn.group sound.bounded good.bounded;
+      in_time = in_time-append H drawn.group (accepted-allowed H call.caller call.command drawn maker is) sound.in_time;
+    }
 
 leads-sound : (from to : History) (calls : List Call) → IsSound from → LeadsTo from calls to → IsSound to
 leads-sound from to [] sound leads = subst (λ (H : History). IsSound H) leads sound
 leads-sound from to (call ∷ calls) sound leads = leads-sound (step from call) to calls (followed-sound from call sound leads.0 (judge call.caller (view call.caller from) call.command) refl) leads.1
 
 legal-sound : (H : History) → Legal H → IsSound H
-legal-sound H legal = leads-sound [] H legal.0 (record { fits = tt; bounded = All-nil IsBoundedEntry }) legal.1
+legal-sound H legal = leads-sound [] H legal.0 (record { fits = tt; bounded = All-nil IsBoundedEntry; in_time = in_time-nil }) legal.1
 
 -- each entry of a legal history fits in its turn
 pub Legal-fits : (H : History) → Legal H → FitInTurn no_tables H
@@ -80,10 +92,14 @@ Legal-fits H legal = (legal-sound H legal).fits
 pub Legal-bounded : (H : History) → Legal H → All IsBoundedEntry H
 Legal-bounded H legal = (legal-sound H legal).bounded
 
+-- before the bidding of a legal history authors alone declare conflicts, and from it on no author declares another user
+pub Legal-in_time : (H : History) → Legal H → DeclaresInTime H
+Legal-in_time H legal = (legal-sound H legal).in_time
+
 -- the group of an accepted command fits the tables in its turn, each of its entries has a row, and there is one
 pub Legal-good_group : (H : History) (caller : Option ℕ) (command : Command) (drawn : Drawn) → Legal H → IsAllowed H (record { caller = caller; command = command }) → judge caller (view caller H) command ≡ Ok drawn → IsGoodGroup (tables_of H) drawn.group
 Legal-good_group H caller command drawn legal allowed accepted =
-    accepted-good (tables_of H) caller command drawn allowed.bounded (sym (judge-tables caller H command (Legal-fits H legal)) ∙ accepted)
+    accepted-good (tables_of H) caller command drawn allowed.bounded (caller-makes H caller command (Legal-fits H legal) allowed.caller) (sized-tables H (Legal-fits H legal)) (sym (judge-tables caller H command (Legal-fits H legal)) ∙ accepted)
 
 -- ---- views and tables of a legal history
 
@@ -94,12 +110,20 @@ Legal-number_of name H legal = number_of-tables name H (Legal-fits H legal)
 pub Legal-caller_of : (name digest : List ℕ) (H : History) → Legal H → caller_of name digest H ≡ caller_at (tables_of H).accounts name digest
 Legal-caller_of name digest H legal = caller_of-tables name digest H (Legal-fits H legal)
 
+-- who calls has registered, whatever the history
+pub Legal-caller_registered : (name digest : List ℕ) (H : History) (u : ℕ) → caller_of name digest H ≡ Some u → IsUser H (Some u)
+Legal-caller_registered name digest H u is = caller-registered name digest H u is
+
 -- judgement and answer by any user's view are those by the tables
 pub Legal-judge : (u : Option ℕ) (H : History) (command : Command) → Legal H → judge u (view u H) command ≡ judge_by_role (tables_of H) u command
 Legal-judge u H command legal = judge-tables u H command (Legal-fits H legal)
 
 pub Legal-answer : (u : Option ℕ) (H : History) (query : Query) → Legal H → answer u (view u H) query ≡ answer_by_role (tables_of H) u query
-Legal-answer u H query legal = answer-tables u H query (Legal-fits H legal)
+Legal-answer u H query legal = answer-tables u H query (Legal-fits H legal) (Legal-in_time H legal)
+
+-- an author's view tells whom the paper's authors declared
+pub Legal-declared : DeclaredFromView
+Legal-declared u p H legal author = declared-seen_by_author u p H (Legal-in_time H legal) author
 
 pub view_suffices : ViewSuffices
 view_suffices = record { commands = λ u H command legal may. Legal-judge u H command legal; queries = λ u H query legal may. Legal-answer u H query legal }

@@ -1,33 +1,24 @@
 -- Where each entry fits in its turn, the accounts that a history tells are those of the tables.
 use Rattle.std.proofs.Common.{ℕ, Bool, ◌≡◌, ◌≤◌, ◌<◌, ◌+◌, ◌-◌, List, [], ◌∷◌, ◌++◌, length, refl, sym, ap, ◌∙◌, arith, zero, suc, append_assoc, append-nil, length-append, Some}
-use Rattle.std.specs.Prelude.{map, unwrap_or}
+use Rattle.std.specs.Prelude.{map}
 use Rattle.std.specs.List.{AllByRecursion}
 use Rattle.std.proofs.lemmas.Bool.{eq-eqb, ne_eqb}
 use Rattle.std.proofs.lemmas.List.{map-append}
 use Rattle.cr_base.specs.declared.entry.Account.{Account}
 use Rattle.cr_base.specs.declared.entry.Entry.{Entry}
-use Rattle.cr_base.specs.declared.entry.Entry.TheVariants.{Registered, Named}
+use Rattle.cr_base.specs.declared.entry.Entry.TheVariants.{Registered, Named, PhaseSet, ModeSet, Submitted, Conflict}
 use Rattle.cr_base.specs.declared.entry.Stamped.{Stamped}
 use Rattle.cr_base.specs.declared.words.Role.{Role}
 use Rattle.cr_base.specs.declared.words.Role.TheVariants as role
 use Rattle.cr_base.specs.declared.reply.AccountLine.{AccountLine}
-use Rattle.cr_base.specs.Lists.{given, last_from, last_or}
+use Rattle.cr_base.specs.Lists.{given, last_or}
 use Rattle.cr_base.specs.History.{History, Registration, all_told, registration_told, role_told}
 use Rattle.cr_base.specs.Facts.{accounts_of, role_of}
 use Rattle.cr_base.specs.Accounts.{with_role, accounts_after, lines_from, lines_of, AccountsFit}
 use Rattle.cr_base.specs.Tables.{Tables, no_tables, tables_after, tables_from, tables_of, FitInTurn}
 use Rattle.cr_base.proofs.AccountLaws.{length-with_role, with_role-suc}
+use Rattle.cr_base.proofs.LastLaws.{last_or-cons}
 use Rattle.cr_policy.proofs.Tells.{stamp}
-
--- ---- the last role
-
-last_from-some : {A : Type 0} (z x y : A) (xs : List A) → unwrap_or (last_from (Some z) xs) x ≡ unwrap_or (last_from (Some z) xs) y
-last_from-some z x y [] = refl
-last_from-some z x y (w ∷ xs) = last_from-some w x y xs
-
-last_or-cons : {A : Type 0} (x y : A) (xs : List A) → last_or x (y ∷ xs) ≡ last_or y xs
-last_or-cons x y [] = refl
-last_or-cons x y (z ∷ xs) = last_from-some z x y xs
 
 -- ---- accounts as they stand after more entries
 
@@ -115,17 +106,29 @@ lines-entry accounts maker more (Named user role') H rs fits later =
     ∙ ap (λ ls. ls ++ map (after H) (map new_line rs)) (lines-named H maker more user role' 1 (user - 1) accounts is)
     ∙ ap (λ ls. map (after (stamp maker more (Named user role') ∷ H)) (lines_of accounts) ++ ls) (sym (after-others H maker more user role' (map new_line rs) (new_lines H maker more user role' (length accounts) rs fits.1 later)))
     ∙ sym (map-append (after (stamp maker more (Named user role') ∷ H)) (lines_of accounts) (map new_line rs))
+lines-entry accounts maker more (PhaseSet phase) H rs fits later = refl
+lines-entry accounts maker more (ModeSet mode) H rs fits later = refl
+lines-entry accounts maker more (Submitted paper title abstract) H rs fits later = refl
+lines-entry accounts maker more (Conflict paper user on) H rs fits later = refl
 
 -- there are never fewer accounts than before
-length-after : (accounts : List Account) (e : Entry) → length accounts ≤ length (accounts_after accounts e)
+pub length-after : (accounts : List Account) (e : Entry) → length accounts ≤ length (accounts_after accounts e)
 length-after accounts (Registered user name digest) =
     let a : Account = record { name = name; digest = digest; role = role.Account } in
     let n = length-append accounts (a ∷ []) in omega (arith, n)
 length-after accounts (Named user role') = let n = length-with_role accounts (user - 1) role' in omega (arith, n)
+length-after accounts (PhaseSet phase) = omega arith
+length-after accounts (ModeSet mode) = omega arith
+length-after accounts (Submitted paper title abstract) = omega arith
+length-after accounts (Conflict paper user on) = omega arith
 
 later-entry : (n : ℕ) (accounts : List Account) (e : Entry) (rs : List Registration) → AccountsFit accounts e → n ≤ length accounts → AllByRecursion (λ (r : Registration). n < r.user) rs → AllByRecursion (λ (r : Registration). n < r.user) (registration_told e ++ rs)
 later-entry n accounts (Registered user name digest) rs fits h later = (let is = fits.0 in omega (arith, is, h), later)
 later-entry n accounts (Named user role') rs fits h later = later
+later-entry n accounts (PhaseSet phase) rs fits h later = later
+later-entry n accounts (ModeSet mode) rs fits h later = later
+later-entry n accounts (Submitted paper title abstract) rs fits h later = later
+later-entry n accounts (Conflict paper user on) rs fits h later = later
 
 -- users who register later have greater numbers
 later_users : (n : ℕ) (t : Tables) (H : History) → FitInTurn t H → n ≤ length t.accounts → AllByRecursion (λ (r : Registration). n < r.user) (all_told registration_told H)

@@ -1,27 +1,22 @@
 -- Where each entry fits in its turn, the users of names, and of names with digests, are those of the accounts.
-use Rattle.std.proofs.Common.{ℕ, Bool, true, false, cond, ◌≡◌, ◌<◌, ◌+◌, ◌-◌, ◌&&◌, List, [], ◌∷◌, ◌++◌, length, refl, sym, ap, subst, ◌∙◌, arith, zero, suc, Option, Some, None}
-use Rattle.std.specs.Prelude.{slice_get}
+use Rattle.std.proofs.Common.{ℕ, Bool, true, false, cond, ◌≡◌, ◌≤◌, ◌<◌, ◌+◌, ◌-◌, ◌&&◌, List, [], ◌∷◌, ◌++◌, length, refl, sym, ap, subst, ◌∙◌, arith, suc, Option, Some, None}
 use Rattle.std.specs.List.{position_from}
-use Rattle.std.specs.Option.{option_map, option_map_or, option_and_then}
+use Rattle.std.specs.Option.{option_map, option_and_then}
 use Rattle.std.specs.Str.{bytes_eq}
+use Rattle.std.proofs.lemmas.Bool.{eq-eqb, ne_eqb}
 use Rattle.std.proofs.lemmas.Slice.Eq.{bytes_eq-Decides}
 use Rattle.cr_base.specs.declared.entry.Account.{Account}
 use Rattle.cr_base.specs.declared.entry.Entry.{Entry}
-use Rattle.cr_base.specs.declared.entry.Entry.TheVariants.{Registered, Named}
-use Rattle.cr_base.specs.declared.words.Role.{Role}
+use Rattle.cr_base.specs.declared.entry.Entry.TheVariants.{Registered, Named, PhaseSet, ModeSet, Submitted, Conflict}
 use Rattle.cr_base.specs.declared.words.Role.TheVariants as role
-use Rattle.cr_base.specs.Lists.{given, last_from}
+use Rattle.cr_base.specs.Lists.{last_from}
 use Rattle.cr_base.specs.History.{History, all_told, number_told, caller_told}
 use Rattle.cr_base.specs.Facts.{number_of, caller_of}
 use Rattle.cr_base.specs.Accounts.{with_role, accounts_after, number_at, has_digest, caller_at, AccountsFit}
 use Rattle.cr_base.specs.Tables.{Tables, no_tables, tables_after, tables_from, tables_of, FitInTurn}
-use Rattle.cr_base.proofs.AccountLaws.{number_at-from, number_at-push, number_at-with_role, with_role-suc}
-
--- ---- the last of what is told
-
-last_from-given : {A : Type 0} (b : Bool) (x : A) (o : Option A) (rest : List A) → last_from o (given b x ++ rest) ≡ last_from (cond b (Some x) o) rest
-last_from-given true x o rest = refl
-last_from-given false x o rest = refl
+use Rattle.cr_base.proofs.AccountLaws.{number_at-from, number_at-push, number_at-with_role}
+use Rattle.cr_base.proofs.LastLaws.{last_from-given}
+use Rattle.cr_base.proofs.RoleLaws.{has_digest-push, has_digest-with_role}
 
 -- ---- numbers
 
@@ -32,6 +27,10 @@ number-entry name accounts (Registered user name' digest) fits rest =
     last_from-given (bytes_eq name' name) user (number_at accounts name) rest
     ∙ ap (λ o. last_from o rest) (sym (number_at-push accounts a user fits.0 fits.2 name))
 number-entry name accounts (Named user role') fits rest = ap (λ o. last_from o rest) (sym (number_at-with_role accounts (user - 1) role' name))
+number-entry name accounts (PhaseSet phase) fits rest = refl
+number-entry name accounts (ModeSet mode) fits rest = refl
+number-entry name accounts (Submitted paper title abstract) fits rest = refl
+number-entry name accounts (Conflict paper user on) fits rest = refl
 
 number-from : (name : List ℕ) (t : Tables) (H : History) → FitInTurn t H → last_from (number_at t.accounts name) (all_told (number_told name) H) ≡ number_at (tables_from t H).accounts name
 number-from name t [] fits = refl
@@ -43,15 +42,6 @@ number_of-tables name H fits = number-from name no_tables H fits
 
 -- ---- digests
 
-slice_get-front : {A : Type 0} (xs ys : List A) (i : ℕ) → i < length xs → slice_get (xs ++ ys) i ≡ slice_get xs i
-slice_get-front [] ys i h = absurd (omega (arith, h))
-slice_get-front (x ∷ xs) ys zero h = refl
-slice_get-front (x ∷ xs) ys (suc i) h = slice_get-front xs ys i (omega (arith, h))
-
-slice_get-end : {A : Type 0} (xs : List A) (x : A) → slice_get (xs ++ x ∷ []) (length xs) ≡ Some x
-slice_get-end [] x = refl
-slice_get-end (y ∷ xs) x = slice_get-end xs x
-
 position_from-within : (test : Account → Bool) (i : ℕ) (accounts : List Account) (k : ℕ) → position_from test i accounts ≡ Some k → k < i + length accounts
 position_from-within test i [] k h = cc
 position_from-within test i (a ∷ accounts) k h = by (test a) h (position_from-within test (i + 1) accounts k)
@@ -61,33 +51,25 @@ position_from-within test i (a ∷ accounts) k h = by (test a) h (position_from-
     by false e rest = let later = rest e in omega (arith, later)
 
 -- a user found by her name has an account
-number_at-within : (accounts : List Account) (name : List ℕ) (user : ℕ) → number_at accounts name ≡ Some user → user - 1 < length accounts
+number_at-within : (accounts : List Account) (name : List ℕ) (user : ℕ) → number_at accounts name ≡ Some user → user ≤ length accounts
 number_at-within accounts name user h = by (position_from test 0 accounts) refl (sym (number_at-from accounts name) ∙ h)
   where
     test : Account → Bool
     test a = bytes_eq a.name name
 
-    by : (p : Option ℕ) → position_from test 0 accounts ≡ p → option_map (λ i. i + 1) p ≡ Some user → user - 1 < length accounts
+    by : (p : Option ℕ) → position_from test 0 accounts ≡ p → option_map (λ i. i + 1) p ≡ Some user → user ≤ length accounts
     by None is e = cc
     by (Some k) is e = let next : k + 1 ≡ user = cc in let within = position_from-within test 0 accounts k is in omega (arith, next, within)
 
-has_digest-front : (accounts : List Account) (a : Account) (digest : List ℕ) (user : ℕ) → user - 1 < length accounts → has_digest (accounts ++ a ∷ []) digest user ≡ has_digest accounts digest user
-has_digest-front accounts a digest user h = ap (λ (o : Option Account). option_map_or (λ x. bytes_eq x.digest digest) o false) (slice_get-front accounts (a ∷ []) (user - 1) h)
+has_digest-front : (accounts : List Account) (a : Account) (digest : List ℕ) (user : ℕ) → user ≤ length accounts → has_digest (accounts ++ a ∷ []) digest user ≡ has_digest accounts digest user
+has_digest-front accounts a digest user h =
+    has_digest-push accounts a digest user
+    ∙ ap (λ b. cond b (bytes_eq a.digest digest) (has_digest accounts digest user)) (ne_eqb user (length accounts + 1) (λ e. omega (arith, e, h)))
 
 has_digest-end : (accounts : List Account) (a : Account) (digest : List ℕ) (user : ℕ) → user ≡ length accounts + 1 → has_digest (accounts ++ a ∷ []) digest user ≡ bytes_eq a.digest digest
 has_digest-end accounts a digest user h =
-    let at : user - 1 ≡ length accounts = omega (arith, h) in
-    ap (λ (o : Option Account). option_map_or (λ x. bytes_eq x.digest digest) o false) (ap (slice_get (accounts ++ a ∷ [])) at ∙ slice_get-end accounts a)
-
--- a digest stays when a role changes
-digest-with_role : (digest : List ℕ) (accounts : List Account) (k i : ℕ) (role' : Role) → option_map_or (λ (x : Account). bytes_eq x.digest digest) (slice_get (with_role accounts k role') i) false ≡ option_map_or (λ (x : Account). bytes_eq x.digest digest) (slice_get accounts i) false
-digest-with_role digest [] k i role' = refl
-digest-with_role digest (a ∷ accounts) zero zero role' = refl
-digest-with_role digest (a ∷ accounts) zero (suc i) role' = refl
-digest-with_role digest (a ∷ accounts) (suc k) zero role' = ap (λ (xs : List Account). option_map_or (λ (x : Account). bytes_eq x.digest digest) (slice_get xs 0) false) (with_role-suc a accounts k role')
-digest-with_role digest (a ∷ accounts) (suc k) (suc i) role' =
-    ap (λ (xs : List Account). option_map_or (λ (x : Account). bytes_eq x.digest digest) (slice_get xs (suc i)) false) (with_role-suc a accounts k role')
-    ∙ digest-with_role digest accounts k i role'
+    has_digest-push accounts a digest user
+    ∙ ap (λ b. cond b (bytes_eq a.digest digest) (has_digest accounts digest user)) (eq-eqb user (length accounts + 1) h)
 
 -- ---- callers
 
@@ -99,7 +81,7 @@ passed-same : (f g : ℕ → Bool) (o : Option ℕ) → ((user : ℕ) → o ≡ 
 passed-same f g None same = refl
 passed-same f g (Some user) same = ap (λ b. cond b (Some user) None) (same user refl)
 
-caller-push : (accounts : List Account) (a : Account) (digest : List ℕ) (user : ℕ) (old : Option ℕ) (b : Bool) → user ≡ length accounts + 1 → (b ≡ true → old ≡ None) → ((v : ℕ) → old ≡ Some v → v - 1 < length accounts)
+caller-push : (accounts : List Account) (a : Account) (digest : List ℕ) (user : ℕ) (old : Option ℕ) (b : Bool) → user ≡ length accounts + 1 → (b ≡ true → old ≡ None) → ((v : ℕ) → old ≡ Some v → v ≤ length accounts)
     → cond (b && bytes_eq a.digest digest) (Some user) (passed (has_digest accounts digest) old) ≡ passed (has_digest (accounts ++ a ∷ []) digest) (cond b (Some user) old)
 caller-push accounts a digest user old true is new within =
     ap (λ o. cond (bytes_eq a.digest digest) (Some user) (passed (has_digest accounts digest) o)) (new refl)
@@ -118,8 +100,12 @@ caller-entry name digest accounts (Registered user name' digest') fits rest =
 caller-entry name digest accounts (Named user role') fits rest =
     let now : List Account = with_role accounts (user - 1) role' in
     ap (λ o. last_from o rest)
-    (passed-same (has_digest accounts digest) (has_digest now digest) (number_at accounts name) (λ v _. sym (digest-with_role digest accounts (user - 1) (v - 1) role'))
+    (passed-same (has_digest accounts digest) (has_digest now digest) (number_at accounts name) (λ v _. sym (has_digest-with_role accounts digest user v role' fits.0))
     ∙ ap (passed (has_digest now digest)) (sym (number_at-with_role accounts (user - 1) role' name)))
+caller-entry name digest accounts (PhaseSet phase) fits rest = refl
+caller-entry name digest accounts (ModeSet mode) fits rest = refl
+caller-entry name digest accounts (Submitted paper title abstract) fits rest = refl
+caller-entry name digest accounts (Conflict paper user on) fits rest = refl
 
 caller-from : (name digest : List ℕ) (t : Tables) (H : History) → FitInTurn t H → last_from (caller_at t.accounts name digest) (all_told (caller_told name digest) H) ≡ caller_at (tables_from t H).accounts name digest
 caller-from name digest t [] fits = refl

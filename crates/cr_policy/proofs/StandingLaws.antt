@@ -1,57 +1,111 @@
--- What a view says of the conference is what the history says.
-use Rattle.std.proofs.Common.{◌≡◌, ℕ, List, [], ◌∷◌, refl, ap, ◌∙◌, Option, Some, length}
+-- What a view says of the conference, of its papers and of its reader is what the history says.
+use Rattle.std.proofs.Common.{◌≡◌, ℕ, Bool, true, false, List, [], refl, ap, ◌∙◌, ◌||◌, Option, Some, length}
 use Rattle.std.specs.Prelude.{map}
+use Rattle.std.specs.List.{list_any}
+use Rattle.cr_base.specs.declared.entry.Entry.TheVariants.{Conflict}
 use Rattle.cr_base.specs.declared.entry.Stamped.{Stamped}
 use Rattle.cr_base.specs.declared.words.Phase.TheVariants.{Setup}
 use Rattle.cr_base.specs.declared.words.Mode.TheVariants.{Blind}
 use Rattle.cr_base.specs.declared.words.Role.{Role}
 use Rattle.cr_base.specs.declared.words.Role.TheVariants.{Account}
+use Rattle.cr_base.specs.declared.paper.Paper.{Paper}
 use Rattle.cr_base.specs.declared.reply.AccountLine.{AccountLine}
-use Rattle.cr_base.specs.Lists.{last, last_or}
-use Rattle.cr_base.specs.History.{History, Registration, all_told, phase_told, mode_told, paper_told, registration_told, role_told, number_told}
-use Rattle.cr_base.specs.Facts.{phase_of, mode_of, role_of, paper_count, accounts_of, number_of}
-use Rattle.cr_policy.specs.Triggers.{reader}
+use Rattle.cr_base.specs.Lists.{last, last_or, is_number, at_some}
+use Rattle.cr_base.specs.History.{History, Registration, all_told, phase_told, mode_told, paper_told, own_paper_told, author_told, conflict_told, registration_told, role_told, number_told}
+use Rattle.cr_base.specs.Facts.{phase_of, mode_of, role_of, papers_of, own_papers_of, accounts_of, number_of, authors_of, is_author, is_declared, is_conflicted}
+use Rattle.cr_policy.specs.Part as part
+use Rattle.cr_policy.specs.Triggers.{reader, Place}
 use Rattle.cr_policy.specs.View.{view}
-use Rattle.cr_policy.specs.ViewFacts.{phase_seen, mode_seen, paper_seen, registration_seen, role_seen, number_seen, phase_in_view, mode_in_view, role_in_view, paper_count_in_view, accounts_in_view, number_in_view}
+use Rattle.cr_policy.specs.ViewFacts.{phase_seen, mode_seen, paper_seen, own_paper_seen, author_seen, conflict_seen, registration_seen, role_seen, number_seen, phase_in_view, mode_in_view, role_in_view, papers_in_view, own_papers_in_view, accounts_in_view, number_in_view, authors_in_view, is_author_in_view, is_declared_in_view, is_conflicted_in_view}
 use Rattle.cr_policy.specs.Laws.{StandingFromView, PublicFactsFromView}
-use Rattle.cr_policy.proofs.Walk.{sights-all}
-use Rattle.cr_policy.proofs.Tells.{phase_tells, mode_tells, paper_tells, registration_tells, role_tells, number_tells}
+use Rattle.cr_policy.proofs.PaperMade.{author-made}
+use Rattle.cr_policy.proofs.Walk.{sights-all, sights-kept, fold_all, list_any-kept}
+use Rattle.cr_policy.proofs.Tells.{stamp, passes, phase_tells, mode_tells, paper_tells, own_paper_tells, author_tells, made_value, conflict_tells, conflict_value, registration_tells, role_tells, number_tells}
+
+-- ---- the conference
 
 pub phase-seen : (u : Option ℕ) (H : History) → phase_in_view (view u H) ≡ phase_of H
 phase-seen u H = ap (last_or Setup) (sights-all (reader u H) phase_seen (λ (e : Stamped). phase_told e.entry) (phase_tells (reader u H)) [] H)
 
-pub mode-seen : (u : Option ℕ) (H : History) → mode_in_view (view u H) ≡ mode_of H
+mode-seen : (u : Option ℕ) (H : History) → mode_in_view (view u H) ≡ mode_of H
 mode-seen u H = ap (last_or Blind) (sights-all (reader u H) mode_seen (λ (e : Stamped). mode_told e.entry) (mode_tells (reader u H)) [] H)
 
 -- the role of any user, not of the reader alone
-pub role-seen : (u v : Option ℕ) (H : History) → role_in_view v (view u H) ≡ role_of v H
+role-seen : (u v : Option ℕ) (H : History) → role_in_view v (view u H) ≡ role_of v H
 role-seen u v H = ap (last_or Account) (sights-all (reader u H) (role_seen v) (λ (e : Stamped). role_told v e.entry) (role_tells (reader u H) v) [] H)
 
-pub papers-seen : (u : Option ℕ) (H : History) → paper_count_in_view (view u H) ≡ paper_count H
-papers-seen u H = ap length (sights-all (reader u H) paper_seen (λ (e : Stamped). paper_told e.entry) (paper_tells (reader u H)) [] H)
+pub papers-seen : (u : Option ℕ) (H : History) → papers_in_view (view u H) ≡ papers_of H
+papers-seen u H = sights-all (reader u H) paper_seen (λ (e : Stamped). paper_told e.entry) (paper_tells (reader u H)) [] H
 
-pub number-seen : (u : Option ℕ) (name : List ℕ) (H : History) → number_in_view name (view u H) ≡ number_of name H
+number-seen : (u : Option ℕ) (name : List ℕ) (H : History) → number_in_view name (view u H) ≡ number_of name H
 number-seen u name H = ap last (sights-all (reader u H) (number_seen name) (λ (e : Stamped). number_told name e.entry) (number_tells (reader u H) name) [] H)
 
 -- the accounts of these registrations, each with the role that is said of its user
 abbrev lines_with : (ℕ → Role) → List Registration → List AccountLine
 lines_with role rs = map (λ (r : Registration). record { user = r.user; name = r.name; role = role r.user }) rs
 
-lines_with-same : (f g : ℕ → Role) → ((n : ℕ) → f n ≡ g n) → (rs : List Registration) → lines_with f rs ≡ lines_with g rs
-lines_with-same f g same [] = refl
-lines_with-same f g same (r ∷ rs) =
-    let line : Role → AccountLine = λ role. record { user = r.user; name = r.name; role = role } in
-    ap (λ role. line role ∷ lines_with f rs) (same r.user)
-    ∙ ap (λ ls. line (g r.user) ∷ ls) (lines_with-same f g same rs)
-
 pub accounts-seen : (u : Option ℕ) (H : History) → accounts_in_view (view u H) ≡ accounts_of H
 accounts-seen u H =
     ap (lines_with (λ n. role_in_view (Some n) (view u H))) (sights-all (reader u H) registration_seen (λ (e : Stamped). registration_told e.entry) (registration_tells (reader u H)) [] H)
-    ∙ lines_with-same (λ n. role_in_view (Some n) (view u H)) (λ n. role_of (Some n) H) (λ n. role-seen u (Some n) H) (all_told registration_told H)
+    ∙ ap (λ (role : ℕ → Role). lines_with role (all_told registration_told H)) (λ i n. role-seen u (Some n) H i)
 
--- StandingFromView
+-- ---- the reader's own
+
+pub own_papers-seen : (u : Option ℕ) (H : History) → own_papers_in_view (view u H) ≡ own_papers_of u H
+own_papers-seen u H = ap length (sights-all (reader u H) own_paper_seen (λ (e : Stamped). own_paper_told u e.maker e.entry) (own_paper_tells (reader u H)) [] H)
+
+first_of : (a rest : Bool) → a ≡ true → (a || rest) ≡ true
+first_of a rest h = ap (λ b. b || rest) h
+
+-- an author sees all authors of her paper
+authors-seen_by_author : (u : Option ℕ) (p : ℕ) (H : History) → is_author u p H ≡ true → authors_in_view p (view u H) ≡ authors_of p H
+authors-seen_by_author u p H h =
+    fold_all (reader u H) (author_seen p) (λ (e : Stamped). author_told p e.maker e.entry) (passes part.by (reader u H)) (author_tells (reader u H) p)
+    (λ at e. made_value (λ (paper : Paper). paper.submitter) p (author_told p) (author-made p) part.by (reader u H) at e (λ maker more title abstract. first_of (is_author u p H) _ h)) [] H
+
+-- the reader is told exactly where she is an author
+author-seen : (u : Option ℕ) (p : ℕ) (H : History) → is_author_in_view u p (view u H) ≡ is_author u p H
+author-seen u p H = by (is_author u p H) refl
+  where
+    by : (b : Bool) → is_author u p H ≡ b → is_author_in_view u p (view u H) ≡ b
+    by true h = ap (list_any (is_number u)) (authors-seen_by_author u p H h) ∙ h
+    by false h =
+        ap (list_any (is_number u)) (sights-kept (reader u H) (author_seen p) (λ (e : Stamped). author_told p e.maker e.entry) (passes part.by (reader u H)) (author_tells (reader u H) p) [] H)
+        ∙ list_any-kept (is_number u) (passes part.by (reader u H)) (λ (e : Stamped). author_told p e.maker e.entry) [] H h
+
+-- a user's conflicts are told the reader, where she is shown each entry on them
+pub declared-seen_where : (u v : Option ℕ) (p : ℕ) (H : History) → ((at : Place) (maker : ℕ) (more : Bool) (user : ℕ) (on : Bool) → is_number v user ≡ true → passes part.on (reader u H) at (stamp maker more (Conflict p user on)) ≡ true) → is_declared_in_view v p (view u H) ≡ is_declared v p H
+declared-seen_where u v p H shown =
+    ap (last_or false) (fold_all (reader u H) (conflict_seen v p) (λ (e : Stamped). conflict_told v p e.entry) (passes part.on (reader u H)) (conflict_tells (reader u H) v p) (λ at e. conflict_value (reader u H) at v p e (shown at)) [] H)
+
+-- each entry on her own conflicts is shown a user; nobody has any
+declared-seen : (u : Option ℕ) (p : ℕ) (H : History) → is_declared_in_view u p (view u H) ≡ is_declared u p H
+declared-seen u p H = declared-seen_where u u p H (λ at maker more user on hers. first_of (is_number u user) _ hers)
+
+conflicted-seen : (u : Option ℕ) (p : ℕ) (H : History) → is_conflicted_in_view u p (view u H) ≡ is_conflicted u p H
+conflicted-seen u p H =
+    ap (λ b. b || is_declared_in_view u p (view u H)) (author-seen u p H)
+    ∙ ap (λ b. is_author u p H || b) (declared-seen u p H)
+
+-- what is said of any paper is said of the one that is named, if one is
+at_some-seen : (paper : Option ℕ) (says told : ℕ → Bool) → ((p : ℕ) → says p ≡ told p) → at_some says paper ≡ at_some told paper
+at_some-seen paper says told same = ap (λ (says : ℕ → Bool). at_some says paper) (λ i p. same p i)
+
+-- ---- the laws
+
 pub standing_from_view : StandingFromView
-standing_from_view u H = λ i. record { phase = phase-seen u H i; mode = mode-seen u H i; role = role-seen u u H i }
+standing_from_view u paper H = λ i. record {
+  phase = phase-seen u H i;
+  mode = mode-seen u H i;
+  role = role-seen u u H i;
+  author = at_some-seen paper (λ p. is_author_in_view u p (view u H)) (λ p. is_author u p H) (λ p. author-seen u p H) i;
+  conflicted = at_some-seen paper (λ p. is_conflicted_in_view u p (view u H)) (λ p. is_conflicted u p H) (λ p. conflicted-seen u p H) i;
+}
 
 pub public_from_view : (u : Option ℕ) (H : History) → PublicFactsFromView u H
-public_from_view u H = record { accounts = accounts-seen u H; papers = papers-seen u H; number = λ name. number-seen u name H }
+public_from_view u H = record {
+  accounts = accounts-seen u H;
+  papers = papers-seen u H;
+  own_papers = own_papers-seen u H;
+  number = λ name. number-seen u name H;
+}

@@ -1,24 +1,25 @@
 -- Where each entry fits in its turn, what rules and answers read in a view is what they read in the tables.
-use Rattle.std.proofs.Common.{ℕ, ◌≡◌, [], ◌∷◌, ◌++◌, length, refl, ap, ◌∙◌, Option}
-use Rattle.std.specs.List.{flat_map}
+use Rattle.std.proofs.Common.{ℕ, Bool, true, false, ◌≡◌, [], ◌∷◌, ◌++◌, ap, ◌∙◌, Option, Some}
 use Rattle.std.proofs.lemmas.List.{map-append}
 use Rattle.std.proofs.lemmas.List.Sums.{fold-append}
-use Rattle.cr_base.specs.declared.command.Command.{Command}
-use Rattle.cr_base.specs.declared.command.Query.{Query}
-use Rattle.cr_base.specs.declared.entry.Stamped.{Stamped}
-use Rattle.cr_base.specs.declared.words.Phase.TheVariants.{Setup}
-use Rattle.cr_base.specs.declared.words.Mode.TheVariants.{Blind}
-use Rattle.cr_base.specs.Lists.{last_or}
+use Rattle.cr_base.specs.declared.standing.Standing.{Standing}
+use Rattle.cr_base.specs.Lists.{at_some}
 use Rattle.cr_base.specs.History.{History}
-use Rattle.cr_base.specs.Facts.{phase_of, mode_of, paper_count}
+use Rattle.cr_base.specs.Facts.{standing_of}
+use Rattle.cr_base.specs.Page.{shows_author}
+use Rattle.cr_base.specs.Papers.{authors_at}
 use Rattle.cr_base.specs.Rows.{row_of, rows_of}
 use Rattle.cr_base.specs.Tables.{Tables, no_tables, tables_after, tables_from, tables_of, FitInTurn}
-use Rattle.cr_base.specs.Judging.{Facts, facts_of_tables, judge_by, judge_by_role, answer_by, answer_by_role}
+use Rattle.cr_base.specs.Judging.{standing_at, facts_of_tables}
 use Rattle.cr_policy.specs.View.{view}
-use Rattle.cr_policy.specs.ViewFacts.{facts_in_view}
-use Rattle.cr_policy.specs.Judge.{judge, answer}
-use Rattle.cr_policy.proofs.StandingLaws.{phase-seen, mode-seen, accounts-seen, papers-seen}
+use Rattle.cr_policy.specs.ViewFacts.{authors_in_view, facts_in_view}
+use Rattle.cr_policy.proofs.ConflictTies.{is_conflicted-tables}
+use Rattle.cr_policy.proofs.StandingLaws.{standing_from_view, accounts-seen, papers-seen, own_papers-seen}
+use Rattle.cr_policy.proofs.PageTells.{authors-seen}
 use Rattle.cr_policy.proofs.LineTies.{accounts_of-tables}
+use Rattle.cr_policy.proofs.StageTies.{phase_of-tables, mode_of-tables}
+use Rattle.cr_policy.proofs.RoleTies.{role_of-tables}
+use Rattle.cr_policy.proofs.PaperTies.{papers_of-tables, own_papers_of-tables, authors_of-tables, is_author-tables}
 
 -- ---- more entries
 
@@ -37,33 +38,21 @@ FitInTurn-append t (s ∷ H) g first then = (first.0, FitInTurn-append (tables_a
 
 -- ---- the facts
 
--- no entry tells of it
-nothing_told : {A : Type 0} (H : History) → flat_map {A = A} (λ (e : Stamped). []) H ≡ []
-nothing_told [] = refl
-nothing_told (e ∷ H) = nothing_told H
-
--- no kind of entry sets a phase or a mode or makes a paper
-pub phase_of-tables : (H : History) → phase_of H ≡ Setup
-phase_of-tables H = ap (last_or Setup) (nothing_told H)
-
-pub mode_of-tables : (H : History) → mode_of H ≡ Blind
-mode_of-tables H = ap (last_or Blind) (nothing_told H)
-
-pub paper_count-tables : (H : History) → paper_count H ≡ 0
-paper_count-tables H = ap length (nothing_told {A = ℕ} H)
+-- how a user stands by a history is how she stands by its tables
+pub standing_of-tables : (u paper : Option ℕ) (H : History) → FitInTurn no_tables H → standing_of u paper H ≡ standing_at (tables_of H) u paper
+standing_of-tables u paper H fits =
+    let author = ap (λ (says : ℕ → Bool). at_some says paper) (λ i p. is_author-tables u p H fits i) in
+    let conflicted = ap (λ (says : ℕ → Bool). at_some says paper) (λ i p. is_conflicted-tables u p H fits i) in
+    λ i. record { phase = phase_of-tables H i; mode = mode_of-tables H i; role = role_of-tables u H fits i; author = author i; conflicted = conflicted i }
 
 -- the facts of any user's view are those of the tables
-pub facts_in_view-tables : (u : Option ℕ) (H : History) → FitInTurn no_tables H → facts_in_view u (view u H) ≡ facts_of_tables (tables_of H)
+pub facts_in_view-tables : (u : Option ℕ) (H : History) → FitInTurn no_tables H → facts_in_view u (view u H) ≡ facts_of_tables (tables_of H) u
 facts_in_view-tables u H fits =
-    let phase = phase-seen u H ∙ phase_of-tables H in
-    let mode = mode-seen u H ∙ mode_of-tables H in
     let accounts = accounts-seen u H ∙ accounts_of-tables H fits in
-    let papers = papers-seen u H ∙ paper_count-tables H in
-    λ i. record { phase = phase i; mode = mode i; accounts = accounts i; papers = papers i }
+    let papers = papers-seen u H ∙ papers_of-tables H fits in
+    let own = own_papers-seen u H ∙ own_papers_of-tables u H in
+    λ i. record { standing = λ paper. (standing_from_view u paper H ∙ standing_of-tables u paper H fits) i; accounts = accounts i; papers = papers i; own_papers = own i }
 
--- so judgement and answer by any user's view are those by the tables
-pub judge-tables : (u : Option ℕ) (H : History) (command : Command) → FitInTurn no_tables H → judge u (view u H) command ≡ judge_by_role (tables_of H) u command
-judge-tables u H command fits = ap (λ (facts : Facts). judge_by facts u command) (facts_in_view-tables u H fits)
-
-pub answer-tables : (u : Option ℕ) (H : History) (query : Query) → FitInTurn no_tables H → answer u (view u H) query ≡ answer_by_role (tables_of H) u query
-answer-tables u H query fits = ap (λ (facts : Facts). answer_by facts u query) (facts_in_view-tables u H fits)
+-- who wrote a paper, as the view of one who is told shows it
+pub authors-tables : (u : Option ℕ) (H : History) (p : ℕ) → FitInTurn no_tables H → shows_author (standing_at (tables_of H) u (Some p)) false ≡ true → authors_in_view p (view u H) ≡ authors_at (tables_of H).papers p
+authors-tables u H p fits told = authors-seen u p H (ap (λ (by : Standing). shows_author by false) (standing_of-tables u (Some p) H fits) ∙ told) ∙ authors_of-tables p H fits

@@ -1,33 +1,86 @@
 -- What each entry shows of one fact: one lemma a fact, one line a kind of entry that tells of it.
-use Rattle.std.proofs.Common.{◌≡◌, ℕ, Bool, List, [], refl, ap, ◌∙◌, Option, append-nil}
+use Rattle.std.proofs.Common.{◌≡◌, ℕ, Bool, true, false, List, [], ◌∷◌, refl, sym, ap, subst, ◌∙◌, ◌||◌, ◌&&◌, Option, Some, append-nil, eqb, arith}
 use Rattle.std.specs.List.{flat_map}
 use Rattle.std.specs.Str.{bytes_eq}
+use Rattle.std.proofs.lemmas.Bool.{eqb-true, or_parts, and_parts}
 use Rattle.cr_base.specs.declared.entry.Entry.{Entry}
-use Rattle.cr_base.specs.declared.entry.Entry.TheVariants.{Registered, Named}
+use Rattle.cr_base.specs.declared.entry.Entry.TheVariants.{Registered, Named, PhaseSet, ModeSet, Submitted, Conflict}
 use Rattle.cr_base.specs.declared.entry.Stamped.{Stamped}
-use Rattle.cr_base.specs.Lists.{given, is_number}
-use Rattle.cr_base.specs.History.{phase_told, mode_told, paper_told, registration_told, role_told, number_told}
-use Rattle.cr_policy.specs.Sighting.{Sighting}
-use Rattle.cr_policy.specs.Triggers.{Reader, Place}
-use Rattle.cr_policy.specs.View.{sight, is_seen, joined}
-use Rattle.cr_policy.specs.ViewFacts.{only, phase_seen, mode_seen, paper_seen, registration_seen, role_seen, number_seen}
-use Rattle.cr_policy.proofs.Walk.{flat_map-given, TellsAll}
+use Rattle.cr_base.specs.declared.paper.Paper.{Paper}
+use Rattle.cr_base.specs.Lists.{given, listed, is_number}
+use Rattle.cr_base.specs.History.{phase_told, mode_told, paper_told, own_paper_told, author_told, conflict_told, title_told, abstract_told, registration_told, role_told, number_told}
+use Rattle.cr_policy.specs.Part as part
+use Rattle.cr_policy.specs.Part.{Part, names}
+use Rattle.cr_policy.specs.Sighting.{Sighting, where_shown}
+use Rattle.cr_policy.specs.Triggers.{Reader, Place, TriggerRow, applies_any, shows}
+use Rattle.cr_policy.specs.View.{sight, is_seen, joined, rows_at}
+use Rattle.cr_policy.specs.ViewFacts.{only, is_user, phase_seen, mode_seen, paper_seen, own_paper_seen, author_seen, conflict_seen, title_seen, abstract_seen, registration_seen, role_seen, number_seen}
+use Rattle.cr_policy.proofs.PaperMade.{paper_made, made_told, TellsPart}
+use Rattle.cr_policy.proofs.Walk.{only-true, only-false, flat_map-given, Tells, TellsAll}
 
 abbrev pub stamp : ℕ → Bool → Entry → Stamped
 stamp maker more entry = record { maker = maker; more = more; entry = entry }
+
+-- whether a part of an entry is shown
+abbrev pub passes : Part → Reader → Place → Stamped → Bool
+passes p r at e = shows (rows_at r at e) p
+
+-- what is told of a paper, where it is shown
+pub paper_value : {A : Type 0} (a c : Bool) (x : A) → only a (listed (where_shown c (Some x))) ≡ only c (given a x)
+paper_value true true x = refl
+paper_value true false x = refl
+paper_value false true x = refl
+paper_value false false x = refl
+
+-- what is told of a user and a paper, where both are shown
+user_value : {A : Type 0} (a c : Bool) (u : Option ℕ) (v : ℕ) (x : A) → only (a && is_user u (where_shown c (Some v))) (listed (where_shown c (Some x))) ≡ only c (given (a && is_number u v) x)
+user_value true true u v x = by (is_number u v)
+  where
+    by : (b : Bool) → only b (x ∷ []) ≡ only true (given b x)
+    by true = refl
+    by false = refl
+user_value false true u v x = refl
+user_value true false u v x = sym (only-false (given (is_number u v) x))
+user_value false false u v x = refl
+
+-- where no row applies, none shows a part
+hidden : (rows : List TriggerRow) (p : Part) → applies_any rows ≡ false → shows rows p ≡ false
+hidden [] p h = refl
+hidden (row ∷ rows) p h =
+    let parts = or_parts row.applies (applies_any rows) h in
+    neither (names row.parts p) row.applies (shows rows p) parts.0 (hidden rows p parts.1)
+  where
+    neither : (n a rest : Bool) → a ≡ false → rest ≡ false → ((n && a) || rest) ≡ false
+    neither n a rest ha hr = grind arith
 
 module _ (r : Reader) (at : Place) (maker : ℕ) (more : Bool) where
   -- a sighting that tells nothing tells nothing, whether it is there or not
   pub silent : {A : Type 0} (f : Sighting → List A) (e : Entry) → f (joined r at (stamp maker more e)) ≡ [] → flat_map f (sight r at (stamp maker more e)) ≡ []
   silent f e h = flat_map-given f (is_seen r at (stamp maker more e)) (joined r at (stamp maker more e)) ∙ ap (only (is_seen r at (stamp maker more e))) h
 
+  -- what a sighting tells where a part is shown, of an entry that may show nothing
+  pub told_where : {A : Type 0} (f : Sighting → List A) (p : Part) (e : Entry) (xs : List A) → f (joined r at (stamp maker more e)) ≡ only (passes p r at (stamp maker more e)) xs → flat_map f (sight r at (stamp maker more e)) ≡ only (passes p r at (stamp maker more e)) xs
+  told_where {A} f p e xs h =
+      flat_map-given f (is_seen r at (stamp maker more e)) (joined r at (stamp maker more e))
+      ∙ ap (only (is_seen r at (stamp maker more e))) h
+      ∙ by (is_seen r at (stamp maker more e)) (passes p r at (stamp maker more e)) (hidden (rows_at r at (stamp maker more e)) p)
+    where
+      by : (seen c : Bool) → (seen ≡ false → c ≡ false) → only seen (only c xs) ≡ only c xs
+      by true c none = only-true (only c xs)
+      by false c none = only-false (only c xs) ∙ sym (ap (λ b. only b xs) (none refl) ∙ only-false xs)
+
+  -- ---- what everyone is shown
+
   phase_at : (e : Entry) → flat_map phase_seen (sight r at (stamp maker more e)) ≡ phase_told e
+  phase_at (PhaseSet phase) = refl
   phase_at e = silent phase_seen e refl
 
   mode_at : (e : Entry) → flat_map mode_seen (sight r at (stamp maker more e)) ≡ mode_told e
+  mode_at (ModeSet mode) = refl
   mode_at e = silent mode_seen e refl
 
   paper_at : (e : Entry) → flat_map paper_seen (sight r at (stamp maker more e)) ≡ paper_told e
+  paper_at (Submitted paper title abstract) = refl
   paper_at e = silent paper_seen e refl
 
   registration_at : (e : Entry) → flat_map registration_seen (sight r at (stamp maker more e)) ≡ registration_told e
@@ -41,6 +94,30 @@ module _ (r : Reader) (at : Place) (maker : ℕ) (more : Bool) where
   number_at : (name : List ℕ) (e : Entry) → flat_map (number_seen name) (sight r at (stamp maker more e)) ≡ number_told name e
   number_at name (Registered user name' digest) = append-nil (given (bytes_eq name' name) user)
   number_at name e = silent (number_seen name) e refl
+
+  -- ---- what the maker is shown
+
+  own_paper_at : (e : Entry) → flat_map own_paper_seen (sight r at (stamp maker more e)) ≡ own_paper_told r.number maker e
+  own_paper_at (Submitted paper title abstract) = append-nil (given (is_number r.number maker) paper)
+  own_paper_at e = silent own_paper_seen e refl
+
+  -- ---- what is shown to some
+
+  author_at : (p : ℕ) (e : Entry) → flat_map (author_seen p) (sight r at (stamp maker more e)) ≡ only (passes part.by r at (stamp maker more e)) (author_told p maker e)
+  author_at p (Submitted paper title abstract) = append-nil _ ∙ paper_value (eqb paper p) _ maker
+  author_at p e = silent (author_seen p) e refl
+
+  title_at : (p : ℕ) (e : Entry) → flat_map (title_seen p) (sight r at (stamp maker more e)) ≡ only (passes part.title r at (stamp maker more e)) (title_told p e)
+  title_at p (Submitted paper title abstract) = append-nil _ ∙ paper_value (eqb paper p) _ title
+  title_at p e = silent (title_seen p) e refl
+
+  abstract_at : (p : ℕ) (e : Entry) → flat_map (abstract_seen p) (sight r at (stamp maker more e)) ≡ only (passes part.abstract r at (stamp maker more e)) (abstract_told p e)
+  abstract_at p (Submitted paper title abstract) = append-nil _ ∙ paper_value (eqb paper p) _ abstract
+  abstract_at p e = silent (abstract_seen p) e refl
+
+  conflict_at : (u : Option ℕ) (p : ℕ) (e : Entry) → flat_map (conflict_seen u p) (sight r at (stamp maker more e)) ≡ only (passes part.on r at (stamp maker more e)) (conflict_told u p e)
+  conflict_at u p (Conflict paper user on) = told_where (conflict_seen u p) part.on (Conflict paper user on) (conflict_told u p (Conflict paper user on)) (user_value (eqb paper p) _ u user on)
+  conflict_at u p e = silent (conflict_seen u p) e refl
 
 pub phase_tells : (r : Reader) → TellsAll r phase_seen (λ (e : Stamped). phase_told e.entry)
 phase_tells r at e = phase_at r at e.maker e.more e.entry
@@ -59,3 +136,52 @@ role_tells r u at e = role_at r at e.maker e.more u e.entry
 
 pub number_tells : (r : Reader) (name : List ℕ) → TellsAll r (number_seen name) (λ (e : Stamped). number_told name e.entry)
 number_tells r name at e = number_at r at e.maker e.more name e.entry
+
+pub own_paper_tells : (r : Reader) → TellsAll r own_paper_seen (λ (e : Stamped). own_paper_told r.number e.maker e.entry)
+own_paper_tells r at e = own_paper_at r at e.maker e.more e.entry
+
+pub author_tells : (r : Reader) (p : ℕ) → Tells r (author_seen p) (λ (e : Stamped). author_told p e.maker e.entry) (passes part.by r)
+author_tells r p at e = author_at r at e.maker e.more p e.entry
+
+pub title_tells : (r : Reader) (p : ℕ) → Tells r (title_seen p) (λ (e : Stamped). title_told p e.entry) (passes part.title r)
+title_tells r p at e = title_at r at e.maker e.more p e.entry
+
+pub abstract_tells : (r : Reader) (p : ℕ) → Tells r (abstract_seen p) (λ (e : Stamped). abstract_told p e.entry) (passes part.abstract r)
+abstract_tells r p at e = abstract_at r at e.maker e.more p e.entry
+
+pub conflict_tells : (r : Reader) (u : Option ℕ) (p : ℕ) → Tells r (conflict_seen u p) (λ (e : Stamped). conflict_told u p e.entry) (passes part.on r)
+conflict_tells r u p at e = conflict_at r at e.maker e.more u p e.entry
+
+-- ---- who is shown a part of a paper
+
+-- a value that is told of a number is shown, where the number's is
+shown_value : {A : Type 0} (c same : Bool) (x : A) → (same ≡ true → c ≡ true) → only c (given same x) ≡ given same x
+shown_value c true x h = ap (λ b. only b (x ∷ [])) (h refl)
+shown_value c false x h = refl
+
+-- a submission of paper p shows this part, whoever made it
+abbrev pub Shows : Part → Reader → Place → ℕ → Type 0
+Shows which r at p = (maker : ℕ) (more : Bool) (title abstract : List ℕ) → passes which r at (stamp maker more (Submitted p title abstract)) ≡ true
+
+made_at : {A : Type 0} (part : Paper → A) (which : Part) (r : Reader) (at : Place) (p : ℕ) → Shows which r at p → (maker : ℕ) (more : Bool) (e : Entry) → only (passes which r at (stamp maker more e)) (made_told part p maker e) ≡ made_told part p maker e
+made_at part which r at p shown maker more (Submitted paper title abstract) =
+    shown_value _ (eqb paper p) (part (paper_made maker title abstract)) (λ same. ap (λ n. passes which r at (stamp maker more (Submitted n title abstract))) (eqb-true paper p same) ∙ shown maker more title abstract)
+made_at part which r at p shown maker more e = refl
+
+-- where the submissions of paper p show a part, what is told of it is kept
+pub made_value : {A : Type 0} (part : Paper → A) (p : ℕ) (told : ℕ → Entry → List A) → TellsPart part p told → (which : Part) (r : Reader) (at : Place) (e : Stamped) → Shows which r at p → only (passes which r at e) (told e.maker e.entry) ≡ told e.maker e.entry
+made_value {A} part p told same which r at e shown =
+    subst (λ (xs : List A). only (passes which r at e) xs ≡ xs) (sym (same e.maker e.entry)) (made_at part which r at p shown e.maker e.more e.entry)
+
+-- ---- who is shown a conflict
+
+-- where each conflict of the user with the paper is shown, what is told of them is kept
+pub conflict_value : (r : Reader) (at : Place) (u : Option ℕ) (p : ℕ) (e : Stamped) → ((maker : ℕ) (more : Bool) (user : ℕ) (on : Bool) → is_number u user ≡ true → passes part.on r at (stamp maker more (Conflict p user on)) ≡ true) → only (passes part.on r at e) (conflict_told u p e.entry) ≡ conflict_told u p e.entry
+conflict_value r at u p e h = by e.maker e.more e.entry
+  where
+    by : (maker : ℕ) (more : Bool) (e : Entry) → only (passes part.on r at (stamp maker more e)) (conflict_told u p e) ≡ conflict_told u p e
+    by maker more (Conflict paper user on) =
+        shown_value _ (eqb paper p && is_number u user) on (λ same.
+        let parts = and_parts (eqb paper p) (is_number u user) same in
+        ap (λ n. passes part.on r at (stamp maker more (Conflict n user on))) (eqb-true paper p parts.0) ∙ h maker more user on parts.1)
+    by maker more e = refl

@@ -1,16 +1,26 @@
--- Two registrations are a legal history.
-use Rattle.std.proofs.Common.{ℕ, ◌≡◌, List, [], ◌∷◌, length, refl, None, arith}
-use Rattle.std.specs.Prelude.{codes}
-use Rattle.cr_base.specs.declared.command.Command.TheVariants.{Register}
-use Rattle.cr_policy.specs.Legal.{Call, Legal}
-use Rattle.cr_policy.specs.Witness.{two_registrations}
-use Rattle.cr_policy.specs.Laws.{TwoRegistrations, DigestsHidden}
+-- Two registrations are a legal history, and so they are with a submission and a conflict after them.
+use Rattle.std.proofs.Common.{ℕ, true, false, ◌≡◌, ◌<◌, zero, suc, List, [], ◌∷◌, ◌++◌, length, refl, subst, Some, None, arith}
+use Rattle.std.specs.Prelude.{codes, nat_le}
+use Rattle.std.specs.List.{list_all}
+use Rattle.std.specs.Str.{is_utf8, IsAscii}
+use Rattle.std.proofs.lemmas.Bool.{and_parts}
+use Rattle.std.proofs.lemmas.Bool.Decides.{nat_tests}
+use Rattle.std.proofs.lemmas.Str.{IsUtf8-from_ascii, is_utf8-from_IsUtf8}
+use Rattle.cr_base.specs.declared.command.Command.TheVariants.{Register, SetPhase, Submit, Name, SetMode, SetConflict}
+use Rattle.cr_base.specs.declared.entry.Entry.TheVariants.{Registered, Named}
+use Rattle.cr_base.specs.declared.words.Mode.TheVariants.{Anonymous}
+use Rattle.cr_base.specs.declared.words.Phase.TheVariants.{Submission, Bidding}
+use Rattle.cr_base.specs.declared.words.Role.TheVariants.{Member}
+use Rattle.cr_base.specs.History.{History}
+use Rattle.cr_policy.specs.Legal.{Call, IsAllowed, step, Legal}
+use Rattle.cr_policy.specs.Witness.{two_registrations, made_anonymous, submission_opened, one_submission, four_registrations, two_members, one_conflict, bidding_opened}
+use Rattle.cr_policy.specs.Laws.{TwoRegistrations, DigestsHidden, OneSubmission, OneConflict}
+use Rattle.cr_policy.proofs.LegalLaws.{Legal-step}
 
-register : List ℕ → List ℕ → Call
+abbrev register : List ℕ → List ℕ → Call
 register name digest = record { caller = None; command = Register name digest }
 
 two_calls : (alice bob : List ℕ) → length alice ≡ 32 → length bob ≡ 32 → Legal (two_registrations alice bob)
-unfolding register
 two_calls alice bob ha hb = (
   register (codes "alice") alice ∷ register (codes "bob") bob ∷ [],
   (
@@ -27,3 +37,91 @@ two_registrations-legal alice bob ha hb = record { legal = two_calls alice bob h
 
 pub digests-hidden : DigestsHidden
 digests-hidden alice bob = (refl, refl)
+
+-- ---- a submission
+
+-- a call that leads to a history makes it legal
+called : (H to : History) (call : Call) → Legal H → IsAllowed H call → step H call ≡ to → Legal to
+called H to call legal allowed leads = subst (λ (G : History). Legal G) leads (Legal-step H call legal allowed)
+
+-- bytes below 128 are UTF-8
+ascii : (bytes : List ℕ) → list_all (λ b. nat_le b 127) bytes ≡ true → IsAscii bytes
+ascii [] h i = omega arith
+ascii (b ∷ bytes) h zero = let few = (and_parts (nat_le b 127) (list_all (λ b. nat_le b 127) bytes) h).0 in low b few
+  where
+    low : (b : ℕ) → nat_le b 127 ≡ true → b < 128
+    low b h = grind (arith, nat_tests)
+ascii (b ∷ bytes) h (suc i) = ascii bytes (and_parts (nat_le b 127) (list_all (λ b. nat_le b 127) bytes) h).1 i
+
+-- the two texts are UTF-8
+title-utf8 : is_utf8 (codes "Proofs") ≡ true
+title-utf8 = is_utf8-from_IsUtf8 (codes "Proofs") (IsUtf8-from_ascii (codes "Proofs") (ascii (codes "Proofs") refl))
+
+abstract-utf8 : is_utf8 (codes "We prove.") ≡ true
+abstract-utf8 = is_utf8-from_IsUtf8 (codes "We prove.") (IsUtf8-from_ascii (codes "We prove.") (ascii (codes "We prove.") refl))
+
+hides : (alice bob : List ℕ) → Legal (two_registrations alice bob) → Legal (made_anonymous alice bob)
+hides alice bob legal =
+    called (two_registrations alice bob) (made_anonymous alice bob) (record { caller = Some 1; command = SetMode Anonymous }) legal
+    (record { caller = refl; bounded = tt }) refl
+
+opens : (alice bob : List ℕ) → Legal (made_anonymous alice bob) → Legal (submission_opened alice bob)
+opens alice bob legal =
+    called (made_anonymous alice bob) (submission_opened alice bob) (record { caller = Some 1; command = SetPhase Submission }) legal
+    (record { caller = refl; bounded = tt }) refl
+
+submits : (alice bob : List ℕ) → Legal (submission_opened alice bob) → Legal (one_submission alice bob)
+submits alice bob legal =
+    called (submission_opened alice bob) (one_submission alice bob) (record { caller = Some 2; command = Submit (codes "Proofs") (codes "We prove.") }) legal
+    (record { caller = refl; bounded = (record { some = omega arith; few = omega arith; bytes = refl; utf8 = title-utf8 }, record { few = omega arith; utf8 = abstract-utf8 }) }) refl
+
+one_submission-follows : (alice bob : List ℕ) → length alice ≡ 32 → length bob ≡ 32 → Legal (one_submission alice bob)
+one_submission-follows alice bob ha hb = submits alice bob (opens alice bob (hides alice bob (two_calls alice bob ha hb)))
+
+pub one_submission-legal : OneSubmission
+one_submission-legal alice bob ha hb = record {
+  legal = one_submission-follows alice bob ha hb;
+  chair = refl;
+  hidden = refl;
+  author = refl;
+  shown = refl;
+}
+
+-- ---- a conflict
+
+module _ (alice bob carol dave : List ℕ) where
+  registers : length carol ≡ 32 → length dave ≡ 32 → Legal (one_submission alice bob) → Legal (four_registrations alice bob carol dave)
+  registers hc hd legal =
+      let three : History = one_submission alice bob ++ record { maker = 3; more = false; entry = Registered 3 (codes "carol") carol } ∷ [] in
+      called three (four_registrations alice bob carol dave) (register (codes "dave") dave)
+      (called (one_submission alice bob) three (register (codes "carol") carol) legal (record { caller = refl; bounded = (record { some = omega arith; few = omega arith; bytes = refl }, hc) }) refl)
+      (record { caller = refl; bounded = (record { some = omega arith; few = omega arith; bytes = refl }, hd) }) refl
+
+  names : Legal (four_registrations alice bob carol dave) → Legal (two_members alice bob carol dave)
+  names legal =
+      let one : History = four_registrations alice bob carol dave ++ record { maker = 1; more = false; entry = Named 3 Member } ∷ [] in
+      called one (two_members alice bob carol dave) (record { caller = Some 1; command = Name (Some (codes "dave")) Member })
+      (called (four_registrations alice bob carol dave) one (record { caller = Some 1; command = Name (Some (codes "carol")) Member }) legal (record { caller = refl; bounded = refl }) refl)
+      (record { caller = refl; bounded = refl }) refl
+
+  declares : Legal (two_members alice bob carol dave) → Legal (one_conflict alice bob carol dave)
+  declares legal =
+      called (two_members alice bob carol dave) (one_conflict alice bob carol dave) (record { caller = Some 2; command = SetConflict (Some 1) (Some (codes "carol")) true }) legal
+      (record { caller = refl; bounded = tt }) refl
+
+  bids : Legal (one_conflict alice bob carol dave) → Legal (bidding_opened alice bob carol dave)
+  bids legal =
+      called (one_conflict alice bob carol dave) (bidding_opened alice bob carol dave) (record { caller = Some 1; command = SetPhase Bidding }) legal
+      (record { caller = refl; bounded = tt }) refl
+
+pub one_conflict-legal : OneConflict
+one_conflict-legal alice bob carol dave ha hb hc hd = record {
+  legal = bids alice bob carol dave (declares alice bob carol dave (names alice bob carol dave (registers alice bob carol dave hc hd (one_submission-follows alice bob ha hb))));
+  conflicted = refl;
+  titled = refl;
+  hidden = refl;
+  shown = refl;
+  unnamed = refl;
+  named = refl;
+  declared = refl;
+}

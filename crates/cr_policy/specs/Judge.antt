@@ -6,12 +6,12 @@ use Rattle.cr_base.specs.declared.reply.Reply.{Reply}
 use Rattle.cr_base.specs.declared.reply.Rule.{Rule}
 use Rattle.cr_base.specs.Judging.{Drawn, judge_by, answer_by}
 use Rattle.cr_policy.specs.View.{View}
-use Rattle.cr_policy.specs.ViewFacts.{facts_in_view}
+use Rattle.cr_policy.specs.ViewFacts.{facts_in_view, shown_in_view}
 
 -- Judge: the first broken rule of the command's row, or the entries that it adds and its receipt
 abbrev pub judge : Option ℕ → View → Command → Result Drawn Rule
-judge u V command = judge_by (facts_in_view u V) u command
+judge u V command = judge_by (facts_in_view u V) (shown_in_view u V) u command
 
 -- Answer: the answer to the query
 abbrev pub answer : Option ℕ → View → Query → Reply
-answer u V query = answer_by (facts_in_view u V) u query
+answer u V query = answer_by (facts_in_view u V) (shown_in_view u V) u query

@@ -1,26 +1,28 @@
 -- The laws of views.
-use Rattle.std.specs.Prelude.{ℕ, ◌≡◌, List, length, Option, Some, None}
+use Rattle.std.specs.Prelude.{ℕ, ◌≡◌, List, [], ◌∷◌, length, Option, Some, None, IsTrue, codes}
 use Rattle.cr_base.specs.declared.command.Command.{Command}
 use Rattle.cr_base.specs.declared.command.Query.{Query}
+use Rattle.cr_base.specs.declared.words.Role.TheVariants.{Chair}
 use Rattle.cr_base.specs.History.{History}
-use Rattle.cr_base.specs.Facts.{standing_of, accounts_of, paper_count, number_of}
+use Rattle.cr_base.specs.Facts.{standing_of, role_of, is_author, is_conflicted, declared_by_authors, accounts_of, papers_of, own_papers_of, number_of}
 use Rattle.cr_base.specs.Tables.{tables_of}
 use Rattle.cr_base.specs.Judging.{judge_by_role, answer_by_role, wants_login}
 use Rattle.cr_policy.specs.View.{view}
-use Rattle.cr_policy.specs.ViewFacts.{standing_in_view, accounts_in_view, paper_count_in_view, number_in_view}
+use Rattle.cr_policy.specs.ViewFacts.{standing_in_view, accounts_in_view, papers_in_view, own_papers_in_view, number_in_view, declared_in_view, authors_in_view, title_in_view, abstract_in_view}
 use Rattle.cr_policy.specs.Judge.{judge, answer}
 use Rattle.cr_policy.specs.Legal.{Legal, IsRegistered, MayAsk, command_wants_login}
-use Rattle.cr_policy.specs.Witness.{two_registrations, seen_by_nobody, seen_by_alice}
+use Rattle.cr_policy.specs.Witness.{two_registrations, seen_by_nobody, seen_by_alice, one_submission, submission_seen_by_alice, submission_seen_by_bob, bidding_opened}
 
--- StandingFromView: how a user stands can be read off what she sees, whatever the history
+-- StandingFromView: how a user stands, to any paper too, can be read off what she sees, whatever the history
 abbrev pub StandingFromView : Type 0
-StandingFromView = (u : Option ℕ) (H : History) → standing_in_view u (view u H) ≡ standing_of u H
+StandingFromView = (u paper : Option ℕ) (H : History) → standing_in_view u paper (view u H) ≡ standing_of u paper H
 
 -- PublicFacts can be read off what anybody sees, whatever the history: who has registered, in which role, under which
--- name, and how many papers there are
+-- name, and the papers; and so can how many of them are the reader's own
 pub record PublicFactsFromView (u : Option ℕ) (H : History) : Type 0 where
   pub accounts : accounts_in_view (view u H) ≡ accounts_of H
-  pub papers : paper_count_in_view (view u H) ≡ paper_count H
+  pub papers : papers_in_view (view u H) ≡ papers_of H
+  pub own_papers : own_papers_in_view (view u H) ≡ own_papers_of u H
   pub number : (name : List ℕ) → number_in_view name (view u H) ≡ number_of name H
 
 -- ViewSuffices: on a legal history, what checks of role on the tables give of a command or a query is what the caller's
@@ -28,6 +30,11 @@ pub record PublicFactsFromView (u : Option ℕ) (H : History) : Type 0 where
 pub record ViewSuffices : Type 0 where
   pub commands : (u : Option ℕ) (H : History) (command : Command) → Legal H → MayAsk H (command_wants_login command) u → judge u (view u H) command ≡ judge_by_role (tables_of H) u command
   pub queries : (u : Option ℕ) (H : History) (query : Query) → Legal H → MayAsk H (wants_login query) u → answer u (view u H) query ≡ answer_by_role (tables_of H) u query
+
+-- DeclaredFromView: on a legal history, whom a paper's authors declared in conflict with it can be read off what an author
+-- of it sees
+abbrev pub DeclaredFromView : Type 0
+DeclaredFromView = (u : Option ℕ) (p : ℕ) (H : History) → Legal H → IsTrue (is_author u p H) → declared_in_view u p (view u H) ≡ declared_by_authors p H
 
 -- a history of two users is legal
 pub record IsLegalWitness (H : History) : Type 0 where
@@ -42,3 +49,33 @@ TwoRegistrations = (alice bob : List ℕ) → length alice ≡ 32 → length bob
 -- nobody sees a digest in it, and alice no other than her own
 abbrev pub DigestsHidden : Type 0
 DigestsHidden = (alice bob : List ℕ) → (view None (two_registrations alice bob) ≡ seen_by_nobody) × (view (Some 1) (two_registrations alice bob) ≡ seen_by_alice alice)
+
+-- with a submission after them the history is legal too; of the paper alice, a chair, sees its number alone, and bob, its
+-- author, the whole
+pub record IsSubmissionWitness (alice bob : List ℕ) : Type 0 where
+  pub legal : Legal (one_submission alice bob)
+  pub chair : role_of (Some 1) (one_submission alice bob) ≡ Chair
+  pub hidden : view (Some 1) (one_submission alice bob) ≡ submission_seen_by_alice alice
+  pub author : IsTrue (is_author (Some 2) 1 (one_submission alice bob))
+  pub shown : view (Some 2) (one_submission alice bob) ≡ submission_seen_by_bob bob
+
+-- whatever the digests are
+abbrev pub OneSubmission : Type 0
+OneSubmission = (alice bob : List ℕ) → length alice ≡ 32 → length bob ≡ 32 → IsSubmissionWitness alice bob
+
+-- with two members and a conflict after it, and the bidding opened, the history is legal. carol, the member whom the author
+-- declared, sees no abstract of the paper; dave, the other member, sees it, and in the anonymous mode not who wrote the
+-- paper; alice, a chair, sees who did; and bob, its author, whom he declared
+pub record IsConflictWitness (H : History) : Type 0 where
+  pub legal : Legal H
+  pub conflicted : IsTrue (is_conflicted (Some 3) 1 H)
+  pub titled : title_in_view 1 (view (Some 3) H) ≡ Some (codes "Proofs")
+  pub hidden : abstract_in_view 1 (view (Some 3) H) ≡ None
+  pub shown : abstract_in_view 1 (view (Some 4) H) ≡ Some (codes "We prove.")
+  pub unnamed : authors_in_view 1 (view (Some 4) H) ≡ []
+  pub named : authors_in_view 1 (view (Some 1) H) ≡ 2 ∷ []
+  pub declared : declared_in_view (Some 2) 1 (view (Some 2) H) ≡ 3 ∷ []
+
+-- whatever the digests are
+abbrev pub OneConflict : Type 0
+OneConflict = (alice bob carol dave : List ℕ) → length alice ≡ 32 → length bob ≡ 32 → length carol ≡ 32 → length dave ≡ 32 → IsConflictWitness (bidding_opened alice bob carol dave)

@@ -1,8 +1,8 @@
 -- Legal: which histories come of commands.
-use Rattle.std.specs.Prelude.{ℕ, Bool, false, ◌≡◌, ◌==◌, List, [], ◌∷◌, ◌++◌, Option, Some, None, Result, Ok, Err, IsTrue, IsFalse}
+use Rattle.std.specs.Prelude.{ℕ, Bool, true, false, ◌≡◌, ◌==◌, List, [], ◌∷◌, ◌++◌, Option, Some, None, Result, Ok, Err, IsTrue, IsFalse}
 use Rattle.std.specs.List.{list_any}
 use Rattle.cr_base.specs.declared.command.Command.{Command}
-use Rattle.cr_base.specs.declared.command.Command.TheVariants.{Register}
+use Rattle.cr_base.specs.declared.command.Command.TheVariants.{Register, SetPhase, Submit, Name, SetMode, SetConflict}
 use Rattle.cr_base.specs.declared.reply.Rule.{Rule}
 use Rattle.cr_base.specs.History.{History, Registration, all_told, registration_told}
 use Rattle.cr_base.specs.Judging.{Drawn}
@@ -24,10 +24,25 @@ MayAsk H login (Some user) = IsRegistered H user
 -- whether a command wants a login
 abbrev pub command_wants_login : Command → Bool
 command_wants_login (Register name digest) = false
+command_wants_login (SetPhase phase) = true
+command_wants_login (Submit title abstract) = true
+command_wants_login (Name user role) = true
+command_wants_login (SetMode mode) = true
+command_wants_login (SetConflict paper user on) = true
+
+-- the caller is a user who has registered
+abbrev pub IsUser : History → Option ℕ → Type 0
+IsUser H None = ⊥
+IsUser H (Some user) = IsRegistered H user
 
 -- whose command it is: nobody registers, and every other command is a registered user's
 abbrev pub IsCaller : History → Option ℕ → Command → Type 0
 IsCaller H caller (Register name digest) = caller ≡ None
+IsCaller H caller (SetPhase phase) = IsUser H caller
+IsCaller H caller (Submit title abstract) = IsUser H caller
+IsCaller H caller (Name user role) = IsUser H caller
+IsCaller H caller (SetMode mode) = IsUser H caller
+IsCaller H caller (SetConflict paper user on) = IsUser H caller
 
 -- ---- one call
 

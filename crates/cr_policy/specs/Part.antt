@@ -2,12 +2,18 @@
 use Rattle.std.specs.Prelude.{ℕ, Bool, List, [], ◌∷◌, ◌==◌}
 use Rattle.std.specs.List.{list_any}
 
--- the parts that an entry may have beside its kind, which is never hidden
+-- the parts that an entry may have beside its kind and its paper, which are never hidden; `by` is who made it
 pub data Part : Type 0 where
   user : Part
   name : Part
   digest : Part
   role : Part
+  phase : Part
+  mode : Part
+  by : Part
+  title : Part
+  abstract : Part
+  on : Part
 
 -- a number of its own for each part
 abbrev pub part_number : Part → ℕ
@@ -15,10 +21,16 @@ part_number user = 0
 part_number name = 1
 part_number digest = 2
 part_number role = 3
+part_number phase = 4
+part_number by = 5
+part_number title = 6
+part_number abstract = 7
+part_number mode = 8
+part_number on = 9
 
 -- the numbers and bytes of an entry, whatever its kind: not who made it, and no mark
 abbrev pub whole : List Part
-whole = user ∷ name ∷ digest ∷ role ∷ []
+whole = user ∷ name ∷ digest ∷ role ∷ phase ∷ mode ∷ title ∷ abstract ∷ on ∷ []
 
 -- the part is one of these
 abbrev pub names : List Part → Part → Bool

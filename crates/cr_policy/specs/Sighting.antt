@@ -1,33 +1,61 @@
--- What one entry shows: its kind, and of its parts those that are shown.
+-- What one entry shows: its kind and its paper, and of its other parts those that are shown.
 use Rattle.std.specs.Prelude.{ℕ, Bool, false, List, Option, Some, None, if◌then◌else◌}
 use Rattle.cr_base.specs.declared.entry.EntryKind.{EntryKind}
 use Rattle.cr_base.specs.declared.entry.EntryKind.TheVariants as kinds
 use Rattle.cr_base.specs.declared.entry.Entry.{Entry}
-use Rattle.cr_base.specs.declared.entry.Entry.TheVariants.{Registered, Named}
+use Rattle.cr_base.specs.declared.entry.Entry.TheVariants.{Registered, Named, PhaseSet, ModeSet, Submitted, Conflict}
 use Rattle.cr_base.specs.declared.entry.Stamped.{Stamped}
+use Rattle.cr_base.specs.declared.words.Phase.{Phase}
+use Rattle.cr_base.specs.declared.words.Mode.{Mode}
 use Rattle.cr_base.specs.declared.words.Role.{Role}
 use Rattle.cr_policy.specs.Part as part
 use Rattle.cr_policy.specs.Part.{Part}
 
--- the kind is always there; `mine` marks the reader's own entry; every other part may be hidden
+-- the kind is always there, and so is the paper of an entry that has one; `mine` marks the reader's own entry; every
+-- other part may be hidden
 pub record Sighting : Type 0 where
   pub kind : EntryKind
   pub mine : Bool
+  pub paper : Option ℕ
   pub user : Option ℕ
   pub name : Option (List ℕ)
   pub digest : Option (List ℕ)
   pub role : Option Role
+  pub phase : Option Phase
+  pub mode : Option Mode
+  pub by : Option ℕ
+  pub title : Option (List ℕ)
+  pub abstract : Option (List ℕ)
+  pub on : Option Bool
 
 -- ---- an entry with all its parts
 
 -- an entry of this kind without a part
 abbrev pub blank : EntryKind → Sighting
-blank kind = record { kind = kind; mine = false; user = None; name = None; digest = None; role = None }
+blank kind = record {
+  kind = kind;
+  mine = false;
+  paper = None;
+  user = None;
+  name = None;
+  digest = None;
+  role = None;
+  phase = None;
+  mode = None;
+  by = None;
+  title = None;
+  abstract = None;
+  on = None;
+}
 
 -- the parts that each kind of entry has; `by` is its maker
 abbrev pub entire : ℕ → Entry → Sighting
 entire by (Registered user name digest) = record (blank kinds.Registered) { user = Some user; name = Some name; digest = Some digest }
 entire by (Named user role) = record (blank kinds.Named) { user = Some user; role = Some role }
+entire by (PhaseSet phase) = record (blank kinds.PhaseSet) { phase = Some phase }
+entire by (ModeSet mode) = record (blank kinds.ModeSet) { mode = Some mode }
+entire by (Conflict paper user on) = record (blank kinds.Conflict) { paper = Some paper; user = Some user; on = Some on }
+entire by (Submitted paper title abstract) = record (blank kinds.Submitted) { paper = Some paper; by = Some by; title = Some title; abstract = Some abstract }
 
 -- ---- the parts that are shown
 
@@ -41,10 +69,17 @@ abbrev pub masked : (Part → Bool) → Bool → Sighting → Sighting
 masked shows mine s = record {
   kind = s.kind;
   mine = mine;
+  paper = s.paper;
   user = where_shown (shows part.user) s.user;
   name = where_shown (shows part.name) s.name;
   digest = where_shown (shows part.digest) s.digest;
   role = where_shown (shows part.role) s.role;
+  phase = where_shown (shows part.phase) s.phase;
+  mode = where_shown (shows part.mode) s.mode;
+  by = where_shown (shows part.by) s.by;
+  title = where_shown (shows part.title) s.title;
+  abstract = where_shown (shows part.abstract) s.abstract;
+  on = where_shown (shows part.on) s.on;
 }
 
 -- the entry with those parts alone

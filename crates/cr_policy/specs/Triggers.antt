@@ -1,28 +1,43 @@
 -- The trigger table: which parts of an entry a reader sees, judged at the end of the history (the triggers and
 -- bounds of CoCon, CAV 2014).
-use Rattle.std.specs.Prelude.{ℕ, Bool, true, List, [], ◌∷◌, Option, ◌&&◌}
+use Rattle.std.specs.Prelude.{ℕ, Bool, true, not, List, [], ◌∷◌, Option, Some, ◌&&◌}
 use Rattle.std.specs.List.{list_any}
 use Rattle.cr_base.specs.declared.entry.Entry.{Entry}
-use Rattle.cr_base.specs.declared.entry.Entry.TheVariants.{Registered, Named}
+use Rattle.cr_base.specs.declared.entry.Entry.TheVariants.{Registered, Named, PhaseSet, ModeSet, Submitted, Conflict}
 use Rattle.cr_base.specs.declared.words.Phase.{Phase}
+use Rattle.cr_base.specs.declared.words.Phase.TheVariants.{Bidding}
 use Rattle.cr_base.specs.declared.words.Mode.{Mode}
 use Rattle.cr_base.specs.declared.words.Role.{Role}
-use Rattle.cr_base.specs.Lists.{is_number}
-use Rattle.cr_base.specs.History.{History}
-use Rattle.cr_base.specs.Facts.{phase_of, mode_of, role_of}
+use Rattle.cr_base.specs.Lists.{is_nothing, is_number}
+use Rattle.cr_base.specs.History.{History, all_told, title_told}
+use Rattle.cr_base.specs.Facts.{phase_of, mode_of, role_of, is_author, is_conflicted}
+use Rattle.cr_base.specs.Phases.{is_from}
+use Rattle.cr_base.specs.Words.{is_anonymous, is_member, is_chair}
 use Rattle.cr_policy.specs.Part as part
 use Rattle.cr_policy.specs.Part.{Part, whole, names}
 
--- what the table asks at the end of the history: who reads, the phase, the mode, and the reader's role
+-- what the table asks at the end of the history: who reads, the phase, the mode, the reader's role, her ties to each
+-- paper, and which user is an author of which paper
 pub record Reader : Type 0 where
   pub number : Option ℕ
   pub now : Phase
   pub mode : Mode
   pub rank : Role
+  pub author : ℕ → Bool
+  pub conflicted : ℕ → Bool
+  pub wrote : ℕ → ℕ → Bool
 
 -- the reader that a user is at the end of a history
 abbrev pub reader : Option ℕ → History → Reader
-reader u H = record { number = u; now = phase_of H; mode = mode_of H; rank = role_of u H }
+reader u H = record {
+  number = u;
+  now = phase_of H;
+  mode = mode_of H;
+  rank = role_of u H;
+  author = λ p. is_author u p H;
+  conflicted = λ p. is_conflicted u p H;
+  wrote = λ v p. is_author (Some v) p H;
+}
 
 -- where an entry stands: what comes before it and what after it
 pub record Place : Type 0 where
@@ -38,6 +53,47 @@ everyone = true
 abbrev pub user_named : Reader → ℕ → Bool
 user_named r user = is_number r.number user
 
+-- the reader is an author of the paper
+abbrev pub authors : Reader → ℕ → Bool
+authors r p = r.author p
+
+-- the reader is a member of the committee; and in no conflict with the paper; and a chair in none
+abbrev pub members : Reader → Bool
+members r = is_member r.rank
+
+abbrev pub clear_members : Reader → ℕ → Bool
+clear_members r p = is_member r.rank && not (r.conflicted p)
+
+abbrev pub clear_chairs : Reader → ℕ → Bool
+clear_chairs r p = is_chair r.rank && not (r.conflicted p)
+
+-- the mode shows members who wrote
+abbrev pub unless_anonymous : Reader → Bool
+unless_anonymous r = not (is_anonymous r.mode)
+
+-- it is this phase, or a later one
+abbrev pub from : Reader → Phase → Bool
+from r first = is_from first r.now
+
+-- ---- which entry of its matter
+
+-- none of the entries tells of it
+abbrev pub none_in : {A : Type 0} → (Entry → List A) → History → Bool
+none_in told H = is_nothing (all_told told H)
+
+-- none of these entries is of the same matter as this one: a paper's texts
+abbrev pub none_alike : Entry → History → Bool
+none_alike (Registered user name digest) H = true
+none_alike (Named user role) H = true
+none_alike (PhaseSet phase) H = true
+none_alike (ModeSet mode) H = true
+none_alike (Conflict paper user on) H = true
+none_alike (Submitted paper title abstract) H = none_in (title_told paper) H
+
+-- the entry is the last of its matter
+abbrev pub is_last : Place → Entry → Bool
+is_last at e = none_alike e at.after
+
 -- ---- the table
 
 -- one row: whether it applies to the reader, and the parts that it shows then
@@ -49,6 +105,10 @@ infix 90 ◌see◌
 abbrev pub ◌see◌ : Bool → List Part → TriggerRow
 applies see parts = record { applies = applies; parts = parts }
 
+-- no part beside the kind and the paper
+abbrev pub paper_alone : List Part
+paper_alone = []
+
 -- the rows for each kind of entry; `by` is its maker
 abbrev pub rows : Reader → Place → ℕ → Entry → List TriggerRow
 rows r at by (Registered user name digest) =
@@ -56,6 +116,25 @@ rows r at by (Registered user name digest) =
     ∷ []
 rows r at by (Named user role) =
     everyone see whole
+    ∷ []
+rows r at by (PhaseSet phase) =
+    everyone see whole
+    ∷ []
+rows r at by (ModeSet mode) =
+    everyone see whole
+    ∷ []
+rows r at by (Conflict paper user on) =
+    user_named r user see whole
+    ∷ (r.wrote by paper && authors r paper) see whole
+    ∷ (clear_chairs r paper && from r Bidding) see whole
+    ∷ []
+rows r at by (Submitted paper title abstract) =
+    everyone see paper_alone
+    ∷ authors r paper see (part.by ∷ whole)
+    ∷ (is_last at (Submitted paper title abstract) && members r && from r Bidding) see (part.title ∷ [])
+    ∷ (is_last at (Submitted paper title abstract) && clear_members r paper && from r Bidding) see (part.abstract ∷ [])
+    ∷ (clear_chairs r paper && from r Bidding) see (part.by ∷ [])
+    ∷ (clear_members r paper && unless_anonymous r && from r Bidding) see (part.by ∷ [])
     ∷ []
 
 -- whether a row applies

@@ -1,20 +1,21 @@
--- ViewFacts: what a view says of the conference, folds over the view alone.
-use Rattle.std.specs.Prelude.{ℕ, Bool, false, List, [], ◌∷◌, Option, Some, None, length, map, if◌then◌else◌}
-use Rattle.std.specs.List.{flat_map}
+-- ViewFacts and Quotas: what a view says of the conference, of its papers and of its reader, folds over the view alone.
+use Rattle.std.specs.Prelude.{ℕ, Bool, false, List, [], ◌∷◌, Option, Some, None, length, map, filter, not, ◌==◌, ◌&&◌, ◌||◌, ◌++◌, if◌then◌else◌}
+use Rattle.std.specs.List.{flat_map, list_any}
 use Rattle.std.specs.Str.{bytes_eq}
 use Rattle.cr_base.specs.declared.entry.EntryKind.{EntryKind}
 use Rattle.cr_base.specs.declared.entry.EntryKind.TheVariants as kinds
 use Rattle.cr_base.specs.declared.words.Phase.{Phase}
-use Rattle.cr_base.specs.declared.words.Phase.TheVariants.{Setup}
+use Rattle.cr_base.specs.declared.words.Phase.TheVariants.{Setup, Bidding}
 use Rattle.cr_base.specs.declared.words.Mode.{Mode}
 use Rattle.cr_base.specs.declared.words.Mode.TheVariants.{Blind}
 use Rattle.cr_base.specs.declared.words.Role.{Role}
 use Rattle.cr_base.specs.declared.words.Role.TheVariants.{Account}
 use Rattle.cr_base.specs.declared.reply.AccountLine.{AccountLine}
 use Rattle.cr_base.specs.declared.standing.Standing.{Standing}
-use Rattle.cr_base.specs.Lists.{listed, last, last_or, is_number}
+use Rattle.cr_base.specs.Lists.{listed, last, last_or, is_number, at_some, until, since}
+use Rattle.cr_base.specs.Phases.{is_phase}
 use Rattle.cr_base.specs.History.{Registration}
-use Rattle.cr_base.specs.Judging.{Facts}
+use Rattle.cr_base.specs.Judging.{Facts, Shown}
 use Rattle.cr_policy.specs.Sighting.{Sighting}
 use Rattle.cr_policy.specs.View.{View}
 
@@ -35,15 +36,67 @@ is_text text (Some shown) = bytes_eq shown text
 
 -- ---- what one sighting tells
 
--- the phase, the mode that it sets, the paper that it makes
+-- the phase, the mode that it sets
 abbrev pub phase_seen : Sighting → List Phase
-phase_seen _ = []
+phase_seen s = listed s.phase
 
 abbrev pub mode_seen : Sighting → List Mode
-mode_seen _ = []
+mode_seen s = listed s.mode
+
+-- the paper that it makes
+abbrev pub paper_by_kind : EntryKind → Sighting → List ℕ
+paper_by_kind kinds.Submitted s = listed s.paper
+paper_by_kind _ s = []
 
 abbrev pub paper_seen : Sighting → List ℕ
-paper_seen _ = []
+paper_seen s = paper_by_kind s.kind s
+
+-- the same, where it is the reader's own
+abbrev pub own_paper_seen : Sighting → List ℕ
+own_paper_seen s = only s.mine (paper_by_kind s.kind s)
+
+-- the author whom it gives the paper
+abbrev pub authors_by_kind : EntryKind → Sighting → List ℕ
+authors_by_kind kinds.Submitted s = listed s.by
+authors_by_kind _ s = []
+
+abbrev pub author_seen : ℕ → Sighting → List ℕ
+author_seen p s = only (is_number s.paper p) (authors_by_kind s.kind s)
+
+-- whether it turns the user's declared conflict with the paper on or off
+abbrev pub conflict_by_kind : EntryKind → Sighting → List Bool
+conflict_by_kind kinds.Conflict s = listed s.on
+conflict_by_kind _ s = []
+
+abbrev pub conflict_seen : Option ℕ → ℕ → Sighting → List Bool
+conflict_seen u p s = only (is_number s.paper p && is_user u s.user) (conflict_by_kind s.kind s)
+
+-- whom it names in a conflict with the paper
+abbrev pub conflict_user_by_kind : EntryKind → Sighting → List ℕ
+conflict_user_by_kind kinds.Conflict s = listed s.user
+conflict_user_by_kind _ s = []
+
+abbrev pub conflict_user_seen : ℕ → Sighting → List ℕ
+conflict_user_seen p s = only (is_number s.paper p) (conflict_user_by_kind s.kind s)
+
+-- the same, where it is the reader's own or names another than her
+abbrev pub own_or_other_seen : Option ℕ → ℕ → Sighting → List ℕ
+own_or_other_seen u p s = only (is_number s.paper p && (s.mine || not (is_user u s.user))) (conflict_user_by_kind s.kind s)
+
+-- whether it opens the bidding
+abbrev pub opens_bidding : Option Phase → Bool
+opens_bidding None = false
+opens_bidding (Some phase) = is_phase phase Bidding
+
+abbrev pub bidding_seen : Sighting → Bool
+bidding_seen s = opens_bidding s.phase
+
+-- the title, the abstract that it gives the paper
+abbrev pub title_seen : ℕ → Sighting → List (List ℕ)
+title_seen p s = only (is_number s.paper p) (listed s.title)
+
+abbrev pub abstract_seen : ℕ → Sighting → List (List ℕ)
+abstract_seen p s = only (is_number s.paper p) (listed s.abstract)
 
 -- the account that it makes
 abbrev pub registration_shown : Option ℕ → Option (List ℕ) → List Registration
@@ -83,9 +136,9 @@ mode_in_view V = last_or Blind (flat_map mode_seen V)
 abbrev pub role_in_view : Option ℕ → View → Role
 role_in_view u V = last_or Account (flat_map (role_seen u) V)
 
--- how many papers there are
-abbrev pub paper_count_in_view : View → ℕ
-paper_count_in_view V = length (flat_map paper_seen V)
+-- the papers, in the order of their submission
+abbrev pub papers_in_view : View → List ℕ
+papers_in_view V = flat_map paper_seen V
 
 -- the accounts, in the order of their registration, each with its role
 abbrev pub accounts_in_view : View → List AccountLine
@@ -95,10 +148,71 @@ accounts_in_view V = map (λ (r : Registration). record { user = r.user; name = 
 abbrev pub number_in_view : List ℕ → View → Option ℕ
 number_in_view name V = last (flat_map (number_seen name) V)
 
--- StandingOf: what a view says of how its reader stands
-abbrev pub standing_in_view : Option ℕ → View → Standing
-standing_in_view u V = record { phase = phase_in_view V; mode = mode_in_view V; role = role_in_view u V }
+-- ---- the reader's ties
 
--- what the rules and the answers read
+-- AuthorsOf: the paper's authors that are shown, the submitter first
+abbrev pub authors_in_view : ℕ → View → List ℕ
+authors_in_view p V = flat_map (author_seen p) V
+
+abbrev pub is_author_in_view : Option ℕ → ℕ → View → Bool
+is_author_in_view u p V = list_any (is_number u) (authors_in_view p V)
+
+-- ConflictsOf: the last entry shown on the user's conflict with the paper turns it on
+abbrev pub is_declared_in_view : Option ℕ → ℕ → View → Bool
+is_declared_in_view u p V = last_or false (flat_map (conflict_seen u p) V)
+
+abbrev pub is_conflicted_in_view : Option ℕ → ℕ → View → Bool
+is_conflicted_in_view u p V = is_author_in_view u p V || is_declared_in_view u p V
+
+-- DeclaredOf, for an author: whom the conflicts name that are her own, or name another than her, or stand before the
+-- bidding was opened; in a legal history these are the ones that an author made
+abbrev pub declared_in_view : Option ℕ → ℕ → View → List ℕ
+declared_in_view u p V = flat_map (conflict_user_seen p) (until bidding_seen V) ++ flat_map (own_or_other_seen u p) (since bidding_seen V)
+
+-- StandingOf: what a view says of how its reader stands to the conference, and to a paper, if one is named
+abbrev pub standing_in_view : Option ℕ → Option ℕ → View → Standing
+standing_in_view u paper V = record {
+  phase = phase_in_view V;
+  mode = mode_in_view V;
+  role = role_in_view u V;
+  author = at_some (λ p. is_author_in_view u p V) paper;
+  conflicted = at_some (λ p. is_conflicted_in_view u p V) paper;
+}
+
+-- ---- papers
+
+-- TitleOf, AbstractOf: the last one shown on the paper
+abbrev pub title_in_view : ℕ → View → Option (List ℕ)
+title_in_view p V = last (flat_map (title_seen p) V)
+
+abbrev pub abstract_in_view : ℕ → View → Option (List ℕ)
+abstract_in_view p V = last (flat_map (abstract_seen p) V)
+
+-- ---- Quotas
+
+-- how many papers the reader has submitted
+abbrev pub own_papers_in_view : View → ℕ
+own_papers_in_view V = length (flat_map own_paper_seen V)
+
+-- ---- what the rules and the answers read
+
 abbrev pub facts_in_view : Option ℕ → View → Facts
-facts_in_view u V = record { phase = phase_in_view V; mode = mode_in_view V; accounts = accounts_in_view V; papers = paper_count_in_view V }
+facts_in_view u V = record {
+  standing = λ paper. standing_in_view u paper V;
+  accounts = accounts_in_view V;
+  papers = papers_in_view V;
+  own_papers = own_papers_in_view V;
+}
+
+-- of the users who have registered, those of whom this holds, by number
+abbrev pub users_where : (ℕ → Bool) → View → List ℕ
+users_where test V = filter test (map (λ (a : AccountLine). a.user) (accounts_in_view V))
+
+abbrev pub shown_in_view : Option ℕ → View → Shown
+shown_in_view u V = record {
+  title = λ p. title_in_view p V;
+  abstract_ = λ p. abstract_in_view p V;
+  authors = λ p. authors_in_view p V;
+  conflicts = λ p. users_where (λ v. is_declared_in_view (Some v) p V) V;
+  declared = λ p. users_where (λ v. list_any (λ w. w == v) (declared_in_view u p V)) V;
+}

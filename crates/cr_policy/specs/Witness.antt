@@ -1,11 +1,16 @@
--- Two registrations, so that no law on legal histories is empty, and what is seen of them.
-use Rattle.std.specs.Prelude.{ℕ, Bool, true, false, List, [], ◌∷◌, Option, Some, None, codes}
-use Rattle.cr_base.specs.declared.entry.Entry.TheVariants.{Registered, Named}
+-- Two registrations, a submission and a declared conflict after them, so that no law on legal histories is empty; and
+-- what is seen of them.
+use Rattle.std.specs.Prelude.{ℕ, Bool, true, false, List, [], ◌∷◌, ◌++◌, Option, Some, None, codes}
+use Rattle.cr_base.specs.declared.entry.Entry.TheVariants.{Registered, Named, PhaseSet, ModeSet, Submitted, Conflict}
 use Rattle.cr_base.specs.declared.entry.EntryKind.TheVariants as kinds
-use Rattle.cr_base.specs.declared.words.Role.TheVariants.{Chair}
+use Rattle.cr_base.specs.declared.words.Mode.TheVariants.{Anonymous}
+use Rattle.cr_base.specs.declared.words.Phase.TheVariants.{Submission, Bidding}
+use Rattle.cr_base.specs.declared.words.Role.TheVariants.{Member, Chair}
 use Rattle.cr_base.specs.History.{History}
 use Rattle.cr_policy.specs.Sighting.{Sighting, blank}
 use Rattle.cr_policy.specs.View.{View}
+
+-- ---- two registrations
 
 -- alice registers and so is a chair, then bob registers; these are the digests of their secrets
 abbrev pub two_registrations : List ℕ → List ℕ → History
@@ -29,3 +34,73 @@ seen_by_nobody = registered 1 (codes "alice") None false ∷ named_chair 1 false
 -- what alice sees: her own digest, and not bob's
 abbrev pub seen_by_alice : List ℕ → View
 seen_by_alice digest = registered 1 (codes "alice") (Some digest) true ∷ named_chair 1 true ∷ registered 2 (codes "bob") None false ∷ []
+
+-- ---- a submission
+
+-- then alice sets the mode
+abbrev pub made_anonymous : List ℕ → List ℕ → History
+made_anonymous alice bob = two_registrations alice bob ++ record { maker = 1; more = false; entry = ModeSet Anonymous } ∷ []
+
+-- and the phase
+abbrev pub submission_opened : List ℕ → List ℕ → History
+submission_opened alice bob = made_anonymous alice bob ++ record { maker = 1; more = false; entry = PhaseSet Submission } ∷ []
+
+-- and bob submits a paper
+abbrev pub one_submission : List ℕ → List ℕ → History
+one_submission alice bob = submission_opened alice bob ++ record { maker = 2; more = false; entry = Submitted 1 (codes "Proofs") (codes "We prove.") } ∷ []
+
+-- the mode and the phase that alice set, as she sees them
+abbrev pub mode_set : Sighting
+mode_set = record (blank kinds.ModeSet) { mine = true; mode = Some Anonymous }
+
+abbrev pub submission_set : Sighting
+submission_set = record (blank kinds.PhaseSet) { mine = true; phase = Some Submission }
+
+-- a submission of which its kind and its paper are shown, and nothing else
+abbrev pub paper_seen_alone : Sighting
+paper_seen_alone = record (blank kinds.Submitted) { paper = Some 1 }
+
+-- the submission as bob sees it, who made it and so is the paper's author
+abbrev pub paper_seen_by_author : Sighting
+paper_seen_by_author = record (blank kinds.Submitted) { mine = true; paper = Some 1; by = Some 2; title = Some (codes "Proofs"); abstract = Some (codes "We prove.") }
+
+-- what alice sees, a chair, before the bidding
+abbrev pub submission_seen_by_alice : List ℕ → View
+submission_seen_by_alice digest = seen_by_alice digest ++ mode_set ∷ submission_set ∷ paper_seen_alone ∷ []
+
+-- what bob sees
+abbrev pub submission_seen_by_bob : List ℕ → View
+submission_seen_by_bob digest =
+    registered 1 (codes "alice") None false
+    ∷ named_chair 1 false
+    ∷ registered 2 (codes "bob") (Some digest) true
+    ∷ record mode_set { mine = false }
+    ∷ record submission_set { mine = false }
+    ∷ paper_seen_by_author
+    ∷ []
+
+-- ---- a conflict
+
+-- then carol registers, user 3, and dave, user 4
+abbrev pub four_registrations : List ℕ → List ℕ → List ℕ → List ℕ → History
+four_registrations alice bob carol dave =
+    one_submission alice bob
+    ++ record { maker = 3; more = false; entry = Registered 3 (codes "carol") carol }
+    ∷ record { maker = 4; more = false; entry = Registered 4 (codes "dave") dave }
+    ∷ []
+
+-- alice names both members
+abbrev pub two_members : List ℕ → List ℕ → List ℕ → List ℕ → History
+two_members alice bob carol dave =
+    four_registrations alice bob carol dave
+    ++ record { maker = 1; more = false; entry = Named 3 Member }
+    ∷ record { maker = 1; more = false; entry = Named 4 Member }
+    ∷ []
+
+-- bob, the author, declares carol in conflict with his paper
+abbrev pub one_conflict : List ℕ → List ℕ → List ℕ → List ℕ → History
+one_conflict alice bob carol dave = two_members alice bob carol dave ++ record { maker = 2; more = false; entry = Conflict 1 3 true } ∷ []
+
+-- and alice opens the bidding
+abbrev pub bidding_opened : List ℕ → List ℕ → List ℕ → List ℕ → History
+bidding_opened alice bob carol dave = one_conflict alice bob carol dave ++ record { maker = 1; more = false; entry = PhaseSet Bidding } ∷ []

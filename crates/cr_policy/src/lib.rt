@@ -7,11 +7,13 @@
 
 ghost use Rattle.std.specs.Prelude.{ℕ, Option};
 ghost use Rattle.cr_base.specs.History.{History};
-ghost use Rattle.cr_policy.specs.Laws.{StandingFromView, PublicFactsFromView, ViewSuffices, TwoRegistrations, DigestsHidden};
+ghost use Rattle.cr_policy.specs.Laws.{StandingFromView, PublicFactsFromView, ViewSuffices, DeclaredFromView, TwoRegistrations, DigestsHidden, OneSubmission, OneConflict};
 
-/// How a user stands can be read off what she sees: phase, mode and role, of every history and for
-/// every user, nobody among them. So can what is public: the accounts, their names and roles, and
-/// the number of papers.
+/// How a user stands can be read off what she sees: phase, mode, role and her ties to any paper, of
+/// every history and for every user, nobody among them. An author sees all authors of her paper, and
+/// whoever is none is told so by what she sees; each entry on a conflict of hers is shown her, so she
+/// is told whether she is in conflict. What is public can be read off any view, the accounts,
+/// their names and roles, and the papers; and so can how many of the papers are the reader's own.
 pub fn law_standing()
     ensures standing { StandingFromView }
     ensures public { (u : Option ℕ) (H : History) → PublicFactsFromView u H }
@@ -19,14 +21,29 @@ pub fn law_standing()
 
 /// What checks of role on the tables of a legal history give is what the caller's view alone gives:
 /// of every command its broken rule or the entries that it adds and its receipt, of every query its
-/// answer, for every registered user, and for nobody where no login is wanted.
+/// answer, for every registered user, and for nobody where no login is wanted. A paper's page is among
+/// the answers: what the caller's standing lets her have, its texts, its authors, who is declared in
+/// conflict with it and whom its authors declared, is in her view, and no more is needed.
 pub fn law_view_suffices()
     ensures { ViewSuffices }
 {}
 
+/// Whom a paper's authors declared in conflict with it can be read off the view of any of them, on a
+/// legal history: though a view doesn't say who made an entry that isn't the reader's own, of the
+/// entries that she is shown those are an author's that are her own, that name another than her, or
+/// that stand before the bidding.
+pub fn law_declared()
+    ensures { DeclaredFromView }
+{}
+
 /// There are legal histories: two registrations, of which nobody sees a digest, and the first user
-/// no other than her own.
+/// no other than her own. One that goes on with a submission: before the bidding a chair sees of it
+/// the paper's number alone, not who made it, title or abstract; its author sees all of it. And one
+/// that goes on from there to the bidding, in the anonymous mode: the member whom the author declared in
+/// conflict sees no abstract, and the other member sees it but not who wrote it.
 pub fn law_witness()
     ensures legal { TwoRegistrations }
     ensures hidden { DigestsHidden }
+    ensures submitted { OneSubmission }
+    ensures conflict { OneConflict }
 {}

@@ -1,0 +1,5 @@
+use Rattle.cr_policy.proofs.LegalLaws.{Legal-declared}
+use Rattle.cr_policy.proofs.law_declared.Goals as goal
+
+pub returns : goal.returns
+returns c = Legal-declared
