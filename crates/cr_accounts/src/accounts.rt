@@ -1,13 +1,12 @@
 //! The accounts of a history, by user number and by name.
-ghost use Rattle.std.specs.Prelude.{◌≡◌, ◌≤◌, ◌<◌, ◌+◌, ◌-◌, [], OnOk, IfOk, is_some, unwrap_or, length};
-ghost use Rattle.std.specs.Option.{option_map, option_and_then};
-ghost use Rattle.cr_base.specs.Checks.{judged, register_checks};
-ghost use Rattle.cr_base.specs.Accounts.{accounts_after, account_at, role_at, number_at, caller_at, lines_of, AccountsFit};
-ghost use Rattle.cr_base.specs.declared.words.Role.TheVariants as role;
+ghost use Rattle.std.specs.Prelude.{◌≡◌, ◌≤◌, ◌<◌, ◌+◌, ◌-◌, [], OnOk, IfOk, is_some, option_and_then, Some, length};
+ghost use Rattle.std.specs.Option.{option_map};
+ghost use Rattle.cr_base.specs.Checks.{judged, register_checks, name_checks};
+ghost use Rattle.cr_base.specs.Accounts.{accounts_after, account_at, role_at, role_in, number_at, caller_at, lines_of, AccountsFit};
 
 use cr_base::{
-    Account, AccountLine, AccountLines, Digest, Entry, LAST_NUMBER, Role, Rule, Short, Stamped,
-    UserNo,
+    Account, AccountLine, AccountLines, Digest, Entry, LAST_NUMBER, Phase, Role, Rule, Short,
+    Stamped, Standing, UserNo,
 };
 use indexmap::IndexMap;
 use std::alloc::{AllocError, Global};
@@ -40,6 +39,22 @@ fn place_of(user: UserNo) -> usize
     ensures { result ≡ user - 1 }
 {
     user.number() as usize - 1
+}
+
+/// Whether the caller may give somebody who has the role `now` another one.
+fn may_name(by: &Standing, now: Role, role: Role) -> Result<(), Rule>
+    ensures { result ≡ judged (name_checks by.now (Some now) role) tt }
+{
+    if !by.role.is_chair() {
+        return Err(Rule::NotChair);
+    }
+    if by.phase.is_from(Phase::Notification) {
+        return Err(Rule::WrongPhase);
+    }
+    if role.number() <= now.number() {
+        return Err(Rule::AlreadyNamed);
+    }
+    Ok(())
 }
 
 impl Accounts {
@@ -107,15 +122,58 @@ impl Accounts {
     /// The role of a user: `Account` for nobody, and where nobody has that number. One read by
     /// number.
     pub fn standing_for(&self, user: &Option<UserNo>) -> Role
-        ensures { result ≡ unwrap_or (option_and_then (role_at self.now.accounts) user.now) role.Account }
+        ensures { result ≡ role_in self.now.accounts user.now }
     {
-        let Some(user) = user else {
-            return Role::Account;
-        };
-        match self.accounts.get(place_of(*user)) {
+        match user {
+            Some(user) => self.role_of(*user),
+            None => Role::Account,
+        }
+    }
+
+    /// The role of a user: `Account` where nobody has that number.
+    fn role_of(&self, user: UserNo) -> Role
+        ensures { result ≡ role_in self.now.accounts (Some user) }
+    {
+        match self.accounts.get(place_of(user)) {
             Some(account) => account.role,
             None => Role::Account,
         }
+    }
+
+    /// The name of the user of a number, and none where nobody has it. One read by number.
+    pub fn name_at(&self, number: u16) -> Option<Short>
+        ensures { result ≡ option_map (λ a. a.name) (account_at self.now.accounts number) }
+    {
+        if number == 0 {
+            return None;
+        }
+        let account = self.accounts.get(usize::from(number) - 1)?;
+        Some(account.name)
+    }
+
+    /// The role that a user was given last, an account's where she was given none; none where nobody
+    /// has that number. One read by number.
+    pub fn role_given(&self, user: UserNo) -> Option<Role>
+        ensures { result ≡ role_at self.now.accounts user }
+    {
+        let account = self.accounts.get(place_of(user))?;
+        Some(account.role)
+    }
+
+    /// Whether the caller may give a user this role, or the first broken rule: `NoUser` where there is
+    /// no such user, `NotChair` where the caller is no chair, `WrongPhase` after the discussion,
+    /// `AlreadyNamed` where the user has that role or a greater one. `by` is the caller's standing,
+    /// where no paper is named. One read by number at most.
+    pub fn judge_name(&self, by: &Standing, target: &Option<UserNo>, role: Role) -> Result<(), Rule>
+        ensures { result ≡ judged (name_checks by.now (option_and_then (role_at self.now.accounts) target.now) role) tt }
+    {
+        let Some(user) = target else {
+            return Err(Rule::NoUser);
+        };
+        let Some(now) = self.role_given(*user) else {
+            return Err(Rule::NoUser);
+        };
+        may_name(by, now, role)
     }
 
     /// Every account, by user number, as everyone sees it; an error only for want of memory. Reads
@@ -167,6 +225,10 @@ impl Accounts {
             Entry::Named { user, role } => {
                 self.accounts[place_of(*user)].role = *role;
             }
+            Entry::PhaseSet { .. }
+            | Entry::ModeSet { .. }
+            | Entry::Submitted { .. }
+            | Entry::Conflict { .. } => {}
         }
     }
 }

@@ -1,5 +1,5 @@
 use crate::Accounts;
-use cr_base::{Digest, Entry, Rule, Short, Stamped, UserNo};
+use cr_base::{Digest, Entry, Mode, Phase, Role, Rule, Short, Stamped, Standing, UserNo};
 use std::alloc::Global;
 use std::test::Fail;
 
@@ -90,5 +90,58 @@ fn lines(rt: HostRuntime) -> Result<(), Fail> {
     register(&mut accounts, &alice, ALICE)?;
     let wanted = [(1, bob), (2, alice)];
     assert!(rt; listed(&accounts, rt.alloc())?.as_slice() == wanted.as_slice());
+    Ok(())
+}
+
+/// What a caller in this role is told in this phase who gives the second user, an account, this role.
+fn naming(accounts: &Accounts, by: Role, phase: Phase, role: Role) -> Option<Rule> {
+    let standing = Standing {
+        phase,
+        mode: Mode::Blind,
+        role: by,
+        author: false,
+        conflicted: false,
+    };
+    accounts
+        .judge_name(&standing, &Some(UserNo::new(2)), role)
+        .err()
+}
+
+#[test]
+fn names_members(rt: HostRuntime) -> Result<(), Fail> {
+    let mut accounts = Accounts::new(rt.alloc());
+    let cases = [
+        (Role::Chair, Phase::Discussion, Role::Member, None),
+        (Role::Chair, Phase::Setup, Role::Chair, None),
+        (
+            Role::Chair,
+            Phase::Setup,
+            Role::Account,
+            Some(Rule::AlreadyNamed),
+        ),
+        (
+            Role::Chair,
+            Phase::Notification,
+            Role::Account,
+            Some(Rule::WrongPhase),
+        ),
+        (
+            Role::Member,
+            Phase::Notification,
+            Role::Member,
+            Some(Rule::NotChair),
+        ),
+    ];
+    for (by, phase, role, wanted) in cases {
+        assert!(rt;
+            naming(&accounts, by, phase, role) == Some(Rule::NoUser),
+            "{wanted:?}"
+        );
+    }
+    register(&mut accounts, &Short::from_slice(b"alice"), ALICE)?;
+    register(&mut accounts, &Short::from_slice(b"bob"), BOB)?;
+    for (by, phase, role, wanted) in cases {
+        assert!(rt; naming(&accounts, by, phase, role) == wanted);
+    }
     Ok(())
 }
