@@ -1,0 +1,10 @@
+//! The table of papers: what was submitted, and how many papers each user submitted. Papers and
+//! counts are found by number in constant time.
+#![tactic(auto)]
+
+mod counts;
+mod papers;
+#[cfg(test)]
+mod tests;
+
+pub use papers::{MOST_OWN_PAPERS, Papers};

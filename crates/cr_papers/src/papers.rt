@@ -1,0 +1,199 @@
+//! The papers of a history, by number.
+ghost use Rattle.std.specs.Prelude.{◌≡◌, ◌≤◌, ◌<◌, ◌+◌, ◌-◌, ◌==◌, [], OnOk, IfOk, Some, length};
+ghost use Rattle.std.specs.List.{list_any};
+ghost use Rattle.std.specs.Option.{option_map, option_copied};
+ghost use Rattle.cr_base.specs.Checks.{judged, submit_checks};
+ghost use Rattle.cr_base.specs.Papers.{papers_after, paper_numbers, paper_at, title_at, abstract_at, authors_at, is_author_at, own_count, PapersFit};
+ghost use Rattle.cr_base.specs.Phases.{is_phase};
+ghost use Rattle.cr_base.specs.declared.paper.Paper.{Paper};
+ghost use Rattle.cr_base.specs.declared.words.Phase.TheVariants.{Submission};
+
+use crate::counts::Counts;
+use cr_base::{Entry, LAST_NUMBER, Paper, PaperNo, Phase, Rule, Stamped, Standing, Text, UserNo};
+use std::alloc::{AllocError, Global};
+use std::marker::Model;
+
+/// The most papers that one user may submit.
+pub const MOST_OWN_PAPERS: u64 = 20;
+
+/// What was submitted: at most 9,999 papers by their numbers, and how many each user submitted, at
+/// most 20.
+///
+/// Contracts see the papers by number, and for how many more entries there is room.
+#[derive(Drop)]
+pub struct Papers {
+    papers: Vec<Paper>,
+    counts: Counts,
+}
+
+impl Model for Papers {
+    ghost use Rattle.std.specs.Prelude.{ℕ, ◌-◌, nat_le, length, vec_len, vec_capacity, if◌then◌else◌};
+    ghost use Rattle.cr_papers.specs.Seen.{SeenPapers};
+    ghost use Rattle.cr_papers.specs.Counted.{IsCounted};
+
+    ghost Value = { SeenPapers };
+
+    ghost view = { λ t. record { papers = t.papers.items; room = if nat_le 9999 (length t.counts) then vec_capacity t.papers - vec_len t.papers else 0 } };
+
+    ghost invariant = { λ t. IsCounted t.papers.items t.counts };
+}
+
+/// Where a paper stands: papers are numbered from 1.
+fn place_of(paper: PaperNo) -> usize
+    ensures { result ≡ paper - 1 }
+{
+    paper.number() as usize - 1
+}
+
+/// Whether papers are submitted in this phase.
+fn is_submission(phase: Phase) -> bool
+    ensures { result ≡ is_phase phase Submission }
+{
+    matches!(phase, Phase::Submission)
+}
+
+/// What is read.
+impl Papers {
+    /// No papers; takes no memory.
+    pub fn new(alloc: Global) -> Papers
+        ensures { result.papers ≡ [] }
+    {
+        Papers {
+            papers: Vec::new(alloc),
+            counts: Counts::new(alloc),
+        }
+    }
+
+    /// How many papers were submitted, 0 to 9,999; reads no paper.
+    pub fn count(&self) -> u64
+        ensures value { result ≡ length self.now.papers }
+        ensures few { result ≤ 9999 }
+    {
+        self.papers.len() as u64
+    }
+
+    /// How many papers a user has submitted, 0 to 20. One read by number.
+    pub fn count_of_user(&self, user: UserNo) -> u64
+        ensures { result ≡ own_count self.now.papers (Some user) }
+    {
+        self.counts.of(user)
+    }
+
+    /// Whether there is a paper of this number; reads no paper.
+    pub fn has(&self, paper: PaperNo) -> bool
+        ensures { result ≡ list_any (λ p. p == paper) (paper_numbers self.now.papers) }
+    {
+        paper.number() <= self.count()
+    }
+
+    /// Who submitted a paper, and none where there is no such paper. One read by number.
+    pub fn submitter(&self, paper: PaperNo) -> Option<UserNo>
+        ensures { result ≡ option_map (λ (p : Paper). p.submitter) (paper_at self.now.papers paper) }
+    {
+        let paper = self.papers.get(place_of(paper))?;
+        Some(paper.submitter)
+    }
+
+    /// The authors of a paper, the submitter first, and none where there is no such paper; an error
+    /// only for want of memory. One read by number.
+    pub fn authors(&self, alloc: Global, paper: PaperNo) -> Result<Vec<UserNo>, AllocError>
+        ensures { IfOk result (λ authors. authors.items ≡ authors_at self.now.papers paper) }
+    {
+        match self.submitter(paper) {
+            Some(author) => Vec::from_slice(alloc, &[author]),
+            None => Ok(Vec::new(alloc)),
+        }
+    }
+
+    /// Whether the user is an author of the paper; false where there is no such paper. One read by
+    /// number; takes no memory.
+    pub fn is_author(&self, user: UserNo, paper: PaperNo) -> bool
+        ensures { result ≡ is_author_at self.now.papers (Some user) paper }
+    {
+        match self.submitter(paper) {
+            Some(author) => user.number() == author.number(),
+            None => false,
+        }
+    }
+
+    /// The last title that a paper was given, and none where there is no such paper. One read by
+    /// number.
+    pub fn last_title(&self, paper: PaperNo) -> Option<&Text>
+        ensures { option_copied result ≡ title_at self.now.papers paper }
+    {
+        let paper = self.papers.get(place_of(paper))?;
+        Some(&paper.title)
+    }
+
+    /// The last abstract that a paper was given, and none where there is no such paper. One read by
+    /// number.
+    pub fn last_abstract(&self, paper: PaperNo) -> Option<&Text>
+        ensures { option_copied result ≡ abstract_at self.now.papers paper }
+    {
+        let paper = self.papers.get(place_of(paper))?;
+        Some(&paper.abstract_)
+    }
+}
+
+/// What is judged and added.
+impl Papers {
+    /// The number that a paper submitted now would have, the count of papers plus 1, or the first
+    /// broken rule: `WrongPhase` where the phase isn't submission, else `FullPapers` where 9,999 papers
+    /// were submitted, else `QuotaPapers` where this maker has submitted 20. `by` is the maker's
+    /// standing, where no paper is named. One read by number; takes no memory.
+    pub fn judge_submit(&self, by: &Standing, maker: UserNo) -> Result<PaperNo, Rule>
+        ensures { result ≡ judged (submit_checks by.now (length self.now.papers) (own_count self.now.papers (Some maker))) (length self.now.papers + 1) }
+    {
+        if !is_submission(by.phase) {
+            return Err(Rule::WrongPhase);
+        }
+        if self.count() >= LAST_NUMBER {
+            return Err(Rule::FullPapers);
+        }
+        if self.count_of_user(maker) >= MOST_OWN_PAPERS {
+            return Err(Rule::QuotaPapers);
+        }
+        Ok(PaperNo::new(self.count() + 1))
+    }
+
+    /// Takes the memory that the entries of one command need, and the first time 9,999 bytes for the
+    /// counts; an error only for want of memory, and the papers are the same either way.
+    pub fn room(&mut self, group: &[Stamped]) -> Result<(), AllocError>
+        ensures ok { OnOk result (length group.now ≤ self.new.room) }
+        ensures same { self.new.papers ≡ self.old.papers }
+        ensures keeps { self.old.room ≤ self.new.room }
+    {
+        self.counts.make_room()?;
+        self.papers.reserve(group.len())
+    }
+
+    /// One more entry, for which there is room. It is taken whole, since the texts of a submission are
+    /// kept; takes no memory.
+    pub fn apply(&mut self, stamped: Stamped)
+        requires room { 0 < self.old.room }
+        requires fits { PapersFit self.old.papers stamped.maker stamped.entry }
+        ensures after { self.new.papers ≡ papers_after self.old.papers stamped.maker stamped.entry }
+        ensures room { self.old.room ≤ self.new.room + 1 }
+    {
+        let Stamped { maker, entry, .. } = stamped;
+        match entry {
+            Entry::Submitted {
+                title,
+                abstract_,
+                ..
+            } => {
+                self.counts.add(maker);
+                self.papers.push_reserved(Paper {
+                    submitter: maker,
+                    title,
+                    abstract_,
+                });
+            }
+            Entry::Registered { .. }
+            | Entry::Named { .. }
+            | Entry::PhaseSet { .. }
+            | Entry::ModeSet { .. }
+            | Entry::Conflict { .. } => {}
+        }
+    }
+}
