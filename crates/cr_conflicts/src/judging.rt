@@ -1,0 +1,83 @@
+//! The rules of turning a conflict on and off, a function a row.
+ghost use Rattle.std.specs.Prelude.{◌≡◌, false, true, Some};
+ghost use Rattle.cr_base.specs.Checks.{judged, conflict_row, declare_checks, own_checks, other_checks, off_checks};
+ghost use Rattle.cr_base.specs.Phases.{is_from};
+
+use cr_base::{Phase, Role, Rule, Standing};
+
+/// In setup and submission: an author declares a member.
+fn declared(by: &Standing, role: Role) -> Result<(), Rule>
+    ensures { result ≡ judged (declare_checks by.now (Some role)) tt }
+{
+    if !by.author {
+        return Err(Rule::NotAuthor);
+    }
+    if !role.is_member() {
+        return Err(Rule::NotAMember);
+    }
+    Ok(())
+}
+
+/// From bidding to discussion: a member declares herself.
+fn own(by: &Standing) -> Result<(), Rule>
+    ensures { result ≡ judged (own_checks by.now) tt }
+{
+    if !by.role.is_member() {
+        return Err(Rule::NotMember);
+    }
+    Ok(())
+}
+
+/// From bidding to discussion: a clear chair declares another member.
+fn other(by: &Standing, role: Role) -> Result<(), Rule>
+    ensures { result ≡ judged (other_checks by.now (Some role)) tt }
+{
+    if !by.role.is_chair() {
+        return Err(Rule::NotChair);
+    }
+    if by.conflicted {
+        return Err(Rule::Conflict);
+    }
+    if !role.is_member() {
+        return Err(Rule::NotAMember);
+    }
+    Ok(())
+}
+
+/// On: by the phase, and whether the caller names herself.
+pub(crate) fn on(by: &Standing, role: Role, herself: bool) -> Result<(), Rule>
+    ensures { result ≡ judged (conflict_row true (is_from Phase.Bidding by.now.phase) (is_from Phase.Notification by.now.phase) herself by.now (Some role) false) tt }
+{
+    if !by.phase.is_from(Phase::Bidding) {
+        return declared(by, role);
+    }
+    if by.phase.is_from(Phase::Notification) {
+        return Err(Rule::WrongPhase);
+    }
+    if herself {
+        return own(by);
+    }
+    other(by, role)
+}
+
+/// Off: a clear chair, of a member who is no author of the paper.
+pub(crate) fn off(by: &Standing, role: Role, author: bool) -> Result<(), Rule>
+    ensures { result ≡ judged (off_checks by.now (Some role) author) tt }
+{
+    if !by.role.is_chair() {
+        return Err(Rule::NotChair);
+    }
+    if by.conflicted {
+        return Err(Rule::Conflict);
+    }
+    if !by.phase.is_from(Phase::Bidding) || by.phase.is_from(Phase::Notification) {
+        return Err(Rule::WrongPhase);
+    }
+    if !role.is_member() {
+        return Err(Rule::NotAMember);
+    }
+    if author {
+        return Err(Rule::AuthorConflict);
+    }
+    Ok(())
+}
