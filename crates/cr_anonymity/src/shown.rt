@@ -1,0 +1,17 @@
+//! Whom the names on a paper are shown to.
+ghost use Rattle.std.specs.Prelude.{◌≡◌};
+ghost use Rattle.cr_base.specs.Page.{shows_author};
+
+use cr_base::{Phase, Standing};
+
+/// Whether a caller is told who wrote a paper: to authors always; from bidding on to chairs who
+/// aren't in conflict with it, and to such members unless the mode is anonymous; to everyone where
+/// the paper is accepted. `by` is the caller's standing at the paper. Takes no memory.
+pub fn shows_author(by: &Standing, accepted: bool) -> bool
+    ensures { result ≡ shows_author by.now accepted }
+{
+    by.author
+        || (by.is_clear_chair() && by.phase.is_from(Phase::Bidding))
+        || (by.is_clear_member() && !by.mode.is_anonymous() && by.phase.is_from(Phase::Bidding))
+        || accepted
+}
