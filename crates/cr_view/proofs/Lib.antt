@@ -1,2 +1,5 @@
+pub mod AnswerLaws
 pub mod GroupLaws
 pub mod JudgeLaws
+pub mod MeLaws
+pub mod TargetLaws

@@ -1,4 +1,5 @@
-pub mod Conference
+pub mod Callers
 pub mod Judged
+pub mod Replies
 pub mod Seen
-pub mod Standing
+pub mod Targets

@@ -2,8 +2,12 @@
 //! answered, and what an accepted command adds. Every look-up is in the tables; no view is made.
 #![tactic(auto)]
 
+mod commands;
 mod group;
 mod live;
+mod me;
+mod page;
+mod queries;
 #[cfg(test)]
 mod tests;
 

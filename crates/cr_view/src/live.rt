@@ -1,20 +1,17 @@
-//! The tables of a history, with what is judged, drawn and answered by them.
-ghost use Rattle.std.specs.Prelude.{◌≡◌, ◌≤◌, ◌<◌, ◌+◌, OnOk, IfOk, Ok, is_some, length};
-ghost use Rattle.cr_base.specs.Accounts.{number_at, caller_at, lines_of};
-ghost use Rattle.cr_base.specs.Checks.{judged, register_checks};
+//! The tables of a history, and what a user is by them.
+ghost use Rattle.std.specs.Prelude.{◌≡◌, ◌≤◌, ◌<◌, ◌+◌, OnOk, length, map};
+ghost use Rattle.cr_base.specs.Accounts.{number_at, caller_at};
+ghost use Rattle.cr_base.specs.Judging.{standing_at};
+ghost use Rattle.cr_base.specs.Lists.{at_some};
+ghost use Rattle.cr_base.specs.Papers.{is_author_at};
 ghost use Rattle.cr_base.specs.Tables.{no_tables, tables_after, tables_from, Fits, FitInTurn};
-ghost use Rattle.cr_base.specs.Judging.{judge_by_role, answer_by_role};
-ghost use Rattle.cr_base.specs.declared.reply.Receipt.TheVariants as receipts;
-ghost use Rattle.cr_view.specs.Conference.{conference_by_role};
-ghost use Rattle.cr_view.specs.Judged.{receipt_or_rule};
-ghost use Rattle.cr_view.specs.Standing.{standing_by_role};
+ghost use Rattle.cr_base.specs.Ties.{is_conflicted_in};
 
-use crate::group::registration;
 use cr_accounts::Accounts;
-use cr_base::{
-    AccountLines, Command, Conference, Digest, Mode, Phase, Query, Receipt, Reply, Rule, Short,
-    Stamped, Standing, UserNo,
-};
+use cr_base::{Digest, PaperNo, Short, Stamped, Standing, UserNo};
+use cr_conflicts::Ties;
+use cr_papers::Papers;
+use cr_phases::Stage;
 use std::alloc::{AllocError, Global};
 use std::marker::Model;
 
@@ -23,15 +20,22 @@ use std::marker::Model;
 /// Contracts see the tables, and for how many more entries there is room in each.
 #[derive(Drop)]
 pub struct Live {
-    accounts: Accounts,
+    pub(crate) stage: Stage,
+    pub(crate) accounts: Accounts,
+    pub(crate) papers: Papers,
+    pub(crate) ties: Ties,
 }
 
 impl Model for Live {
+    ghost use Rattle.std.specs.Prelude.{◌≡◌, min, map};
     ghost use Rattle.cr_view.specs.Seen.{SeenTables};
 
     ghost Value = { SeenTables };
 
-    ghost view = { λ t. record { tables = record { accounts = t.accounts.accounts }; room = t.accounts.room } };
+    ghost view = { λ t. record { tables = record { stage = t.stage; accounts = t.accounts.accounts; papers = t.papers.papers; ties = t.ties.ties }; room = min t.accounts.room (min t.papers.room t.ties.room) } };
+
+    // The author of each paper among the ties is its submitter.
+    ghost invariant = { λ t. t.ties.ties.authors ≡ map (λ paper. paper.submitter) t.papers.papers };
 }
 
 /// The tables and their entries.
@@ -41,7 +45,10 @@ impl Live {
         ensures { result.tables ≡ no_tables }
     {
         Live {
+            stage: Stage::new(),
             accounts: Accounts::new(alloc),
+            papers: Papers::new(alloc),
+            ties: Ties::new(alloc),
         }
     }
 
@@ -52,25 +59,31 @@ impl Live {
         ensures same { self.new.tables ≡ self.old.tables }
         ensures keeps { self.old.room ≤ self.new.room }
     {
-        self.accounts.room(group)
+        self.accounts.room(group)?;
+        self.papers.room(group)?;
+        self.ties.room(group)
     }
 
-    /// One more entry, for which there is room; takes no memory.
-    pub fn apply(&mut self, stamped: &Stamped)
+    /// One more entry, for which there is room. It is taken whole, since the papers keep the texts of
+    /// a submission; takes no memory.
+    pub fn apply(&mut self, stamped: Stamped)
         requires room { 0 < self.old.room }
-        requires fits { Fits self.old.tables stamped.now }
-        ensures after { self.new.tables ≡ tables_after self.old.tables stamped.now }
+        requires fits { Fits self.old.tables stamped }
+        ensures after { self.new.tables ≡ tables_after self.old.tables stamped }
         ensures room { self.old.room ≤ self.new.room + 1 }
     {
-        self.accounts.apply(stamped);
+        self.stage.apply(&stamped);
+        self.accounts.apply(&stamped);
+        self.ties.apply(&stamped);
+        self.papers.apply(stamped);
     }
 
     /// The entries of one command, for which there is room; takes no memory.
-    pub fn apply_all(&mut self, group: &[Stamped])
-        requires room { length group.now ≤ self.old.room }
-        requires fits { FitInTurn self.old.tables group.now }
-        ensures after { self.new.tables ≡ tables_from self.old.tables group.now }
-        ensures room { self.old.room ≤ self.new.room + length group.now }
+    pub fn apply_all(&mut self, group: Vec<Stamped>)
+        requires room { length group.items ≤ self.old.room }
+        requires fits { FitInTurn self.old.tables group.items }
+        ensures after { self.new.tables ≡ tables_from self.old.tables group.items }
+        ensures room { self.old.room ≤ self.new.room + length group.items }
     {
         for stamped in group {
             self.apply(stamped);
@@ -95,92 +108,45 @@ impl Live {
         self.accounts.caller(name, digest)
     }
 
-    /// What a user is to the conference, or nobody, whose role is `Account`. One read by number.
-    pub fn standing(&self, user: &Option<UserNo>) -> Standing
-        ensures { result ≡ standing_by_role self.now.tables user.now }
+    /// What a user, or nobody, is to the conference and to a paper, where one is named. Nobody's role
+    /// is `Account`, and nobody has ties. Takes no memory; a few reads by number, and a binary search
+    /// of the ties.
+    pub fn standing(&self, user: &Option<UserNo>, paper: &Option<PaperNo>) -> Standing
+        ensures { result ≡ standing_at self.now.tables user.now paper.now }
     {
         Standing {
-            phase: Phase::Setup,
-            mode: Mode::Blind,
+            phase: self.stage.phase(),
+            mode: self.stage.mode(),
             role: self.accounts.standing_for(user),
-        }
-    }
-}
-
-/// Commands.
-impl Live {
-    /// What the caller's command is answered: the receipt, or the first broken rule of its kind.
-    /// Takes no memory. A registration takes one look-up by name.
-    pub fn judge(&self, caller: &Option<UserNo>, command: &Command) -> Result<Receipt, Rule>
-        ensures { result ≡ receipt_or_rule (judge_by_role self.now.tables caller.now command.now) }
-    {
-        match command {
-            Command::Register { name, .. } => self.judge_registration(name),
+            author: self.is_author(user, paper),
+            conflicted: self.is_conflicted(user, paper),
         }
     }
 
-    fn judge_registration(&self, name: &Short) -> Result<Receipt, Rule>
-        ensures { result ≡ judged (register_checks (is_some (number_at self.now.tables.accounts name.now)) (length self.now.tables.accounts)) (receipts.User (length self.now.tables.accounts + 1)) }
+    /// Whether the user is an author of the paper; nobody is, and none is of no paper.
+    fn is_author(&self, user: &Option<UserNo>, paper: &Option<PaperNo>) -> bool
+        ensures { result ≡ at_some (is_author_at self.now.tables.papers user.now) paper.now }
     {
-        let user = self.accounts.register_check(name)?;
-        Ok(Receipt::User { user })
-    }
-
-    /// The entries that the caller's command adds, where it was accepted with this receipt; an
-    /// error only for want of memory. They may be applied in their turn.
-    pub fn group(
-        &self,
-        alloc: Global,
-        caller: &Option<UserNo>,
-        command: &Command,
-        receipt: &Receipt,
-    ) -> Result<Vec<Stamped>, AllocError>
-        requires accepted { receipt_or_rule (judge_by_role self.now.tables caller.now command.now) ≡ Ok receipt.now }
-        ensures drawn { IfOk result (λ group. judge_by_role self.now.tables caller.now command.now ≡ Ok (record { group = group.items; receipt = receipt.now })) }
-        ensures fits { IfOk result (λ group. FitInTurn self.now.tables group.items) }
-    {
-        match command {
-            Command::Register { name, digest } => {
-                let Receipt::User { user } = receipt;
-                registration(alloc, *user, *name, *digest)
-            }
-        }
-    }
-}
-
-/// Queries.
-impl Live {
-    /// What the caller's query is answered; an error only for want of memory.
-    pub fn answer(
-        &self,
-        alloc: Global,
-        caller: &Option<UserNo>,
-        query: &Query,
-    ) -> Result<Reply, AllocError>
-        ensures { IfOk result (λ reply. reply ≡ answer_by_role self.now.tables caller.now query.now) }
-    {
-        match query {
-            Query::Accounts => Ok(Reply::Accounts(self.accounts(alloc)?)),
-            Query::Phase => Ok(Reply::Conference(self.conference())),
+        match (user, paper) {
+            (Some(user), Some(paper)) => self.papers.is_author(*user, *paper),
+            (None, _) | (_, None) => false,
         }
     }
 
-    /// Every account, by user number; an error only for want of memory. Reads and copies each
-    /// account.
-    pub fn accounts(&self, alloc: Global) -> Result<AccountLines, AllocError>
-        ensures { IfOk result (λ lines. lines ≡ lines_of self.now.tables.accounts) }
+    /// Whether the user is in conflict with the paper; nobody is, and none is with no paper.
+    fn is_conflicted(&self, user: &Option<UserNo>, paper: &Option<PaperNo>) -> bool
+        ensures { result ≡ at_some (is_conflicted_in self.now.tables.ties user.now) paper.now }
     {
-        self.accounts.lines(alloc)
+        match (user, paper) {
+            (Some(user), Some(paper)) => self.ties.is_conflicted(*user, *paper),
+            (None, _) | (_, None) => false,
+        }
     }
 
-    /// The phase, the mode and the number of papers. Takes no memory and reads no account.
-    pub fn conference(&self) -> Conference
-        ensures { result ≡ conference_by_role self.now.tables }
+    /// Nothing to run: a law, that the author of each paper among the ties is its submitter.
+    pub(crate) fn law_authors(&self)
+        ensures { self.now.tables.ties.authors ≡ map (λ paper. paper.submitter) self.now.tables.papers }
     {
-        Conference {
-            mode: Mode::Blind,
-            papers: 0,
-            phase: Phase::Setup,
-        }
+        let _papers = &self.papers;
     }
 }

@@ -1,0 +1,101 @@
+//! Which keys of a paper's page a caller is told, by her standing at the paper.
+ghost use Rattle.std.specs.Prelude.{◌≡◌, IfOk, Some};
+ghost use Rattle.std.specs.Option.{option_copied};
+ghost use Rattle.cr_base.specs.Page.{gets_title, gets_abstract, gets_conflict, gets_conflicts, gets_declared, bare_keys, where_told};
+
+use cr_base::{BareKeys, Phase, Standing, Text};
+use std::alloc::{AllocError, Global};
+
+/// Whether she is told the title: authors; members from bidding on.
+pub(crate) fn gets_title(by: &Standing) -> bool
+    ensures { result ≡ gets_title by.now }
+{
+    by.author || (by.role.is_member() && by.phase.is_from(Phase::Bidding))
+}
+
+/// Whether she is told the abstract: authors; from bidding on members who aren't in conflict.
+pub(crate) fn gets_abstract(by: &Standing) -> bool
+    ensures { result ≡ gets_abstract by.now }
+{
+    by.author || (by.is_clear_member() && by.phase.is_from(Phase::Bidding))
+}
+
+/// Whether she is told if she is in conflict: members and authors.
+fn gets_conflict(by: &Standing) -> bool
+    ensures { result ≡ gets_conflict by.now }
+{
+    by.role.is_member() || by.author
+}
+
+/// Whether she is in conflict with the paper, where she is told that.
+pub(crate) fn conflict_told(by: &Standing) -> Option<bool>
+    ensures { result ≡ where_told (gets_conflict by.now) (Some by.now.conflicted) }
+{
+    if gets_conflict(by) {
+        Some(by.conflicted)
+    } else {
+        None
+    }
+}
+
+/// Whether she is told who is declared in conflict with the paper: from bidding on chairs who aren't
+/// in conflict.
+pub(crate) fn gets_conflicts(by: &Standing) -> bool
+    ensures { result ≡ gets_conflicts by.now }
+{
+    by.is_clear_chair() && by.phase.is_from(Phase::Bidding)
+}
+
+/// Whether she is told whom the authors declared: authors.
+pub(crate) fn gets_declared(by: &Standing) -> bool
+    ensures { result ≡ gets_declared by.now }
+{
+    by.author
+}
+
+/// Whether she is told who reviews: from bidding on chairs who aren't in conflict, from discussion on
+/// such members; from notification on authors, in the open mode.
+fn gets_reviewers(by: &Standing) -> bool
+    ensures { result ≡ (bare_keys by.now).reviewers }
+{
+    (by.is_clear_chair() && by.phase.is_from(Phase::Bidding))
+        || (by.is_clear_member() && by.phase.is_from(Phase::Discussion))
+        || (by.author && by.mode.is_overt() && by.phase.is_from(Phase::Notification))
+}
+
+/// Which of the keys that have nothing to tell yet are there for her.
+pub(crate) fn bare_keys(by: &Standing) -> BareKeys
+    ensures { result ≡ bare_keys by.now }
+{
+    let bidding = by.phase.is_from(Phase::Bidding);
+    let discussion = by.phase.is_from(Phase::Discussion);
+    let notification = by.phase.is_from(Phase::Notification);
+    let clear_member = by.is_clear_member();
+    let clear_chair = by.is_clear_chair();
+    BareKeys {
+        bid: clear_member && bidding,
+        bids: clear_chair && bidding,
+        decision: (clear_member && discussion) || (by.author && notification),
+        reviewers: gets_reviewers(by),
+        tags: clear_member && bidding,
+        versions: by.author || (clear_member && bidding),
+        withdrawn: by.author || (by.role.is_member() && bidding),
+    }
+}
+
+/// A copy of a text, where it is told; an error only for want of memory.
+pub(crate) fn copy_where(
+    alloc: Global,
+    told: bool,
+    text: Option<&Text>,
+) -> Result<Option<Text>, AllocError>
+    ensures { IfOk result (λ copied. copied ≡ where_told told (option_copied text.entry)) }
+{
+    if !told {
+        return Ok(None);
+    }
+    match text {
+        Some(text) => Ok(Some(text.copy(alloc)?)),
+        None => Ok(None),
+    }
+}
