@@ -5,12 +5,13 @@ ghost use Rattle.cr_base.specs.Facts.{number_of, caller_of};
 ghost use Rattle.cr_base.specs.Judging.{wants_login};
 ghost use Rattle.cr_policy.specs.Judge.{judge, answer};
 ghost use Rattle.cr_policy.specs.View.{view};
+ghost use Rattle.cr_base.specs.declared.reply.Reply.TheVariants as replies;
 ghost use Rattle.cr_policy.specs.Legal.{Legal, IsAllowed, MayAsk};
 ghost use Rattle.cr_ports.specs.Count.{Rises};
 ghost use Rattle.cr_view.specs.Judged.{receipt_or_rule};
 ghost use Rattle.cr_book.specs.Sound.{IsKept, Accepts};
 
-use crate::rows::rows_of;
+use crate::rows::{copies_of, rows_of};
 use cr_base::{Command, Digest, Query, Receipt, Reply, Rule, Short, Stamped, UserNo};
 use cr_ports::{Keeper, KeeperError};
 use cr_view::Live;
@@ -114,7 +115,8 @@ impl<K: Keeper> Book<K> {
     }
 
     /// Takes the room for what an accepted command adds, keeps it and applies it: after the keeper has
-    /// kept it nothing can fail.
+    /// kept it nothing can fail. The tables keep the texts of what is added, and the history has them
+    /// too: one copy of them is made.
     fn keep(
         &mut self,
         caller: &Option<UserNo>,
@@ -131,10 +133,13 @@ impl<K: Keeper> Book<K> {
         ensures count { K.faults self.old.keeper ≤ K.faults self.new.keeper }
         ensures legal { Legal self.new.log }
     {
-        let Ok(mut group) = self.live.group(self.alloc, caller, command, &receipt) else {
+        let Ok(group) = self.live.group(self.alloc, caller, command, &receipt) else {
             return Err(BookError::OutOfMemory);
         };
         let Ok(rows) = rows_of(self.alloc, &group) else {
+            return Err(BookError::OutOfMemory);
+        };
+        let Ok(mut entries) = copies_of(self.alloc, &group) else {
             return Err(BookError::OutOfMemory);
         };
         if self.live.room(&group).is_err() {
@@ -148,19 +153,22 @@ impl<K: Keeper> Book<K> {
             Err(KeeperError::Failed) => return Err(BookError::KeeperFault),
             Err(KeeperError::OutOfMemory) => return Err(BookError::OutOfMemory),
         }
-        self.live.apply_all(&group);
-        match self.log.append(&mut group) {
+        self.live.apply_all(group);
+        match self.log.append(&mut entries) {
             Ok(()) => Ok(receipt),
             Err(_) => unreachable!(),
         }
     }
 
     /// The answer to a query of this caller: a registered user, or nobody where the query wants no
-    /// login. An error only for want of memory. `Query::Accounts` costs a walk over all accounts,
-    /// `Query::Phase` nothing that grows.
+    /// login. An error only for want of memory, and none where a rule is broken: that is told whatever
+    /// memory there is. `Query::Accounts` costs a walk over all accounts, `Query::Page` a few look-ups,
+    /// one more for each name that is told, and a copy of the texts that are told, `Query::Me` a walk
+    /// over her own papers and conflicts, `Query::Phase` nothing that grows.
     pub fn answer(&self, caller: &Option<UserNo>, query: &Query) -> Result<Reply, AllocError>
         requires { MayAsk self.now.log (wants_login query.now) caller.now }
-        ensures { IfOk result (λ reply. reply ≡ answer caller.now (view caller.now self.now.log) query.now) }
+        ensures reply { IfOk result (λ reply. reply ≡ answer caller.now (view caller.now self.now.log) query.now) }
+        ensures rule { (rule : Rule) → answer caller.now (view caller.now self.now.log) query.now ≡ replies.Refused rule → result ≡ Ok (replies.Refused rule) }
     {
         self.live.answer(self.alloc, caller, query)
     }
@@ -187,6 +195,7 @@ impl<K: Keeper> Book<K> {
     {
         match query {
             Query::Accounts | Query::Phase => false,
+            Query::Me | Query::Page { .. } => true,
         }
     }
 

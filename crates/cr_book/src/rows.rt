@@ -1,4 +1,4 @@
-//! The rows that one command's entries are kept in.
+//! The rows that one command's entries are kept in, and copies of the entries.
 ghost use Rattle.std.specs.Prelude.{◌≡◌, IfOk};
 ghost use Rattle.cr_base.specs.Rows.{rows_of};
 
@@ -14,4 +14,15 @@ pub(crate) fn rows_of(alloc: Global, group: &[Stamped]) -> Result<Vec<Row>, Allo
         rows.push(stamped.entry.to_row(alloc, stamped.maker, stamped.more)?)?;
     }
     Ok(rows)
+}
+
+/// An equal entry for each, in order; an error only for want of memory.
+pub(crate) fn copies_of(alloc: Global, group: &[Stamped]) -> Result<Vec<Stamped>, AllocError>
+    ensures { IfOk result (λ copies. copies.items ≡ group.now) }
+{
+    let mut copies = Vec::new(alloc);
+    for stamped in group {
+        copies.push(stamped.copy(alloc)?)?;
+    }
+    Ok(copies)
 }
