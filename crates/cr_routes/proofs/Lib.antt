@@ -1,3 +1,6 @@
 pub mod Adding
 pub mod Rooted
-pub mod OnlyListed
+pub mod Rows
+pub mod Taking
+pub mod Spelling
+pub mod Places

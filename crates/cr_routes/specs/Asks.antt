@@ -12,7 +12,14 @@ use Rattle.cr_routes.specs.declared.ask.Ask.TheVariants as asks
 abbrev pub route_at : Place → Verb → Option Ask
 route_at at.Register Post = Some asks.Register
 route_at at.Accounts Get = Some asks.Accounts
+route_at at.Members Post = Some asks.Name
+route_at at.Mode Post = Some asks.SetMode
 route_at at.Phase Get = Some asks.Phase
+route_at at.Phase Post = Some asks.SetPhase
+route_at at.Papers Post = Some asks.Submit
+route_at at.Paper Get = Some asks.Page
+route_at at.Conflicts Post = Some asks.SetConflict
+route_at at.Me Get = Some asks.Me
 route_at _ _ = None
 
 -- HEAD asks for what GET does

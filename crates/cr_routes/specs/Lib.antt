@@ -1,3 +1,4 @@
 pub mod Verbs
 pub mod Asks
 pub mod Paths
+pub mod Parts

@@ -8,14 +8,21 @@ use Rattle.matchit.specs.Route.{Scan, parse_route}
 use Rattle.matchit.specs.Router.{RouteOf, route_from, nearest}
 use Rattle.matchit.specs.declared.error.InsertError.{InsertError}
 use Rattle.cr_routes.specs.declared.place.Place.{Place}
-use Rattle.cr_routes.specs.declared.place.Place.TheVariants.{Register, Accounts, Phase}
+use Rattle.cr_routes.specs.declared.place.Place.TheVariants.{Register, Accounts, Members, Mode, Phase, Papers, Paper, Conflicts, Me}
 
--- each path, with its place
+-- each path, with its place; a parameter is written in braces. They stand in the order in which the router keeps them:
+-- by their bytes, a path behind those that it is the start of
 abbrev pub paths : List (List ℕ × Place)
 paths =
-    (codes "/register", Register) ∷
     (codes "/accounts", Accounts) ∷
-    (codes "/phase", Phase) ∷ []
+    (codes "/members", Members) ∷
+    (codes "/me", Me) ∷
+    (codes "/mode", Mode) ∷
+    (codes "/papers/{p}/conflicts", Conflicts) ∷
+    (codes "/papers/{p}", Paper) ∷
+    (codes "/papers", Papers) ∷
+    (codes "/phase", Phase) ∷
+    (codes "/register", Register) ∷ []
 
 -- a line of the program's table
 abbrev pub line : Bor (List ℕ) × Place → List ℕ × Place

@@ -1,7 +1,8 @@
 //! The paths that the server knows, their methods, and what a method at a path asks for.
 //!
 //! One table lists the paths (`specs/Paths.antt`) and one function what a method asks for there
-//! (`specs/Asks.antt`); the field `Allow` of a 405 answer follows from the two.
+//! (`specs/Asks.antt`); the field `Allow` of a 405 answer follows from the two. What the table means without a router
+//! stands in `specs/Parts.antt`: `law_paths` says that the router finds just that.
 #![tactic(auto)]
 
 mod ask;

@@ -11,8 +11,20 @@ pub enum Place {
     Register,
     /// `/accounts`
     Accounts,
+    /// `/members`
+    Members,
+    /// `/mode`
+    Mode,
     /// `/phase`
     Phase,
+    /// `/papers`
+    Papers,
+    /// `/papers/{p}`: one part of any bytes, at least one, follows `/papers/`.
+    Paper,
+    /// `/papers/{p}/conflicts`: one such part stands between the slashes.
+    Conflicts,
+    /// `/me`
+    Me,
 }
 
 impl Place {
@@ -25,7 +37,14 @@ impl Place {
         match (self, verb) {
             (Place::Register, Verb::Post) => Some(Ask::Register),
             (Place::Accounts, Verb::Get | Verb::Head) => Some(Ask::Accounts),
+            (Place::Members, Verb::Post) => Some(Ask::Name),
+            (Place::Mode, Verb::Post) => Some(Ask::SetMode),
             (Place::Phase, Verb::Get | Verb::Head) => Some(Ask::Phase),
+            (Place::Phase, Verb::Post) => Some(Ask::SetPhase),
+            (Place::Papers, Verb::Post) => Some(Ask::Submit),
+            (Place::Paper, Verb::Get | Verb::Head) => Some(Ask::Page),
+            (Place::Conflicts, Verb::Post) => Some(Ask::SetConflict),
+            (Place::Me, Verb::Get | Verb::Head) => Some(Ask::Me),
             _ => None,
         }
     }
@@ -37,8 +56,10 @@ impl Place {
         ensures short { length result.now ≤ 32 }
     {
         match self {
-            Place::Register => "POST",
-            Place::Accounts | Place::Phase => "GET, HEAD",
+            Place::Register | Place::Members | Place::Mode | Place::Papers | Place::Conflicts =>
+                "POST",
+            Place::Accounts | Place::Paper | Place::Me => "GET, HEAD",
+            Place::Phase => "GET, HEAD, POST",
         }
     }
 }

@@ -7,10 +7,17 @@ use crate::place::Place;
 use matchit::{InsertError, Router};
 use std::alloc::{AllocError, Global};
 
-static PATHS: [(&str, Place); 3] = [
-    ("/register", Place::Register),
+// As `paths` lists them.
+static PATHS: [(&str, Place); 9] = [
     ("/accounts", Place::Accounts),
+    ("/members", Place::Members),
+    ("/me", Place::Me),
+    ("/mode", Place::Mode),
+    ("/papers/{p}/conflicts", Place::Conflicts),
+    ("/papers/{p}", Place::Paper),
+    ("/papers", Place::Papers),
     ("/phase", Place::Phase),
+    ("/register", Place::Register),
 ];
 
 // Adds a path that conflicts with none of the router's.
@@ -55,8 +62,8 @@ impl Routes {
         Ok(Routes { router })
     }
 
-    /// The place of a path, or None where the server doesn't know the path. Reads the path once and costs no
-    /// allocation.
+    /// The place of a path, or None where the server doesn't know the path. Case counts, nothing is decoded, and a
+    /// parameter takes one part that isn't empty. Reads the path once and costs no allocation.
     pub fn find(&self, path: &str) -> Option<Place>
         ensures { result ≡ place_of path.now }
     {
