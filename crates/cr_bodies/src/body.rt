@@ -1,14 +1,16 @@
 //! The JSON body of each command.
 ghost use Rattle.std.specs.Prelude.{◌≡◌, IfOk, IfSome};
 ghost use Rattle.cr_base.specs.Bounds.{IsBoundedCommand};
+ghost use Rattle.cr_base.specs.Texts.{IsAbstract, IsTitle};
+ghost use Rattle.cr_base.specs.declared.command.Command.TheVariants.{Submit};
 ghost use Rattle.serde_json.specs.View.{view};
 ghost use Rattle.cr_bodies.specs.Json.{json_of};
-ghost use Rattle.cr_bodies.specs.Bodies.{register, register_of};
+ghost use Rattle.cr_bodies.specs.Bodies.{name as name_text, name_of, register, register_of, set_conflict, set_conflict_of, set_mode, set_mode_of, set_phase, set_phase_of, submit, submit_of};
 ghost use Rattle.cr_bodies.specs.Outcome.{Gives, GivesSeen};
 
-use crate::field::{name, secret};
+use crate::field::{abstract_, flag, mode, name, phase, role, secret, title, user};
 use crate::secret::digest_of;
-use cr_base::{Command, Short};
+use cr_base::{Command, PaperNo, Short, Text};
 use serde_json::Value;
 use std::alloc::{AllocError, Global};
 
@@ -67,4 +69,133 @@ pub fn read_register(alloc: Global, body: &[u8]) -> Result<Command, BodyError>
 {
     let value = read_json(alloc, body)?;
     registration(&value).ok_or(BodyError::Bad)
+}
+
+// The change of phase that a JSON value tells.
+fn phase_change(body: &Value) -> Option<Command>
+    ensures told { result ≡ set_phase (view body.now) }
+    ensures bounded { IfSome result IsBoundedCommand }
+{
+    let phase = phase(body, "phase")?;
+    Some(Command::SetPhase { phase })
+}
+
+/// The command that the body of a change of phase tells. The body is a JSON object (RFC 8259) whose key `phase` is the
+/// word of a phase, `setup` to `closed`. Of equal keys the last counts, and other keys are ignored. `Bad` exactly where
+/// the body is no such object, memory aside. Reads the body once. A command that it tells is within the bounds on
+/// commands.
+pub fn read_set_phase(alloc: Global, body: &[u8]) -> Result<Command, BodyError>
+    ensures told { Gives result (set_phase_of body.now) }
+    ensures bounded { IfOk result IsBoundedCommand }
+{
+    let value = read_json(alloc, body)?;
+    phase_change(&value).ok_or(BodyError::Bad)
+}
+
+// The submission of a title and an abstract.
+fn submission(alloc: Global, title: &str, text: &str) -> Result<Command, AllocError>
+    requires title { IsTitle title.now }
+    requires text { IsAbstract text.now }
+    ensures told { IfOk result (λ c. c ≡ Submit title.now text.now) }
+    ensures bounded { IfOk result IsBoundedCommand }
+{
+    Ok(Command::Submit {
+        title: Text::from_str(alloc, title)?,
+        abstract_: Text::from_str(alloc, text)?,
+    })
+}
+
+// The submission that a JSON value tells.
+fn submission_in(alloc: Global, body: &Value) -> Result<Command, BodyError>
+    ensures told { Gives result (submit (view body.now)) }
+    ensures bounded { IfOk result IsBoundedCommand }
+{
+    let Some(title) = title(body, "title") else {
+        return Err(BodyError::Bad);
+    };
+    let Some(text) = abstract_(body, "abstract") else {
+        return Err(BodyError::Bad);
+    };
+    Ok(submission(alloc, title, text)?)
+}
+
+/// The command that the body of a submission tells. The body is a JSON object (RFC 8259) with the keys `title`, 1 to 200
+/// bytes of UTF-8 without characters below U+0020 and without U+007F, and `abstract`, at most 5,000 bytes of UTF-8. Of
+/// equal keys the last counts, and other keys, `authors` among them, are ignored. `Bad` exactly where the body is no such
+/// object, memory aside. Reads the body once, and copies the two texts. A command that it tells is within the bounds on
+/// commands.
+pub fn read_submit(alloc: Global, body: &[u8]) -> Result<Command, BodyError>
+    ensures told { Gives result (submit_of body.now) }
+    ensures bounded { IfOk result IsBoundedCommand }
+{
+    let value = read_json(alloc, body)?;
+    submission_in(alloc, &value)
+}
+
+// The naming that a JSON value tells.
+fn naming(body: &Value) -> Option<Command>
+    ensures told { result ≡ name_text (view body.now) }
+    ensures bounded { IfSome result IsBoundedCommand }
+{
+    let user = user(body, "name")?;
+    let role = role(body, "role")?;
+    Some(Command::Name { user, role })
+}
+
+/// The command that the body of a naming tells. The body is a JSON object (RFC 8259) with the keys `name`, any text, and
+/// `role`, `member` or `chair`; a text that is no name is told as None. Of equal keys the last counts, and other keys
+/// are ignored. `Bad` exactly where the body is no such object, memory aside. Reads the body once. A command that it
+/// tells is within the bounds on commands.
+pub fn read_name(alloc: Global, body: &[u8]) -> Result<Command, BodyError>
+    ensures told { Gives result (name_of body.now) }
+    ensures bounded { IfOk result IsBoundedCommand }
+{
+    let value = read_json(alloc, body)?;
+    naming(&value).ok_or(BodyError::Bad)
+}
+
+// The change of mode that a JSON value tells.
+fn mode_change(body: &Value) -> Option<Command>
+    ensures told { result ≡ set_mode (view body.now) }
+    ensures bounded { IfSome result IsBoundedCommand }
+{
+    let mode = mode(body, "mode")?;
+    Some(Command::SetMode { mode })
+}
+
+/// The command that the body of a change of mode tells. The body is a JSON object (RFC 8259) whose key `mode` is `open`,
+/// `blind` or `anonymous`. Of equal keys the last counts, and other keys are ignored. `Bad` exactly where the body is no
+/// such object, memory aside. Reads the body once. A command that it tells is within the bounds on commands.
+pub fn read_set_mode(alloc: Global, body: &[u8]) -> Result<Command, BodyError>
+    ensures told { Gives result (set_mode_of body.now) }
+    ensures bounded { IfOk result IsBoundedCommand }
+{
+    let value = read_json(alloc, body)?;
+    mode_change(&value).ok_or(BodyError::Bad)
+}
+
+// The change of a conflict with a paper that a JSON value tells.
+fn conflict_change(paper: Option<PaperNo>, body: &Value) -> Option<Command>
+    ensures told { result ≡ set_conflict paper (view body.now) }
+    ensures bounded { IfSome result IsBoundedCommand }
+{
+    let on = flag(body, "on")?;
+    let user = user(body, "user")?;
+    Some(Command::SetConflict { paper, user, on })
+}
+
+/// The command that the body of a change of a conflict tells, with the paper, which its path tells. The body is a JSON
+/// object (RFC 8259) with the keys `on`, true or false, and `user`, any text; a text that is no name is told as None. Of
+/// equal keys the last counts, and other keys are ignored. `Bad` exactly where the body is no such object, memory aside.
+/// Reads the body once. A command that it tells is within the bounds on commands.
+pub fn read_set_conflict(
+    alloc: Global,
+    paper: Option<PaperNo>,
+    body: &[u8],
+) -> Result<Command, BodyError>
+    ensures told { Gives result (set_conflict_of paper body.now) }
+    ensures bounded { IfOk result IsBoundedCommand }
+{
+    let value = read_json(alloc, body)?;
+    conflict_change(paper, &value).ok_or(BodyError::Bad)
 }
