@@ -3,7 +3,7 @@ use Rattle.std.specs.Prelude.{ℕ, Bool, true, false, Option, Some, None, if◌t
 use Rattle.cr_base.specs.History.{History}
 use Rattle.cr_base.specs.Facts.{caller_of}
 use Rattle.cr_base.specs.declared.command.Command.{Command}
-use Rattle.cr_base.specs.declared.command.Command.TheVariants.{Register}
+use Rattle.cr_base.specs.declared.command.Command.TheVariants.{Register, SetPhase, Submit, Name, SetMode, SetConflict}
 use Rattle.cr_base.specs.declared.command.Query.{Query}
 use Rattle.cr_base.specs.declared.command.Query.TheVariants as queries
 use Rattle.cr_bodies.specs.declared.credentials.Credentials.{Credentials}
@@ -13,27 +13,50 @@ use Rattle.cr_wire.specs.declared.what.What.{What}
 use Rattle.cr_wire.specs.declared.what.What.TheVariants.{NoRoute, WrongMethod, BadBody, Command as Commands, Query as Queries}
 use Rattle.cr_wire.specs.declared.what.Wish.{Wish}
 
--- whether what is asked for is asked by somebody
-abbrev pub is_by_caller : Ask → Bool
-is_by_caller asks.Register = false
-is_by_caller asks.Accounts = false
-is_by_caller asks.Phase = false
+-- whether what is asked for wants a login
+abbrev pub ask_wants_login : Ask → Bool
+ask_wants_login asks.Register = false
+ask_wants_login asks.Accounts = false
+ask_wants_login asks.Phase = false
+ask_wants_login asks.Name = true
+ask_wants_login asks.SetMode = true
+ask_wants_login asks.SetPhase = true
+ask_wants_login asks.Submit = true
+ask_wants_login asks.Page = true
+ask_wants_login asks.SetConflict = true
+ask_wants_login asks.Me = true
 
 -- what a command and a query ask for
 abbrev pub ask_of_command : Command → Ask
 ask_of_command (Register name digest) = asks.Register
+ask_of_command (SetPhase phase) = asks.SetPhase
+ask_of_command (Submit title abstract) = asks.Submit
+ask_of_command (Name user role) = asks.Name
+ask_of_command (SetMode mode) = asks.SetMode
+ask_of_command (SetConflict paper user on) = asks.SetConflict
 
 abbrev pub ask_of_query : Query → Ask
+ask_of_query queries.Me = asks.Me
 ask_of_query queries.Accounts = asks.Accounts
 ask_of_query queries.Phase = asks.Phase
+ask_of_query (queries.Page paper) = asks.Page
 
--- whether the field Authorization is read
+-- whether a login is wanted, also where the body is a bad one; what is no request of the server's is refused alike to
+-- everybody
+abbrev pub wants_login : What → Bool
+wants_login NoRoute = false
+wants_login (WrongMethod place) = false
+wants_login (BadBody ask) = ask_wants_login ask
+wants_login (Commands command) = ask_wants_login (ask_of_command command)
+wants_login (Queries query) = ask_wants_login (ask_of_query query)
+
+-- whether the field Authorization is read: not where a request of the server's wants no login
 abbrev pub reads_credentials : What → Bool
 reads_credentials NoRoute = true
 reads_credentials (WrongMethod place) = true
-reads_credentials (BadBody ask) = is_by_caller ask
-reads_credentials (Commands command) = is_by_caller (ask_of_command command)
-reads_credentials (Queries query) = is_by_caller (ask_of_query query)
+reads_credentials (BadBody ask) = ask_wants_login ask
+reads_credentials (Commands command) = ask_wants_login (ask_of_command command)
+reads_credentials (Queries query) = ask_wants_login (ask_of_query query)
 
 -- the user of the name told whose registration has the digest of the secret told; else nobody
 abbrev pub user_told : Option Credentials → History → Option ℕ

@@ -1,5 +1,6 @@
 pub mod Connection
 pub mod Outcome
+pub mod Paper
 pub mod Asked
 pub mod Bounds
 pub mod Caller

@@ -8,9 +8,13 @@ ghost use Rattle.cr_wire.specs.Asked as spec;
 ghost use Rattle.cr_wire.specs.Bounds.{IsBoundedWhat};
 ghost use Rattle.cr_wire.specs.Outcome.{Gives};
 
+use crate::paper::paper_told;
 use crate::what::What;
 use cr_base::{Command, Query};
-use cr_bodies::{BodyError, before_first, read_register};
+use cr_bodies::{
+    BodyError, before_first, read_name, read_register, read_set_conflict, read_set_mode,
+    read_set_phase, read_submit,
+};
 use cr_routes::{Ask, Place, Routes, Verb};
 use std::alloc::{AllocError, Global};
 use std::str::from_utf8;
@@ -44,15 +48,24 @@ fn command(ask: Ask, read: Result<Command, BodyError>) -> Result<What, AllocErro
     }
 }
 
-// What is asked for, by its body too.
-fn asked(alloc: Global, ask: Ask, body: &[u8]) -> Result<What, AllocError>
-    ensures told { Gives result (spec.asked ask body.now) }
+// What is asked for, by its path and its body too.
+fn asked(alloc: Global, ask: Ask, path: &[u8], body: &[u8]) -> Result<What, AllocError>
+    ensures told { Gives result (spec.asked ask path.now body.now) }
     ensures bounded { IfOk result IsBoundedWhat }
 {
     match ask {
         Ask::Register => command(ask, read_register(alloc, body)),
         Ask::Accounts => Ok(What::Query(Query::Accounts)),
+        Ask::Name => command(ask, read_name(alloc, body)),
+        Ask::SetMode => command(ask, read_set_mode(alloc, body)),
         Ask::Phase => Ok(What::Query(Query::Phase)),
+        Ask::SetPhase => command(ask, read_set_phase(alloc, body)),
+        Ask::Submit => command(ask, read_submit(alloc, body)),
+        Ask::Page => Ok(What::Query(Query::Page {
+            paper: paper_told(path),
+        })),
+        Ask::SetConflict => command(ask, read_set_conflict(alloc, paper_told(path), body)),
+        Ask::Me => Ok(What::Query(Query::Me)),
     }
 }
 
@@ -68,11 +81,12 @@ pub(crate) fn what_of(
     ensures told { Gives result (spec.what_of method.now target.now body.now) }
     ensures bounded { IfOk result IsBoundedWhat }
 {
-    let Some(place) = place_at(routes, before_first(b'?', target)) else {
+    let path = before_first(b'?', target);
+    let Some(place) = place_at(routes, path) else {
         return Ok(What::NoRoute);
     };
     let Some(ask) = ask_at(place, method) else {
         return Ok(What::WrongMethod(place));
     };
-    asked(alloc, ask, body)
+    asked(alloc, ask, path, body)
 }

@@ -6,6 +6,7 @@
 mod asked;
 mod connection;
 mod laws;
+mod paper;
 mod what;
 mod wish;
 

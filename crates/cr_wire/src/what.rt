@@ -1,5 +1,6 @@
 //! What a request wishes.
 ghost use Rattle.std.specs.Prelude.{◌≡◌};
+ghost use Rattle.cr_wire.specs.Caller.{ask_wants_login as ask_wants_login_text};
 
 use cr_base::{Command, Query};
 use cr_bodies::Credentials;
@@ -33,19 +34,47 @@ pub struct Wish {
     pub what: What,
 }
 
+// Whether what is asked for wants a login.
+fn ask_wants_login(ask: Ask) -> bool
+    ensures { result ≡ ask_wants_login_text ask }
+{
+    match ask {
+        Ask::Register | Ask::Accounts | Ask::Phase => false,
+        Ask::Name | Ask::SetMode | Ask::SetPhase | Ask::Submit => true,
+        Ask::SetConflict | Ask::Page | Ask::Me => true,
+    }
+}
+
 impl What {
-    ghost use Rattle.cr_wire.specs.Caller.{reads_credentials};
+    ghost use Rattle.cr_wire.specs.Caller.{reads_credentials, wants_login};
+
+    /// Whether a login is wanted, so that nobody is answered `unauthorized`: by each command but a registration, also
+    /// where its body is a bad one, by a paper's page and by what the caller is told of herself. Registration, the list
+    /// of accounts and the state of the conference want none, and what is no request of these is refused alike to
+    /// everybody.
+    pub fn wants_login(&self) -> bool
+        ensures { result ≡ wants_login self.now }
+    {
+        match self {
+            What::NoRoute | What::WrongMethod(_) => false,
+            What::BadBody(ask) => ask_wants_login(*ask),
+            What::Command(Command::Register { .. }) => false,
+            What::Command(Command::Name { .. } | Command::SetMode { .. }) => true,
+            What::Command(Command::SetConflict { .. }) => true,
+            What::Command(Command::SetPhase { .. } | Command::Submit { .. }) => true,
+            What::Query(Query::Accounts | Query::Phase) => false,
+            What::Query(Query::Page { .. } | Query::Me) => true,
+        }
+    }
 
     /// Whether the field Authorization counts. POST of `/register`, GET and HEAD of `/accounts` and of `/phase` don't
-    /// use it: their caller is nobody. What is no request of these is refused alike to everybody.
+    /// use it: their caller is nobody. What is no request of the server's is refused alike to everybody.
     pub fn reads_credentials(&self) -> bool
         ensures { result ≡ reads_credentials self.now }
     {
         match self {
             What::NoRoute | What::WrongMethod(_) => true,
-            What::BadBody(Ask::Register | Ask::Accounts | Ask::Phase) => false,
-            What::Command(Command::Register { .. }) => false,
-            What::Query(Query::Accounts | Query::Phase) => false,
+            What::BadBody(_) | What::Command(_) | What::Query(_) => self.wants_login(),
         }
     }
 }
