@@ -1,4 +1,4 @@
 pub mod Chain
-pub mod Escapes
 pub mod Lists
+pub mod Objects
 pub mod Ready

@@ -1,46 +1,45 @@
 -- A list appended item by item.
-use Rattle.std.proofs.Common.{◌≡◌, true, false, ◌∙◌, ℕ, ◌+◌, ◌<◌, ◌≤◌, List, [], ◌∷◌, ◌++◌, length, get_or, refl, sym, ap, append_assoc, append-nil, Result, Ok, Err, IsErr}
-use Rattle.std.specs.Prelude.{flat_map, drop}
+use Rattle.std.proofs.Common.{◌≡◌, Bool, true, false, ◌∙◌, ℕ, ◌+◌, ◌<◌, ◌≤◌, List, ◌∷◌, ◌++◌, length, get_or, sym, ap, append_assoc, append-nil}
+use Rattle.std.specs.Prelude.{flat_map, drop, map}
 use Rattle.std.proofs.lemmas.List.{drop_more, drop_all}
-use Rattle.cr_print.specs.Put.{Appends, Bytes, Grows}
+use Rattle.cr_print.specs.Put.{Bytes}
+use Rattle.cr_print.specs.Json.{comma, separated}
 
--- what was there stays along two steps
-pub grows_on : (a b d : Bytes) (t : List ℕ) → b.items ≡ a.items ++ t → Grows b d → Grows a d
-grows_on a b d t p q = (t ++ q.0, q.1 ∙ ap (λ s. s ++ q.0) p ∙ append_assoc a.items t q.0)
-
-pub grown : (a b d : Bytes) (t : List ℕ) → Grows a b → d.items ≡ b.items ++ t → Grows a d
-grown a b d t p q = (p.0 ++ t, q ∙ ap (λ s. s ++ t) p.1 ∙ append_assoc a.items p.0 t)
-
-pub grows_both : (a b d : Bytes) → Grows a b → Grows b d → Grows a d
-grows_both a b d p q = grown a b d q.0 p q.1
-
--- a step that fails hands its failure on
-pub failed : {E : Type 0} (r : Result (Unit {0}) E) (old new : Bytes) (text : List ℕ) → IsErr r → Grows old new → Appends r old new text
-failed (Ok x) old new text is g = let never : false ≡ true = is in cc
-failed (Err e) old new text is g = record { ok = tt; err = g }
-
--- three pieces, with room made before the first and the last
-pub three_pieces : (old a b d e f t u v : List ℕ) → a ≡ old → b ≡ a ++ t → d ≡ b ++ u → e ≡ d → f ≡ e ++ v → f ≡ old ++ (t ++ u ++ v)
-three_pieces old a b d e f t u v p q r s l = rw (l, s, r, q, p, append_assoc old t u, append_assoc old (t ++ u) v) refl
+-- ---- items as they are
 
 -- i items were appended: what is left to append
 module _ {X : Type 0} (text_of : X → List ℕ) where
-  pub record Listed (start now : Bytes) (xs : List X) (i : ℕ) : Type 0 where
-    pub rest : now.items ++ flat_map text_of (drop i xs) ≡ start.items ++ flat_map text_of xs
-    pub stays : Grows start now
+  pub record Written (start now : List ℕ) (xs : List X) (i : ℕ) : Type 0 where
+    pub rest : now ++ flat_map text_of (drop i xs) ≡ start ++ flat_map text_of xs
 
-  pub listed_none : (start : Bytes) (xs : List X) → Listed start start xs 0
-  listed_none start xs = record { rest = refl; stays = ([], sym (append-nil start.items)) }
+  pub written_one : (start now next : List ℕ) (xs : List X) (i : ℕ) (d : X) → i < length xs → Written start now xs i
+      → next ≡ now ++ text_of (get_or xs i d) → Written start next xs (i + 1)
+  written_one start now next xs i d h w add =
+      let x = get_or xs i d in
+      let first : drop i xs ≡ x ∷ drop (i + 1) xs = drop_more xs i d h in
+      let so_far : now ++ (text_of x ++ flat_map text_of (drop (i + 1) xs)) ≡ start ++ flat_map text_of xs = rw first at w.rest in
+      record { rest = rw add (append_assoc now (text_of x) (flat_map text_of (drop (i + 1) xs)) ∙ so_far) }
 
-  pub listed_one : (start now next : Bytes) (xs : List X) (i : ℕ) (x : X) → i < length xs → x ≡ get_or xs i x → Listed start now xs i
-      → next.items ≡ now.items ++ text_of x → Listed start next xs (i + 1)
-  listed_one start now next xs i x h is l add =
+  pub written_all : (start now : List ℕ) (xs : List X) (i : ℕ) → length xs ≤ i → Written start now xs i → now ≡ start ++ flat_map text_of xs
+  written_all start now xs i h w = sym (append-nil now) ∙ rw (drop_all i xs h) at w.rest
+
+-- ---- items with commas
+
+module _ {X : Type 0} (text_of : X → List ℕ) where
+  pub record Listed (start now : Bytes) (is_first : Bool) (xs : List X) (i : ℕ) : Type 0 where
+    pub rest : now.items ++ separated is_first (map text_of (drop i xs)) ≡ start.items ++ separated true (map text_of xs)
+
+  -- a comma unless it is the first, and the item
+  pub listed_one : (start now behind_comma next : Bytes) (is_first : Bool) (xs : List X) (i : ℕ) (x : X) → i < length xs → x ≡ get_or xs i x
+      → Listed start now is_first xs i → behind_comma.items ≡ now.items ++ comma is_first → next.items ≡ behind_comma.items ++ text_of x
+      → Listed start next false xs (i + 1)
+  listed_one start now behind_comma next is_first xs i x h is l add_comma add =
       let first : drop i xs ≡ x ∷ drop (i + 1) xs = drop_more xs i x h ∙ ap (λ y. y ∷ drop (i + 1) xs) (sym is) in
-      let so_far : now.items ++ (text_of x ++ flat_map text_of (drop (i + 1) xs)) ≡ start.items ++ flat_map text_of xs = rw first at l.rest in
-      record {
-        rest = rw add (append_assoc now.items (text_of x) (flat_map text_of (drop (i + 1) xs)) ∙ so_far);
-        stays = grown start now next (text_of x) l.stays add;
-      }
+      let left = separated false (map text_of (drop (i + 1) xs)) in
+      let so_far : now.items ++ (comma is_first ++ text_of x ++ left) ≡ start.items ++ separated true (map text_of xs) = rw first at l.rest in
+      let regroup : now.items ++ comma is_first ++ text_of x ++ left ≡ now.items ++ (comma is_first ++ text_of x ++ left) = simp append_assoc in
+      record { rest = rw (add, add_comma) (regroup ∙ so_far) }
 
-  pub listed_all : (start now : Bytes) (xs : List X) (i : ℕ) → length xs ≤ i → Listed start now xs i → now.items ≡ start.items ++ flat_map text_of xs
-  listed_all start now xs i h l = sym (append-nil now.items) ∙ rw (drop_all i xs h) at l.rest
+  pub listed_all : (start now : Bytes) (is_first : Bool) (xs : List X) (i : ℕ) → length xs ≤ i → Listed start now is_first xs i
+      → now.items ≡ start.items ++ separated true (map text_of xs)
+  listed_all start now is_first xs i h l = sym (append-nil now.items) ∙ rw (drop_all i xs h) at l.rest

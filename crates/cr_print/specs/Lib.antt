@@ -3,5 +3,8 @@ pub mod Head
 pub mod Refused
 pub mod Receipt
 pub mod Conference
+pub mod Json
 pub mod Accounts
+pub mod Page
+pub mod Me
 pub mod Answers

@@ -15,14 +15,9 @@ pub record Puts (old new : Bytes) (text : List ℕ) (n : ℕ) : Type 0 where
   pub within : vec_len new ≤ vec_len old + n
   pub capacity : vec_capacity old ≤ vec_capacity new
 
--- what was there is still there, and something may stand behind it
-abbrev pub Grows : Bytes → Bytes → Type 0
-Grows old new = (more : List ℕ) × (new.items ≡ old.items ++ more)
-
--- the text was appended, or memory ran out on the way
-pub record Appends {E : Type 0} (r : Result (Unit {0}) E) (old new : Bytes) (text : List ℕ) : Type 0 where
-  pub ok : OnOk r (new.items ≡ old.items ++ text)
-  pub err : OnErr r (Grows old new)
+-- the text was appended, unless memory ran out
+abbrev pub Appends : {E : Type 0} → Result (Unit {0}) E → Bytes → Bytes → List ℕ → Type 0
+Appends r old new text = OnOk r (new.items ≡ old.items ++ text)
 
 -- the text was appended whole, or memory ran out and nothing was
 pub record Prints {E : Type 0} (r : Result (Unit {0}) E) (old new : Bytes) (text : List ℕ) : Type 0 where

@@ -1,13 +1,26 @@
 //! The head of an answer: the status line and the fields (RFC 9112, sections 4 and 5).
-ghost use Rattle.std.specs.Prelude.{◌≡◌, ◌≤◌, IfSome, length, option_map};
+ghost use Rattle.std.specs.Prelude.{◌≡◌, ◌≤◌, length};
 ghost use Rattle.cr_print.specs.Put.{HasRoom, Puts};
-ghost use Rattle.cr_print.specs.Head.{phrase, status_line, allow_line, type_line, length_line, close_line, head_text};
+ghost use Rattle.cr_print.specs.Head.{phrase, status_line, extra_line, type_line, length_line, close_line, head_text};
 
 use crate::put::{put, put_number};
+use cr_routes::Place;
 use http::StatusCode;
 
-/// Bytes that suffice for any head.
+/// Bytes that suffice for any head: 48 for the status line and for each of its four fields, and the
+/// empty line. The longest status line has 46 bytes, the longest field 41.
 pub(crate) const HEAD_ROOM: usize = 256;
+
+/// The field that only some answers have, right behind the status line.
+#[derive(Clone, Copy, PartialEq, Eq, Debug)]
+pub(crate) enum Extra {
+    /// None.
+    Nothing,
+    /// How to log in: `WWW-Authenticate`.
+    Challenge,
+    /// The methods of a path: `Allow`.
+    Allow(Place),
+}
 
 #[tactic(auto, unfolding(crate::specs::Head::phrase))]
 fn phrase_of(status: u16) -> &'static str
@@ -18,6 +31,8 @@ fn phrase_of(status: u16) -> &'static str
         200 => "OK",
         201 => "Created",
         400 => "Bad Request",
+        401 => "Unauthorized",
+        403 => "Forbidden",
         404 => "Not Found",
         405 => "Method Not Allowed",
         409 => "Conflict",
@@ -40,16 +55,25 @@ fn put_status(into: &mut Vec<u8>, status: StatusCode)
     put(into, b"\r\n");
 }
 
-#[tactic(auto, unfolding(crate::specs::Head::allow_line))]
-fn put_allow(into: &mut Vec<u8>, allow: Option<&str>)
-    requires room { HasRoom into.old 48 }
-    requires short { IfSome allow (λ a. length a.now ≤ 32) }
-    ensures { Puts into.old into.new (allow_line (option_map (λ a. a.now) allow.entry)) 48 }
+#[tactic(auto, unfolding(crate::specs::Head::extra_line))]
+fn put_allow(into: &mut Vec<u8>, place: Place)
+    requires { HasRoom into.old 48 }
+    ensures { Puts into.old into.new (extra_line (Extra.Allow place)) 48 }
 {
-    if let Some(methods) = allow {
-        put(into, b"Allow: ");
-        put(into, methods.as_bytes());
-        put(into, b"\r\n");
+    put(into, b"Allow: ");
+    put(into, place.allow().as_bytes());
+    put(into, b"\r\n");
+}
+
+#[tactic(auto, unfolding(crate::specs::Head::extra_line))]
+fn put_extra(into: &mut Vec<u8>, extra: Extra)
+    requires { HasRoom into.old 48 }
+    ensures { Puts into.old into.new (extra_line extra) 48 }
+{
+    match extra {
+        Extra::Nothing => {}
+        Extra::Challenge => put(into, b"WWW-Authenticate: Bearer realm=\"confd\"\r\n"),
+        Extra::Allow(place) => put_allow(into, place),
     }
 }
 
@@ -85,16 +109,15 @@ fn put_close(into: &mut Vec<u8>, closes: bool)
 pub(crate) fn print_head(
     into: &mut Vec<u8>,
     status: StatusCode,
-    allow: Option<&str>,
+    extra: Extra,
     len: usize,
     closes: bool,
 )
-    requires room { HasRoom into.old 256 }
-    requires short { IfSome allow (λ a. length a.now ≤ 32) }
-    ensures { Puts into.old into.new (head_text status (option_map (λ a. a.now) allow.entry) len closes) 256 }
+    requires { HasRoom into.old 256 }
+    ensures { Puts into.old into.new (head_text status extra len closes) 256 }
 {
     put_status(into, status);
-    put_allow(into, allow);
+    put_extra(into, extra);
     put_type(into);
     put_length(into, len);
     put_close(into, closes);

@@ -6,7 +6,11 @@
 
 mod accounts;
 mod head;
+mod list;
+mod me;
 mod no_memory;
+mod object;
+mod page;
 mod put;
 mod quoted;
 mod refused;

@@ -1,10 +1,11 @@
-//! Bytes appended where room was made.
+//! Bytes appended: where room was made before, and where the buffer grows.
 ghost use Rattle.std.specs.Prelude.{length, decimal};
-ghost use Rattle.cr_print.specs.Put.{HasRoom, Puts};
+ghost use Rattle.cr_print.specs.Put.{Appends, HasRoom, Puts};
 
 use itoa::Buffer;
+use std::alloc::AllocError;
 
-/// Appends a piece.
+/// Appends a piece where there is room.
 pub(crate) fn put(into: &mut Vec<u8>, piece: &[u8])
     requires { HasRoom into.old (length piece.now) }
     ensures { Puts into.old into.new piece.now (length piece.now) }
@@ -12,11 +13,26 @@ pub(crate) fn put(into: &mut Vec<u8>, piece: &[u8])
     into.extend_from_slice(piece).unwrap();
 }
 
-/// Appends a number's decimal digits, at most 20.
+/// Appends a number's decimal digits, at most 20, where there is room.
 pub(crate) fn put_number(into: &mut Vec<u8>, number: u64)
     requires { HasRoom into.old 20 }
     ensures { Puts into.old into.new (decimal number) 20 }
 {
     let mut buffer = Buffer::new();
     put(into, buffer.format(number).as_bytes());
+}
+
+/// Appends a piece; the buffer grows where it has to.
+pub(crate) fn append(into: &mut Vec<u8>, piece: &[u8]) -> Result<(), AllocError>
+    ensures { Appends result into.old into.new piece.now }
+{
+    into.extend_from_slice(piece)
+}
+
+/// Appends a number's decimal digits; the buffer grows where it has to.
+pub(crate) fn append_number(into: &mut Vec<u8>, number: u64) -> Result<(), AllocError>
+    ensures { Appends result into.old into.new (decimal number) }
+{
+    let mut buffer = Buffer::new();
+    append(into, buffer.format(number).as_bytes())
 }

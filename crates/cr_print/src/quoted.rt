@@ -1,10 +1,12 @@
 //! Strings of JSON (RFC 8259, section 7). A name is bytes here, and the writer of the crate `json` takes text.
-ghost use Rattle.std.specs.Prelude.{◌≡◌, ◌+◌, ◌*◌, ◌<◌, length};
+ghost use Rattle.std.specs.Prelude.{◌≡◌, ◌<◌};
 ghost use Rattle.std.specs.Char.{digit_char};
 ghost use Rattle.json.specs.Print.{escape_letter, escape_byte, escape, quoted};
-ghost use Rattle.cr_print.specs.Put.{HasRoom, Puts};
+ghost use Rattle.cr_print.specs.Put.{Appends};
 
-use crate::put::put;
+use crate::put::append;
+use arrayvec::ArrayVec;
+use std::alloc::AllocError;
 
 // The letter of a byte's short escape, or 0 where it has none.
 fn letter(byte: u8) -> u8
@@ -32,41 +34,42 @@ fn hex(digit: u8) -> u8
     }
 }
 
+/// What stands in a string for a byte, at most six bytes.
 #[tactic(auto, unfolding(json::specs::Print::escape_byte))]
-fn put_byte(into: &mut Vec<u8>, byte: u8)
-    requires { HasRoom into.old 6 }
-    ensures { Puts into.old into.new (escape_byte byte) 6 }
+pub(crate) fn escaped(byte: u8) -> ArrayVec<u8, 6>
+    ensures { result.items ≡ escape_byte byte }
 {
+    let mut text = ArrayVec::new();
     let letter = letter(byte);
     if letter > 0 {
-        put(into, &[b'\\', letter]);
-        return;
+        text.push(b'\\');
+        text.push(letter);
+        return text;
     }
     if byte < 0x20 {
-        put(
-            into,
-            &[b'\\', b'u', b'0', b'0', hex(byte / 16), hex(byte % 16)],
-        );
-        return;
+        text.try_extend_from_slice(b"\\u00").unwrap();
+        text.push(hex(byte / 16));
+        text.push(hex(byte % 16));
+        return text;
     }
-    put(into, &[byte]);
+    text.push(byte);
+    text
 }
 
-fn put_escaped(into: &mut Vec<u8>, text: &[u8])
-    requires { HasRoom into.old (6 * length text.now) }
-    ensures { Puts into.old into.new (escape text.now) (6 * length text.now) }
+fn append_escaped(into: &mut Vec<u8>, text: &[u8]) -> Result<(), AllocError>
+    ensures { Appends result into.old into.new (escape text.now) }
 {
     for byte in text {
-        put_byte(into, *byte);
+        append(into, escaped(*byte).as_slice())?;
     }
+    Ok(())
 }
 
 /// Appends a text as a JSON string, with the escapes that `serde_json` writes.
-pub(crate) fn put_quoted(into: &mut Vec<u8>, text: &[u8])
-    requires { HasRoom into.old (6 * length text.now + 2) }
-    ensures { Puts into.old into.new (quoted text.now) (6 * length text.now + 2) }
+pub(crate) fn append_quoted(into: &mut Vec<u8>, text: &[u8]) -> Result<(), AllocError>
+    ensures { Appends result into.old into.new (quoted text.now) }
 {
-    put(into, b"\"");
-    put_escaped(into, text);
-    put(into, b"\"");
+    append(into, b"\"")?;
+    append_escaped(into, text)?;
+    append(into, b"\"")
 }

@@ -1,10 +1,11 @@
 //! Refusals, which are written without memory.
-ghost use Rattle.std.specs.Prelude.{◌≡◌, ◌≤◌, IfSome, length, option_map};
+ghost use Rattle.std.specs.Prelude.{◌≡◌, ◌≤◌, length};
 ghost use Rattle.cr_print.specs.Put.{HasRoom, Puts};
-ghost use Rattle.cr_print.specs.Refused.{closing_name, rule_name, name_of, closing_status, rule_status, status_of, allow_of, refusal_content};
+ghost use Rattle.cr_print.specs.Refused.{closing_name, rule_name, name_of, closing_status, rule_status, status_of, extra_of, refusal_content};
 ghost use Rattle.cr_print.specs.Answers.{refusal_text};
 
-use crate::short::{Short, add, print_short};
+use crate::head::Extra;
+use crate::short::{Content, add, print_short};
 use cr_base::Rule;
 use cr_http::Refusal;
 use cr_routes::Place;
@@ -19,6 +20,9 @@ pub enum Refused {
     NoRoute,
     /// The path doesn't answer the method (405); the answer names the methods that it answers.
     WrongMethod(Place),
+    /// The request names no user by her name and secret, and what it asks for wants one (401); the answer
+    /// has a challenge (RFC 9110, section 11.6.1), and is the same whatever was wrong.
+    Unauthorized,
     /// The body doesn't spell what the request asks for (400).
     BadBody,
     /// A rule of the conference is broken.
@@ -37,6 +41,18 @@ fn rule_name(rule: Rule) -> &'static str
     match rule {
         Rule::NameTaken => "name_taken",
         Rule::FullAccounts => "full_accounts",
+        Rule::NotChair => "not_chair",
+        Rule::WrongPhase => "wrong_phase",
+        Rule::FullPapers => "full_papers",
+        Rule::QuotaPapers => "quota_papers",
+        Rule::NoPaper => "no_paper",
+        Rule::NotMember => "not_member",
+        Rule::NoUser => "no_user",
+        Rule::AlreadyNamed => "already_named",
+        Rule::NotAuthor => "not_author",
+        Rule::NotAMember => "not_a_member",
+        Rule::Conflict => "conflict",
+        Rule::AuthorConflict => "author_conflict",
     }
 }
 
@@ -64,6 +80,7 @@ fn name(refused: Refused) -> &'static str
         Refused::Closing(refusal) => closing_name(refusal),
         Refused::NoRoute => "no_route",
         Refused::WrongMethod(_) => "wrong_method",
+        Refused::Unauthorized => "unauthorized",
         Refused::BadBody => "bad_body",
         Refused::Rule(rule) => rule_name(rule),
         Refused::KeeperFault => "keeper_fault",
@@ -76,7 +93,18 @@ fn rule_status(rule: Rule) -> StatusCode
     ensures { result ≡ rule_status rule }
 {
     match rule {
-        Rule::NameTaken | Rule::FullAccounts => StatusCode::CONFLICT,
+        Rule::NotChair | Rule::NotMember | Rule::NotAuthor | Rule::Conflict => {
+            StatusCode::FORBIDDEN
+        }
+        Rule::NoPaper | Rule::NoUser => StatusCode::NOT_FOUND,
+        Rule::NameTaken
+        | Rule::FullAccounts
+        | Rule::WrongPhase
+        | Rule::FullPapers
+        | Rule::QuotaPapers
+        | Rule::AlreadyNamed
+        | Rule::NotAMember
+        | Rule::AuthorConflict => StatusCode::CONFLICT,
     }
 }
 
@@ -100,6 +128,7 @@ fn status(refused: Refused) -> StatusCode
         Refused::Closing(refusal) => closing_status(refusal),
         Refused::NoRoute => StatusCode::NOT_FOUND,
         Refused::WrongMethod(_) => StatusCode::METHOD_NOT_ALLOWED,
+        Refused::Unauthorized => StatusCode::UNAUTHORIZED,
         Refused::BadBody => StatusCode::BAD_REQUEST,
         Refused::Rule(rule) => rule_status(rule),
         Refused::KeeperFault => StatusCode::SERVICE_UNAVAILABLE,
@@ -107,21 +136,21 @@ fn status(refused: Refused) -> StatusCode
     }
 }
 
-#[tactic(auto, unfolding(crate::specs::Refused::allow_of))]
-fn allow(refused: Refused) -> Option<&'static str>
-    ensures value { option_map (λ a. a.now) result ≡ allow_of refused }
-    ensures short { IfSome result (λ a. length a.now ≤ 32) }
+#[tactic(auto, unfolding(crate::specs::Refused::extra_of))]
+fn extra(refused: Refused) -> Extra
+    ensures { result ≡ extra_of refused }
 {
     match refused {
-        Refused::WrongMethod(place) => Some(place.allow()),
-        _ => None,
+        Refused::WrongMethod(place) => Extra::Allow(place),
+        Refused::Unauthorized => Extra::Challenge,
+        _ => Extra::Nothing,
     }
 }
 
-fn refusal_content(refused: Refused) -> Short
-    ensures { result.bytes ≡ refusal_content refused }
+fn refusal_content(refused: Refused) -> Content
+    ensures { result.items ≡ refusal_content refused }
 {
-    let mut content = Short::new();
+    let mut content = Content::new();
     add(&mut content, "{\"error\":\"");
     add(&mut content, name(refused));
     add(&mut content, "\"}");
@@ -140,7 +169,7 @@ pub fn print_refusal(into: &mut Vec<u8>, refused: Refused, is_head: bool, closes
     print_short(
         into,
         status(refused),
-        allow(refused),
+        extra(refused),
         &content,
         is_head,
         closes,

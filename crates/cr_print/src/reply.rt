@@ -1,15 +1,20 @@
 //! Receipts and replies.
-ghost use Rattle.std.specs.Prelude.{◌≡◌, ◌≤◌, ◌++◌, None, take, drop, length, OnErr};
+ghost use Rattle.std.specs.Prelude.{◌≡◌, ◌≤◌, ◌++◌, codes, decimal, length};
+ghost use Rattle.json.specs.Print.{quoted};
+ghost use Rattle.cr_base.specs.Words.{role_name};
 ghost use Rattle.cr_print.specs.Put.{HasRoom, Prints, Puts};
 ghost use Rattle.cr_print.specs.Receipt.{receipt_status, receipt_content};
 ghost use Rattle.cr_print.specs.Conference.{conference_content};
-ghost use Rattle.cr_print.specs.Answers.{answer_text, receipt_text, conference_text, accounts_text, reply_text};
+ghost use Rattle.cr_print.specs.Answers.{answer_text, receipt_text, conference_text, accounts_text, page_text, me_text, reply_text};
 
-use crate::accounts::append_accounts;
-use crate::head::print_head;
+use crate::accounts::accounts_content;
+use crate::head::{Extra, HEAD_ROOM, print_head};
+use crate::me::me_content;
+use crate::page::page_content;
+use crate::put::put;
 use crate::refused::{Refused, print_refusal};
-use crate::short::{ANSWER_ROOM, Short, add, add_number, print_short};
-use cr_base::{AccountLine, Conference, Receipt, Reply};
+use crate::short::{ANSWER_ROOM, Content, add, add_number, add_quoted, print_short};
+use cr_base::{AccountLine, Conference, Me, Page, Receipt, Reply, Role, Short};
 use http::StatusCode;
 use std::alloc::AllocError;
 
@@ -18,23 +23,64 @@ fn receipt_status(receipt: &Receipt) -> StatusCode
     ensures { result ≡ receipt_status receipt.now }
 {
     match receipt {
-        Receipt::User { .. } => StatusCode::CREATED,
+        Receipt::User { .. } | Receipt::Paper { .. } => StatusCode::CREATED,
+        Receipt::Phase { .. }
+        | Receipt::Named { .. }
+        | Receipt::Mode { .. }
+        | Receipt::Noted { .. } => StatusCode::OK,
     }
 }
 
-#[tactic(auto, unfolding(crate::specs::Receipt::receipt_content))]
-fn receipt_content(receipt: &Receipt) -> Short
-    ensures { result.bytes ≡ receipt_content receipt.now }
+// The content that tells one number.
+fn number_content(key: &str, number: u64) -> Content
+    requires { length key.now ≤ 32 }
+    ensures { result.items ≡ key.now ++ decimal number ++ codes "}" }
 {
-    let mut content = Short::new();
-    match receipt {
-        Receipt::User { user } => {
-            add(&mut content, "{\"user\":");
-            add_number(&mut content, user.number());
-        }
-    }
+    let mut content = Content::new();
+    add(&mut content, key);
+    add_number(&mut content, number);
     add(&mut content, "}");
     content
+}
+
+// The content that tells one word.
+fn word_content(key: &str, word: &str) -> Content
+    requires key { length key.now ≤ 32 }
+    requires word { length word.now ≤ 32 }
+    ensures { result.items ≡ key.now ++ word.now ++ codes "\"}" }
+{
+    let mut content = Content::new();
+    add(&mut content, key);
+    add(&mut content, word);
+    add(&mut content, "\"}");
+    content
+}
+
+// The content that tells a user's role.
+fn named_content(name: &Short, role: Role) -> Content
+    ensures { result.items ≡ codes "{\"name\":" ++ quoted name.now ++ codes ",\"role\":\"" ++ role_name role ++ codes "\"}" }
+{
+    let mut content = Content::new();
+    add(&mut content, "{\"name\":");
+    add_quoted(&mut content, name.as_slice());
+    add(&mut content, ",\"role\":\"");
+    add(&mut content, role.name());
+    add(&mut content, "\"}");
+    content
+}
+
+#[tactic(auto, unfolding(crate::specs::Receipt::receipt_content))]
+fn receipt_content(receipt: &Receipt) -> Content
+    ensures { result.items ≡ receipt_content receipt.now }
+{
+    match receipt {
+        Receipt::User { user } => number_content("{\"user\":", user.number()),
+        Receipt::Phase { phase } => word_content("{\"phase\":\"", phase.name()),
+        Receipt::Paper { paper } => number_content("{\"paper\":", paper.number()),
+        Receipt::Named { name, role } => named_content(name, *role),
+        Receipt::Mode { mode } => word_content("{\"mode\":\"", mode.name()),
+        Receipt::Noted { paper } => number_content("{\"paper\":", paper.number()),
+    }
 }
 
 /// Appends the answer of an accepted command, which can't fail and takes no memory: `into` has room
@@ -48,7 +94,7 @@ pub fn print_receipt(into: &mut Vec<u8>, receipt: &Receipt, is_head: bool, close
     print_short(
         into,
         receipt_status(receipt),
-        None,
+        Extra::Nothing,
         &content,
         is_head,
         closes,
@@ -56,10 +102,10 @@ pub fn print_receipt(into: &mut Vec<u8>, receipt: &Receipt, is_head: bool, close
 }
 
 #[tactic(auto, unfolding(crate::specs::Conference::conference_content))]
-fn conference_content(conference: Conference) -> Short
-    ensures { result.bytes ≡ conference_content conference }
+fn conference_content(conference: Conference) -> Content
+    ensures { result.items ≡ conference_content conference }
 {
-    let mut content = Short::new();
+    let mut content = Content::new();
     add(&mut content, "{\"mode\":\"");
     add(&mut content, conference.mode.name());
     add(&mut content, "\",\"papers\":");
@@ -76,22 +122,30 @@ fn print_conference(into: &mut Vec<u8>, conference: Conference, is_head: bool, c
     ensures { Puts into.old into.new (conference_text conference is_head closes) 512 }
 {
     let content = conference_content(conference);
-    print_short(into, StatusCode::OK, None, &content, is_head, closes);
+    print_short(
+        into,
+        StatusCode::OK,
+        Extra::Nothing,
+        &content,
+        is_head,
+        closes,
+    );
 }
 
-// Puts the head before the content, which stands from `start` on. The content moves once.
-fn print_head_before(into: &mut Vec<u8>, start: usize, is_head: bool, closes: bool)
-    requires start { start ≤ length into.old.items }
-    requires room { HasRoom into.old 256 }
-    ensures { into.new.items ≡ take start into.old.items ++ answer_text 200 None (drop start into.old.items) is_head closes }
+// Appends the answer that has this content, whatever its length.
+fn print_content(
+    into: &mut Vec<u8>,
+    content: &[u8],
+    is_head: bool,
+    closes: bool,
+) -> Result<(), AllocError>
+    ensures { Prints result into.old into.new (answer_text 200 Extra.Nothing content.now is_head closes) }
 {
-    let len = into.len() - start;
-    if is_head {
-        into.truncate(start);
-    }
-    let kept = into.len() - start;
-    print_head(into, StatusCode::OK, None, len, closes);
-    into[start..].rotate_left(kept);
+    let sent = if is_head { b"".as_slice() } else { content };
+    into.reserve(HEAD_ROOM + sent.len())?;
+    print_head(into, StatusCode::OK, Extra::Nothing, content.len(), closes);
+    put(into, sent);
+    Ok(())
 }
 
 #[tactic(auto, unfolding(crate::specs::Answers::accounts_text))]
@@ -103,17 +157,29 @@ fn print_accounts(
 ) -> Result<(), AllocError>
     ensures { Prints result into.old into.new (accounts_text accounts.now is_head closes) }
 {
-    let start = into.len();
-    match append_accounts(into, accounts) {
-        Ok(()) => {
-            print_head_before(into, start, is_head, closes);
-            Ok(())
-        }
-        Err(error) => {
-            into.truncate(start);
-            Err(error)
-        }
-    }
+    let content = accounts_content(*into.allocator(), accounts)?;
+    print_content(into, content.as_slice(), is_head, closes)
+}
+
+#[tactic(auto, unfolding(crate::specs::Answers::page_text))]
+fn print_page(
+    into: &mut Vec<u8>,
+    page: &Page,
+    is_head: bool,
+    closes: bool,
+) -> Result<(), AllocError>
+    ensures { Prints result into.old into.new (page_text page.now is_head closes) }
+{
+    let content = page_content(*into.allocator(), page)?;
+    print_content(into, content.as_slice(), is_head, closes)
+}
+
+#[tactic(auto, unfolding(crate::specs::Answers::me_text))]
+fn print_me(into: &mut Vec<u8>, me: &Me, is_head: bool, closes: bool) -> Result<(), AllocError>
+    ensures { Prints result into.old into.new (me_text me.now is_head closes) }
+{
+    let content = me_content(*into.allocator(), me)?;
+    print_content(into, content.as_slice(), is_head, closes)
 }
 
 /// Appends the answer of a reply. An answer to HEAD has no content, and its `Content-Length` is the
@@ -141,6 +207,8 @@ pub fn print_reply(
             Ok(())
         }
         Reply::Accounts(accounts) => print_accounts(into, accounts.as_slice(), is_head, closes),
+        Reply::Page(page) => print_page(into, page, is_head, closes),
+        Reply::Me(me) => print_me(into, me, is_head, closes),
         Reply::Conference(conference) => {
             into.reserve(ANSWER_ROOM)?;
             print_conference(into, *conference, is_head, closes);

@@ -1,0 +1,64 @@
+-- Lists and objects of JSON without blanks (RFC 8259, sections 4 and 5).
+use Rattle.std.specs.Prelude.{◌≡◌, ℕ, List, [], ◌∷◌, ◌++◌, Bool, true, false, if◌then◌else◌, Option, Some, None, codes, decimal, map, Result, OnOk}
+use Rattle.json.specs.Print.{quoted}
+use Rattle.cr_print.specs.declared.object.Object.{Object}
+
+-- ---- texts with commas
+
+-- what stands before a text of a list
+unfoldable pub comma : Bool → List ℕ
+comma is_first = if is_first then [] else codes ","
+
+-- texts with a comma before each but the first of the list
+abbrev pub separated : Bool → List (List ℕ) → List ℕ
+separated is_first [] = []
+separated is_first (text ∷ rest) = comma is_first ++ text ++ separated false rest
+
+unfoldable pub array_text : List (List ℕ) → List ℕ
+array_text texts = codes "[" ++ separated true texts ++ codes "]"
+
+-- names
+abbrev pub names_text : List (List ℕ) → List ℕ
+names_text names = array_text (map quoted names)
+
+-- numbers
+abbrev pub numbers_text : List ℕ → List ℕ
+numbers_text numbers = array_text (map decimal numbers)
+
+-- ---- objects
+
+-- a key and the text of its value
+pub record Member : Type 0 where
+  pub key : List ℕ
+  pub value : List ℕ
+
+unfoldable pub member_text : Member → List ℕ
+member_text member = quoted member.key ++ codes ":" ++ member.value
+
+unfoldable pub object_text : List Member → List ℕ
+object_text members = codes "{" ++ separated true (map member_text members) ++ codes "}"
+
+-- a key that is there where its value is
+abbrev pub told : List ℕ → Option (List ℕ) → List Member
+told key None = []
+told key (Some value) = record { key = key; value = value } ∷ []
+
+unfoldable pub truth_text : Bool → List ℕ
+truth_text true = codes "true"
+truth_text false = codes "false"
+
+-- ---- an object that is being written
+
+-- whether the next member is the first, behind these
+abbrev pub still_first : Bool → List Member → Bool
+still_first is_first [] = is_first
+still_first is_first (member ∷ rest) = false
+
+-- these members were written
+pub record Added (old new : Object) (members : List Member) : Type 0 where
+  pub text : new.text.items ≡ old.text.items ++ separated old.is_first (map member_text members)
+  pub first : new.is_first ≡ still_first old.is_first members
+
+-- these members were written, unless memory ran out
+abbrev pub Adds : {E : Type 0} → Result (Unit {0}) E → Object → Object → List Member → Type 0
+Adds r old new members = OnOk r (Added old new members)
