@@ -1,5 +1,5 @@
 -- Told and Step: what a wish is answered, and what it makes of the history.
-use Rattle.std.specs.Prelude.{ℕ, List, ◌++◌, Option, Some, None, Bool, Result, Ok, Err}
+use Rattle.std.specs.Prelude.{ℕ, List, ◌++◌, Option, Some, None, Bool, false, if◌then◌else◌, Result, Ok, Err}
 use Rattle.cr_base.specs.declared.reply.Reply.{Reply}
 use Rattle.cr_base.specs.declared.reply.Reply.TheVariants as replies
 use Rattle.cr_base.specs.declared.reply.Rule.{Rule}
@@ -12,7 +12,7 @@ use Rattle.cr_print.specs.Answers.{refusal_text, reply_text}
 use Rattle.cr_wire.specs.declared.what.What.{What}
 use Rattle.cr_wire.specs.declared.what.What.TheVariants.{NoRoute, WrongMethod, BadBody, Command, Query}
 use Rattle.cr_wire.specs.declared.what.Wish.{Wish}
-use Rattle.cr_wire.specs.Caller.{caller}
+use Rattle.cr_wire.specs.Caller.{caller, wants_login}
 
 -- ---- what is answered
 
@@ -21,13 +21,23 @@ abbrev pub reply_of : Result Drawn Rule → Reply
 reply_of (Ok drawn) = replies.Accepted drawn.receipt
 reply_of (Err rule) = replies.Refused rule
 
--- the answer's bytes to what a caller wishes, where the connection closes behind it or not
+-- nobody wishes what wants a login
+abbrev pub is_unauthorized : Option ℕ → What → Bool
+is_unauthorized None what = wants_login what
+is_unauthorized (Some user) what = false
+
+-- the answer's bytes to what a caller wishes who may, where the connection closes behind it or not
+abbrev pub served_to : Option ℕ → History → Bool → Bool → What → List ℕ
+served_to u H head close NoRoute = refusal_text refused.NoRoute head close
+served_to u H head close (WrongMethod place) = refusal_text (refused.WrongMethod place) head close
+served_to u H head close (BadBody ask) = refusal_text refused.BadBody head close
+served_to u H head close (Command command) = reply_text (reply_of (judge u (view u H) command)) head close
+served_to u H head close (Query query) = reply_text (answer u (view u H) query) head close
+
+-- the answer's bytes to what a caller wishes: whoever can't be told from nobody is answered one and the same, where a
+-- login is wanted
 abbrev pub told_to : Option ℕ → History → Bool → Bool → What → List ℕ
-told_to u H head close NoRoute = refusal_text refused.NoRoute head close
-told_to u H head close (WrongMethod place) = refusal_text (refused.WrongMethod place) head close
-told_to u H head close (BadBody ask) = refusal_text refused.BadBody head close
-told_to u H head close (Command command) = reply_text (reply_of (judge u (view u H) command)) head close
-told_to u H head close (Query query) = reply_text (answer u (view u H) query) head close
+told_to u H head close what = if is_unauthorized u what then refusal_text refused.Unauthorized head close else served_to u H head close what
 
 -- Told: the answer's bytes to a wish, computed from its caller's view
 unfoldable pub told : History → Wish → Bool → List ℕ
@@ -44,13 +54,17 @@ abbrev pub accepted : Result Drawn Rule → Option Drawn
 accepted (Ok drawn) = Some drawn
 accepted (Err rule) = None
 
--- what a caller's wish adds, where it is a command that Judge accepts
+-- what the wish of a caller who may adds, where it is a command that Judge accepts
+abbrev pub drawn_of : Option ℕ → History → What → Option Drawn
+drawn_of u H NoRoute = None
+drawn_of u H (WrongMethod place) = None
+drawn_of u H (BadBody ask) = None
+drawn_of u H (Command command) = accepted (judge u (view u H) command)
+drawn_of u H (Query query) = None
+
+-- what a caller's wish adds: nothing, where a login is wanted and nobody calls
 abbrev pub drawn_for : Option ℕ → History → What → Option Drawn
-drawn_for u H NoRoute = None
-drawn_for u H (WrongMethod place) = None
-drawn_for u H (BadBody ask) = None
-drawn_for u H (Command command) = accepted (judge u (view u H) command)
-drawn_for u H (Query query) = None
+drawn_for u H what = if is_unauthorized u what then None else drawn_of u H what
 
 unfoldable pub drawn : History → Wish → Option Drawn
 drawn H w = drawn_for (caller H w) H w.what

@@ -5,6 +5,7 @@ ghost use Rattle.cr_policy.specs.Legal.{IsAllowed, MayAsk};
 ghost use Rattle.cr_print.specs.Put.{HasRoom};
 ghost use Rattle.cr_wire.specs.Bounds.{IsBoundedWhat};
 ghost use Rattle.cr_wire.specs.Caller.{caller};
+ghost use Rattle.cr_session.specs.Told.{is_unauthorized};
 ghost use Rattle.cr_session.specs.Turning.{Turns, JudgesCommand, AnswersQuery, turn_text, MayWantMemory};
 
 use cr_base::{Command, Query, Receipt, Reply, UserNo};
@@ -29,24 +30,33 @@ pub enum Turn {
     OutOfMemory,
 }
 
-/// Judges or answers a wish. Takes no memory on a refusal.
+/// Judges or answers a wish. Takes no memory on a refusal. Who calls is asked first, by one look-up
+/// by name; whoever can't be told from nobody is refused alike where a login is wanted.
 pub fn take_turn<K: Keeper>(book: &mut Book<K>, wish: &Wish) -> Turn
     requires { IsBoundedWhat wish.now.what }
     ensures turns { Turns result wish.now book.old.log book.new.log (K.faults book.old.keeper) (K.faults book.new.keeper) }
     ensures count { K.faults book.old.keeper ≤ K.faults book.new.keeper }
 {
+    let caller = caller_of(book, wish);
+    if is_unauthorized(&caller, &wish.what) {
+        return Turn::Refused(Refused::Unauthorized);
+    }
     match &wish.what {
         What::NoRoute => Turn::Refused(Refused::NoRoute),
         What::WrongMethod(place) => Turn::Refused(Refused::WrongMethod(*place)),
         What::BadBody(_) => Turn::Refused(Refused::BadBody),
-        What::Command(command) => {
-            let caller = caller_of(book, wish);
-            judge(book, &caller, command)
-        }
-        What::Query(query) => {
-            let caller = caller_of(book, wish);
-            answer(book, &caller, query)
-        }
+        What::Command(command) => judge(book, &caller, command),
+        What::Query(query) => answer(book, &caller, query),
+    }
+}
+
+/// Whether nobody wishes what wants a login.
+fn is_unauthorized(caller: &Option<UserNo>, what: &What) -> bool
+    ensures { result ≡ is_unauthorized caller.now what.now }
+{
+    match caller {
+        Some(_) => false,
+        None => what.wants_login(),
     }
 }
 

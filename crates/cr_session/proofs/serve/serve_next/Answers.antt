@@ -25,8 +25,8 @@ returns-in-WriteFault g c =
     let w' : World = record { history = c.serve_request.new.book.log; left = g.S.Source.left c.read_wish.new.source; taken = g.O.Sink.taken c.serve_request.new.sink; read_faults = g.S.Source.faults c.read_wish.new.source; write_faults = g.O.Sink.faults c.serve_request.new.sink; keeper_faults = g.K.Keeper.faults c.serve_request.new.book.keeper } in
     round_write_fault c.args.number c.in-Wish.wish c.args.inbox.now c.read_wish.new.inbox w w' c.in-Wish.ensures.reads c.in-WriteFault.ensures.serves (record { read = c.read_wish.ensures.count; written = c.serve_request.ensures.count })
 
-pub returns-in-OutOfMemory-serve_request : goal.returns-in-OutOfMemory-serve_request
-returns-in-OutOfMemory-serve_request g c =
+pub returns-in-Wish : goal.returns-in-Wish
+returns-in-Wish g c =
     let w : World = record { history = c.args.book.now.log; left = g.S.Source.left c.args.source.now; taken = g.O.Sink.taken c.args.sink.now; read_faults = g.S.Source.faults c.args.source.now; write_faults = g.O.Sink.faults c.args.sink.now; keeper_faults = g.K.Keeper.faults c.args.book.now.keeper } in
     let w' : World = record { history = c.serve_request.new.book.log; left = g.S.Source.left c.read_wish.new.source; taken = g.O.Sink.taken c.note_no_memory.new.sink; read_faults = g.S.Source.faults c.read_wish.new.source; write_faults = g.O.Sink.faults c.note_no_memory.new.sink; keeper_faults = g.K.Keeper.faults c.serve_request.new.book.keeper } in
     let p : Bench = record { history = c.serve_request.new.book.log; keeper_faults = g.K.Keeper.faults c.serve_request.new.book.keeper; taken = g.O.Sink.taken c.serve_request.new.sink; write_faults = g.O.Sink.faults c.serve_request.new.sink } in
@@ -42,8 +42,8 @@ returns-in-Ok g c =
     let w' : World = record { history = c.args.book.now.log; left = g.S.Source.left c.read_wish.new.source; taken = g.O.Sink.taken c.refuse.new.sink; read_faults = g.S.Source.faults c.read_wish.new.source; write_faults = g.O.Sink.faults c.refuse.new.sink; keeper_faults = g.K.Keeper.faults c.args.book.now.keeper } in
     round_refused c.in-Ok.ending c.args.number c.in-Malformed.why c.in-Malformed.to_head c.args.inbox.now c.read_wish.new.inbox w w' c.in-Malformed.ensures.reads c.in-Ok.ensures.refuses refl refl (record { read = c.read_wish.ensures.count; written = c.refuse.ensures.count })
 
-pub returns-in-Err : goal.returns-in-Err
-returns-in-Err g c =
+pub returns-in-Malformed : goal.returns-in-Malformed
+returns-in-Malformed g c =
     let w : World = record { history = c.args.book.now.log; left = g.S.Source.left c.args.source.now; taken = g.O.Sink.taken c.args.sink.now; read_faults = g.S.Source.faults c.args.source.now; write_faults = g.O.Sink.faults c.args.sink.now; keeper_faults = g.K.Keeper.faults c.args.book.now.keeper } in
     let w' : World = record { history = c.args.book.now.log; left = g.S.Source.left c.read_wish.new.source; taken = g.O.Sink.taken c.note_no_memory-in-Err.new.sink; read_faults = g.S.Source.faults c.read_wish.new.source; write_faults = g.O.Sink.faults c.note_no_memory-in-Err.new.sink; keeper_faults = g.K.Keeper.faults c.args.book.now.keeper } in
     let first = c.refuse.ensures.count in
@@ -71,8 +71,8 @@ returns-in-ReadFault g c =
     let w' : World = record { history = c.args.book.now.log; left = g.S.Source.left c.read_wish.new.source; taken = g.O.Sink.taken c.args.sink.now; read_faults = g.S.Source.faults c.read_wish.new.source; write_faults = g.O.Sink.faults c.args.sink.now; keeper_faults = g.K.Keeper.faults c.args.book.now.keeper } in
     round_read_fault c.args.number c.args.inbox.now c.read_wish.new.inbox w w' c.in-ReadFault.ensures.reads (c.in-ReadFault.ensures.fault refl) refl refl refl (record { read = c.read_wish.ensures.count; written = omega arith })
 
-pub returns-in-OutOfMemory : goal.returns-in-OutOfMemory
-returns-in-OutOfMemory g c =
+pub returns : goal.returns
+returns g c =
     let w : World = record { history = c.args.book.now.log; left = g.S.Source.left c.args.source.now; taken = g.O.Sink.taken c.args.sink.now; read_faults = g.S.Source.faults c.args.source.now; write_faults = g.O.Sink.faults c.args.sink.now; keeper_faults = g.K.Keeper.faults c.args.book.now.keeper } in
     let w' : World = record { history = c.args.book.now.log; left = g.S.Source.left c.read_wish.new.source; taken = g.O.Sink.taken c.note_no_memory-in-OutOfMemory.new.sink; read_faults = g.S.Source.faults c.read_wish.new.source; write_faults = g.O.Sink.faults c.note_no_memory-in-OutOfMemory.new.sink; keeper_faults = g.K.Keeper.faults c.args.book.now.keeper } in
     let counts : CountsRise w w' = record { read = c.read_wish.ensures.count; written = c.note_no_memory-in-OutOfMemory.ensures.count } in
