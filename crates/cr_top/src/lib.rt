@@ -18,4 +18,10 @@ mod tests_bodies;
 #[cfg(test)]
 mod tests_faults;
 #[cfg(test)]
+mod tests_members;
+#[cfg(test)]
+mod tests_papers;
+#[cfg(test)]
 mod tests_run;
+#[cfg(test)]
+mod tests_script;

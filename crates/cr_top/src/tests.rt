@@ -38,9 +38,9 @@ const PHASE_HEAD: &str =
     "HTTP/1.1 200 OK\r\nContent-Type: application/json\r\nContent-Length: 43\r\n\r\n";
 
 const DELETED_PHASE: &str =
-    "HTTP/1.1 405 Method Not Allowed\r\nAllow: GET, HEAD\r\nContent-Type: application/json\r\nContent-Length: 24\r\n\r\n{\"error\":\"wrong_method\"}";
+    "HTTP/1.1 405 Method Not Allowed\r\nAllow: GET, HEAD, POST\r\nContent-Type: application/json\r\nContent-Length: 24\r\n\r\n{\"error\":\"wrong_method\"}";
 
-const GOT_REGISTER: &str =
+const GOT_POST_ALONE: &str =
     "HTTP/1.1 405 Method Not Allowed\r\nAllow: POST\r\nContent-Type: application/json\r\nContent-Length: 24\r\n\r\n{\"error\":\"wrong_method\"}";
 
 const NO_ROUTE: &str =
@@ -114,7 +114,7 @@ fn lists_accounts(rt: HostRuntime) -> Result<(), Fail> {
 #[test]
 fn answers_odd_bytes(rt: HostRuntime) -> Result<(), Fail> {
     let alloc = rt.alloc();
-    let cases: [(&str, &[&str], Exit); 19] = [
+    let cases: [(&str, &[&str], Exit); 20] = [
         ("", &[], Exit::Done),
         ("\r\n\n", &[], Exit::Done),
         ("GET /phase HTTP/1.1", &[], Exit::Cut),
@@ -170,13 +170,18 @@ fn answers_odd_bytes(rt: HostRuntime) -> Result<(), Fail> {
             Exit::Done,
         ),
         (
+            "GET /paper HTTP/1.1\r\nHost: c\r\n\r\nGET /papers/ HTTP/1.1\r\nHost: c\r\n\r\n",
+            &[NO_ROUTE, NO_ROUTE],
+            Exit::Done,
+        ),
+        (
             "GET /papers HTTP/1.1\r\nHost: c\r\n\r\nGET /phase HTTP/1.1\r\nHost: c\r\n\r\n",
-            &[NO_ROUTE, PHASE],
+            &[GOT_POST_ALONE, PHASE],
             Exit::Done,
         ),
         (
             "GET /register HTTP/1.1\r\nHost: c\r\n\r\nGET /phase HTTP/1.1\r\nHost: c\r\n\r\n",
-            &[GOT_REGISTER, PHASE],
+            &[GOT_POST_ALONE, PHASE],
             Exit::Done,
         ),
         (
