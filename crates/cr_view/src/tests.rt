@@ -1,4 +1,3 @@
-ghost use Rattle.std.specs.Prelude.{◌≤◌};
 ghost use Rattle.cr_view.specs.Callers.{HasCaller};
 
 use crate::Live;
@@ -9,133 +8,159 @@ use cr_base::{
 use std::alloc::Global;
 use std::test::Fail;
 
-/// A command that breaks no rule: the judgement, the room and its entries. Of each entry its kind, its
-/// maker, whether another follows, and its first two numbers.
-fn accept(
-    alloc: Global,
-    live: &mut Live,
-    caller: &Option<UserNo>,
-    command: &Command,
-) -> Result<Vec<[u64; 5]>, Fail>
-    requires { HasCaller caller.now command.now }
-{
-    let receipt = live.judge(caller, command)?;
-    let group = live.group(alloc, caller, command, &receipt)?;
-    let numbers = numbers(alloc, &group)?;
-    live.room(&group)?;
-    live.apply_all(group);
-    Ok(numbers)
+/// A conference, and what was added to it: of each entry its kind, its maker, whether another of the
+/// same command follows, and its first two numbers.
+#[derive(Drop)]
+struct Played {
+    live: Live,
+    added: Vec<[u64; 5]>,
 }
 
-fn numbers(alloc: Global, group: &[Stamped]) -> Result<Vec<[u64; 5]>, Fail> {
-    let mut numbers = Vec::new(alloc);
+fn add_lines(alloc: Global, added: &mut Vec<[u64; 5]>, group: &[Stamped]) -> Result<(), Fail> {
     for stamped in group {
         let row = stamped.entry.to_row(alloc, stamped.maker, stamped.more)?;
-        numbers.push([row.kind, row.maker, row.more, row.n1, row.n2])?;
+        added.push([row.kind, row.maker, row.more, row.n1, row.n2])?;
     }
-    Ok(numbers)
+    Ok(())
 }
 
-/// Registers a name.
-fn register(alloc: Global, live: &mut Live, name: &[u8; 5]) -> Result<Vec<[u64; 5]>, Fail> {
-    let command = Command::Register {
-        name: Short::from_slice(name),
-        digest: [7; 32],
-    };
-    accept(alloc, live, &None, &command)
-}
+impl Played {
+    fn new(alloc: Global) -> Played {
+        Played {
+            live: Live::new(alloc),
+            added: Vec::new(alloc),
+        }
+    }
 
-fn set_phase(alloc: Global, live: &mut Live, phase: Phase) -> Result<Vec<[u64; 5]>, Fail> {
-    accept(
-        alloc,
-        live,
-        &Some(UserNo::new(1)),
-        &Command::SetPhase { phase },
-    )
-}
+    /// A command that breaks no rule: the judgement, the room and its entries.
+    fn accept(
+        &mut self,
+        alloc: Global,
+        caller: &Option<UserNo>,
+        command: &Command,
+    ) -> Result<(), Fail>
+        requires { HasCaller caller.now command.now }
+    {
+        let Played { live, added } = self;
+        let receipt = live.judge(caller, command)?;
+        let group = live.group(alloc, caller, command, &receipt)?;
+        add_lines(alloc, added, &group)?;
+        live.room(&group)?;
+        live.apply_all(group);
+        Ok(())
+    }
 
-fn submit(alloc: Global, live: &mut Live, user: UserNo) -> Result<Vec<[u64; 5]>, Fail> {
-    let command = Command::Submit {
-        title: Text::from_str(alloc, "Proofs")?,
-        abstract_: Text::from_str(alloc, "short")?,
-    };
-    accept(alloc, live, &Some(user), &command)
-}
+    /// Registers a name.
+    fn register(&mut self, alloc: Global, name: &[u8; 5]) -> Result<(), Fail> {
+        let command = Command::Register {
+            name: Short::from_slice(name),
+            digest: [7; 32],
+        };
+        self.accept(alloc, &None, &command)
+    }
 
-/// The chair names somebody a member.
-fn name_member(alloc: Global, live: &mut Live, name: &[u8; 5]) -> Result<Vec<[u64; 5]>, Fail> {
-    let command = Command::Name {
-        user: Some(Short::from_slice(name)),
-        role: Role::Member,
-    };
-    accept(alloc, live, &Some(UserNo::new(1)), &command)
-}
+    /// Alice, a chair, sets the phase.
+    fn set_phase(&mut self, alloc: Global, phase: Phase) -> Result<(), Fail> {
+        let chair = Some(UserNo::new(1));
+        self.accept(alloc, &chair, &Command::SetPhase { phase })
+    }
 
-/// Bobby declares somebody in conflict with the first paper.
-fn declare(alloc: Global, live: &mut Live, name: &[u8; 5]) -> Result<Vec<[u64; 5]>, Fail> {
-    let command = Command::SetConflict {
-        paper: Some(PaperNo::new(1)),
-        user: Some(Short::from_slice(name)),
-        on: true,
-    };
-    accept(alloc, live, &Some(UserNo::new(2)), &command)
+    /// Alice sets the mode.
+    fn set_mode(&mut self, alloc: Global, mode: Mode) -> Result<(), Fail> {
+        let chair = Some(UserNo::new(1));
+        self.accept(alloc, &chair, &Command::SetMode { mode })
+    }
+
+    fn submit(&mut self, alloc: Global, user: UserNo) -> Result<(), Fail> {
+        let command = Command::Submit {
+            title: Text::from_str(alloc, "Proofs")?,
+            abstract_: Text::from_str(alloc, "short")?,
+        };
+        self.accept(alloc, &Some(user), &command)
+    }
+
+    /// Alice names somebody a member.
+    fn name_member(&mut self, alloc: Global, name: &[u8; 5]) -> Result<(), Fail> {
+        let command = Command::Name {
+            user: Some(Short::from_slice(name)),
+            role: Role::Member,
+        };
+        self.accept(alloc, &Some(UserNo::new(1)), &command)
+    }
+
+    /// Bobby declares somebody in conflict with the first paper.
+    fn declare(&mut self, alloc: Global, name: &[u8; 5]) -> Result<(), Fail> {
+        let command = Command::SetConflict {
+            paper: Some(PaperNo::new(1)),
+            user: Some(Short::from_slice(name)),
+            on: true,
+        };
+        self.accept(alloc, &Some(UserNo::new(2)), &command)
+    }
 }
 
 /// Alice, a chair, and Bobby and Carol, in submission; Bobby has submitted a paper.
-fn conference(alloc: Global) -> Result<Live, Fail> {
-    let mut live = Live::new(alloc);
-    register(alloc, &mut live, b"alice")?;
-    register(alloc, &mut live, b"bobby")?;
-    register(alloc, &mut live, b"carol")?;
-    set_phase(alloc, &mut live, Phase::Submission)?;
-    submit(alloc, &mut live, UserNo::new(2))?;
-    Ok(live)
+fn conference(alloc: Global) -> Result<Played, Fail> {
+    let mut played = Played::new(alloc);
+    played.register(alloc, b"alice")?;
+    played.register(alloc, b"bobby")?;
+    played.register(alloc, b"carol")?;
+    played.set_phase(alloc, Phase::Submission)?;
+    played.submit(alloc, UserNo::new(2))?;
+    Ok(played)
+}
+
+/// The same, with Bobby and Carol as members, and Bobby and Carol declared in conflict with his paper.
+fn committee(alloc: Global) -> Result<Played, Fail> {
+    let mut played = conference(alloc)?;
+    played.name_member(alloc, b"bobby")?;
+    played.name_member(alloc, b"carol")?;
+    played.declare(alloc, b"bobby")?;
+    played.declare(alloc, b"carol")?;
+    Ok(played)
 }
 
 #[test]
 fn groups(rt: HostRuntime) -> Result<(), Fail> {
-    let alloc = rt.alloc();
-    let mut live = Live::new(alloc);
-    let mut rows = register(alloc, &mut live, b"alice")?;
-    rows.append(&mut register(alloc, &mut live, b"bobby")?)?;
-    rows.append(&mut set_phase(alloc, &mut live, Phase::Submission)?)?;
-    rows.append(&mut submit(alloc, &mut live, UserNo::new(2))?)?;
+    let played = conference(rt.alloc())?;
     let wanted = [
         [1, 1, 1, 1, 0],
         [2, 1, 0, 1, 2],
         [1, 2, 0, 2, 0],
+        [1, 3, 0, 3, 0],
         [3, 1, 0, 1, 0],
         [5, 2, 0, 1, 0],
     ];
-    assert!(rt; rows.as_slice() == wanted.as_slice());
+    assert!(rt; played.added.as_slice() == wanted.as_slice());
     Ok(())
 }
 
 #[test]
 fn group_of_a_mode(rt: HostRuntime) -> Result<(), Fail> {
-    let mut live = Live::new(rt.alloc());
-    register(rt.alloc(), &mut live, b"alice")?;
-    let anonymous = Command::SetMode {
-        mode: Mode::Anonymous,
-    };
-    let rows = accept(rt.alloc(), &mut live, &Some(UserNo::new(1)), &anonymous)?;
-    assert!(rt; rows.as_slice() == [[4, 1, 0, 2, 0]].as_slice());
+    let mut played = Played::new(rt.alloc());
+    played.register(rt.alloc(), b"alice")?;
+    played.set_mode(rt.alloc(), Mode::Anonymous)?;
+    let wanted = [[1, 1, 1, 1, 0], [2, 1, 0, 1, 2], [4, 1, 0, 2, 0]];
+    assert!(rt; played.added.as_slice() == wanted.as_slice());
     Ok(())
 }
 
 #[test]
 fn groups_of_members(rt: HostRuntime) -> Result<(), Fail> {
-    let mut live = conference(rt.alloc())?;
-    let mut rows = name_member(rt.alloc(), &mut live, b"carol")?;
-    rows.append(&mut declare(rt.alloc(), &mut live, b"carol")?)?;
-    let wanted = [[2, 1, 0, 3, 1], [10, 2, 0, 1, 3]];
-    assert!(rt; rows.as_slice() == wanted.as_slice());
+    let played = committee(rt.alloc())?;
+    let wanted = [
+        [2, 1, 0, 2, 1],
+        [2, 1, 0, 3, 1],
+        [10, 2, 0, 1, 2],
+        [10, 2, 0, 1, 3],
+    ];
+    assert!(rt; played.added.as_slice().ends_with(&wanted));
     Ok(())
 }
 
 #[test]
 fn rules(rt: HostRuntime) -> Result<(), Fail> {
-    let live = conference(rt.alloc())?;
+    let Played { live, added: _ } = conference(rt.alloc())?;
     let cases = [
         (UserNo::new(2), Phase::Bidding, Err(Rule::NotChair)),
         (UserNo::new(1), Phase::Closed, Err(Rule::WrongPhase)),
@@ -181,16 +206,21 @@ fn all_told(alloc: Global, live: &Live) -> Result<[Result<[bool; 4], Rule>; 4], 
     Ok([alice, bobby, carol, none])
 }
 
+/// The same in submission, and in bidding.
+fn told_in_turn(alloc: Global) -> Result<[[Result<[bool; 4], Rule>; 4]; 2], Fail> {
+    let mut played = conference(alloc)?;
+    let before = all_told(alloc, &played.live)?;
+    played.set_phase(alloc, Phase::Bidding)?;
+    let after = all_told(alloc, &played.live)?;
+    Ok([before, after])
+}
+
 #[test]
 fn pages(rt: HostRuntime) -> Result<(), Fail> {
-    let mut live = conference(rt.alloc())?;
-    let (all, others) = (Ok([true; 4]), Err(Rule::NotMember));
+    let told = told_in_turn(rt.alloc())?;
+    let (all, others, none) = (Ok([true; 4]), Err(Rule::NotMember), Err(Rule::NoPaper));
     let conflict = Ok([false, false, false, true]);
-    let before = all_told(rt.alloc(), &live)?;
-    assert!(rt; before == [conflict, all, others, Err(Rule::NoPaper)]);
-    set_phase(rt.alloc(), &mut live, Phase::Bidding)?;
-    let after = all_told(rt.alloc(), &live)?;
-    assert!(rt; after == [all, all, others, Err(Rule::NoPaper)]);
+    assert!(rt; told == [[conflict, all, others, none], [all, all, others, none]]);
     Ok(())
 }
 
@@ -224,18 +254,24 @@ fn all_tied(alloc: Global, live: &Live) -> Result<[[bool; 4]; 3], Fail> {
     Ok([alice, bobby, carol])
 }
 
+/// The same in submission, and in bidding.
+fn tied_in_turn(alloc: Global) -> Result<[[[bool; 4]; 3]; 2], Fail> {
+    let mut played = conference(alloc)?;
+    played.name_member(alloc, b"carol")?;
+    played.declare(alloc, b"carol")?;
+    let before = all_tied(alloc, &played.live)?;
+    played.set_phase(alloc, Phase::Bidding)?;
+    let after = all_tied(alloc, &played.live)?;
+    Ok([before, after])
+}
+
 #[test]
 fn conflicts_on_pages(rt: HostRuntime) -> Result<(), Fail> {
-    let mut live = conference(rt.alloc())?;
-    name_member(rt.alloc(), &mut live, b"carol")?;
-    declare(rt.alloc(), &mut live, b"carol")?;
+    let tied = tied_in_turn(rt.alloc())?;
     let (nothing, conflict) = ([false; 4], [false, false, false, true]);
     let author = [false, true, true, true];
-    let before = all_tied(rt.alloc(), &live)?;
-    assert!(rt; before == [nothing, author, conflict]);
-    set_phase(rt.alloc(), &mut live, Phase::Bidding)?;
-    let after = all_tied(rt.alloc(), &live)?;
-    assert!(rt; after == [[true, false, true, false], author, conflict]);
+    let chair = [true, false, true, false];
+    assert!(rt; tied == [[nothing, author, conflict], [chair, author, conflict]]);
     Ok(())
 }
 
@@ -247,15 +283,18 @@ fn own(alloc: Global, live: &Live, user: UserNo) -> Result<[usize; 2], Fail> {
     }
 }
 
+/// The same of Bobby, an author declared, and of Carol.
+fn both_own(alloc: Global) -> Result<[[usize; 2]; 2], Fail> {
+    let played = committee(alloc)?;
+    let bobby = own(alloc, &played.live, UserNo::new(2))?;
+    let carol = own(alloc, &played.live, UserNo::new(3))?;
+    Ok([bobby, carol])
+}
+
 #[test]
 fn oneself(rt: HostRuntime) -> Result<(), Fail> {
-    let mut live = conference(rt.alloc())?;
-    name_member(rt.alloc(), &mut live, b"bobby")?;
-    name_member(rt.alloc(), &mut live, b"carol")?;
-    declare(rt.alloc(), &mut live, b"bobby")?;
-    declare(rt.alloc(), &mut live, b"carol")?;
-    assert!(rt; own(rt.alloc(), &live, UserNo::new(2))? == [1, 0]);
-    assert!(rt; own(rt.alloc(), &live, UserNo::new(3))? == [0, 1]);
+    let own = both_own(rt.alloc())?;
+    assert!(rt; own == [[1, 0], [0, 1]]);
     Ok(())
 }
 
@@ -271,14 +310,11 @@ fn roles(alloc: Global, live: &Live) -> Result<Vec<Role>, Fail> {
 }
 
 /// Whether the answer is a page with this one name as its authors.
-fn names_on_page(alloc: Global, live: &Live, user: u64, wanted: &[u8]) -> Result<bool, Fail>
-    requires low { 1 ≤ user }
-    requires high { user ≤ 9999 }
-{
+fn names_on_page(alloc: Global, live: &Live, user: UserNo, wanted: &[u8]) -> Result<bool, Fail> {
     let query = Query::Page {
         paper: Some(PaperNo::new(1)),
     };
-    match live.answer(alloc, &Some(UserNo::new(user)), &query)? {
+    match live.answer(alloc, &Some(user), &query)? {
         Reply::Page(page) => match &page.authors {
             Some(names) => Ok(is_one(names.as_slice(), wanted)),
             None => Ok(false),
@@ -295,18 +331,25 @@ fn is_one(names: &[Short], wanted: &[u8]) -> bool {
 }
 
 #[test]
-fn answers(rt: HostRuntime) -> Result<(), Fail> {
-    let live = conference(rt.alloc())?;
+fn roles_of_accounts(rt: HostRuntime) -> Result<(), Fail> {
+    let played = conference(rt.alloc())?;
     let wanted = [Role::Chair, Role::Account, Role::Account];
-    assert!(rt; roles(rt.alloc(), &live)?.as_slice() == wanted.as_slice());
-    assert!(rt; names_on_page(rt.alloc(), &live, 2, b"bobby")?);
+    assert!(rt; roles(rt.alloc(), &played.live)?.as_slice() == wanted.as_slice());
+    Ok(())
+}
+
+#[test]
+fn author_on_a_page(rt: HostRuntime) -> Result<(), Fail> {
+    let played = conference(rt.alloc())?;
+    let user = UserNo::new(2);
+    assert!(rt; names_on_page(rt.alloc(), &played.live, user, b"bobby")?);
     Ok(())
 }
 
 #[test]
 fn the_conference(rt: HostRuntime) -> Result<(), Fail> {
-    let live = conference(rt.alloc())?;
-    let seen = live.conference();
+    let played = conference(rt.alloc())?;
+    let seen = played.live.conference();
     assert!(rt; (seen.phase, seen.papers) == (Phase::Submission, 1));
     Ok(())
 }
