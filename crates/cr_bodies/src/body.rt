@@ -1,4 +1,8 @@
 //! The JSON body of each command.
+//!
+//! A body is a JSON object (RFC 8259) with the keys that its command needs. Of equal keys the last counts, and other keys
+//! are ignored. Each `read_` below reads the body once. It gives `Bad` exactly where the body is no such object, memory
+//! aside, and a command that it gives is within the bounds on commands.
 ghost use Rattle.std.specs.Prelude.{◌≡◌, IfOk, IfSome};
 ghost use Rattle.cr_base.specs.Bounds.{IsBoundedCommand};
 ghost use Rattle.cr_base.specs.Texts.{IsAbstract, IsTitle};
@@ -35,7 +39,7 @@ impl From<AllocError> for BodyError {
     }
 }
 
-// The JSON value of a body.
+/// The JSON value of a body.
 fn read_json(alloc: Global, body: &[u8]) -> Result<Value, BodyError>
     ensures { GivesSeen view result (json_of body.now) }
 {
@@ -46,7 +50,7 @@ fn read_json(alloc: Global, body: &[u8]) -> Result<Value, BodyError>
     }
 }
 
-// The registration that a JSON value tells.
+/// The registration that a JSON value tells.
 fn registration(body: &Value) -> Option<Command>
     ensures told { result ≡ register (view body.now) }
     ensures bounded { IfSome result IsBoundedCommand }
@@ -59,10 +63,8 @@ fn registration(body: &Value) -> Option<Command>
     })
 }
 
-/// The command that the body of a registration tells. The body is a JSON object (RFC 8259) with the keys `name`, 1 to
-/// 32 of `a-z0-9-`, and `secret`, 16 to 64 of `A-Za-z0-9_~+-`; the command has the secret's SHA-256 digest. Of equal
-/// keys the last counts, and other keys are ignored. `Bad` exactly where the body is no such object, memory aside.
-/// Reads the body once. A command that it tells is within the bounds on commands.
+/// The registration that a body tells. Keys: `name`, 1 to 32 of `a-z0-9-`, and `secret`, 16 to 64 of `A-Za-z0-9_~+-`.
+/// The command has the secret's SHA-256 digest.
 pub fn read_register(alloc: Global, body: &[u8]) -> Result<Command, BodyError>
     ensures told { Gives result (register_of body.now) }
     ensures bounded { IfOk result IsBoundedCommand }
@@ -71,7 +73,7 @@ pub fn read_register(alloc: Global, body: &[u8]) -> Result<Command, BodyError>
     registration(&value).ok_or(BodyError::Bad)
 }
 
-// The change of phase that a JSON value tells.
+/// The change of phase that a JSON value tells.
 fn phase_change(body: &Value) -> Option<Command>
     ensures told { result ≡ set_phase (view body.now) }
     ensures bounded { IfSome result IsBoundedCommand }
@@ -80,10 +82,7 @@ fn phase_change(body: &Value) -> Option<Command>
     Some(Command::SetPhase { phase })
 }
 
-/// The command that the body of a change of phase tells. The body is a JSON object (RFC 8259) whose key `phase` is the
-/// word of a phase, `setup` to `closed`. Of equal keys the last counts, and other keys are ignored. `Bad` exactly where
-/// the body is no such object, memory aside. Reads the body once. A command that it tells is within the bounds on
-/// commands.
+/// The change of phase that a body tells. Key: `phase`, the word of a phase, `setup` to `closed`.
 pub fn read_set_phase(alloc: Global, body: &[u8]) -> Result<Command, BodyError>
     ensures told { Gives result (set_phase_of body.now) }
     ensures bounded { IfOk result IsBoundedCommand }
@@ -92,7 +91,7 @@ pub fn read_set_phase(alloc: Global, body: &[u8]) -> Result<Command, BodyError>
     phase_change(&value).ok_or(BodyError::Bad)
 }
 
-// The submission of a title and an abstract.
+/// The submission of a title and an abstract.
 fn submission(alloc: Global, title: &str, text: &str) -> Result<Command, AllocError>
     requires title { IsTitle title.now }
     requires text { IsAbstract text.now }
@@ -105,7 +104,7 @@ fn submission(alloc: Global, title: &str, text: &str) -> Result<Command, AllocEr
     })
 }
 
-// The submission that a JSON value tells.
+/// The submission that a JSON value tells.
 fn submission_in(alloc: Global, body: &Value) -> Result<Command, BodyError>
     ensures told { Gives result (submit (view body.now)) }
     ensures bounded { IfOk result IsBoundedCommand }
@@ -119,11 +118,8 @@ fn submission_in(alloc: Global, body: &Value) -> Result<Command, BodyError>
     Ok(submission(alloc, title, text)?)
 }
 
-/// The command that the body of a submission tells. The body is a JSON object (RFC 8259) with the keys `title`, 1 to 200
-/// bytes of UTF-8 without characters below U+0020 and without U+007F, and `abstract`, at most 5,000 bytes of UTF-8. Of
-/// equal keys the last counts, and other keys, `authors` among them, are ignored. `Bad` exactly where the body is no such
-/// object, memory aside. Reads the body once, and copies the two texts. A command that it tells is within the bounds on
-/// commands.
+/// The submission that a body tells. Keys: `title`, 1 to 200 bytes of UTF-8 without characters below U+0020 and without
+/// U+007F, and `abstract`, at most 5,000 bytes of UTF-8; `authors` is one of those ignored. Copies the two texts.
 pub fn read_submit(alloc: Global, body: &[u8]) -> Result<Command, BodyError>
     ensures told { Gives result (submit_of body.now) }
     ensures bounded { IfOk result IsBoundedCommand }
@@ -132,7 +128,7 @@ pub fn read_submit(alloc: Global, body: &[u8]) -> Result<Command, BodyError>
     submission_in(alloc, &value)
 }
 
-// The naming that a JSON value tells.
+/// The naming that a JSON value tells.
 fn naming(body: &Value) -> Option<Command>
     ensures told { result ≡ name_text (view body.now) }
     ensures bounded { IfSome result IsBoundedCommand }
@@ -142,10 +138,8 @@ fn naming(body: &Value) -> Option<Command>
     Some(Command::Name { user, role })
 }
 
-/// The command that the body of a naming tells. The body is a JSON object (RFC 8259) with the keys `name`, any text, and
-/// `role`, `member` or `chair`; a text that is no name is told as None. Of equal keys the last counts, and other keys
-/// are ignored. `Bad` exactly where the body is no such object, memory aside. Reads the body once. A command that it
-/// tells is within the bounds on commands.
+/// The naming that a body tells. Keys: `name`, any text, and `role`, `member` or `chair`. A text that is no name is told
+/// as None.
 pub fn read_name(alloc: Global, body: &[u8]) -> Result<Command, BodyError>
     ensures told { Gives result (name_of body.now) }
     ensures bounded { IfOk result IsBoundedCommand }
@@ -154,7 +148,7 @@ pub fn read_name(alloc: Global, body: &[u8]) -> Result<Command, BodyError>
     naming(&value).ok_or(BodyError::Bad)
 }
 
-// The change of mode that a JSON value tells.
+/// The change of mode that a JSON value tells.
 fn mode_change(body: &Value) -> Option<Command>
     ensures told { result ≡ set_mode (view body.now) }
     ensures bounded { IfSome result IsBoundedCommand }
@@ -163,9 +157,7 @@ fn mode_change(body: &Value) -> Option<Command>
     Some(Command::SetMode { mode })
 }
 
-/// The command that the body of a change of mode tells. The body is a JSON object (RFC 8259) whose key `mode` is `open`,
-/// `blind` or `anonymous`. Of equal keys the last counts, and other keys are ignored. `Bad` exactly where the body is no
-/// such object, memory aside. Reads the body once. A command that it tells is within the bounds on commands.
+/// The change of mode that a body tells. Key: `mode`, which is `open`, `blind` or `anonymous`.
 pub fn read_set_mode(alloc: Global, body: &[u8]) -> Result<Command, BodyError>
     ensures told { Gives result (set_mode_of body.now) }
     ensures bounded { IfOk result IsBoundedCommand }
@@ -174,7 +166,7 @@ pub fn read_set_mode(alloc: Global, body: &[u8]) -> Result<Command, BodyError>
     mode_change(&value).ok_or(BodyError::Bad)
 }
 
-// The change of a conflict with a paper that a JSON value tells.
+/// The change of a conflict with a paper that a JSON value tells.
 fn conflict_change(paper: Option<PaperNo>, body: &Value) -> Option<Command>
     ensures told { result ≡ set_conflict paper (view body.now) }
     ensures bounded { IfSome result IsBoundedCommand }
@@ -184,10 +176,8 @@ fn conflict_change(paper: Option<PaperNo>, body: &Value) -> Option<Command>
     Some(Command::SetConflict { paper, user, on })
 }
 
-/// The command that the body of a change of a conflict tells, with the paper, which its path tells. The body is a JSON
-/// object (RFC 8259) with the keys `on`, true or false, and `user`, any text; a text that is no name is told as None. Of
-/// equal keys the last counts, and other keys are ignored. `Bad` exactly where the body is no such object, memory aside.
-/// Reads the body once. A command that it tells is within the bounds on commands.
+/// The change of a conflict that a body tells, with the paper, which its path tells. Keys: `on`, true or false, and
+/// `user`, any text. A text that is no name is told as None.
 pub fn read_set_conflict(
     alloc: Global,
     paper: Option<PaperNo>,

@@ -1,6 +1,5 @@
 //! The credentials that the value of an Authorization field tells.
 ghost use Rattle.std.specs.Prelude.{◌≡◌};
-ghost use Rattle.std.specs.Str.{str_eq_ignore_ascii_case};
 ghost use Rattle.cr_bodies.specs.Credentials.{after_spaces, credentials, credentials_of, token_of};
 
 use crate::bytes::{after_first, before_first};
@@ -16,14 +15,7 @@ pub struct Credentials {
     pub digest: Digest,
 }
 
-// Whether two texts are equal but for the case of ASCII letters.
-fn is_same_word(word: &[u8], other: &[u8]) -> bool
-    ensures { result ≡ str_eq_ignore_ascii_case word.now other.now }
-{
-    word.eq_ignore_ascii_case(other)
-}
-
-// The bytes behind the spaces at the front.
+/// The bytes behind the spaces at the front.
 fn without_spaces(text: &[u8]) -> &[u8]
     ensures { result.now ≡ after_spaces text.now }
 {
@@ -34,7 +26,7 @@ fn without_spaces(text: &[u8]) -> &[u8]
     rest
 }
 
-// The credentials of a name and a secret.
+/// The credentials of a name and a secret.
 #[tactic(auto, unfolding(crate::specs::Credentials::credentials))]
 fn credentials_from(name: &[u8], secret: &[u8]) -> Option<Credentials>
     ensures { result ≡ credentials name.now secret.now }
@@ -49,7 +41,7 @@ fn credentials_from(name: &[u8], secret: &[u8]) -> Option<Credentials>
     }
 }
 
-// The credentials of a token.
+/// The credentials of a token.
 #[tactic(auto, unfolding(crate::specs::Credentials::token_of))]
 fn read_token(token: &[u8]) -> Option<Credentials>
     ensures { result ≡ token_of token.now }
@@ -63,7 +55,7 @@ fn read_token(token: &[u8]) -> Option<Credentials>
 pub fn read_credentials(value: &[u8]) -> Option<Credentials>
     ensures { result ≡ credentials_of value.now }
 {
-    if is_same_word(before_first(b' ', value), b"Bearer") {
+    if before_first(b' ', value).eq_ignore_ascii_case(b"Bearer") {
         read_token(without_spaces(after_first(b' ', value)))
     } else {
         None

@@ -10,7 +10,7 @@ use crate::secret::is_secret;
 use cr_base::{Mode, Phase, Role, Short, is_abstract, is_name, is_title};
 use serde_json::Value;
 
-// The text under a key.
+/// The text under a key.
 fn text<'a>(body: &'a Value, key: &str) -> Option<&'a str>
     ensures { option_map (λ t. t.now) result ≡ text_at key.now (view body.now) }
 {
@@ -75,7 +75,7 @@ pub(crate) fn phase(body: &Value, key: &str) -> Option<Phase>
     Phase::from_name(text(body, key)?)
 }
 
-// The name that a text is, or None where it is no name.
+/// The name that a text is, or None where it is no name.
 fn name_in(text: &str) -> Option<Short>
     ensures { result ≡ passing is_name_text text.now }
 {

@@ -15,4 +15,3 @@ pub use body::{
 };
 pub use bytes::{after_first, before_first};
 pub use credentials::{Credentials, read_credentials};
-pub use secret::is_secret;

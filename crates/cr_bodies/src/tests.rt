@@ -6,7 +6,7 @@ use cr_base::{Command, Mode, PaperNo, Phase, Role, Short};
 use std::alloc::{AllocError, Global};
 use std::test::Fail;
 
-// The SHA-256 digest of the 56 bytes `abcdbcdecdef..nopnopq` (the second example of FIPS 180-4).
+/// The SHA-256 digest of the 56 bytes `abcdbcdecdef..nopnopq` (the second example of FIPS 180-4).
 const DIGEST: [u8; 32] = [
     0x24, 0x8d, 0x6a, 0x61, 0xd2, 0x06, 0x38, 0xb8, 0xe5, 0xc0, 0x26, 0x93, 0x0c, 0x3e, 0x60, 0x39,
     0xa3, 0x3c, 0xe4, 0x59, 0x64, 0xff, 0x21, 0x67, 0xf6, 0xec, 0xed, 0xd4, 0x19, 0xdb, 0x06, 0xc1,
@@ -130,7 +130,7 @@ fn judges_bodies(rt: HostRuntime) -> Result<(), Fail> {
     Ok(())
 }
 
-// The phase of the change of phase that a body tells.
+/// The phase of the change of phase that a body tells.
 fn phase_told(alloc: Global, body: &str) -> Option<Phase> {
     match read_set_phase(alloc, body.as_bytes()) {
         Ok(Command::SetPhase { phase }) => Some(phase),
@@ -184,7 +184,7 @@ fn reads_a_submission(rt: HostRuntime) -> Result<(), Fail> {
     Ok(())
 }
 
-// Whether a body is read as a submission; else it is a bad body.
+/// Whether a body is read as a submission; else it is a bad body.
 fn is_submission(alloc: Global, body: &[u8]) -> Option<bool> {
     match read_submit(alloc, body) {
         Ok(Command::Submit { .. }) => Some(true),
@@ -241,7 +241,7 @@ fn judges_submissions(rt: HostRuntime) -> Result<(), Fail> {
     Ok(())
 }
 
-// A piece of text, so many times.
+/// A piece of text, so many times.
 fn repeated(alloc: Global, piece: &str, times: usize) -> Result<String, AllocError> {
     let mut text = String::new(alloc);
     for _ in 0..times {
@@ -269,7 +269,7 @@ fn bounds_titles_and_abstracts(rt: HostRuntime) -> Result<(), Fail> {
     Ok(())
 }
 
-// A user told, as a word.
+/// A user told, as a word.
 fn word(user: &Option<Short>) -> &'static str {
     match user {
         None => "none",
@@ -278,7 +278,7 @@ fn word(user: &Option<Short>) -> &'static str {
     }
 }
 
-// The naming that a body tells.
+/// The naming that a body tells.
 fn naming_told(alloc: Global, body: &str) -> (&'static str, Option<Role>) {
     let read = read_name(alloc, body.as_bytes());
     match &read {
@@ -358,7 +358,7 @@ fn reads_namings(rt: HostRuntime) -> Result<(), Fail> {
     Ok(())
 }
 
-// The mode of the change of mode that a body tells.
+/// The mode of the change of mode that a body tells.
 fn mode_told(alloc: Global, body: &str) -> Option<Mode> {
     match read_set_mode(alloc, body.as_bytes()) {
         Ok(Command::SetMode { mode }) => Some(mode),
@@ -386,7 +386,7 @@ fn reads_changes_of_mode(rt: HostRuntime) -> Result<(), Fail> {
     Ok(())
 }
 
-// The conflict with paper 7 that a body tells.
+/// The conflict with paper 7 that a body tells.
 fn conflict_told(alloc: Global, body: &str) -> (&'static str, Option<bool>) {
     let read = read_set_conflict(alloc, Some(PaperNo::new(7)), body.as_bytes());
     match &read {

@@ -1,4 +1,5 @@
--- Where the head of a request lies in a text: behind the empty lines at its front, up to the first empty line.
+-- Where the head of a request lies in a text: behind the empty lines at its front, up to the first empty line (RFC 9112,
+-- sections 2.1 and 2.2).
 use Rattle.std.specs.Prelude.{ℕ, ◌+◌, List, [], ◌∷◌, take, drop, Option, Some, None, ◌&&◌, ◌==◌, if◌then◌else◌}
 
 -- how many bytes an empty line at the front takes, LF or CR LF, or 0

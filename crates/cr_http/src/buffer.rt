@@ -41,7 +41,7 @@ fn bring_forward(block: &mut [u8], start: usize, end: usize)
     requires within { end ≤ length block.old }
     ensures { take (end - start) block.new ≡ drop start (take end block.old) }
 {
-    block[..end].rotate_left(start);
+    block.copy_within(start..end, 0);
 }
 
 /// One read into the block behind its first `end` bytes.

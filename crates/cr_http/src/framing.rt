@@ -1,11 +1,11 @@
-//! What the fields of a head say of its body.
+//! How long a body is, by the fields of its head.
 ghost use Rattle.std.specs.Prelude.{◌≡◌, ◌≤◌, ◌∷◌, [], length, ℕ, List, IsTrue};
-ghost use Rattle.std.specs.Str.Parse.{digits_value};
 ghost use Rattle.std.specs.Char.{is_ascii_digit};
 ghost use Rattle.std.specs.List.{list_all};
 ghost use Rattle.cr_http.specs.Head.{framing_by_length, framing_of, has_hosts, is_length, IsShort};
 ghost use Rattle.cr_http.specs.Values.{AreValues};
 
+use crate::digits::{all_digits, number_of};
 use crate::head::{Head, Version};
 use crate::refusal::Refusal;
 use crate::values::Values;
@@ -22,12 +22,6 @@ pub enum Framing {
     Refuse(Refusal),
 }
 
-fn all_digits(value: &[u8]) -> bool
-    ensures { result ≡ list_all is_ascii_digit value.now }
-{
-    value.iter().all(|b| b.is_ascii_digit())
-}
-
 /// Whether it is 1 to 18 digits.
 fn is_length(value: &[u8]) -> bool
     ensures is { result ≡ is_length value.now }
@@ -38,19 +32,6 @@ fn is_length(value: &[u8]) -> bool
         return false;
     }
     all_digits(value)
-}
-
-/// The number that the digits write.
-fn number_of(value: &[u8]) -> usize
-    requires digits { IsTrue (list_all is_ascii_digit value.now) }
-    requires short { length value.now ≤ 18 }
-    ensures { result ≡ digits_value 10 value.now }
-{
-    let mut number = 0;
-    for digit in value {
-        number = number * 10 + (*digit - b'0') as usize;
-    }
-    number
 }
 
 fn framing_by_length(values: Values<'_>) -> Framing
@@ -71,7 +52,7 @@ fn framing_by_value(value: &[u8]) -> Framing
     if !is_length(value) {
         return Framing::Refuse(Refusal::BadLength);
     }
-    let len = number_of(value);
+    let len = number_of(value) as usize;
     if len > MAX_BODY {
         Framing::Refuse(Refusal::TooLarge)
     } else {

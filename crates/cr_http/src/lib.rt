@@ -9,6 +9,7 @@
 #![tactic(auto)]
 
 mod buffer;
+mod digits;
 mod fill;
 mod framing;
 mod head;
@@ -20,6 +21,7 @@ mod read;
 mod refusal;
 mod values;
 
+pub use digits::{all_digits, number_of};
 pub use framing::MAX_BODY;
 pub use head::{Head, MAX_FIELDS, Version};
 pub use inbox::{Inbox, Request};

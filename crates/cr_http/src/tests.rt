@@ -12,23 +12,16 @@ const CLEAN: RequestRead = RequestRead::Clean;
 
 const CUT: RequestRead = RequestRead::Cut;
 
-const GET: &[u8] = b"GET /phase HTTP/1.1\r\nHost: c\r\n\r\n";
+const GET: &str = "GET /phase HTTP/1.1\r\nHost: c\r\n\r\n";
 
-fn refused(why: Refusal) -> RequestRead {
-    RequestRead::Refused {
-        why,
-        to_head: false,
-    }
-}
-
-/// What is read of the text, up to the first that is no request. With `by_one` each read gives one
-/// byte. The read of that number fails.
+/// How many whole requests are read of the text, at most four, and what is read behind them. With
+/// `by_one` each read gives one byte. The reads of these numbers fail.
 fn trace(
     alloc: Global,
     text: &[u8],
     by_one: bool,
     failing: &[u64],
-) -> Result<Vec<RequestRead>, Fail> {
+) -> Result<(usize, RequestRead), Fail> {
     let mut pieces = Vec::new(alloc);
     if by_one {
         for _ in 0..text.len() {
@@ -37,176 +30,137 @@ fn trace(
     }
     let mut source = MemSource::new(text.to_vec(alloc)?, pieces, failing.to_vec(alloc)?);
     let mut inbox = Inbox::new(alloc);
-    let mut all = Vec::new(alloc);
-    for _ in 0..4 {
+    for whole in 0..4 {
         let read = read_request(&mut source, &mut inbox);
-        all.push(read)?;
         if read != WHOLE {
-            break;
+            return Ok((whole, read));
         }
     }
-    Ok(all)
+    Ok((4, WHOLE))
 }
 
 /// The same whole and in pieces of one byte.
-fn check(rt: &impl Abort, alloc: Global, text: &[u8], want: &[RequestRead]) -> Result<(), Fail> {
-    assert_eq!(rt; trace(alloc, text, false, &[])?.as_slice(), want);
-    assert_eq!(rt; trace(alloc, text, true, &[])?.as_slice(), want);
+fn check(
+    rt: &impl Abort,
+    alloc: Global,
+    text: &[u8],
+    whole: usize,
+    last: RequestRead,
+) -> Result<(), Fail> {
+    assert_eq!(rt; trace(alloc, text, false, &[])?, (whole, last));
+    assert_eq!(rt; trace(alloc, text, true, &[])?, (whole, last));
     Ok(())
 }
 
 #[test]
 fn whole_and_cut(rt: HostRuntime) -> Result<(), Fail> {
-    let alloc = rt.alloc();
-    check(&rt, alloc, b"", &[CLEAN])?;
-    check(&rt, alloc, b"\r\n\n", &[CLEAN])?;
-    check(&rt, alloc, b"\r\n\r", &[CUT])?;
-    check(&rt, alloc, b"GET /phase HTTP/1.1", &[CUT])?;
-    check(&rt, alloc, GET, &[WHOLE, CLEAN])?;
-    check(&rt, alloc, b"GET /phase HTTP/1.0\r\n\r\nGET", &[WHOLE, CUT])?;
-    check(
-        &rt,
-        alloc,
-        b"\r\n\nGET / HTTP/1.1\nHost: c\nContent-Length:\t3 \n\nabcGET / HTTP/1.0\n\n",
-        &[WHOLE, WHOLE, CLEAN],
-    )?;
-    check(
-        &rt,
-        alloc,
-        b"PUT / HTTP/1.1\r\nHost: c\r\nContent-Length: 4\r\n\r\nabc",
-        &[CUT],
-    )?;
+    for (text, whole, last) in [
+        ("", 0, CLEAN),
+        ("\r\n\n", 0, CLEAN),
+        ("\r\n\r", 0, CUT),
+        ("GET /phase HTTP/1.1", 0, CUT),
+        (GET, 1, CLEAN),
+        ("GET /phase HTTP/1.0\r\n\r\nGET", 1, CUT),
+        (
+            "\r\n\nGET / HTTP/1.1\nHost: c\nContent-Length:\t3 \n\nabcGET / HTTP/1.0\n\n",
+            2,
+            CLEAN,
+        ),
+        (
+            "PUT / HTTP/1.1\r\nHost: c\r\nContent-Length: 4\r\n\r\nabc",
+            0,
+            CUT,
+        ),
+    ] {
+        check(&rt, rt.alloc(), text.as_bytes(), whole, last)?;
+    }
     Ok(())
 }
 
 #[test]
 fn refusals(rt: HostRuntime) -> Result<(), Fail> {
-    let alloc = rt.alloc();
-    check(
-        &rt,
-        alloc,
-        b"G(T /phase HTTP/1.1\r\nHost: c\r\n\r\n",
-        &[refused(Refusal::BadHttp)],
-    )?;
-    check(
-        &rt,
-        alloc,
-        b"GET / HTTP/1.1\r\n\r\n",
-        &[refused(Refusal::NoHost)],
-    )?;
-    check(
-        &rt,
-        alloc,
-        b"HEAD / HTTP/1.1\r\n\r\n",
-        &[RequestRead::Refused {
-            why: Refusal::NoHost,
-            to_head: true,
-        }],
-    )?;
-    check(
-        &rt,
-        alloc,
-        b"GET / HTTP/1.0\r\nHost: c\r\nhost: d\r\n\r\n",
-        &[refused(Refusal::NoHost)],
-    )?;
-    check(
-        &rt,
-        alloc,
-        b"GET / HTTP/1.1\r\nHost: c\r\nTransfer-Encoding: gzip\r\n\r\n",
-        &[refused(Refusal::LengthRequired)],
-    )?;
-    check(
-        &rt,
-        alloc,
-        b"GET / HTTP/1.1\r\nHost: c\r\nContent-Length: +1\r\n\r\n",
-        &[refused(Refusal::BadLength)],
-    )?;
-    check(
-        &rt,
-        alloc,
-        b"GET / HTTP/1.1\r\nHost: c\r\nContent-Length: 2\r\ncontent-length: 2\r\n\r\nab",
-        &[refused(Refusal::BadLength)],
-    )?;
-    check(
-        &rt,
-        alloc,
-        b"GET / HTTP/1.1\r\nHost: c\r\nContent-Length: 0000000000000000001\r\n\r\na",
-        &[refused(Refusal::BadLength)],
-    )?;
-    check(
-        &rt,
-        alloc,
-        b"GET / HTTP/1.1\r\nHost: c\r\nContent-Length: 4194305\r\n\r\n",
-        &[refused(Refusal::TooLarge)],
-    )?;
+    for (text, why, to_head) in [
+        (
+            "G(T /phase HTTP/1.1\r\nHost: c\r\n\r\n",
+            Refusal::BadHttp,
+            false,
+        ),
+        ("GET / HTTP/1.1\r\n\r\n", Refusal::NoHost, false),
+        ("HEAD / HTTP/1.1\r\n\r\n", Refusal::NoHost, true),
+        (
+            "GET / HTTP/1.0\r\nHost: c\r\nhost: d\r\n\r\n",
+            Refusal::NoHost,
+            false,
+        ),
+        (
+            "GET / HTTP/1.1\r\nHost: c\r\nTransfer-Encoding: gzip\r\n\r\n",
+            Refusal::LengthRequired,
+            false,
+        ),
+        (
+            "GET / HTTP/1.1\r\nHost: c\r\nContent-Length: +1\r\n\r\n",
+            Refusal::BadLength,
+            false,
+        ),
+        (
+            "GET / HTTP/1.1\r\nHost: c\r\nContent-Length: 2\r\ncontent-length: 2\r\n\r\nab",
+            Refusal::BadLength,
+            false,
+        ),
+        (
+            "GET / HTTP/1.1\r\nHost: c\r\nContent-Length: 0000000000000000001\r\n\r\na",
+            Refusal::BadLength,
+            false,
+        ),
+        (
+            "GET / HTTP/1.1\r\nHost: c\r\nContent-Length: 4194305\r\n\r\n",
+            Refusal::TooLarge,
+            false,
+        ),
+    ] {
+        let last = RequestRead::Refused { why, to_head };
+        check(&rt, rt.alloc(), text.as_bytes(), 0, last)?;
+    }
     Ok(())
 }
 
 /// `front`, so many times `part`, and `back`.
 fn repeated(
     alloc: Global,
-    front: &[u8],
-    part: &[u8],
+    front: &str,
+    part: &str,
     times: usize,
-    back: &[u8],
+    back: &str,
 ) -> Result<Vec<u8>, Fail> {
-    let mut text = front.to_vec(alloc)?;
+    let mut text = front.as_bytes().to_vec(alloc)?;
     for _ in 0..times {
-        text.extend_from_slice(part)?;
+        text.extend_from_slice(part.as_bytes())?;
     }
-    text.extend_from_slice(back)?;
+    text.extend_from_slice(back.as_bytes())?;
     Ok(text)
 }
 
 #[test]
 fn limits(rt: HostRuntime) -> Result<(), Fail> {
-    let alloc = rt.alloc();
-    let large = [refused(Refusal::HeadTooLarge)];
-    let front = b"GET / HTTP/1.1\r\nHost: c\r\n".as_slice();
-    check(
-        &rt,
-        alloc,
-        &repeated(alloc, front, b"A: b\r\n", 63, b"\r\n")?,
-        &[WHOLE, CLEAN],
-    )?;
-    check(
-        &rt,
-        alloc,
-        &repeated(alloc, front, b"A: b\r\n", 64, b"\r\n")?,
-        &large,
-    )?;
-    check(
-        &rt,
-        alloc,
-        &repeated(alloc, b"", b"a", 16_383, b"")?,
-        &[CUT],
-    )?;
-    check(
-        &rt,
-        alloc,
-        &repeated(alloc, b"", b"a", 16_384, b"")?,
-        &large,
-    )?;
-    check(
-        &rt,
-        alloc,
-        &repeated(alloc, b"", b"\n", 16_384, b"")?,
-        &large,
-    )?;
+    let large = RequestRead::Refused {
+        why: Refusal::HeadTooLarge,
+        to_head: false,
+    };
+    let fields = "GET / HTTP/1.1\r\nHost: c\r\n";
     // 25 bytes before and 2 behind, LF LF: the head has 16,384 bytes, or its last LF is the 16,385th.
-    let front = b"GET / HTTP/1.1\nHost: c\nA:".as_slice();
-    check(
-        &rt,
-        alloc,
-        &repeated(alloc, front, b"a", 16_357, b"\n\n")?,
-        &[WHOLE, CLEAN],
-    )?;
-    check(
-        &rt,
-        alloc,
-        &repeated(alloc, front, b"a", 16_358, b"\n\n")?,
-        &large,
-    )?;
+    let value = "GET / HTTP/1.1\nHost: c\nA:";
+    for (front, part, times, back, whole, last) in [
+        (fields, "A: b\r\n", 63, "\r\n", 1, CLEAN),
+        (fields, "A: b\r\n", 64, "\r\n", 0, large),
+        ("", "a", 16_383, "", 0, CUT),
+        ("", "a", 16_384, "", 0, large),
+        ("", "\n", 16_384, "", 0, large),
+        (value, "a", 16_357, "\n\n", 1, CLEAN),
+        (value, "a", 16_358, "\n\n", 0, large),
+    ] {
+        let text = repeated(rt.alloc(), front, part, times, back)?;
+        check(&rt, rt.alloc(), &text, whole, last)?;
+    }
     Ok(())
 }
 
@@ -214,19 +168,19 @@ fn limits(rt: HostRuntime) -> Result<(), Fail> {
 fn failing_reads(rt: HostRuntime) -> Result<(), Fail> {
     let alloc = rt.alloc();
     // two requests of 32 bytes each, in pieces of one byte
-    let text = repeated(alloc, GET, GET, 1, b"")?;
-    let fault = RequestRead::ReadFault;
+    let text = repeated(alloc, GET, GET, 1, "")?;
     for call in 0..65 {
-        let got = trace(alloc, &text, true, &[call])?;
-        let want = [WHOLE, WHOLE, fault];
-        let none = if call < 32 {
-            2
+        let whole = if call < 32 {
+            0
         } else if call < 64 {
             1
         } else {
-            0
+            2
         };
-        assert_eq!(rt; got.as_slice(), &want[none..]);
+        assert_eq!(rt;
+            trace(alloc, &text, true, &[call])?,
+            (whole, RequestRead::ReadFault)
+        );
     }
     Ok(())
 }

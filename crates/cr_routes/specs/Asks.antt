@@ -1,15 +1,15 @@
 -- What a method at a path asks for, and the methods of a path.
 use Rattle.std.specs.Prelude.{ℕ, List, [], ◌∷◌, ◌++◌, Option, Some, None, codes, is_some, filter, map}
-use Rattle.cr_routes.specs.Verbs.{name_of, verbs}
+use Rattle.cr_routes.specs.Methods.{name_of, methods}
 use Rattle.cr_routes.specs.declared.place.Place.{Place}
 use Rattle.cr_routes.specs.declared.place.Place.TheVariants as at
-use Rattle.cr_routes.specs.declared.verb.Verb.{Verb}
-use Rattle.cr_routes.specs.declared.verb.Verb.TheVariants.{Get, Head, Post}
+use Rattle.cr_routes.specs.declared.method.Method.{Method}
+use Rattle.cr_routes.specs.declared.method.Method.TheVariants.{Get, Head, Post}
 use Rattle.cr_routes.specs.declared.ask.Ask.{Ask}
 use Rattle.cr_routes.specs.declared.ask.Ask.TheVariants as asks
 
 -- one line for each route, HEAD aside
-abbrev pub route_at : Place → Verb → Option Ask
+abbrev pub route_at : Place → Method → Option Ask
 route_at at.Register Post = Some asks.Register
 route_at at.Accounts Get = Some asks.Accounts
 route_at at.Members Post = Some asks.Name
@@ -23,13 +23,13 @@ route_at at.Me Get = Some asks.Me
 route_at _ _ = None
 
 -- HEAD asks for what GET does
-abbrev pub as_get : Verb → Verb
+abbrev pub as_get : Method → Method
 as_get Head = Get
-as_get verb = verb
+as_get method = method
 
 -- what a method at a path asks for
-abbrev pub ask_at : Place → Verb → Option Ask
-ask_at place verb = route_at place (as_get verb)
+abbrev pub ask_at : Place → Method → Option Ask
+ask_at place method = route_at place (as_get method)
 
 -- texts with a comma and a space between them
 abbrev pub listed : List (List ℕ) → List ℕ
@@ -39,4 +39,4 @@ listed (t ∷ u ∷ us) = t ++ codes ", " ++ listed (u ∷ us)
 
 -- the names of the methods that ask for something at a path, in alphabetical order
 abbrev pub allow_text : Place → List ℕ
-allow_text place = listed (map name_of (filter (λ v. is_some (ask_at place v)) verbs))
+allow_text place = listed (map name_of (filter (λ m. is_some (ask_at place m)) methods))

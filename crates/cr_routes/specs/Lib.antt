@@ -1,4 +1,4 @@
-pub mod Verbs
+pub mod Methods
 pub mod Asks
 pub mod Paths
 pub mod Parts

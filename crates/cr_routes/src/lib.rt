@@ -7,14 +7,14 @@
 
 mod ask;
 mod laws;
+mod method;
 mod place;
 mod routes;
 #[cfg(test)]
 mod tests;
-mod verb;
 
 pub use ask::Ask;
 pub use laws::law_paths;
+pub use method::Method;
 pub use place::Place;
 pub use routes::Routes;
-pub use verb::Verb;

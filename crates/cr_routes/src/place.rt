@@ -2,7 +2,7 @@
 ghost use Rattle.std.specs.Prelude.{◌≡◌, ◌≤◌, length};
 
 use crate::ask::Ask;
-use crate::verb::Verb;
+use crate::method::Method;
 
 /// A path that the server knows.
 #[derive(Clone, Copy, PartialEq, Eq, Debug)]
@@ -31,20 +31,20 @@ impl Place {
     ghost use Rattle.cr_routes.specs.Asks.{ask_at, allow_text};
 
     /// What a method asks for at this path, or None where the path doesn't answer that method.
-    pub fn ask(self, verb: Verb) -> Option<Ask>
-        ensures { result ≡ ask_at self verb }
+    pub fn ask(self, method: Method) -> Option<Ask>
+        ensures { result ≡ ask_at self method }
     {
-        match (self, verb) {
-            (Place::Register, Verb::Post) => Some(Ask::Register),
-            (Place::Accounts, Verb::Get | Verb::Head) => Some(Ask::Accounts),
-            (Place::Members, Verb::Post) => Some(Ask::Name),
-            (Place::Mode, Verb::Post) => Some(Ask::SetMode),
-            (Place::Phase, Verb::Get | Verb::Head) => Some(Ask::Phase),
-            (Place::Phase, Verb::Post) => Some(Ask::SetPhase),
-            (Place::Papers, Verb::Post) => Some(Ask::Submit),
-            (Place::Paper, Verb::Get | Verb::Head) => Some(Ask::Page),
-            (Place::Conflicts, Verb::Post) => Some(Ask::SetConflict),
-            (Place::Me, Verb::Get | Verb::Head) => Some(Ask::Me),
+        match (self, method) {
+            (Place::Register, Method::Post) => Some(Ask::Register),
+            (Place::Accounts, Method::Get | Method::Head) => Some(Ask::Accounts),
+            (Place::Members, Method::Post) => Some(Ask::Name),
+            (Place::Mode, Method::Post) => Some(Ask::SetMode),
+            (Place::Phase, Method::Get | Method::Head) => Some(Ask::Phase),
+            (Place::Phase, Method::Post) => Some(Ask::SetPhase),
+            (Place::Papers, Method::Post) => Some(Ask::Submit),
+            (Place::Paper, Method::Get | Method::Head) => Some(Ask::Page),
+            (Place::Conflicts, Method::Post) => Some(Ask::SetConflict),
+            (Place::Me, Method::Get | Method::Head) => Some(Ask::Me),
             _ => None,
         }
     }

@@ -7,7 +7,7 @@ use crate::place::Place;
 use matchit::{InsertError, Router};
 use std::alloc::{AllocError, Global};
 
-// As `paths` lists them.
+/// As `paths` lists them.
 static PATHS: [(&str, Place); 9] = [
     ("/accounts", Place::Accounts),
     ("/members", Place::Members),
@@ -20,7 +20,7 @@ static PATHS: [(&str, Place); 9] = [
     ("/register", Place::Register),
 ];
 
-// Adds a path that conflicts with none of the router's.
+/// Adds a path that conflicts with none of the router's.
 fn add(router: &mut Router<Place>, path: &str, place: Place) -> Result<(), AllocError>
     requires { IsTrue (is_free (parse_route path.now) router.old) }
     ensures { OnOk result (router.new ≡ with_path (parse_route path.now) place router.old) }
@@ -34,7 +34,7 @@ fn add(router: &mut Router<Place>, path: &str, place: Place) -> Result<(), Alloc
     }
 }
 
-// Adds paths, each of which conflicts with none before it.
+/// Adds paths, each of which conflicts with none before it.
 fn add_all(router: &mut Router<Place>, paths: &[(&str, Place)]) -> Result<(), AllocError>
     requires { IsTrue (fits (map line paths.now) router.old) }
     ensures { OnOk result (router.new ≡ added (map line paths.now) router.old) }

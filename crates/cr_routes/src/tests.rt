@@ -1,4 +1,4 @@
-use crate::{Ask, Place, Routes, Verb};
+use crate::{Ask, Method, Place, Routes};
 use std::test::Fail;
 
 #[test]
@@ -84,8 +84,8 @@ fn asks_by_place_and_method(rt: HostRuntime) -> Result<(), Fail> {
         (Place::Me, "HEAD", Some(Ask::Me), "GET, HEAD"),
         (Place::Me, "POST", None, "GET, HEAD"),
     ] {
-        let asked = match Verb::read(method.as_bytes()) {
-            Some(verb) => place.ask(verb),
+        let asked = match Method::read(method.as_bytes()) {
+            Some(method) => place.ask(method),
             None => None,
         };
         assert_eq!(rt; asked, ask);

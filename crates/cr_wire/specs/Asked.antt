@@ -7,7 +7,7 @@ use Rattle.cr_base.specs.declared.command.Query.TheVariants as queries
 use Rattle.cr_bodies.specs.Bodies.{name_of, register_of, set_conflict_of, set_mode_of, set_phase_of, submit_of}
 use Rattle.cr_routes.specs.Asks.{ask_at}
 use Rattle.cr_routes.specs.Paths.{place_of}
-use Rattle.cr_routes.specs.Verbs.{verb_of}
+use Rattle.cr_routes.specs.Methods.{method_of}
 use Rattle.cr_routes.specs.declared.ask.Ask.{Ask}
 use Rattle.cr_routes.specs.declared.ask.Ask.TheVariants as asks
 use Rattle.cr_routes.specs.declared.place.Place.{Place}
@@ -47,7 +47,7 @@ with_ask place (Some ask) path body = asked ask path body
 
 abbrev pub with_place : Option Place → List ℕ → List ℕ → List ℕ → What
 with_place None method path body = NoRoute
-with_place (Some place) method path body = with_ask place (option_and_then (ask_at place) (verb_of method)) path body
+with_place (Some place) method path body = with_ask place (option_and_then (ask_at place) (method_of method)) path body
 
 abbrev pub what_of : List ℕ → List ℕ → List ℕ → What
 what_of method target body = with_place (place_at (path_of target)) method (path_of target) body

@@ -1,4 +1,4 @@
--- What the field Connection says.
+-- What the field Connection says (RFC 9110, sections 5.6.1 and 7.6.1).
 use Rattle.std.specs.Prelude.{ℕ, List, Bool, ◌==◌, codes}
 use Rattle.std.specs.List.{list_any, slice_split}
 use Rattle.std.specs.Str.{str_eq_ignore_ascii_case}

@@ -1,7 +1,8 @@
 -- The paper that a path names.
-use Rattle.std.specs.Prelude.{ℕ, List, length, Bool, ◌&&◌, ◌==◌, not, nat_le, Option, Some, None, if◌then◌else◌, ◌+◌, ◌*◌, ◌-◌, fold, slice_index}
+use Rattle.std.specs.Prelude.{ℕ, List, length, Bool, ◌&&◌, ◌==◌, not, nat_le, Option, Some, None, if◌then◌else◌, slice_index}
 use Rattle.std.specs.Char.{is_ascii_digit}
 use Rattle.std.specs.List.{list_all, before_first, after_first}
+use Rattle.std.specs.Str.Parse.{digits_value}
 
 -- from one to four bytes
 abbrev pub is_short : List ℕ → Bool
@@ -11,17 +12,9 @@ is_short text = nat_le 1 (length text) && nat_le (length text) 4
 abbrev pub is_number : List ℕ → Bool
 is_number text = is_short text && not (slice_index text 0 == 48) && list_all is_ascii_digit text
 
--- the number with one more digit behind it
-abbrev pub with_digit : ℕ → ℕ → ℕ
-with_digit n b = 10 * n + (b - 48)
-
--- the number that decimal digits spell
-abbrev pub number : List ℕ → ℕ
-number digits = fold with_digit 0 digits
-
 -- the paper of a text
 abbrev pub paper_named : List ℕ → Option ℕ
-paper_named text = if is_number text then Some (number text) else None
+paper_named text = if is_number text then Some (digits_value 10 text) else None
 
 -- what stands behind a path's second slash, up to the next one
 abbrev pub second_part : List ℕ → List ℕ

@@ -3,7 +3,7 @@ ghost use Rattle.std.specs.Prelude.{◌≡◌, option_and_then, IfOk};
 ghost use Rattle.cr_base.specs.Bounds.{IsBoundedCommand};
 ghost use Rattle.cr_bodies.specs.Outcome.{Gives as Reads};
 ghost use Rattle.cr_routes.specs.Asks.{ask_at as ask_of_place};
-ghost use Rattle.cr_routes.specs.Verbs.{verb_of};
+ghost use Rattle.cr_routes.specs.Methods.{method_of};
 ghost use Rattle.cr_wire.specs.Asked as spec;
 ghost use Rattle.cr_wire.specs.Bounds.{IsBoundedWhat};
 ghost use Rattle.cr_wire.specs.Outcome.{Gives};
@@ -15,11 +15,11 @@ use cr_bodies::{
     BodyError, before_first, read_name, read_register, read_set_conflict, read_set_mode,
     read_set_phase, read_submit,
 };
-use cr_routes::{Ask, Place, Routes, Verb};
+use cr_routes::{Ask, Method, Place, Routes};
 use std::alloc::{AllocError, Global};
 use std::str::from_utf8;
 
-// The place of a path, which is text.
+/// The place of a path, which is text.
 fn place_at(routes: &Routes, path: &[u8]) -> Option<Place>
     ensures { result ≡ spec.place_at path.now }
 {
@@ -29,14 +29,14 @@ fn place_at(routes: &Routes, path: &[u8]) -> Option<Place>
     }
 }
 
-// What a method asks for at a place.
+/// What a method asks for at a place.
 fn ask_at(place: Place, method: &[u8]) -> Option<Ask>
-    ensures { result ≡ option_and_then (ask_of_place place) (verb_of method.now) }
+    ensures { result ≡ option_and_then (ask_of_place place) (method_of method.now) }
 {
-    place.ask(Verb::read(method)?)
+    place.ask(Method::read(method)?)
 }
 
-// The command, where the body tells one.
+/// The command, where the body tells one.
 fn command(ask: Ask, read: Result<Command, BodyError>) -> Result<What, AllocError>
     ensures told { (told : _) → Reads read told → Gives result (spec.command_of ask told) }
     ensures bounded { IfOk read IsBoundedCommand → IfOk result IsBoundedWhat }
@@ -48,7 +48,7 @@ fn command(ask: Ask, read: Result<Command, BodyError>) -> Result<What, AllocErro
     }
 }
 
-// What is asked for, by its path and its body too.
+/// What is asked for, by its path and its body too.
 fn asked(alloc: Global, ask: Ask, path: &[u8], body: &[u8]) -> Result<What, AllocError>
     ensures told { Gives result (spec.asked ask path.now body.now) }
     ensures bounded { IfOk result IsBoundedWhat }

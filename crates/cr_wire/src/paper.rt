@@ -1,51 +1,31 @@
 //! The paper that a path names.
-ghost use Rattle.std.specs.Prelude.{◌≡◌, ◌≤◌, length};
-ghost use Rattle.std.specs.Char.{is_ascii_digit};
-ghost use Rattle.std.specs.List.{list_all};
+ghost use Rattle.std.specs.Prelude.{◌≡◌};
 ghost use Rattle.cr_wire.specs.Paper as spec;
 
 use cr_base::PaperNo;
 use cr_bodies::{after_first, before_first};
+use cr_http::{all_digits, number_of};
 
-// Whether a text has from one to four bytes.
+/// Whether a text has from one to four bytes.
 fn is_short(text: &[u8]) -> bool
     ensures { result ≡ spec.is_short text.now }
 {
     1 <= text.len() && text.len() <= 4
 }
 
-// Whether every byte is a decimal digit.
-fn all_digits(text: &[u8]) -> bool
-    ensures { result ≡ list_all is_ascii_digit text.now }
-{
-    text.iter().all(|byte| byte.is_ascii_digit())
-}
-
-// Whether a text is a number from 1 to 9,999 in decimal.
+/// Whether a text is a number from 1 to 9,999 in decimal.
 fn is_number(text: &[u8]) -> bool
     ensures { result ≡ spec.is_number text.now }
 {
     is_short(text) && text[0] != b'0' && all_digits(text)
 }
 
-// The number that at most four decimal digits spell.
-fn number(digits: &[u8]) -> u64
-    requires { length digits.now ≤ 4 }
-    ensures { result ≡ spec.number digits.now }
-{
-    let mut number = 0u64;
-    'digits: for byte in digits {
-        number = 10 * number + u64::from(byte.saturating_sub(b'0'));
-    }
-    number
-}
-
-// The paper of a text.
+/// The paper of a text.
 fn paper_named(text: &[u8]) -> Option<PaperNo>
     ensures { result ≡ spec.paper_named text.now }
 {
     if is_number(text) {
-        Some(PaperNo::new(number(text)))
+        Some(PaperNo::new(number_of(text)))
     } else {
         None
     }

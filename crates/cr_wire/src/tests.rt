@@ -7,7 +7,7 @@ use cr_routes::Routes;
 use std::alloc::{AllocError, Global};
 use std::test::Fail;
 
-// A wish, in words of its own.
+/// A wish, in words of its own.
 #[derive(Clone, Copy)]
 struct Seen {
     what: &'static str,
@@ -17,7 +17,7 @@ struct Seen {
     is_read: bool,
 }
 
-// What is wished, as a word.
+/// What is wished, as a word.
 fn word(what: &What) -> &'static str {
     match what {
         What::NoRoute => "no_route",
@@ -36,7 +36,7 @@ fn word(what: &What) -> &'static str {
     }
 }
 
-// A wish as it is seen here.
+/// A wish as it is seen here.
 fn look_at(wish: &Wish) -> Seen {
     Seen {
         what: word(&wish.what),
@@ -47,7 +47,7 @@ fn look_at(wish: &Wish) -> Seen {
     }
 }
 
-// The wish of a request.
+/// The wish of a request.
 fn wished(alloc: Global, routes: &Routes, request: &Request<'_>) -> Option<Seen> {
     match wish_of(alloc, routes, &request.head, request.body) {
         Ok(wish) => Some(look_at(&wish)),
@@ -55,7 +55,7 @@ fn wished(alloc: Global, routes: &Routes, request: &Request<'_>) -> Option<Seen>
     }
 }
 
-// The wish of the request that a text is, if it is one.
+/// The wish of the request that a text is, if it is one.
 fn wish(alloc: Global, routes: &Routes, text: &str) -> Result<Option<Seen>, AllocError> {
     let bytes = Vec::from_slice(alloc, text.as_bytes())?;
     let mut source = MemSource::new(bytes, Vec::new(alloc), Vec::new(alloc));
@@ -188,7 +188,7 @@ fn wishes_by_path_method_and_body(rt: HostRuntime) -> Result<(), Fail> {
     Ok(())
 }
 
-// The paper that the page asked for is of: 0 where none is told, and None where no page is asked for.
+/// The paper that the page asked for is of: 0 where none is told, and None where no page is asked for.
 fn paper_of(alloc: Global, routes: &Routes, target: &str) -> Option<u64> {
     match what_of(alloc, routes, b"GET", target.as_bytes(), b"") {
         Ok(What::Query(Query::Page { paper: Some(paper) })) => Some(paper.number()),
@@ -226,7 +226,7 @@ fn tells_the_paper_of_a_page(rt: HostRuntime) -> Result<(), Fail> {
     Ok(())
 }
 
-// The paper with which a conflict is told: 0 where none is told, and None where no conflict is.
+/// The paper with which a conflict is told: 0 where none is told, and None where no conflict is.
 fn paper_in_conflict(alloc: Global, routes: &Routes, target: &str) -> Option<u64> {
     let body = b"{\"on\":true,\"user\":\"bob\"}";
     match what_of(alloc, routes, b"POST", target.as_bytes(), body) {

@@ -15,7 +15,7 @@ use cr_http::{Head, Values, Version};
 use cr_routes::Routes;
 use std::alloc::{AllocError, Global};
 
-// What the only field Authorization tells.
+/// What the only field Authorization tells.
 fn credentials_in(head: &Head<'_>) -> Option<Credentials>
     ensures { result ≡ credentials_text head.now.fields }
 {
@@ -25,7 +25,7 @@ fn credentials_in(head: &Head<'_>) -> Option<Credentials>
     }
 }
 
-// Whether a field Connection asks for the close.
+/// Whether a field Connection asks for the close.
 fn asks_close(head: &Head<'_>) -> bool
     ensures { result ≡ list_any has_close_element (values_of (codes "connection") head.now.fields) }
 {
@@ -38,7 +38,7 @@ fn asks_close(head: &Head<'_>) -> bool
     false
 }
 
-// Whether the request asks that the connection be closed behind its answer.
+/// Whether the request asks that the connection be closed behind its answer.
 fn closes(head: &Head<'_>) -> bool
     ensures { result ≡ closes_text head.now }
 {

@@ -26,7 +26,7 @@ pub enum WordsError {
     OutOfMemory,
 }
 
-// The job of the subcommand that was used.
+/// The job of the subcommand that was used.
 fn named_job(matches: &ArgMatches) -> Option<Job>
     ensures { result ≡ option_and_then job_named (subcommand_rows_of matches.now) }
 {

@@ -2,7 +2,7 @@ use crate::{Job, WordsError, read_words, usage_text};
 use std::alloc::Global;
 use std::test::Fail;
 
-// The job of the words, which stand in one text with a space between them.
+/// The job of the words, which stand in one text with a space between them.
 fn job_of(alloc: Global, text: &str) -> Result<Result<Job, WordsError>, Fail> {
     let mut words = Vec::new(alloc);
     for word in text.split_whitespace() {

@@ -3,7 +3,7 @@ ghost use Rattle.std.specs.Prelude.{◌≡◌};
 
 /// A method that some path of the server answers (RFC 9110, section 9.3).
 #[derive(Clone, Copy, PartialEq, Eq, Debug)]
-pub enum Verb {
+pub enum Method {
     /// Asks for what a query gives.
     Get,
     /// Asks for what GET does, without the content.
@@ -12,22 +12,22 @@ pub enum Verb {
     Post,
 }
 
-impl Verb {
-    ghost use Rattle.cr_routes.specs.Verbs.{verb_of};
+impl Method {
+    ghost use Rattle.cr_routes.specs.Methods.{method_of};
 
     /// The method of this name. Names are case-sensitive (RFC 9110, section 9.1), and a method that no path of the
     /// server answers is None. Costs no allocation.
-    pub fn read(name: &[u8]) -> Option<Verb>
-        ensures { result ≡ verb_of name.now }
+    pub fn read(name: &[u8]) -> Option<Method>
+        ensures { result ≡ method_of name.now }
     {
         if name == b"GET".as_slice() {
-            return Some(Verb::Get);
+            return Some(Method::Get);
         }
         if name == b"HEAD".as_slice() {
-            return Some(Verb::Head);
+            return Some(Method::Head);
         }
         if name == b"POST".as_slice() {
-            return Some(Verb::Post);
+            return Some(Method::Post);
         }
         None
     }

@@ -1,6 +1,6 @@
 use Rattle.std.proofs.Common.{ℕ, ◌<◌, ◌≤◌, ◌^◌, arith, length, lit<}
 use Rattle.std.proofs.Math.Nat.{pow-le-pow_right}
-use Rattle.cr_http.proofs.framing.number_of.Goals as goal
+use Rattle.cr_http.proofs.digits.number_of.Goals as goal
 
 small : (number index len : ℕ) → number < 10 ^ index → index < len → len ≤ 18 → number < 10 ^ 17
 small number index len lt at le =
@@ -10,11 +10,11 @@ small number index len lt at le =
 
 pub overflow_mul-number : goal.overflow_mul-number
 overflow_mul-number c =
-    let s = small c.loop-digit.number c.loop-digit.digit-index (length c.args.value.now) c.loop-digit.invariant.small c.loop-digit-test.true c.requires.short in
+    let s = small c.digits.number c.digits.digit-index (length c.args.digits.now) c.digits.invariant.small c.digits-test.true c.requires.short in
     omega (arith, s)
 
 pub overflow_add-number : goal.overflow_add-number
 overflow_add-number c =
-    let s = small c.loop-digit.number c.loop-digit.digit-index (length c.args.value.now) c.loop-digit.invariant.small c.loop-digit-test.true c.requires.short in
-    let r = c.type_inv.value c.loop-digit.digit-index in
+    let s = small c.digits.number c.digits.digit-index (length c.args.digits.now) c.digits.invariant.small c.digits-test.true c.requires.short in
+    let r = c.type_inv.digits c.digits.digit-index in
     omega (arith, s, r)

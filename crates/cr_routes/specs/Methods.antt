@@ -1,0 +1,24 @@
+-- The methods of HTTP that the server answers, by their names (RFC 9110, section 9.3).
+use Rattle.std.specs.Prelude.{ℕ, List, [], ◌∷◌, Option, Some, None, codes, if◌then◌else◌}
+use Rattle.std.specs.Str.{bytes_eq}
+use Rattle.cr_routes.specs.declared.method.Method.{Method}
+use Rattle.cr_routes.specs.declared.method.Method.TheVariants.{Get, Head, Post}
+
+-- a method's name
+abbrev pub name_of : Method → List ℕ
+name_of Get = codes "GET"
+name_of Head = codes "HEAD"
+name_of Post = codes "POST"
+
+-- the methods, in alphabetical order
+abbrev pub methods : List Method
+methods = Get ∷ Head ∷ Post ∷ []
+
+-- the method of these with this name
+abbrev pub method_named : List ℕ → List Method → Option Method
+method_named name [] = None
+method_named name (m ∷ ms) = if bytes_eq name (name_of m) then Some m else method_named name ms
+
+-- the method of a name
+abbrev pub method_of : List ℕ → Option Method
+method_of name = method_named name methods
