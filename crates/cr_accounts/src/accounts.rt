@@ -34,13 +34,6 @@ impl Model for Accounts {
     ghost invariant = { λ t. IsIndexed t.accounts.items t.by_name };
 }
 
-/// Where the account of a user stands: users are numbered from 1.
-fn place_of(user: UserNo) -> usize
-    ensures { result ≡ user - 1 }
-{
-    user.number() as usize - 1
-}
-
 /// Whether the caller may give somebody who has the role `now` another one.
 fn may_name(by: &Standing, now: Role, role: Role) -> Result<(), Rule>
     ensures { result ≡ judged (name_checks by.now (Some now) role) tt }
@@ -101,8 +94,7 @@ impl Accounts {
     pub fn name_of(&self, user: UserNo) -> Option<Short>
         ensures { result ≡ option_map (λ a. a.name) (account_at self.now.accounts user) }
     {
-        let account = self.accounts.get(place_of(user))?;
-        Some(account.name)
+        self.name_at(user.number() as u16)
     }
 
     /// The user who registered a name with this digest of a secret, and none where nobody did: no
@@ -111,7 +103,7 @@ impl Accounts {
         ensures { result ≡ caller_at self.now.accounts name.now digest.now }
     {
         let user = self.number_of(name)?;
-        let account = self.accounts.get(place_of(user))?;
+        let account = self.accounts.get(user.place())?;
         if account.digest.as_slice() == digest.as_slice() {
             Some(user)
         } else {
@@ -125,17 +117,7 @@ impl Accounts {
         ensures { result ≡ role_in self.now.accounts user.now }
     {
         match user {
-            Some(user) => self.role_of(*user),
-            None => Role::Account,
-        }
-    }
-
-    /// The role of a user: `Account` where nobody has that number.
-    fn role_of(&self, user: UserNo) -> Role
-        ensures { result ≡ role_in self.now.accounts (Some user) }
-    {
-        match self.accounts.get(place_of(user)) {
-            Some(account) => account.role,
+            Some(user) => self.role_given(*user).unwrap_or(Role::Account),
             None => Role::Account,
         }
     }
@@ -156,7 +138,7 @@ impl Accounts {
     pub fn role_given(&self, user: UserNo) -> Option<Role>
         ensures { result ≡ role_at self.now.accounts user }
     {
-        let account = self.accounts.get(place_of(user))?;
+        let account = self.accounts.get(user.place())?;
         Some(account.role)
     }
 
@@ -223,7 +205,7 @@ impl Accounts {
                 });
             }
             Entry::Named { user, role } => {
-                self.accounts[place_of(*user)].role = *role;
+                self.accounts[user.place()].role = *role;
             }
             Entry::PhaseSet { .. }
             | Entry::ModeSet { .. }

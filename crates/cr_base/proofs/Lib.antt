@@ -6,5 +6,6 @@ pub mod PairLaws
 pub mod RisingLists
 pub mod RoleLaws
 pub mod RowLaws
+pub mod TargetLaws
 pub mod TextLaws
 pub mod TieLaws

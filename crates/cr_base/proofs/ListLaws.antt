@@ -12,11 +12,6 @@ use Rattle.cr_base.specs.Lists.{numbered, numbers_from}
 
 -- ---- elements by number
 
--- an element's index is its number less 1
-pub numbered-slice_get : {A : Type 0} (xs : List A) (n : ℕ) → 1 ≤ n → numbered xs n ≡ slice_get xs (n - 1)
-numbered-slice_get xs zero h = absurd (omega arith)
-numbered-slice_get xs (suc n) h = let e : suc n - 1 ≡ n = omega arith in rw e refl
-
 -- there is none
 pub numbered-nil : {A : Type 0} (n : ℕ) → numbered {A = A} [] n ≡ None
 numbered-nil zero = refl

@@ -133,9 +133,6 @@ kind_of-built kind.Submitted r = refl
 kind_of-row : (k : EntryKind) (r : Row) (s : Stamped) → kind_number k ≡ r.kind → row_of s ≡ r → kind_of s.entry ≡ k
 kind_of-row k r s hk e = same_kind (kind_of s.entry) k (ap (λ (q : Row). q.kind) e ∙ sym hk)
 
-pub kind_number-row : (s : Stamped) (r : Row) → row_of s ≡ r → kind_number (kind_of s.entry) ≡ r.kind
-kind_number-row s r e = ap (λ (q : Row). q.kind) e
-
 -- ---- which rows are an entry's
 
 -- what a row that fits its kind's shape spells is an entry within its bounds

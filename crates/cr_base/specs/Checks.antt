@@ -1,5 +1,5 @@
 -- The rules of each command and query, in order, over plain values: a list of checks, of which the first broken one
--- answers.
+-- answers. They are the server's own, by CoCon's phases and roles and the HotCRP manual's conflicts.
 use Rattle.std.specs.Prelude.{ℕ, Bool, true, false, not, ◌||◌, ◌&&◌, nat_le, List, [], ◌∷◌, Option, is_none, unwrap_or, Result, Ok, Err, if◌then◌else◌}
 use Rattle.cr_base.specs.declared.reply.Rule.{Rule}
 use Rattle.cr_base.specs.declared.reply.Rule.TheVariants as rules
@@ -113,13 +113,13 @@ off_checks by target author =
     ∷ author breaks rules.AuthorConflict
     ∷ []
 
--- which of the five rows it is: on or off, bidding or later, after the discussion, and whether she names herself
-abbrev pub conflict_row : Bool → Bool → Bool → Bool → Standing → Option Role → Bool → List Check
-conflict_row false bidding late herself by target author = off_checks by target author
-conflict_row true false late herself by target author = declare_checks by target
-conflict_row true true true herself by target author = late_checks
-conflict_row true true false true by target author = own_checks by
-conflict_row true true false false by target author = other_checks by target
+-- which of the five lists it is: on or off, bidding or later, after the discussion, and whether she names herself
+abbrev pub conflict_case : Bool → Bool → Bool → Bool → Standing → Option Role → Bool → List Check
+conflict_case false bidding late herself by target author = off_checks by target author
+conflict_case true false late herself by target author = declare_checks by target
+conflict_case true true true herself by target author = late_checks
+conflict_case true true false true by target author = own_checks by
+conflict_case true true false false by target author = other_checks by target
 
 -- conflict: the caller's standing at the paper, whether the paper is there, the role of the user named, if there is
 -- one, whether it is the caller, whether she is an author, and whether it is turned on
@@ -127,4 +127,4 @@ abbrev pub conflict_checks : Standing → Bool → Option Role → Bool → Bool
 conflict_checks by found target herself author on =
     not found breaks rules.NoPaper
     ∷ is_none target breaks rules.NoUser
-    ∷ conflict_row on (is_from Bidding by.phase) (is_from Notification by.phase) herself by target author
+    ∷ conflict_case on (is_from Bidding by.phase) (is_from Notification by.phase) herself by target author

@@ -153,7 +153,7 @@ conflict_judged facts shown caller paper target on =
     (conflict_checks (facts.standing paper) (has_paper facts paper) (role_among facts.accounts target) (is_number target (maker_of caller)) (at_some (λ p. list_any (is_number target) (shown.authors p)) paper) on)
     (conflict_drawn (maker_of caller) (unwrap_or paper 0) (unwrap_or target 0) on)
 
--- the first broken rule of a command's row, or what it adds and its receipt
+-- the first broken rule of a command's list, or what it adds and its receipt
 abbrev pub judge_by : Facts → Shown → Option ℕ → Command → Result Drawn Rule
 judge_by facts shown caller (Register name digest) =
     judged (register_checks (is_some (number_in facts.accounts name)) (length facts.accounts)) (registration_drawn (length facts.accounts + 1) name digest)
@@ -170,7 +170,7 @@ judge_by facts shown caller (SetConflict paper name on) =
 
 -- ---- queries
 
--- the rules of a query's row
+-- the rules of a query
 abbrev pub query_checks : Facts → Query → List Check
 query_checks facts queries.Accounts = []
 query_checks facts queries.Phase = []
@@ -210,16 +210,9 @@ abbrev pub reply_or_rule : Result Reply Rule → Reply
 reply_or_rule (Ok reply) = reply
 reply_or_rule (Err rule) = replies.Refused rule
 
--- the answer to a query: the first broken rule of its row, or what is told
+-- the answer to a query: the first broken rule of its list, or what is told
 abbrev pub answer_by : Facts → Shown → Option ℕ → Query → Reply
 answer_by facts shown caller query = reply_or_rule (judged (query_checks facts query) (told_by facts shown caller query))
-
--- whether a query wants a login
-abbrev pub wants_login : Query → Bool
-wants_login queries.Accounts = false
-wants_login queries.Phase = false
-wants_login queries.Me = true
-wants_login (queries.Page paper) = true
 
 -- ---- RoleAnswer: the same by checks on the tables
 

@@ -5,6 +5,7 @@ pub mod Facts
 pub mod History
 pub mod Judging
 pub mod Lists
+pub mod Logins
 pub mod Page
 pub mod Pairs
 pub mod Papers

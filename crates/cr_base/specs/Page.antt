@@ -1,4 +1,5 @@
--- A paper's page: which keys a caller is told, by her standing at the paper, and what they hold.
+-- A paper's page: which keys a caller is told, by her standing at the paper, and what they hold. When she is told them
+-- follows CoCon's phases; title, abstract, authors and conflicts of a submission are the HotCRP manual's.
 use Rattle.std.specs.Prelude.{ℕ, Bool, false, not, ◌||◌, ◌&&◌, List, Option, Some, None, if◌then◌else◌}
 use Rattle.cr_base.specs.declared.page.BareKeys.{BareKeys}
 use Rattle.cr_base.specs.declared.page.Page.{Page}

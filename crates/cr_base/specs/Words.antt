@@ -1,4 +1,4 @@
--- The words and the numbers of phases, modes and roles.
+-- The words and the numbers of phases, modes and roles: CoCon's phases and roles, the HotCRP manual's anonymity.
 use Rattle.std.specs.Prelude.{ℕ, Bool, true, false, List, [], ◌∷◌, Option, find, codes, ◌==◌, if◌then◌else◌}
 use Rattle.std.specs.Str.{bytes_eq}
 use Rattle.cr_base.specs.declared.words.Phase.{Phase}

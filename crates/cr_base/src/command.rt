@@ -1,4 +1,7 @@
 //! Commands and queries: what a request may ask for.
+ghost use Rattle.std.specs.Prelude.{◌≡◌};
+ghost use Rattle.cr_base.specs.Logins.{command_wants_login, query_wants_login};
+
 use crate::entry::Digest;
 use crate::numbers::PaperNo;
 use crate::texts::{Short, Text};
@@ -63,4 +66,31 @@ pub enum Query {
         /// The paper told; None where what was told is no number of a paper.
         paper: Option<PaperNo>,
     },
+}
+
+impl Command {
+    /// Whether it is a registered user's: every command but a registration.
+    pub fn wants_login(&self) -> bool
+        ensures { result ≡ command_wants_login self.now }
+    {
+        match self {
+            Command::Register { .. } => false,
+            Command::SetPhase { .. } | Command::Submit { .. } => true,
+            Command::Name { .. } | Command::SetMode { .. } => true,
+            Command::SetConflict { .. } => true,
+        }
+    }
+}
+
+impl Query {
+    /// Whether it is a registered user's: every query but the list of accounts and the state of the
+    /// conference.
+    pub fn wants_login(&self) -> bool
+        ensures { result ≡ query_wants_login self.now }
+    {
+        match self {
+            Query::Accounts | Query::Phase => false,
+            Query::Me | Query::Page { .. } => true,
+        }
+    }
 }

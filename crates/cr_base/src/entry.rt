@@ -1,5 +1,6 @@
 //! The entries of the history: what accepted commands add.
 ghost use Rattle.std.specs.Prelude.{◌≡◌, IfOk};
+ghost use Rattle.cr_base.specs.Rows.{kind_of};
 
 use crate::numbers::{PaperNo, UserNo};
 use crate::texts::{Short, Text};
@@ -98,6 +99,20 @@ pub struct Account {
 }
 
 impl Entry {
+    /// Its kind.
+    pub fn kind(&self) -> EntryKind
+        ensures { result ≡ kind_of self.now }
+    {
+        match self {
+            Entry::Registered { .. } => EntryKind::Registered,
+            Entry::Named { .. } => EntryKind::Named,
+            Entry::PhaseSet { .. } => EntryKind::PhaseSet,
+            Entry::Submitted { .. } => EntryKind::Submitted,
+            Entry::ModeSet { .. } => EntryKind::ModeSet,
+            Entry::Conflict { .. } => EntryKind::Conflict,
+        }
+    }
+
     /// An equal one; an error only for want of memory.
     pub fn copy(&self, alloc: Global) -> Result<Entry, AllocError>
         ensures { IfOk result (λ entry. entry ≡ self.now) }

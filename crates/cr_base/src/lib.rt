@@ -29,5 +29,5 @@ pub use paper::Paper;
 pub use reply::{AccountLine, AccountLines, Conference, Receipt, Reply, Rule};
 pub use row::Row;
 pub use standing::Standing;
-pub use texts::{Blob, MAX_SHORT, Short, Text, is_abstract, is_name, is_name_byte, is_title};
+pub use texts::{Blob, Short, Text, is_abstract, is_name, is_title};
 pub use words::{Mode, Phase, Role};

@@ -34,14 +34,6 @@ impl PaperNos {
     {
         self.numbers.as_slice()
     }
-
-    /// The vector of the papers; takes no memory.
-    pub fn into_vec(self) -> Vec<PaperNo>
-        ensures { result.items ≡ self }
-    {
-        let PaperNos { numbers } = self;
-        numbers
-    }
 }
 
 /// What a user is told of herself. She reviews nothing, has uploaded nothing and commented on nothing,

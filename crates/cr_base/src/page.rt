@@ -33,14 +33,6 @@ impl Names {
     {
         self.names.as_slice()
     }
-
-    /// The vector of the names; takes no memory.
-    pub fn into_vec(self) -> Vec<Short>
-        ensures { result.items ≡ self }
-    {
-        let Names { names } = self;
-        names
-    }
 }
 
 /// Which of those keys of a page are there that have nothing to tell yet, since no entry says it: no

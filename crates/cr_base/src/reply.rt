@@ -1,12 +1,11 @@
 //! Rules, receipts and replies: what a command or a query is answered.
-ghost use Rattle.std.specs.Prelude.{◌≡◌, [], ◌∷◌, ◌++◌, length, OnOk, OnErr};
+ghost use Rattle.std.specs.Prelude.{◌≡◌};
 
 use crate::me::Me;
 use crate::numbers::{PaperNo, UserNo};
 use crate::page::Page;
 use crate::texts::Short;
 use crate::words::{Mode, Phase, Role};
-use std::alloc::{AllocError, Global};
 use std::marker::Model;
 
 /// A rule of the conference, broken by a command or a query.
@@ -26,7 +25,8 @@ pub enum Rule {
     QuotaPapers,
     /// There is no such paper.
     NoPaper,
-    /// The caller is no member of the committee, and no author of the paper.
+    /// The caller is no member of the committee, and declares a conflict of her own; or she is no author
+    /// of the paper either, and asks for its page.
     NotMember,
     /// There is no such user.
     NoUser,
@@ -72,7 +72,7 @@ pub enum Receipt {
         /// The mode.
         mode: Mode,
     },
-    /// The paper to which something was said.
+    /// The paper with which a conflict was turned on or off.
     Noted {
         /// Its number.
         paper: PaperNo,
@@ -118,14 +118,6 @@ impl AccountLines {
         ensures { result.now ≡ self.now }
     {
         self.lines.as_slice()
-    }
-
-    /// The vector of the lines; takes no memory.
-    pub fn into_vec(self) -> Vec<AccountLine>
-        ensures { result.items ≡ self }
-    {
-        let AccountLines { lines } = self;
-        lines
     }
 }
 

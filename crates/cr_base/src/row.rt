@@ -12,7 +12,7 @@ pub struct Row {
     pub kind: u64,
     /// The number of the user who made it.
     pub maker: u64,
-    /// 1 where another entry of the same command follows, else 0.
+    /// 1 on each entry of a command but its last one, which has 0.
     pub more: u64,
     /// The first number of the entry, by its kind; 0 where unused, as in the four others.
     pub n1: u64,

@@ -1,7 +1,7 @@
 //! The row of an entry, and the entry of a row.
 ghost use Rattle.std.specs.Prelude.{◌≡◌, [], length, IfOk, IfSome, Some};
-ghost use Rattle.cr_base.specs.Shapes.{shape_of, FitsShape};
-ghost use Rattle.cr_base.specs.Rows.{row_of, built, IsBoundedEntry};
+ghost use Rattle.cr_base.specs.Shapes.{kind_number, shape_of, FitsShape};
+ghost use Rattle.cr_base.specs.Rows.{row_of, bit_number, built, IsBoundedEntry};
 ghost use Rattle.cr_base.specs.declared.entry.Stamped.{Stamped};
 
 use crate::entry::{Digest, Entry, EntryKind, Stamped};
@@ -17,86 +17,55 @@ impl Entry {
     pub fn to_row(&self, alloc: Global, maker: UserNo, more: bool) -> Result<Row, AllocError>
         ensures { IfOk result (λ made. made ≡ row_of (record { maker = maker; more = more; entry = self.now })) }
     {
-        let more = u64::from(more);
-        let maker = maker.number();
+        let mut row = Row::unused(alloc, self.kind(), maker, more);
         match self {
-            Entry::Registered { user, name, digest } => Ok(Row {
-                kind: 1,
-                maker,
-                more,
-                n1: user.number(),
-                n2: 0,
-                n3: 0,
-                n4: 0,
-                n5: 0,
-                b1: Blob::from_slice(alloc, name.as_slice())?,
-                b2: Blob::from_slice(alloc, digest)?,
-            }),
-            Entry::Named { user, role } => Ok(without_bytes(
-                alloc,
-                2,
-                maker,
-                more,
-                user.number(),
-                role.number(),
-                0,
-            )),
-            Entry::PhaseSet { phase } => Ok(without_bytes(
-                alloc,
-                3,
-                maker,
-                more,
-                phase.number(),
-                0,
-                0,
-            )),
-            Entry::ModeSet { mode } => {
-                Ok(without_bytes(alloc, 4, maker, more, mode.number(), 0, 0))
+            Entry::Registered { user, name, digest } => {
+                row.n1 = user.number();
+                row.b1 = Blob::from_slice(alloc, name.as_slice())?;
+                row.b2 = Blob::from_slice(alloc, digest)?;
             }
-            Entry::Conflict { paper, user, on } => Ok(without_bytes(
-                alloc,
-                10,
-                maker,
-                more,
-                paper.number(),
-                user.number(),
-                u64::from(*on),
-            )),
+            Entry::Named { user, role } => {
+                row.n1 = user.number();
+                row.n2 = role.number();
+            }
+            Entry::PhaseSet { phase } => row.n1 = phase.number(),
+            Entry::ModeSet { mode } => row.n1 = mode.number(),
+            Entry::Conflict { paper, user, on } => {
+                row.n1 = paper.number();
+                row.n2 = user.number();
+                row.n3 = u64::from(*on);
+            }
             Entry::Submitted {
                 paper,
                 title,
                 abstract_,
-            } => Ok(Row {
-                kind: 5,
-                maker,
-                more,
-                n1: paper.number(),
-                n2: 0,
-                n3: 0,
-                n4: 0,
-                n5: 0,
-                b1: Blob::from_slice(alloc, title.as_str().as_bytes())?,
-                b2: Blob::from_slice(alloc, abstract_.as_str().as_bytes())?,
-            }),
+            } => {
+                row.n1 = paper.number();
+                row.b1 = Blob::from_slice(alloc, title.as_str().as_bytes())?;
+                row.b2 = Blob::from_slice(alloc, abstract_.as_str().as_bytes())?;
+            }
         }
+        Ok(row)
     }
 }
 
-/// A row without bytes.
-fn without_bytes(alloc: Global, kind: u64, maker: u64, more: u64, n1: u64, n2: u64, n3: u64) -> Row
-    ensures { result ≡ record { kind = kind; maker = maker; more = more; n1 = n1; n2 = n2; n3 = n3; n4 = 0; n5 = 0; b1 = []; b2 = [] } }
-{
-    Row {
-        kind,
-        maker,
-        more,
-        n1,
-        n2,
-        n3,
-        n4: 0,
-        n5: 0,
-        b1: Blob::empty(alloc),
-        b2: Blob::empty(alloc),
+impl Row {
+    /// A row of this kind, maker and mark, whose other fields are unused; takes no memory.
+    fn unused(alloc: Global, kind: EntryKind, maker: UserNo, more: bool) -> Row
+        ensures { result ≡ record { kind = kind_number kind; maker = maker; more = bit_number more; n1 = 0; n2 = 0; n3 = 0; n4 = 0; n5 = 0; b1 = []; b2 = [] } }
+    {
+        Row {
+            kind: kind.number(),
+            maker: maker.number(),
+            more: u64::from(more),
+            n1: 0,
+            n2: 0,
+            n3: 0,
+            n4: 0,
+            n5: 0,
+            b1: Blob::empty(alloc),
+            b2: Blob::empty(alloc),
+        }
     }
 }
 

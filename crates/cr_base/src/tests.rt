@@ -1,10 +1,19 @@
-use crate::{Blob, Entry, PaperNo, Phase, Role, Row, Short, Stamped, Text, UserNo};
+use crate::{Blob, Entry, Mode, PaperNo, Phase, Role, Row, Short, Stamped, Text, UserNo};
 use std::alloc::Global;
 use std::test::Fail;
 
-/// An entry of each kind.
-fn entries(alloc: Global) -> Result<[Stamped; 4], Fail> {
-    let user = UserNo::new(1);
+/// An entry of the first user's that no other of the same command follows.
+fn alone(entry: Entry) -> Stamped {
+    Stamped {
+        maker: UserNo::new(1),
+        more: false,
+        entry,
+    }
+}
+
+/// An entry of each kind, in the order of their numbers.
+fn entries(alloc: Global) -> Result<[Stamped; 6], Fail> {
+    let (user, paper) = (UserNo::new(1), PaperNo::new(12));
     Ok([
         Stamped {
             maker: user,
@@ -15,30 +24,30 @@ fn entries(alloc: Global) -> Result<[Stamped; 4], Fail> {
                 digest: [7; 32],
             },
         },
-        Stamped {
-            maker: user,
-            more: false,
-            entry: Entry::Named {
-                user,
-                role: Role::Chair,
-            },
-        },
-        Stamped {
-            maker: user,
-            more: false,
-            entry: Entry::PhaseSet {
-                phase: Phase::Discussion,
-            },
-        },
+        alone(Entry::Named {
+            user,
+            role: Role::Chair,
+        }),
+        alone(Entry::PhaseSet {
+            phase: Phase::Discussion,
+        }),
+        alone(Entry::ModeSet {
+            mode: Mode::Anonymous,
+        }),
         Stamped {
             maker: UserNo::new(9_999),
             more: false,
             entry: Entry::Submitted {
-                paper: PaperNo::new(12),
+                paper,
                 title: Text::from_str(alloc, "Schr\u{f6}dinger")?,
                 abstract_: Text::from_str(alloc, "A cat.\n")?,
             },
         },
+        alone(Entry::Conflict {
+            paper,
+            user: UserNo::new(3),
+            on: true,
+        }),
     ])
 }
 
@@ -64,6 +73,15 @@ fn is_entry(read: &Entry, wanted: &Entry) -> bool {
             },
         ) => *user == *wanted_user && *role == *wanted_role,
         (Entry::PhaseSet { phase }, Entry::PhaseSet { phase: wanted }) => *phase == *wanted,
+        (Entry::ModeSet { mode }, Entry::ModeSet { mode: wanted }) => *mode == *wanted,
+        (
+            Entry::Conflict { paper, user, on },
+            Entry::Conflict {
+                paper: wanted_paper,
+                user: wanted_user,
+                on: wanted_on,
+            },
+        ) => *paper == *wanted_paper && *user == *wanted_user && *on == *wanted_on,
         (
             Entry::Submitted {
                 paper,
@@ -100,18 +118,20 @@ fn is_stamped(read: &Option<Stamped>, wanted: &Stamped) -> bool {
 fn rows_of_entries(rt: HostRuntime) -> Result<(), Fail> {
     let alloc = rt.alloc();
     let digest = [7; 32];
-    let wanted: [([u64; 8], &[u8], &[u8]); 4] = [
+    let wanted: [([u64; 8], &[u8], &[u8]); 6] = [
         ([1, 1, 1, 1, 0, 0, 0, 0], b"alice", &digest),
         ([2, 1, 0, 1, 2, 0, 0, 0], b"", b""),
         ([3, 1, 0, 4, 0, 0, 0, 0], b"", b""),
+        ([4, 1, 0, 2, 0, 0, 0, 0], b"", b""),
         (
             [5, 9_999, 0, 12, 0, 0, 0, 0],
             b"Schr\xc3\xb6dinger",
             b"A cat.\n",
         ),
+        ([10, 1, 0, 12, 3, 1, 0, 0], b"", b""),
     ];
     let entries = entries(alloc)?;
-    for i in 0..4 {
+    for i in 0..6 {
         let copied = entries[i].copy(alloc)?;
         let row = row_of(alloc, &copied)?.copy(alloc)?;
         let numbers = [
@@ -148,7 +168,7 @@ fn rows_of_no_entry(rt: HostRuntime) -> Result<(), Fail> {
                 row.n1 = 7;
                 row.n2 = 0;
             }
-            _ => row.kind = 4,
+            _ => row.kind = 6,
         }
         assert!(rt; Stamped::from_row(alloc, &row)?.is_none(), "case {broken}");
     }
@@ -157,7 +177,7 @@ fn rows_of_no_entry(rt: HostRuntime) -> Result<(), Fail> {
 
 /// Whether a row of a submission with this title and this abstract is an entry's.
 fn is_submission(alloc: Global, title: &[u8], abstract_: &[u8]) -> Result<bool, Fail> {
-    let mut row = row_of(alloc, &entries(alloc)?[3])?;
+    let mut row = row_of(alloc, &entries(alloc)?[4])?;
     row.b1 = Blob::from_slice(alloc, title)?;
     row.b2 = Blob::from_slice(alloc, abstract_)?;
     Ok(Stamped::from_row(alloc, &row)?.is_some())

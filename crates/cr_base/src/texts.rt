@@ -104,10 +104,7 @@ impl Text {
     }
 }
 
-/// The most bytes that a `Short` holds.
-pub const MAX_SHORT: usize = 34;
-
-/// At most 34 bytes, kept in place: a name or a tag. Contracts see the list of its bytes.
+/// At most 34 bytes, kept in place: a name, say. Contracts see the list of its bytes.
 #[derive(Clone, Copy, Debug)]
 pub struct Short {
     bytes: [u8; 34],
@@ -185,7 +182,7 @@ impl Hash for Short {
 }
 
 /// Whether a byte may stand in a name: `a` to `z`, `0` to `9` or `-`.
-pub fn is_name_byte(byte: u8) -> bool
+fn is_name_byte(byte: u8) -> bool
     ensures { result ≡ is_name_byte byte }
 {
     byte.is_ascii_lowercase() || byte.is_ascii_digit() || byte == b'-'

@@ -19,7 +19,7 @@ pub enum Phase {
     Discussion,
     /// Authors see what was decided.
     Notification,
-    /// Nothing changes any more.
+    /// The conference is over: no phase follows.
     Closed,
 }
 
@@ -30,7 +30,8 @@ pub enum Mode {
     Overt,
     /// Authors don't see who reviews them; reviewers see who wrote (single-anonymous).
     Blind,
-    /// Neither sees the other's names (double-anonymous).
+    /// Neither sees the other's names (double-anonymous). A chair who isn't in conflict with a paper
+    /// sees both.
     Anonymous,
 }
 

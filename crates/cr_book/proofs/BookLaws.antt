@@ -1,5 +1,5 @@
 -- What stays true of a book when its history grows.
-use Rattle.std.proofs.Common.{ℕ, ◌≡◌, List, [], ◌++◌, refl, sym, ap, subst, ◌∙◌, Option, Some, None, Result, Ok, Err, IfSome, IsSome}
+use Rattle.std.proofs.Common.{ℕ, ◌≡◌, List, ◌++◌, refl, sym, ap, subst, ◌∙◌, Option, Some, None, Result, Ok, Err, IfSome, IsSome}
 use Rattle.cr_base.specs.declared.command.Command.{Command}
 use Rattle.cr_base.specs.declared.command.Command.TheVariants.{Register, SetPhase, Submit, Name, SetMode, SetConflict}
 use Rattle.cr_base.specs.declared.reply.Receipt.{Receipt}
@@ -10,22 +10,19 @@ use Rattle.cr_base.specs.Accounts.{number_at, caller_at}
 use Rattle.cr_base.specs.Facts.{number_of, caller_of}
 use Rattle.cr_base.specs.declared.command.Query.{Query}
 use Rattle.cr_base.specs.declared.command.Query.TheVariants as queries
-use Rattle.cr_base.specs.Judging.{Drawn, judge_by_role, answer_by_role, wants_login}
+use Rattle.cr_base.specs.Judging.{Drawn, judge_by_role, answer_by_role}
+use Rattle.cr_base.specs.Logins.{query_wants_login}
 use Rattle.cr_base.specs.Rows.{rows_of}
-use Rattle.cr_base.specs.Tables.{Tables, no_tables, tables_of, tables_from}
+use Rattle.cr_base.specs.Tables.{Tables, tables_of, tables_from}
 use Rattle.cr_policy.specs.Judge.{judge, answer}
 use Rattle.cr_policy.specs.View.{view}
 use Rattle.cr_policy.specs.Legal.{IsAllowed, IsCaller, IsUser, Legal, MayAsk}
-use Rattle.cr_policy.proofs.LegalLaws.{Legal-nil, Legal-accepted, Legal-judge, Legal-answer, Legal-number_of, Legal-caller_of}
+use Rattle.cr_policy.proofs.LegalLaws.{Legal-accepted, Legal-judge, Legal-answer, Legal-number_of, Legal-caller_of}
 use Rattle.cr_policy.proofs.TableTies.{tables_of-append, rows_of-append}
 use Rattle.cr_ports.specs.Keeping.{and_rows}
 use Rattle.cr_view.specs.Callers.{HasCaller, HasAsker}
 use Rattle.cr_view.specs.Judged.{receipt_or_rule}
 use Rattle.cr_book.specs.Sound.{IsSound, Accepts}
-
--- the book of no entries
-pub sound-nil : {K : Type 0} (rows : K → Option (List Row)) (keeper : K) → IfSome (rows keeper) (λ told. told ≡ []) → IsSound rows [] no_tables keeper
-sound-nil rows keeper none = record { legal = Legal-nil; same = refl; kept = none }
 
 -- whoever may give a command is there, where it is a user's
 pub caller-there : (h : History) (caller : Option ℕ) (command : Command) → IsAllowed h (record { caller = caller; command = command }) → HasCaller caller command
@@ -44,7 +41,7 @@ caller-there h caller command allowed = by command allowed.caller
     by (SetConflict paper user' on) there = user caller there
 
 -- and so is whoever may ask what only a user is told
-pub asker-there : (h : History) (caller : Option ℕ) (query : Query) → MayAsk h (wants_login query) caller → HasAsker caller query
+pub asker-there : (h : History) (caller : Option ℕ) (query : Query) → MayAsk h (query_wants_login query) caller → HasAsker caller query
 asker-there h caller queries.Accounts may = tt
 asker-there h caller queries.Phase may = tt
 asker-there h caller (queries.Page paper) may = tt

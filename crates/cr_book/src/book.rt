@@ -2,7 +2,7 @@
 ghost use Rattle.std.specs.Prelude.{◌≡◌, ◌≤◌, ◌++◌, ℕ, [], length, IfOk, OnOk, OnErr, IfSome, Ok, Err, ◌≢◌};
 ghost use Rattle.cr_base.specs.declared.reply.Rule.{Rule};
 ghost use Rattle.cr_base.specs.Facts.{number_of, caller_of};
-ghost use Rattle.cr_base.specs.Judging.{wants_login};
+ghost use Rattle.cr_base.specs.Logins.{query_wants_login};
 ghost use Rattle.cr_policy.specs.Judge.{judge, answer};
 ghost use Rattle.cr_policy.specs.View.{view};
 ghost use Rattle.cr_base.specs.declared.reply.Reply.TheVariants as replies;
@@ -87,7 +87,7 @@ impl<K: Keeper> Book<K> {
     /// The caller is nobody on a registration, and the command is within the bounds on its parts. On
     /// each error the history and the keeper's rows stay as they were. A broken rule is told whatever
     /// memory there is. `KeeperFault` comes only where the keeper's count of faults rose, or stands at
-    /// its last value; `OutOfMemory` for want of memory alone.
+    /// its last value; `OutOfMemory` for want of memory alone, and then the count is as it was.
     pub fn command(
         &mut self,
         caller: &Option<UserNo>,
@@ -105,6 +105,7 @@ impl<K: Keeper> Book<K> {
         ensures log_stays { OnErr result (self.new.log ≡ self.old.log) }
         ensures rows_stay { OnErr result (K.rows self.new.keeper ≡ K.rows self.old.keeper) }
         ensures fault { result ≡ Err BookError.KeeperFault → Rises (K.faults self.old.keeper) (K.faults self.new.keeper) }
+        ensures memory { result ≡ Err BookError.OutOfMemory → K.faults self.new.keeper ≡ K.faults self.old.keeper }
         ensures count { K.faults self.old.keeper ≤ K.faults self.new.keeper }
         ensures legal { Legal self.new.log }
     {
@@ -115,8 +116,8 @@ impl<K: Keeper> Book<K> {
     }
 
     /// Takes the room for what an accepted command adds, keeps it and applies it: after the keeper has
-    /// kept it nothing can fail. The tables keep the texts of what is added, and the history has them
-    /// too: one copy of them is made.
+    /// kept it nothing can fail. The texts of what is added are copied three times: into the entries,
+    /// which the tables keep, into the rows, and for the history.
     fn keep(
         &mut self,
         caller: &Option<UserNo>,
@@ -130,6 +131,7 @@ impl<K: Keeper> Book<K> {
         ensures log_stays { OnErr result (self.new.log ≡ self.old.log) }
         ensures rows_stay { OnErr result (K.rows self.new.keeper ≡ K.rows self.old.keeper) }
         ensures fault { result ≡ Err BookError.KeeperFault → Rises (K.faults self.old.keeper) (K.faults self.new.keeper) }
+        ensures memory { result ≡ Err BookError.OutOfMemory → K.faults self.new.keeper ≡ K.faults self.old.keeper }
         ensures count { K.faults self.old.keeper ≤ K.faults self.new.keeper }
         ensures legal { Legal self.new.log }
     {
@@ -166,7 +168,7 @@ impl<K: Keeper> Book<K> {
     /// one more for each name that is told, and a copy of the texts that are told, `Query::Me` a walk
     /// over her own papers and conflicts, `Query::Phase` nothing that grows.
     pub fn answer(&self, caller: &Option<UserNo>, query: &Query) -> Result<Reply, AllocError>
-        requires { MayAsk self.now.log (wants_login query.now) caller.now }
+        requires { MayAsk self.now.log (query_wants_login query.now) caller.now }
         ensures reply { IfOk result (λ reply. reply ≡ answer caller.now (view caller.now self.now.log) query.now) }
         ensures rule { (rule : Rule) → answer caller.now (view caller.now self.now.log) query.now ≡ replies.Refused rule → result ≡ Ok (replies.Refused rule) }
     {
@@ -191,12 +193,9 @@ impl<K: Keeper> Book<K> {
 
     /// Whether a query wants a login; takes no memory.
     pub fn needs_login(&self, query: &Query) -> bool
-        ensures { result ≡ wants_login query.now }
+        ensures { result ≡ query_wants_login query.now }
     {
-        match query {
-            Query::Accounts | Query::Phase => false,
-            Query::Me | Query::Page { .. } => true,
-        }
+        query.wants_login()
     }
 
     /// How many entries the history has; takes no memory.

@@ -9,7 +9,7 @@ use std::alloc::{AllocError, Global};
 pub(crate) fn rows_of(alloc: Global, group: &[Stamped]) -> Result<Vec<Row>, AllocError>
     ensures { IfOk result (λ rows. rows.items ≡ rows_of group.now) }
 {
-    let mut rows = Vec::new(alloc);
+    let mut rows = Vec::with_capacity(alloc, group.len())?;
     for stamped in group {
         rows.push(stamped.entry.to_row(alloc, stamped.maker, stamped.more)?)?;
     }
@@ -20,7 +20,7 @@ pub(crate) fn rows_of(alloc: Global, group: &[Stamped]) -> Result<Vec<Row>, Allo
 pub(crate) fn copies_of(alloc: Global, group: &[Stamped]) -> Result<Vec<Stamped>, AllocError>
     ensures { IfOk result (λ copies. copies.items ≡ group.now) }
 {
-    let mut copies = Vec::new(alloc);
+    let mut copies = Vec::with_capacity(alloc, group.len())?;
     for stamped in group {
         copies.push(stamped.copy(alloc)?)?;
     }

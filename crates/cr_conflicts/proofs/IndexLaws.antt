@@ -1,5 +1,5 @@
 -- What the index by users is after one more entry, and that it has a user's papers in order.
-use Rattle.std.proofs.Common.{ℕ, Bool, true, false, cond, ◌≡◌, ◌≤◌, ◌+◌, List, [], ◌∷◌, ◌++◌, length, length-append, eqb, arith, refl, sym, ap, subst, ◌∙◌, ◌||◌, ◌&&◌, Some}
+use Rattle.std.proofs.Common.{ℕ, Bool, true, false, cond, ◌≡◌, ◌≤◌, ◌+◌, List, [], ◌∷◌, ◌++◌, length, length-append, eqb, arith, refl, sym, ap, ◌∙◌, ◌||◌, ◌&&◌, Some}
 use Rattle.std.specs.Prelude.{not}
 use Rattle.std.specs.List.{filter, All, AllByRecursion}
 use Rattle.std.proofs.lemmas.List.Elements.{All-from_recursion}

@@ -1,6 +1,6 @@
-//! The rules of turning a conflict on and off, a function a row.
+//! The rules of turning a conflict on and off, a function a list of checks.
 ghost use Rattle.std.specs.Prelude.{◌≡◌, false, true, Some};
-ghost use Rattle.cr_base.specs.Checks.{judged, conflict_row, declare_checks, own_checks, other_checks, off_checks};
+ghost use Rattle.cr_base.specs.Checks.{judged, conflict_case, declare_checks, own_checks, other_checks, off_checks};
 ghost use Rattle.cr_base.specs.Phases.{is_from};
 
 use cr_base::{Phase, Role, Rule, Standing};
@@ -46,7 +46,7 @@ fn other(by: &Standing, role: Role) -> Result<(), Rule>
 
 /// On: by the phase, and whether the caller names herself.
 pub(crate) fn on(by: &Standing, role: Role, herself: bool) -> Result<(), Rule>
-    ensures { result ≡ judged (conflict_row true (is_from Phase.Bidding by.now.phase) (is_from Phase.Notification by.now.phase) herself by.now (Some role) false) tt }
+    ensures { result ≡ judged (conflict_case true (is_from Phase.Bidding by.now.phase) (is_from Phase.Notification by.now.phase) herself by.now (Some role) false) tt }
 {
     if !by.phase.is_from(Phase::Bidding) {
         return declared(by, role);

@@ -39,9 +39,6 @@ fits_on start log more serving next risen risen' v p on f = record {
   alive = f.alive;
 }
 
-serves_value : {E : Type 0} (t n : ℕ) (role : Role E) → role ≡ Holding t n → has_value role ≡ 1
-serves_value t n role e = ap has_value e
-
 -- the turns of few passes are few
 products : {E : Type 0} (most : ℕ) (vs : List (View E)) → ((j : ℕ) (u : View E) → get_elem? vs j ≡ some u → u.turns ≤ most) → total (λ u. u.share * u.turns) vs ≤ total (λ u. u.share) vs * most
 products most [] few = omega arith

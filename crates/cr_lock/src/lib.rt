@@ -32,7 +32,7 @@
 //! 7. **next**: `fetch_add` of 1 on serving. The pass holds no ticket, and the value is whoever's has the next one.
 //!    This comes last: after it the pass may no longer touch the slot or the count. Whoever sleeps is then woken.
 //!
-//! A split or a join of passes is one step on the base's word 0, ticket, which stays as it was: one pass's knowledge is
+//! A split or a join of passes is one step on the table's word 0, ticket, which stays as it was: one pass's knowledge is
 //! copied, or that of two is put together. A look after a join changes nothing, and tells what the two had in common.
 //!
 //! # Not claimed

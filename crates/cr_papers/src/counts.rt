@@ -20,14 +20,6 @@ impl Model for Counts {
     ghost view = { λ c. c.counts.items };
 }
 
-/// Where the count of a user stands: users are numbered from 1.
-fn place_of(user: UserNo) -> usize
-    ensures value { result ≡ user - 1 }
-    ensures within { result < 9999 }
-{
-    user.number() as usize - 1
-}
-
 impl Counts {
     /// Every count is 0; takes no memory.
     pub(crate) fn new(alloc: Global) -> Counts
@@ -42,7 +34,7 @@ impl Counts {
     pub(crate) fn of(&self, user: UserNo) -> u64
         ensures { result ≡ slice_index self.now (user - 1) }
     {
-        match self.counts.get(place_of(user)) {
+        match self.counts.get(user.place()) {
             Some(count) => u64::from(*count),
             None => 0,
         }
@@ -67,6 +59,6 @@ impl Counts {
         requires few { slice_index self.old (user - 1) < 255 }
         ensures { self.new ≡ slice_set self.old (user - 1) (slice_index self.old (user - 1) + 1) }
     {
-        self.counts[place_of(user)] += 1;
+        self.counts[user.place()] += 1;
     }
 }

@@ -4,9 +4,7 @@ ghost use Rattle.std.specs.List.{list_any};
 ghost use Rattle.std.specs.Option.{option_map, option_copied};
 ghost use Rattle.cr_base.specs.Checks.{judged, submit_checks};
 ghost use Rattle.cr_base.specs.Papers.{papers_after, paper_numbers, paper_at, title_at, abstract_at, authors_at, is_author_at, own_count, PapersFit};
-ghost use Rattle.cr_base.specs.Phases.{is_phase};
 ghost use Rattle.cr_base.specs.declared.paper.Paper.{Paper};
-ghost use Rattle.cr_base.specs.declared.words.Phase.TheVariants.{Submission};
 
 use crate::counts::Counts;
 use cr_base::{Entry, LAST_NUMBER, Paper, PaperNo, Phase, Rule, Stamped, Standing, Text, UserNo};
@@ -36,20 +34,6 @@ impl Model for Papers {
     ghost view = { λ t. record { papers = t.papers.items; room = if nat_le 9999 (length t.counts) then vec_capacity t.papers - vec_len t.papers else 0 } };
 
     ghost invariant = { λ t. IsCounted t.papers.items t.counts };
-}
-
-/// Where a paper stands: papers are numbered from 1.
-fn place_of(paper: PaperNo) -> usize
-    ensures { result ≡ paper - 1 }
-{
-    paper.number() as usize - 1
-}
-
-/// Whether papers are submitted in this phase.
-fn is_submission(phase: Phase) -> bool
-    ensures { result ≡ is_phase phase Submission }
-{
-    matches!(phase, Phase::Submission)
 }
 
 /// What is read.
@@ -90,7 +74,7 @@ impl Papers {
     pub fn submitter(&self, paper: PaperNo) -> Option<UserNo>
         ensures { result ≡ option_map (λ (p : Paper). p.submitter) (paper_at self.now.papers paper) }
     {
-        let paper = self.papers.get(place_of(paper))?;
+        let paper = self.papers.get(paper.place())?;
         Some(paper.submitter)
     }
 
@@ -121,7 +105,7 @@ impl Papers {
     pub fn last_title(&self, paper: PaperNo) -> Option<&Text>
         ensures { option_copied result ≡ title_at self.now.papers paper }
     {
-        let paper = self.papers.get(place_of(paper))?;
+        let paper = self.papers.get(paper.place())?;
         Some(&paper.title)
     }
 
@@ -130,7 +114,7 @@ impl Papers {
     pub fn last_abstract(&self, paper: PaperNo) -> Option<&Text>
         ensures { option_copied result ≡ abstract_at self.now.papers paper }
     {
-        let paper = self.papers.get(place_of(paper))?;
+        let paper = self.papers.get(paper.place())?;
         Some(&paper.abstract_)
     }
 }
@@ -144,7 +128,7 @@ impl Papers {
     pub fn judge_submit(&self, by: &Standing, maker: UserNo) -> Result<PaperNo, Rule>
         ensures { result ≡ judged (submit_checks by.now (length self.now.papers) (own_count self.now.papers (Some maker))) (length self.now.papers + 1) }
     {
-        if !is_submission(by.phase) {
+        if !by.phase.is(Phase::Submission) {
             return Err(Rule::WrongPhase);
         }
         if self.count() >= LAST_NUMBER {

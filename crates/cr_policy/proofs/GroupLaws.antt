@@ -1,9 +1,9 @@
 -- What the group of an accepted command is like: its entries fit in their turn, and each has a row.
-use Rattle.std.proofs.Common.{ℕ, Bool, true, false, cond, ◌≡◌, ◌≤◌, ◌<◌, ◌+◌, List, [], ◌∷◌, ◌++◌, length, eqb, refl, sym, ap, subst, ◌∙◌, arith, length-append, zero, suc, ◌&&◌, ◌-◌, Option, Some, None, Ok}
-use Rattle.std.specs.Prelude.{is_some, is_none, not, nat_le, unwrap_or}
+use Rattle.std.proofs.Common.{ℕ, Bool, true, false, cond, ◌≡◌, ◌≤◌, ◌<◌, ◌+◌, List, [], ◌∷◌, ◌++◌, length, eqb, refl, sym, ap, subst, ◌∙◌, arith, length-append, Option, Some, None, Ok}
+use Rattle.std.specs.Prelude.{is_some, is_none, unwrap_or}
 use Rattle.std.specs.List.{All, list_any}
+use Rattle.std.specs.Option.{option_and_then}
 use Rattle.std.proofs.lemmas.Bool.{leb-false, true≢false}
-use Rattle.std.proofs.lemmas.Bool.Decides.{nat_tests}
 use Rattle.std.proofs.lemmas.List.Elements.{All-from_recursion}
 use Rattle.cr_base.specs.declared.command.Command.{Command}
 use Rattle.cr_base.specs.declared.command.Command.TheVariants.{Register, SetPhase, Submit, Name, SetMode, SetConflict}
@@ -25,14 +25,15 @@ use Rattle.cr_base.specs.Texts.{IsName, IsTitle, IsAbstract}
 use Rattle.cr_base.specs.Words.{phase_number, mode_number, role_number, is_member}
 use Rattle.cr_base.specs.Bounds.{IsBoundedCommand}
 use Rattle.cr_base.specs.Checks.{register_checks, phase_checks, submit_checks, name_checks, mode_checks, conflict_checks}
-use Rattle.cr_base.specs.Lists.{is_number, at_some, numbers_from}
+use Rattle.cr_base.specs.Lists.{is_number, at_some}
 use Rattle.cr_base.specs.History.{History}
 use Rattle.cr_base.specs.Judging.{Facts, Drawn, grouped, registration_drawn, phase_drawn, submission_drawn, naming_drawn, mode_drawn, conflict_drawn, standing_at, facts_of_tables, user_among, role_among, has_paper, judge_by_role}
 use Rattle.cr_base.specs.Rows.{IsBoundedEntry}
 use Rattle.cr_base.specs.Tables.{Tables, FitInTurn}
 use Rattle.cr_base.proofs.AccountLaws.{judge_by_role-register}
 use Rattle.cr_base.proofs.CheckLaws.{judged-Ok}
-use Rattle.cr_base.proofs.ListLaws.{length-numbers_from, list_any-numbers_from, role_among-lines_of}
+use Rattle.cr_base.proofs.ListLaws.{length-numbers_from, role_among-lines_of}
+use Rattle.cr_base.proofs.TargetLaws.{target_within, paper_within}
 use Rattle.cr_policy.proofs.CallerLaws.{HasMaker}
 use Rattle.cr_policy.proofs.SizeTies.{IsSized}
 
@@ -172,21 +173,11 @@ module _ (t : Tables) (maker : ℕ) (to : Mode) (made : InRange users maker) whe
     some = omega arith;
   }
 
--- ---- the user named
-
--- a user who has an account has one of the accounts' numbers
-account_within : (accounts : List Account) (v : ℕ) → is_none (role_at accounts v) ≡ false → (1 ≤ v) × (v ≤ length accounts)
-account_within accounts zero h = absurd (true≢false h)
-account_within [] (suc v) h = absurd (true≢false h)
-account_within (a ∷ accounts) (suc zero) h = (omega arith, omega arith)
-account_within (a ∷ accounts) (suc (suc v)) h = let high = (account_within accounts (suc v) h).1 in (omega arith, omega (arith, high))
-
--- and so has a user named who has a role
-target_within : (accounts : List Account) (target : Option ℕ) → is_none (role_among (lines_of accounts) target) ≡ false → (1 ≤ unwrap_or target 0) × (unwrap_or target 0 ≤ length accounts)
-target_within accounts None h = absurd (true≢false h)
-target_within accounts (Some v) h = account_within accounts v (sym (ap is_none (role_among-lines_of accounts (Some v))) ∙ h)
-
 -- ---- members and chairs
+
+-- the lines tell the role that the accounts do
+with_role : (accounts : List Account) (target : Option ℕ) → is_none (role_among (lines_of accounts) target) ≡ false → is_none (option_and_then (role_at accounts) target) ≡ false
+with_role accounts target h = sym (ap is_none (role_among-lines_of accounts target)) ∙ h
 
 member_number : (role : Role) → is_member role ≡ true → InRange roles (role_number role)
 member_number role.Account h = absurd (true≢false (sym h))
@@ -212,24 +203,10 @@ name-good : (t : Tables) (maker : ℕ) (name : Option (List ℕ)) (to : Role) (d
 name-good t maker name to drawn made member few accepted =
     let target : Option ℕ = user_among (lines_of t.accounts) name in
     let k = judged-Ok (name_checks (standing_at t (Some maker) None) (role_among (lines_of t.accounts) target) to) (naming_drawn maker (unwrap_or target 0) (unwrap_or name []) to) drawn accepted in
-    let within = target_within t.accounts target k.0.0 in
+    let within = target_within t.accounts target (with_role t.accounts target k.0.0) in
     subst (λ (d : Drawn). IsGoodGroup t d.group) k.1 (naming-good t maker (unwrap_or target 0) to made member within.0 within.1 few)
 
 -- ---- conflicts
-
--- a paper that is there has one of the papers' numbers
-paper_within : {A : Type 0} (papers : List A) (paper : Option ℕ) → not (at_some (λ p. list_any (λ q. eqb q p) (numbers_from 1 papers)) paper) ≡ false → (1 ≤ unwrap_or paper 0) × (unwrap_or paper 0 ≤ length papers)
-paper_within papers None h = absurd (true≢false h)
-paper_within papers (Some p) h = inside p (length papers) (sym (ap not (list_any-numbers_from 1 p papers (omega arith))) ∙ h)
-  where
-    inside : (p n : ℕ) → not (nat_le 1 p && nat_le p (1 + n - 1)) ≡ false → (1 ≤ p) × (p ≤ n)
-    inside p n h = (low, high)
-      where
-        low : 1 ≤ p
-        low = grind (arith, nat_tests)
-
-        high : p ≤ n
-        high = grind (arith, nat_tests)
 
 module _ (t : Tables) (maker paper user : ℕ) (on : Bool) (made : InRange users maker) (sized : IsSized t) (there : (1 ≤ paper) × (paper ≤ length t.papers)) (registered : (1 ≤ user) × (user ≤ length t.accounts)) where
   abbrev switch : Stamped
@@ -266,7 +243,7 @@ conflict-good t maker paper name on drawn made sized accepted =
     (conflict_checks (standing_at t (Some maker) paper) (has_paper facts paper) (role_among (lines_of t.accounts) target) (is_number target maker) (at_some (λ p. list_any (is_number target) (authors_at t.papers p)) paper) on)
     (conflict_drawn maker (unwrap_or paper 0) (unwrap_or target 0) on) drawn accepted in
     subst (λ (d : Drawn). IsGoodGroup t d.group) k.1
-    (switch-good t maker (unwrap_or paper 0) (unwrap_or target 0) on made sized (paper_within t.papers paper k.0.0) (target_within t.accounts target k.0.1.0))
+    (switch-good t maker (unwrap_or paper 0) (unwrap_or target 0) on made sized (paper_within t.papers paper k.0.0) (target_within t.accounts target (with_role t.accounts target k.0.1.0)))
 
 -- ---- all commands
 

@@ -18,7 +18,7 @@ use Rattle.cr_base.specs.Lists.{last_or, is_number, at_some, until, since}
 use Rattle.cr_base.specs.History.{History, all_told, phase_told, author_told}
 use Rattle.cr_base.specs.Facts.{phase_of, authors_of, is_author, is_declared, standing_of}
 use Rattle.cr_base.specs.Phases.{phase_place, is_from, is_phase}
-use Rattle.cr_base.specs.Checks.{register_checks, phase_checks, submit_checks, name_checks, mode_checks, conflict_row, conflict_checks}
+use Rattle.cr_base.specs.Checks.{register_checks, phase_checks, submit_checks, name_checks, mode_checks, conflict_case, conflict_checks}
 use Rattle.cr_base.specs.Judging.{Facts, Shown, Drawn, grouped, number_in, user_among, role_among, has_paper, registration_drawn, phase_drawn, submission_drawn, naming_drawn, mode_drawn, conflict_drawn, judge_by}
 use Rattle.cr_base.proofs.CheckLaws.{NoneBroken, judged-Ok}
 use Rattle.cr_base.proofs.LastLaws.{last_or-cons}
@@ -86,18 +86,18 @@ pub record GroupAllowed (H g : History) : Type 0 where
 no_author : (a d : Bool) → (a || d) ≡ false → a ≡ false
 no_author a d h = grind arith
 
--- the rules of the five rows say who may make which conflict entry
-row_allows : (H : History) (maker paper user : ℕ) (on bidding late herself : Bool) (target : Option Role) (author : Bool) → is_from Bidding (phase_of H) ≡ bidding → eqb user maker ≡ herself → NoneBroken (conflict_row on bidding late herself (standing_of (Some maker) (Some paper) H) target author) → EntryAllowed H maker (Conflict paper user on)
-row_allows H maker paper user false bidding late herself target author b h none = (
+-- the rules of the five lists say who may make which conflict entry
+case_allows : (H : History) (maker paper user : ℕ) (on bidding late herself : Bool) (target : Option Role) (author : Bool) → is_from Bidding (phase_of H) ≡ bidding → eqb user maker ≡ herself → NoneBroken (conflict_case on bidding late herself (standing_of (Some maker) (Some paper) H) target author) → EntryAllowed H maker (Conflict paper user on)
+case_allows H maker paper user false bidding late herself target author b h none = (
   λ early. absurd (false≢true (sym early ∙ (and_parts (is_from Bidding (phase_of H)) (not (is_from Notification (phase_of H))) (not-false (is_from Bidding (phase_of H) && not (is_from Notification (phase_of H))) none.1.1.0)).0)),
   λ begun other. no_author (is_author (Some maker) paper H) (is_declared (Some maker) paper H) none.1.0,
 )
-row_allows H maker paper user true false late herself target author b h none =
+case_allows H maker paper user true false late herself target author b h none =
     (λ early. not-false (is_author (Some maker) paper H) none.0, λ begun other. absurd (false≢true (sym b ∙ begun)))
-row_allows H maker paper user true true true herself target author b h none = absurd (true≢false none.0)
-row_allows H maker paper user true true false true target author b h none =
+case_allows H maker paper user true true true herself target author b h none = absurd (true≢false none.0)
+case_allows H maker paper user true true false true target author b h none =
     (λ early. absurd (false≢true (sym early ∙ b)), λ begun other. absurd (false≢true (sym other ∙ h)))
-row_allows H maker paper user true true false false target author b h none =
+case_allows H maker paper user true true false false target author b h none =
     (λ early. absurd (false≢true (sym early ∙ b)), λ begun other. no_author (is_author (Some maker) paper H) (is_declared (Some maker) paper H) none.1.0)
 
 -- a registration declares nobody
@@ -122,7 +122,7 @@ module _ (H : History) (maker : ℕ) (facts : Facts) (shown : Shown) where
   conflict_allows : (paper target : Option ℕ) (on : Bool) → NoneBroken (conflict_checks (standing_of (Some maker) paper H) (has_paper facts paper) (role_among facts.accounts target) (is_number target maker) (author_shown paper target) on) → EntryAllowed H maker (Conflict (unwrap_or paper 0) (unwrap_or target 0) on)
   conflict_allows None target on none = absurd (true≢false none.0)
   conflict_allows (Some p) None on none = absurd (true≢false none.1.0)
-  conflict_allows (Some p) (Some v) on none = row_allows H maker p v on (is_from Bidding (phase_of H)) (is_from Notification (phase_of H)) (eqb v maker) (role_among facts.accounts (Some v)) (author_shown (Some p) (Some v)) refl refl none.1.1
+  conflict_allows (Some p) (Some v) on none = case_allows H maker p v on (is_from Bidding (phase_of H)) (is_from Notification (phase_of H)) (eqb v maker) (role_among facts.accounts (Some v)) (author_shown (Some p) (Some v)) refl refl none.1.1
 
   command_allows : (command : Command) (drawn : Drawn) → judge_by by_history shown (Some maker) command ≡ Ok drawn → GroupAllowed H drawn.group
   command_allows (Register name digest) drawn accepted = registration_allows H (Some maker) by_history shown name digest drawn accepted

@@ -10,7 +10,7 @@ use Rattle.cr_base.specs.declared.standing.Standing.{Standing}
 use Rattle.cr_base.specs.declared.words.Phase.TheVariants.{Bidding, Notification}
 use Rattle.cr_base.specs.declared.words.Role.{Role}
 use Rattle.cr_base.specs.declared.words.Role.TheVariants.{Account}
-use Rattle.cr_base.specs.Checks.{◌breaks◌, judged, off_checks, conflict_row}
+use Rattle.cr_base.specs.Checks.{◌breaks◌, judged, off_checks, conflict_case}
 use Rattle.cr_base.specs.Lists.{is_number}
 use Rattle.cr_base.specs.History.{History}
 use Rattle.cr_base.specs.Page.{shows_author}
@@ -43,12 +43,12 @@ off-same by target x y drawn same = clear (is_chair by.role) by.conflicted (is_f
         ap (λ z. judged (not (true && still) breaks rules.WrongPhase ∷ member breaks rules.NotAMember ∷ z breaks rules.AuthorConflict ∷ []) drawn)
         (same (shown by.author (is_chair by.role) by.conflicted (is_from Bidding by.phase) (is_member by.role) (not (is_anonymous by.mode)) h1 h2 h3))
 
-row-same : (on bidding late herself : Bool) (by : Standing) (target : Option Role) (x y : Bool) (drawn : Drawn) → (shows_author by false ≡ true → x ≡ y) → judged (conflict_row on bidding late herself by target x) drawn ≡ judged (conflict_row on bidding late herself by target y) drawn
-row-same false bidding late herself by target x y drawn same = off-same by target x y drawn same
-row-same true false late herself by target x y drawn same = refl
-row-same true true true herself by target x y drawn same = refl
-row-same true true false true by target x y drawn same = refl
-row-same true true false false by target x y drawn same = refl
+case-same : (on bidding late herself : Bool) (by : Standing) (target : Option Role) (x y : Bool) (drawn : Drawn) → (shows_author by false ≡ true → x ≡ y) → judged (conflict_case on bidding late herself by target x) drawn ≡ judged (conflict_case on bidding late herself by target y) drawn
+case-same false bidding late herself by target x y drawn same = off-same by target x y drawn same
+case-same true false late herself by target x y drawn same = refl
+case-same true true true herself by target x y drawn same = refl
+case-same true true false true by target x y drawn same = refl
+case-same true true false false by target x y drawn same = refl
 
 -- what is shown of a paper matters to a conflict's judgement only where it is shown
 conflict-same : (facts : Facts) (shown tabled : Shown) (u paper target : Option ℕ) (on : Bool) → ((p : ℕ) → shows_author (facts.standing (Some p)) false ≡ true → shown.authors p ≡ tabled.authors p) → conflict_judged facts shown u paper target on ≡ conflict_judged facts tabled u paper target on
@@ -58,7 +58,7 @@ conflict-same facts shown tabled u (Some p) target on same =
     let drawn : Drawn = conflict_drawn (maker_of u) p (unwrap_or target 0) on in
     let role : Option Role = role_among facts.accounts target in
     ap (λ (row : Result Drawn Rule). cond (not (has_paper facts (Some p))) (Err rules.NoPaper) (cond (is_none role) (Err rules.NoUser) row))
-    (row-same on (is_from Bidding by.phase) (is_from Notification by.phase) (is_number target (maker_of u)) by role (list_any (is_number target) (shown.authors p)) (list_any (is_number target) (tabled.authors p)) drawn
+    (case-same on (is_from Bidding by.phase) (is_from Notification by.phase) (is_number target (maker_of u)) by role (list_any (is_number target) (shown.authors p)) (list_any (is_number target) (tabled.authors p)) drawn
     (λ told. ap (list_any (is_number target)) (same p told)))
 
 -- by the same facts, what a view shows makes no other judgement than what the tables hold

@@ -23,7 +23,7 @@ use Rattle.cr_policy.proofs.SizeTies.{sized-tables}
 use Rattle.cr_policy.proofs.JudgeTies.{judge-tables}
 use Rattle.cr_policy.proofs.PageTies.{answer-tables}
 use Rattle.cr_policy.proofs.TableTies.{FitInTurn-append}
-use Rattle.cr_policy.proofs.GroupLaws.{IsGoodGroup, accepted-good}
+use Rattle.cr_policy.proofs.GroupLaws.{accepted-good}
 
 -- ---- calls one after another
 
@@ -40,17 +40,9 @@ Legal-nil = ([], refl)
 pub Legal-step : (H : History) (call : Call) → Legal H → IsAllowed H call → Legal (step H call)
 Legal-step H call legal allowed = (legal.0 ++ call ∷ [], LeadsTo-append [] H (step H call) legal.0 (call ∷ []) legal.1 (allowed, refl))
 
--- what allowed calls lead to from a legal history is legal
-pub Legal-LeadsTo : (H to : History) (calls : List Call) → Legal H → LeadsTo H calls to → Legal to
-Legal-LeadsTo H to calls legal leads = (legal.0 ++ calls, LeadsTo-append [] H to legal.0 calls legal.1 leads)
-
 -- what is accepted goes behind the history
 pub step-Ok : (H : History) (call : Call) (drawn : Drawn) → judge call.caller (view call.caller H) call.command ≡ Ok drawn → step H call ≡ H ++ drawn.group
 step-Ok H call drawn accepted = ap (followed_by H) accepted
-
--- a refused call leaves the history
-pub step-Err : (H : History) (call : Call) (rule : Rule) → judge call.caller (view call.caller H) call.command ≡ Err rule → step H call ≡ H
-step-Err H call rule refused = ap (followed_by H) refused
 
 -- the group of an accepted command goes on a legal history
 pub Legal-accepted : (H : History) (caller : Option ℕ) (command : Command) (drawn : Drawn) → Legal H → IsAllowed H (record { caller = caller; command = command }) → judge caller (view caller H) command ≡ Ok drawn → Legal (H ++ drawn.group)
@@ -88,18 +80,9 @@ legal-sound H legal = leads-sound [] H legal.0 (record { fits = tt; bounded = Al
 pub Legal-fits : (H : History) → Legal H → FitInTurn no_tables H
 Legal-fits H legal = (legal-sound H legal).fits
 
--- each entry of a legal history is within its bounds, so that it has a row
-pub Legal-bounded : (H : History) → Legal H → All IsBoundedEntry H
-Legal-bounded H legal = (legal-sound H legal).bounded
-
 -- before the bidding of a legal history authors alone declare conflicts, and from it on no author declares another user
 pub Legal-in_time : (H : History) → Legal H → DeclaresInTime H
 Legal-in_time H legal = (legal-sound H legal).in_time
-
--- the group of an accepted command fits the tables in its turn, each of its entries has a row, and there is one
-pub Legal-good_group : (H : History) (caller : Option ℕ) (command : Command) (drawn : Drawn) → Legal H → IsAllowed H (record { caller = caller; command = command }) → judge caller (view caller H) command ≡ Ok drawn → IsGoodGroup (tables_of H) drawn.group
-Legal-good_group H caller command drawn legal allowed accepted =
-    accepted-good (tables_of H) caller command drawn allowed.bounded (caller-makes H caller command (Legal-fits H legal) allowed.caller) (sized-tables H (Legal-fits H legal)) (sym (judge-tables caller H command (Legal-fits H legal)) ∙ accepted)
 
 -- ---- views and tables of a legal history
 

@@ -8,7 +8,7 @@ use Rattle.cr_base.specs.Judging.{Drawn, judge_by, answer_by}
 use Rattle.cr_policy.specs.View.{View}
 use Rattle.cr_policy.specs.ViewFacts.{facts_in_view, shown_in_view}
 
--- Judge: the first broken rule of the command's row, or the entries that it adds and its receipt
+-- Judge: the first broken rule of the command's list, or the entries that it adds and its receipt
 abbrev pub judge : Option ℕ → View → Command → Result Drawn Rule
 judge u V command = judge_by (facts_in_view u V) (shown_in_view u V) u command
 

@@ -6,11 +6,12 @@ use Rattle.cr_base.specs.declared.words.Role.TheVariants.{Chair}
 use Rattle.cr_base.specs.History.{History}
 use Rattle.cr_base.specs.Facts.{standing_of, role_of, is_author, is_conflicted, declared_by_authors, accounts_of, papers_of, own_papers_of, number_of}
 use Rattle.cr_base.specs.Tables.{tables_of}
-use Rattle.cr_base.specs.Judging.{judge_by_role, answer_by_role, wants_login}
+use Rattle.cr_base.specs.Judging.{judge_by_role, answer_by_role}
+use Rattle.cr_base.specs.Logins.{command_wants_login, query_wants_login}
 use Rattle.cr_policy.specs.View.{view}
 use Rattle.cr_policy.specs.ViewFacts.{standing_in_view, accounts_in_view, papers_in_view, own_papers_in_view, number_in_view, declared_in_view, authors_in_view, title_in_view, abstract_in_view}
 use Rattle.cr_policy.specs.Judge.{judge, answer}
-use Rattle.cr_policy.specs.Legal.{Legal, IsRegistered, MayAsk, command_wants_login}
+use Rattle.cr_policy.specs.Legal.{Legal, IsRegistered, MayAsk}
 use Rattle.cr_policy.specs.Witness.{two_registrations, seen_by_nobody, seen_by_alice, one_submission, submission_seen_by_alice, submission_seen_by_bob, bidding_opened}
 
 -- StandingFromView: how a user stands, to any paper too, can be read off what she sees, whatever the history
@@ -29,7 +30,7 @@ pub record PublicFactsFromView (u : Option ℕ) (H : History) : Type 0 where
 -- view alone gives
 pub record ViewSuffices : Type 0 where
   pub commands : (u : Option ℕ) (H : History) (command : Command) → Legal H → MayAsk H (command_wants_login command) u → judge u (view u H) command ≡ judge_by_role (tables_of H) u command
-  pub queries : (u : Option ℕ) (H : History) (query : Query) → Legal H → MayAsk H (wants_login query) u → answer u (view u H) query ≡ answer_by_role (tables_of H) u query
+  pub queries : (u : Option ℕ) (H : History) (query : Query) → Legal H → MayAsk H (query_wants_login query) u → answer u (view u H) query ≡ answer_by_role (tables_of H) u query
 
 -- DeclaredFromView: on a legal history, whom a paper's authors declared in conflict with it can be read off what an author
 -- of it sees

@@ -1,5 +1,5 @@
 -- Legal: which histories come of commands.
-use Rattle.std.specs.Prelude.{ℕ, Bool, true, false, ◌≡◌, ◌==◌, List, [], ◌∷◌, ◌++◌, Option, Some, None, Result, Ok, Err, IsTrue, IsFalse}
+use Rattle.std.specs.Prelude.{ℕ, Bool, ◌≡◌, ◌==◌, List, [], ◌∷◌, ◌++◌, Option, Some, None, Result, Ok, Err, IsTrue, IsFalse}
 use Rattle.std.specs.List.{list_any}
 use Rattle.cr_base.specs.declared.command.Command.{Command}
 use Rattle.cr_base.specs.declared.command.Command.TheVariants.{Register, SetPhase, Submit, Name, SetMode, SetConflict}
@@ -20,15 +20,6 @@ IsRegistered H user = IsTrue (list_any (λ (r : Registration). r.user == user) (
 abbrev pub MayAsk : History → Bool → Option ℕ → Type 0
 MayAsk H login None = IsFalse login
 MayAsk H login (Some user) = IsRegistered H user
-
--- whether a command wants a login
-abbrev pub command_wants_login : Command → Bool
-command_wants_login (Register name digest) = false
-command_wants_login (SetPhase phase) = true
-command_wants_login (Submit title abstract) = true
-command_wants_login (Name user role) = true
-command_wants_login (SetMode mode) = true
-command_wants_login (SetConflict paper user on) = true
 
 -- the caller is a user who has registered
 abbrev pub IsUser : History → Option ℕ → Type 0

@@ -4,17 +4,18 @@ use Rattle.cr_base.specs.declared.row.Row.{Row}
 use Rattle.cr_ports.specs.Count.{Rises, counted}
 use Rattle.cr_ports.specs.declared.calls.Calls.{Calls}
 use Rattle.cr_ports.specs.declared.keeper.KeeperError.{KeeperError}
-use Rattle.cr_ports.specs.declared.keeper.KeeperError.TheVariants.{Failed}
+use Rattle.cr_ports.specs.declared.keeper.KeeperError.TheVariants.{Failed, OutOfMemory}
 
 -- the rows, where they are told, and then these
 abbrev pub and_rows : Option (List Row) → List Row → Option (List Row)
 and_rows None added = None
 and_rows (Some rows) added = Some (rows ++ added)
 
--- The count never falls, and it rose where the call failed.
+-- The count never falls; it rose where the call failed, and stands where memory was wanting.
 pub record HasCause {T : Type 0} (before now : ℕ) (result : Result T KeeperError) : Type 0 where
   pub later : before ≤ now
   pub failed : result ≡ Err Failed → Rises before now
+  pub memory : result ≡ Err OutOfMemory → now ≡ before
 
 -- a keeper in memory: its rows, its appends and its other calls, numbered apart, and its faults
 pub record Kept : Type 0 where

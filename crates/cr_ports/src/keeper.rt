@@ -24,8 +24,9 @@ pub trait Keeper {
 
     /// Keeps all of `added` behind the rows that are there, or none of them.
     ///
-    /// `Failed` comes only where the count of faults rose, or stands at its last value. Costs
-    /// at most a copy of each row of `added`; an adapter's may wait for its store.
+    /// `Failed` comes only where the count of faults rose, or stands at its last value, and
+    /// `OutOfMemory` only where it is as it was. Costs at most a copy of each row of `added`; an
+    /// adapter's may wait for its store.
     fn append_all(&mut self, added: &[Row]) -> Result<(), KeeperError>
         ensures kept { OnOk result (rows self.new ≡ and_rows (rows self.old) added.now) }
         ensures refused { OnErr result (rows self.new ≡ rows self.old) }
@@ -33,7 +34,9 @@ pub trait Keeper {
 
     /// How many rows are kept.
     ///
-    /// `Failed` comes only where the count of faults rose, or stands at its last value.
+    /// `Failed` comes only where the count of faults rose, or stands at its last value, and
+    /// `OutOfMemory` only where it is as it was. Costs no look at a row; an adapter's may wait for
+    /// its store.
     fn len(&mut self) -> Result<u64, KeeperError>
         ensures told { IfOk result (λ n. IfSome (rows self.old) (λ rows. n ≡ length rows)) }
         ensures same { rows self.new ≡ rows self.old }
@@ -41,8 +44,8 @@ pub trait Keeper {
 
     /// A copy of row number `at`, from 0, which is below the number of rows.
     ///
-    /// `Failed` comes only where the count of faults rose, or stands at its last value. Costs
-    /// a copy of that row alone.
+    /// `Failed` comes only where the count of faults rose, or stands at its last value, and
+    /// `OutOfMemory` only where it is as it was. Costs a copy of that row alone.
     fn row(&mut self, at: u64) -> Result<Row, KeeperError>
         requires { IfSome (rows self.old) (λ rows. at < length rows) }
         ensures told { IfOk result (λ row. IfSome (rows self.old) (λ rows. slice_get rows at ≡ Some row)) }

@@ -22,8 +22,9 @@ pub trait Sink {
 
     /// Takes bytes from the front of `piece`, behind those taken before.
     ///
-    /// To take nothing of a piece that isn't empty is a fault. A failed write takes nothing. A
-    /// write costs at most a look at each byte of `piece`; an adapter's may wait for its stream.
+    /// A sink that has room for no byte of a piece fails, the empty piece aside, and where it fails
+    /// it has taken none. A write costs at most a look at each byte of `piece`; an adapter's may
+    /// wait for its stream.
     fn write(&mut self, piece: &[u8]) -> WriteStep
         ensures bytes { taken self.new ≡ taken_and (taken self.old) (took result piece.now) }
         ensures size { TakesWithin result (length piece.now) }

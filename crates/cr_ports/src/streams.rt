@@ -34,7 +34,8 @@ impl<R: Read> Source for ReadSource<R> {
 
     ghost faults = { λ s. s };
 
-    /// One read of the reader: 0 bytes are the end, and each `Err` is a fault.
+    /// One read of the reader: 0 bytes are the end, and each `Err` is a fault. So is a read that a
+    /// signal interrupts: the program catches none.
     fn read(&mut self, buf: &mut [u8]) -> ReadStep {
         match self.reader.read(buf) {
             Ok(0) => ReadStep::End,

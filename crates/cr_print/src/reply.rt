@@ -186,7 +186,8 @@ fn print_me(into: &mut Vec<u8>, me: &Me, is_head: bool, closes: bool) -> Result<
 /// content's without it. With `closes` the answer says that the connection ends behind it.
 ///
 /// An error comes only for want of memory, and `into` then has the bytes that it had; its room may
-/// have grown.
+/// have grown. The content of a list, a page or what one is told of oneself is made in a vector of its
+/// own, to HEAD too, and copied once.
 pub fn print_reply(
     into: &mut Vec<u8>,
     reply: &Reply,

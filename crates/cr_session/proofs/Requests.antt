@@ -8,7 +8,8 @@ use Rattle.cr_session.specs.declared.turn.Turn.TheVariants as turns
 use Rattle.cr_session.specs.declared.serve.Served.{Served}
 use Rattle.cr_session.specs.declared.serve.Served.TheVariants as served
 use Rattle.cr_session.specs.Told.{told, unkept, step}
-use Rattle.cr_session.specs.Replay.{Judged, closes, answer_to, history_after}
+use Rattle.cr_session.specs.Replay.{Judged, answer_to, history_after}
+use Rattle.cr_wire.specs.Wishes.{closes}
 use Rattle.cr_session.specs.Serving.{TakesPrefix}
 use Rattle.cr_session.specs.Turning.{Turns, Answers, turn_text, MayWantMemory, Sends, Bench, Judges, Serves}
 use Rattle.cr_session.proofs.Turns.{replays-one}
@@ -86,10 +87,10 @@ serves_sent turn sent n w close reply p p' memory later t closing is sends = by 
     by served.WriteFault s = (j.judges, subst (TakesPrefix p.taken p'.taken) text s.0, s.1)
     by served.OutOfMemory s = absurd s
 
--- writing the answer wanted memory, and nothing had changed
-pub stays_unprinted : (turn : Turn) (w : Wish) (old new : History) (f g : ℕ) → Turns turn w old new f g → MayWantMemory turn → new ≡ old
+-- writing the answer wanted memory, and neither history nor count had changed
+pub stays_unprinted : (turn : Turn) (w : Wish) (old new : History) (f g : ℕ) → Turns turn w old new f g → MayWantMemory turn → (new ≡ old) × (g ≡ f)
 stays_unprinted (turns.Refused refused) w old new f g t may = absurd may
 stays_unprinted (turns.Accepted receipt) w old new f g t may = absurd may
-stays_unprinted (turns.Answered reply) w old new f g t may = t.1
+stays_unprinted (turns.Answered reply) w old new f g t may = (t.1, t.2)
 stays_unprinted turns.Lost w old new f g t may = absurd may
 stays_unprinted turns.OutOfMemory w old new f g t may = absurd may

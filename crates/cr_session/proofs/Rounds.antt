@@ -17,10 +17,11 @@ use Rattle.cr_session.specs.declared.serve.Ending.TheVariants as endings
 use Rattle.cr_session.specs.declared.serve.Served.TheVariants as served
 use Rattle.cr_session.specs.declared.serve.Why.TheVariants as whys
 use Rattle.cr_session.specs.Reading.{ReadsWish, StandsWish}
-use Rattle.cr_session.specs.Replay.{Judged, Replays, closes, answer_to, wishes_of}
+use Rattle.cr_session.specs.Replay.{Judged, Replays, answer_to, wishes_of}
 use Rattle.cr_session.specs.Serving.{World, TakesPrefix, IsNote, Connection, GoesOn, CountsRise, Refuses, Notes}
 use Rattle.cr_session.specs.Turning.{Bench, Serves}
-use Rattle.cr_session.specs.Wishes.{closes_behind, Spells}
+use Rattle.cr_session.specs.Wishes.{Spells}
+use Rattle.cr_wire.specs.Wishes.{closes, closes_behind}
 use Rattle.cr_http.proofs.Moving.{and_left-nil}
 use Rattle.cr_http.specs.ToHead.{IsToHead}
 use Rattle.cr_http.proofs.HeadsRead.{to_head_of}

@@ -1,7 +1,6 @@
 -- What one turn does is what Told and Step say.
 use Rattle.std.proofs.Common.{◌≡◌, ◌∙◌, ℕ, Bool, true, false, cond, Option, Some, None, Result, Ok, Err, refl, sym, ap, subst, IsSome, IsOk}
 use Rattle.cr_base.specs.declared.command.Command.TheVariants.{Register, SetPhase, Submit, Name, SetMode, SetConflict}
-use Rattle.cr_base.specs.declared.command.Query.TheVariants as queries
 use Rattle.cr_routes.specs.declared.ask.Ask.{Ask}
 use Rattle.cr_routes.specs.declared.place.Place.{Place}
 use Rattle.cr_policy.specs.Legal.{IsCaller, IsUser, MayAsk}
@@ -9,7 +8,8 @@ use Rattle.cr_base.specs.declared.command.Command.{Command}
 use Rattle.cr_base.specs.declared.command.Query.{Query}
 use Rattle.cr_base.specs.declared.reply.Rule.{Rule}
 use Rattle.cr_base.specs.History.{History}
-use Rattle.cr_base.specs.Judging.{Drawn, wants_login as query_wants_login}
+use Rattle.cr_base.specs.Judging.{Drawn}
+use Rattle.cr_base.specs.Logins.{query_wants_login}
 use Rattle.cr_policy.specs.Judge.{judge}
 use Rattle.cr_policy.specs.View.{view}
 use Rattle.cr_policy.proofs.LegalLaws.{Legal-caller_registered}
@@ -111,24 +111,20 @@ command-turn turns.OutOfMemory w u command old new f g is by may j = j
 
 -- ---- queries
 
-pub query-turn : (turn : Turn) (w : Wish) (u : Option ℕ) (query : Query) (old : History) (f g : ℕ) → w.what ≡ whats.Query query → u ≡ caller old w → is_unauthorized u (whats.Query query) ≡ false
-    → AnswersQuery turn u query old → Turns turn w old old f g
-query-turn (turns.Refused r) w u query old f g is by may j = absurd j
-query-turn (turns.Accepted receipt) w u query old f g is by may j = absurd j
-query-turn (turns.Answered reply) w u query old f g is by may j = (
+pub query-turn : (turn : Turn) (w : Wish) (u : Option ℕ) (query : Query) (old : History) (f : ℕ) → w.what ≡ whats.Query query → u ≡ caller old w → is_unauthorized u (whats.Query query) ≡ false
+    → AnswersQuery turn u query old → Turns turn w old old f f
+query-turn (turns.Refused r) w u query old f is by may j = absurd j
+query-turn (turns.Accepted receipt) w u query old f is by may j = absurd j
+query-turn (turns.Answered reply) w u query old f is by may j = (
   record {
     told_is = λ close. ap (λ x. reply_text x w.is_head close) j ∙ sym (told-by old w u (whats.Query query) close is by may);
     stepped = sym (ap (and_drawn old) (drawn-by old w u (whats.Query query) is by may));
   },
   refl,
+  refl,
 )
-query-turn turns.Lost w u query old f g is by may j = absurd j
-query-turn turns.OutOfMemory w u query old f g is by may j = refl
-
--- where no rule is broken, a command that wasn't accepted had been
-pub not_broken : (r : Result Drawn Rule) → ((rule : Rule) → r ≡ Err rule → ⊥) → IsOk r
-not_broken (Ok d) unbroken = refl
-not_broken (Err rule) unbroken = absurd (unbroken rule refl)
+query-turn turns.Lost w u query old f is by may j = absurd j
+query-turn turns.OutOfMemory w u query old f is by may j = (refl, refl)
 
 -- ---- who calls
 
@@ -149,16 +145,9 @@ may-ask : (H : History) (w : Wish) (u : Option ℕ) (what : What) → u ≡ call
 may-ask H w None what by may = may
 may-ask H w (Some v) what by may = caller-registered H w v (sym by)
 
--- what a query wants is what its wish wants
-query-login : (query : Query) → wants_login (whats.Query query) ≡ query_wants_login query
-query-login queries.Accounts = refl
-query-login queries.Phase = refl
-query-login queries.Me = refl
-query-login (queries.Page paper) = refl
-
 -- so she may ask
 pub may-query : (H : History) (w : Wish) (u : Option ℕ) (query : Query) → u ≡ caller H w → is_unauthorized u (whats.Query query) ≡ false → MayAsk H (query_wants_login query) u
-may-query H w u query by may = subst (λ (b : Bool). MayAsk H b u) (query-login query) (may-ask H w u (whats.Query query) by may)
+may-query H w u query by may = may-ask H w u (whats.Query query) by may
 
 is-user : (H : History) (u : Option ℕ) → MayAsk H true u → IsUser H u
 is-user H None h = absurd (cc)

@@ -10,7 +10,7 @@ use Rattle.cr_session.specs.Replay.{Judged, wishes_of}
 use Rattle.cr_session.specs.Serving.{World, EndsAs, EndsOn, Connection, WholeText}
 use Rattle.cr_wire.specs.declared.what.Wish.{Wish}
 use Rattle.cr_wire.specs.Wishes.{Wishes}
-use Rattle.cr_session.specs.Wishes.{closes_behind, Spells, Begins}
+use Rattle.cr_session.specs.Wishes.{Spells, Begins}
 use Rattle.cr_session.proofs.WishRuns.{Spells-more, Begins-more, Spells-begins, Reaches-begins}
 
 told_rest : (left' : Option (List ℕ)) (got b : List ℕ) → Some b ≡ and_left got left' → (rest : List ℕ) × (left' ≡ Some rest) × (b ≡ got ++ rest)
@@ -26,7 +26,6 @@ all_came got b rest left' e is end = sym (append-nil got) ∙ ap (λ r. got ++ r
 
 -- what a text spells from its first request on
 wishes : (b : List ℕ) (ws : List Wish) (end : End) → Spells 0 b ws end → Wishes b ws end
-unfolding closes_behind
 wishes b ws end s = record { requests = s.requests; spells = s.spells; wished = s.wish }
 
 begins : (got b rest : List ℕ) (judged : List Judged) → b ≡ got ++ rest → Begins 0 got (wishes_of judged) → Begins 0 b (wishes_of judged)
@@ -42,8 +41,12 @@ ends_whole (endings.Closed whys.Asked) got b rest judged w w' e is ends =
     (wishes b (wishes_of judged) asked (subst (λ (t : List ℕ). Spells 0 t (wishes_of judged) asked) (sym is) (Spells-more 0 got rest (wishes_of judged) asked tt ends.0)), ends.1)
 ends_whole (endings.Closed (whys.Refused why)) got b rest judged w w' e is ends =
     (ends.0, wishes b (wishes_of judged) (closed why ends.0) (subst (λ (t : List ℕ). Spells 0 t (wishes_of judged) (closed why ends.0)) (sym is) (Spells-more 0 got rest (wishes_of judged) (closed why ends.0) tt ends.1)), ends.2)
-ends_whole endings.ReadFault got b rest judged w w' e is ends = (begins got b rest judged is (first ends.0), ends.1, ends.2)
+ends_whole endings.ReadFault got b rest judged w w' e is ends = (begins got b rest judged is (first ends.0), got, (rest, is), wished ends.0, ends.1, ends.2)
   where
+    wished : Spells 0 got (wishes_of judged) ended_clean ⊎ Spells 0 got (wishes_of judged) ended_cut → Wishes got (wishes_of judged) ended_clean ⊎ Wishes got (wishes_of judged) ended_cut
+    wished (inl s) = inl (wishes got (wishes_of judged) ended_clean s)
+    wished (inr s) = inr (wishes got (wishes_of judged) ended_cut s)
+
     first : Spells 0 got (wishes_of judged) ended_clean ⊎ Spells 0 got (wishes_of judged) ended_cut → Begins 0 got (wishes_of judged)
     first (inl s) = Spells-begins 0 got (wishes_of judged) ended_clean s
     first (inr s) = Spells-begins 0 got (wishes_of judged) ended_cut s

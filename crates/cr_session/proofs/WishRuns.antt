@@ -5,7 +5,8 @@ use Rattle.cr_http.specs.Requests.{RequestText, End, SpellsFrom, BeginsFrom, Rea
 use Rattle.cr_wire.specs.declared.what.Wish.{Wish}
 use Rattle.cr_wire.specs.Wish.{wish_text}
 use Rattle.cr_session.specs.Replay.{Judged, wishes_of}
-use Rattle.cr_session.specs.Wishes.{closes_behind, Spells, Begins, Reaches}
+use Rattle.cr_session.specs.Wishes.{Spells, Begins, Reaches}
+use Rattle.cr_wire.specs.Wishes.{closes_behind}
 use Rattle.cr_session.proofs.Runs.{spells_after, begins_after, reaches_after, reaches_more, spells_more, begins_more, spells_begins, reaches_begins, IsClosing}
 
 -- there are as many requests as wishes

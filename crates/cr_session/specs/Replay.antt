@@ -1,13 +1,9 @@
 -- Replay: the answers to wishes that were judged one after another, and the history that they lead to.
-use Rattle.std.specs.Prelude.{ℕ, ◌≡◌, ◌<◌, ◌≤◌, ◌+◌, ◌-◌, ◌^◌, List, [], ◌∷◌, ◌++◌, Bool, ◌||◌, ◌==◌, if◌then◌else◌, map, IsSome, MatchBool}
+use Rattle.std.specs.Prelude.{ℕ, ◌≡◌, ◌<◌, ◌≤◌, ◌+◌, ◌-◌, ◌^◌, List, [], ◌∷◌, ◌++◌, Bool, if◌then◌else◌, map, IsSome, MatchBool}
 use Rattle.cr_base.specs.History.{History}
-use Rattle.cr_wire.specs.Wishes.{last_request}
+use Rattle.cr_wire.specs.Wishes.{closes}
 use Rattle.cr_wire.specs.declared.what.Wish.{Wish}
 use Rattle.cr_session.specs.Told.{told, unkept, drawn, step}
-
--- whether the connection closes behind its request number n, from 0: the wish asks for it, or it is the last that may come
-abbrev pub closes : ℕ → Wish → Bool
-closes n w = w.closes || n == last_request
 
 -- a wish that was judged: the history at its turn, and whether what it added was lost, since the keeper failed to keep it
 pub record Judged : Type 0 where

@@ -128,7 +128,10 @@ EndsOn (endings.Closed whys.Asked) b judged w w' =
 EndsOn (endings.Closed (whys.Refused why)) b judged w w' =
     (head : Bool) × Wishes b (wishes_of judged) (closed why head) × Takes w w' (answers 0 judged ++ closing_text why head)
 EndsOn endings.ReadFault b judged w w' =
-    Begins 0 b (wishes_of judged) × Takes w w' (answers 0 judged) × Rises w.read_faults w'.read_faults
+    Begins 0 b (wishes_of judged)
+    × (came : List ℕ) × IsPrefixOf came b
+    × (Wishes came (wishes_of judged) ended_clean ⊎ Wishes came (wishes_of judged) ended_cut)
+    × Takes w w' (answers 0 judged) × Rises w.read_faults w'.read_faults
 EndsOn endings.WriteFault b judged w w' =
     ((Begins 0 b (wishes_of judged) × TakesPrefix w.taken w'.taken (answers 0 judged))
     ⊎ ((why : Refusal) × (head : Bool) × Wishes b (wishes_of judged) (closed why head)

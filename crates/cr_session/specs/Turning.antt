@@ -1,5 +1,5 @@
 -- What one turn and one request do.
-use Rattle.std.specs.Prelude.{◌≡◌, ℕ, ◌≤◌, List, [], ◌∷◌, Bool, true, false, Option, IsSome, Err, IsOk}
+use Rattle.std.specs.Prelude.{◌≡◌, ℕ, List, [], ◌∷◌, Bool, true, false, Option, IsSome, Err, IsOk}
 use Rattle.cr_base.specs.declared.command.Command.{Command}
 use Rattle.cr_base.specs.declared.command.Query.{Query}
 use Rattle.cr_book.specs.Sound.{Accepts}
@@ -16,7 +16,8 @@ use Rattle.cr_session.specs.declared.turn.Turn.TheVariants as turns
 use Rattle.cr_session.specs.declared.serve.Served.{Served}
 use Rattle.cr_session.specs.declared.serve.Served.TheVariants as served
 use Rattle.cr_session.specs.Told.{told, drawn, step}
-use Rattle.cr_session.specs.Replay.{Judged, Replays, closes, answer_to}
+use Rattle.cr_session.specs.Replay.{Judged, Replays, answer_to}
+use Rattle.cr_wire.specs.Wishes.{closes}
 use Rattle.cr_session.specs.Serving.{TakesPrefix}
 
 -- ---- one turn
@@ -38,9 +39,9 @@ pub record Answers (turn : Turn) (w : Wish) (old new : History) : Type 0 where
 abbrev pub Turns : Turn → Wish → History → History → ℕ → ℕ → Type 0
 Turns (turns.Refused refused) w old new faults faults' = Answers (turns.Refused refused) w old new
 Turns (turns.Accepted receipt) w old new faults faults' = Answers (turns.Accepted receipt) w old new
-Turns (turns.Answered reply) w old new faults faults' = Answers (turns.Answered reply) w old new × (new ≡ old)
+Turns (turns.Answered reply) w old new faults faults' = Answers (turns.Answered reply) w old new × (new ≡ old) × (faults' ≡ faults)
 Turns turns.Lost w old new faults faults' = IsSome (drawn old w) × (new ≡ old) × Rises faults faults'
-Turns turns.OutOfMemory w old new faults faults' = new ≡ old
+Turns turns.OutOfMemory w old new faults faults' = (new ≡ old) × (faults' ≡ faults)
 
 -- a command was judged for this caller
 abbrev pub JudgesCommand : Turn → Option ℕ → Command → History → History → ℕ → ℕ → Type 0
@@ -49,7 +50,7 @@ JudgesCommand (turns.Refused _) u command old new faults faults' = ⊥
 JudgesCommand (turns.Accepted receipt) u command old new faults faults' = Accepts old new u command receipt
 JudgesCommand (turns.Answered reply) u command old new faults faults' = ⊥
 JudgesCommand turns.Lost u command old new faults faults' = IsOk (judge u (view u old) command) × (new ≡ old) × Rises faults faults'
-JudgesCommand turns.OutOfMemory u command old new faults faults' = new ≡ old
+JudgesCommand turns.OutOfMemory u command old new faults faults' = (new ≡ old) × (faults' ≡ faults)
 
 -- a query was answered for this caller
 abbrev pub AnswersQuery : Turn → Option ℕ → Query → History → Type 0
@@ -98,4 +99,4 @@ Serves served.Closes n w p p' =
 Serves served.WriteFault n w p p' =
     (j : Judges n w p p') × TakesPrefix p.taken p'.taken (answer_to n j.judged) × Rises p.write_faults p'.write_faults
 Serves served.OutOfMemory n w p p' =
-    (p'.history ≡ p.history) × (p'.taken ≡ p.taken) × (p.keeper_faults ≤ p'.keeper_faults)
+    (p'.history ≡ p.history) × (p'.taken ≡ p.taken) × (p'.keeper_faults ≡ p.keeper_faults)

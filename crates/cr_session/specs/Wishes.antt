@@ -1,13 +1,9 @@
 -- The wishes that a text spells from request number n on, and how it ends: Wishes is the case of number 0.
-use Rattle.std.specs.Prelude.{ℕ, ◌≡◌, List, Bool, map}
+use Rattle.std.specs.Prelude.{ℕ, ◌≡◌, List, map}
 use Rattle.cr_http.specs.Requests.{RequestText, End, SpellsFrom, BeginsFrom, ReachesFrom}
 use Rattle.cr_wire.specs.declared.what.Wish.{Wish}
 use Rattle.cr_wire.specs.Wish.{wish_text}
-use Rattle.cr_session.specs.Replay.{closes}
-
--- whether the connection closes behind this request as number n
-unfoldable pub closes_behind : ℕ → RequestText → Bool
-closes_behind n r = closes n (wish_text r)
+use Rattle.cr_wire.specs.Wishes.{closes_behind}
 
 -- the text spells these wishes, and so it ends
 pub record Spells (n : ℕ) (text : List ℕ) (wishes : List Wish) (end : End) : Type 0 where

@@ -67,7 +67,8 @@ pub enum WishRead {
 /// Reads the request at the front of the bytes that the inbox has not used and those that the source has
 /// left, and gives its wish. What it reads is what the whole text of the stream spells there, however
 /// the source cuts it into pieces. `ReadFault` comes only where the source's count of faults rose, or
-/// stands at its last value; `OutOfMemory` for want of memory alone.
+/// stands at its last value; `OutOfMemory` for want of memory alone. Costs the reads, a few looks at each
+/// byte of the head, and one reading of a JSON body where one is wanted.
 pub fn read_wish<S: Source>(alloc: Global, source: &mut S, inbox: &mut Inbox) -> WishRead
     ensures reads { ReadsWish (S.left source.old) (S.left source.new) inbox.old inbox.new result }
     ensures bounded { IsBoundedRead result }

@@ -3,7 +3,7 @@ ghost use Rattle.std.specs.Prelude.{◌≡◌, ◌≤◌, [], List, ℕ, Some, I
 ghost use Rattle.cr_ports.specs.Count.{Rises};
 ghost use Rattle.cr_print.specs.Put.{HasRoom};
 ghost use Rattle.cr_wire.specs.Bounds.{IsBoundedWhat};
-ghost use Rattle.cr_session.specs.Replay.{closes};
+ghost use Rattle.cr_wire.specs.Wishes.{closes};
 ghost use Rattle.cr_session.specs.Serving.{Connection, WholeText, Rounds, Refuses, Notes};
 ghost use Rattle.cr_session.specs.Turning.{Serves, Sends};
 
@@ -57,13 +57,13 @@ pub enum Served {
 }
 
 /// The number of the last request that a connection may have, from 0.
-const LAST: usize = 1_048_575;
+const LAST_REQUEST: usize = 1_048_575;
 
 /// Whether the connection closes behind this request.
 fn closes(wish: &Wish, number: usize) -> bool
     ensures { result ≡ closes number wish.now }
 {
-    wish.closes || number == LAST
+    wish.closes || number == LAST_REQUEST
 }
 
 /// Makes the room for an answer that has no list in it. Takes memory only the first time.
@@ -110,7 +110,8 @@ fn send<O: Sink>(sink: &mut O, reply: &[u8], close: bool) -> Served
 {
     match write_reply(sink, reply) {
         Err(_) => Served::WriteFault,
-        Ok(()) => { if close { Served::Closes } else { Served::Goes } }
+        Ok(()) if close => Served::Closes,
+        Ok(()) => Served::Goes,
     }
 }
 

@@ -1,6 +1,6 @@
 //! One turn: a wish is judged or answered by the book.
 ghost use Rattle.std.specs.Prelude.{◌≡◌, ◌≤◌, [], OnOk, OnErr};
-ghost use Rattle.cr_base.specs.Judging.{wants_login};
+ghost use Rattle.cr_base.specs.Logins.{query_wants_login};
 ghost use Rattle.cr_policy.specs.Legal.{IsAllowed, MayAsk};
 ghost use Rattle.cr_print.specs.Put.{HasRoom};
 ghost use Rattle.cr_wire.specs.Bounds.{IsBoundedWhat};
@@ -17,7 +17,7 @@ use std::alloc::AllocError;
 
 /// What a turn came to.
 #[derive(Drop)]
-pub enum Turn {
+pub(crate) enum Turn {
     /// The request is refused.
     Refused(Refused),
     /// The command was accepted, kept and applied.
@@ -32,13 +32,13 @@ pub enum Turn {
 
 /// Judges or answers a wish. Takes no memory on a refusal. Who calls is asked first, by one look-up
 /// by name; whoever can't be told from nobody is refused alike where a login is wanted.
-pub fn take_turn<K: Keeper>(book: &mut Book<K>, wish: &Wish) -> Turn
+pub(crate) fn take_turn<K: Keeper>(book: &mut Book<K>, wish: &Wish) -> Turn
     requires { IsBoundedWhat wish.now.what }
     ensures turns { Turns result wish.now book.old.log book.new.log (K.faults book.old.keeper) (K.faults book.new.keeper) }
     ensures count { K.faults book.old.keeper ≤ K.faults book.new.keeper }
 {
     let caller = caller_of(book, wish);
-    if is_unauthorized(&caller, &wish.what) {
+    if is_unauthorized(book, &caller, &wish.what) {
         return Turn::Refused(Refused::Unauthorized);
     }
     match &wish.what {
@@ -51,12 +51,13 @@ pub fn take_turn<K: Keeper>(book: &mut Book<K>, wish: &Wish) -> Turn
 }
 
 /// Whether nobody wishes what wants a login.
-fn is_unauthorized(caller: &Option<UserNo>, what: &What) -> bool
+fn is_unauthorized<K: Keeper>(book: &Book<K>, caller: &Option<UserNo>, what: &What) -> bool
     ensures { result ≡ is_unauthorized caller.now what.now }
 {
-    match caller {
-        Some(_) => false,
-        None => what.wants_login(),
+    match (caller, what) {
+        (Some(_), _) => false,
+        (None, What::Query(query)) => book.needs_login(query),
+        (None, _) => what.wants_login(),
     }
 }
 
@@ -87,7 +88,7 @@ fn judge<K: Keeper>(book: &mut Book<K>, caller: &Option<UserNo>, command: &Comma
 
 /// Answers a query.
 fn answer<K: Keeper>(book: &Book<K>, caller: &Option<UserNo>, query: &Query) -> Turn
-    requires { MayAsk book.now.log (wants_login query.now) caller.now }
+    requires { MayAsk book.now.log (query_wants_login query.now) caller.now }
     ensures { AnswersQuery result caller.now query.now book.now.log }
 {
     match book.answer(caller, query) {
@@ -98,7 +99,7 @@ fn answer<K: Keeper>(book: &Book<K>, caller: &Option<UserNo>, query: &Query) -> 
 
 /// Appends the answer to what a turn came to: only a query's answer may want more memory than the room
 /// that was made before.
-pub fn print_turn(
+pub(crate) fn print_turn(
     reply: &mut Vec<u8>,
     turn: &Turn,
     is_head: bool,

@@ -12,7 +12,8 @@ use Rattle.cr_session.specs.declared.serve.Ending.{Ending}
 use Rattle.cr_session.specs.declared.serve.Ending.TheVariants as endings
 use Rattle.cr_session.specs.declared.serve.Why.TheVariants as whys
 use Rattle.cr_session.specs.Told.{told, step}
-use Rattle.cr_session.specs.Replay.{Judged, Replays, wishes_of, answers, answer_to, history_after, closes, lost_count, LeadsThrough}
+use Rattle.cr_session.specs.Replay.{Judged, Replays, wishes_of, answers, answer_to, history_after, lost_count, LeadsThrough}
+use Rattle.cr_wire.specs.Wishes.{closes}
 use Rattle.cr_session.specs.Serving.{EndsOn}
 use Rattle.cr_top.specs.declared.exit.Exit.{Exit}
 use Rattle.cr_top.specs.declared.exit.Exit.TheVariants as exits
@@ -69,7 +70,7 @@ ended (endings.Closed whys.Asked) b judged o o' H H' f f' faultless e =
     inr (record { end = asked; spells = e.0; exit_is = refl; told = e.1 ∙ ap (taken_and o.taken) (sym (append-nil (answers 0 judged))) })
 ended (endings.Closed (whys.Refused why)) b judged o o' H H' f f' faultless e =
     inr (record { end = closed why e.0; spells = e.1; exit_is = refl; told = e.2 })
-ended endings.ReadFault b judged o o' H H' f f' faultless e = absurd (faultless.read e.2)
+ended endings.ReadFault b judged o o' H H' f f' faultless e = absurd (faultless.read e.5)
 ended endings.WriteFault b judged o o' H H' f f' faultless e = absurd (faultless.written e.1)
 ended endings.OutOfMemory b judged o o' H H' f f' faultless e = inl refl
 

@@ -5,7 +5,7 @@ use Rattle.cr_http.specs.Requests.{End, ended_clean, ended_cut, asked, closed}
 use Rattle.cr_print.specs.Answers.{closing_text}
 use Rattle.cr_wire.specs.declared.what.Wish.{Wish}
 use Rattle.cr_session.specs.Told.{told, step}
-use Rattle.cr_session.specs.Replay.{closes}
+use Rattle.cr_wire.specs.Wishes.{closes}
 use Rattle.cr_top.specs.declared.exit.Exit.{Exit}
 use Rattle.cr_top.specs.declared.exit.Exit.TheVariants as exits
 

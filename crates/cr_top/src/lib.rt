@@ -16,6 +16,8 @@ mod tests;
 #[cfg(test)]
 mod tests_bodies;
 #[cfg(test)]
+mod tests_book;
+#[cfg(test)]
 mod tests_faults;
 #[cfg(test)]
 mod tests_members;

@@ -50,21 +50,54 @@ fn writes_fail_in_turn(rt: HostRuntime) -> Result<(), Fail> {
     let input = joined(alloc, &[GET_PHASE, ALICE, CUT_SHORT])?;
     let whole = joined(alloc, &[PHASE, USER_1])?;
     for at in 0..whole.len() {
-        let mut source = PlainSource::new(input.to_vec(alloc)?);
-        let mut sink = failing_at(alloc, whole.len(), at)?;
-        let exit = top(alloc, words.as_slice(), &mut source, &mut sink);
+        let sink = failing_at(alloc, whole.len(), at)?;
+        let (exit, out) = top_on(alloc, words.as_slice(), &input, sink)?;
         assert_eq!(rt; exit, Exit::WriteFault, "at {at}");
-        assert!(rt; sink.taken() == &whole[..at], "at {at}");
-
-        // What was judged by then is kept.
-        let mut source = PlainSource::new(input.to_vec(alloc)?);
-        let mut sink = failing_at(alloc, whole.len(), at)?;
-        let (ending, mut keeper) = pipe(alloc, PlainKeeper::new(alloc), &mut source, &mut sink);
-        assert_eq!(rt; ending, Ending::WriteFault, "at {at}");
-        let rows = if at < PHASE.len() { 0 } else { 2 };
-        assert_eq!(rt; keeper.len(), Ok(rows), "at {at}");
+        assert!(rt; out.as_slice() == &whole[..at], "at {at}");
     }
     Ok(())
+}
+
+// What was judged until a write failed is kept: the registration, once the first answer is out.
+#[test]
+fn rows_stay_where_writes_fail(rt: HostRuntime) -> Result<(), Fail> {
+    let alloc = rt.alloc();
+    let input = joined(alloc, &[GET_PHASE, ALICE, CUT_SHORT])?;
+    let count = PHASE.len() + USER_1.len();
+    for at in 0..count {
+        let sink = failing_at(alloc, count, at)?;
+        let kept = if at < PHASE.len() { 0 } else { 2 };
+        let piped = pipe_on(alloc, &input, sink)?;
+        assert!(rt; piped == (Ending::WriteFault, kept), "at {at}");
+    }
+    Ok(())
+}
+
+// How `top` ends on this input, and what its output gets.
+fn top_on(
+    alloc: Global,
+    words: &[String],
+    input: &[u8],
+    mut sink: MemSink,
+) -> Result<(Exit, Vec<u8>), Fail> {
+    let mut source = PlainSource::new(input.to_vec(alloc)?);
+    let exit = top(alloc, words, &mut source, &mut sink);
+    Ok((exit, sink.taken().to_vec(alloc)?))
+}
+
+// How `pipe` ends on this input, and how many rows are kept.
+fn pipe_on(alloc: Global, input: &[u8], mut sink: MemSink) -> Result<(Ending, u64), Fail> {
+    let mut source = PlainSource::new(input.to_vec(alloc)?);
+    let (ending, keeper) = pipe(alloc, PlainKeeper::new(alloc), &mut source, &mut sink);
+    Ok((ending, rows(keeper)))
+}
+
+// How many rows are kept.
+fn rows<K: Keeper + Drop>(mut keeper: K) -> u64 {
+    match keeper.len() {
+        Ok(rows) => rows,
+        Err(_) => 9,
+    }
 }
 
 // A sink that takes one byte a call, and fails at one of its calls.
@@ -88,10 +121,9 @@ fn sinks_take_little(rt: HostRuntime) -> Result<(), Fail> {
     for (words, room, taken, exit) in cases {
         let words = words_of(alloc, words)?;
         let pieces = ones(alloc, whole.len())?;
-        let mut source = PlainSource::new(input.to_vec(alloc)?);
-        let mut sink = MemSink::new(alloc, room, pieces, Vec::new(alloc))?;
-        assert_eq!(rt; top(alloc, words.as_slice(), &mut source, &mut sink), exit);
-        assert!(rt; sink.taken() == taken);
+        let sink = MemSink::new(alloc, room, pieces, Vec::new(alloc))?;
+        let (ended, out) = top_on(alloc, words.as_slice(), &input, sink)?;
+        assert!(rt; ended == exit && out.as_slice() == taken);
     }
     Ok(())
 }
@@ -100,13 +132,18 @@ fn sinks_take_little(rt: HostRuntime) -> Result<(), Fail> {
 #[test]
 fn rows_fail(rt: HostRuntime) -> Result<(), Fail> {
     let alloc = rt.alloc();
-    let keeper = MemKeeper::new(alloc, [0].to_vec(alloc)?, Vec::new(alloc));
-    let mut source = PlainSource::new(joined(alloc, &[ALICE, GET_ACCOUNTS, ALICE])?);
-    let mut sink = MemSink::new(alloc, ROOM, Vec::new(alloc), Vec::new(alloc))?;
-    let (ending, mut keeper) = pipe(alloc, keeper, &mut source, &mut sink);
-    assert_eq!(rt; ending, Ending::Clean);
     let answers = joined(alloc, &[KEEPER_FAULT, NO_ACCOUNTS, USER_1])?;
-    assert!(rt; sink.taken() == answers.as_slice());
-    assert_eq!(rt; keeper.len(), Ok(2));
+    let (ending, out, kept) = lose_the_first(alloc, &[ALICE, GET_ACCOUNTS, ALICE])?;
+    assert!(rt; out.as_slice() == answers.as_slice());
+    assert_eq!(rt; (ending, kept), (Ending::Clean, 2));
     Ok(())
+}
+
+// How `pipe` ends over a keeper whose first append fails, what the output gets, and how many rows are kept.
+fn lose_the_first(alloc: Global, requests: &[&str]) -> Result<(Ending, Vec<u8>, u64), Fail> {
+    let keeper = MemKeeper::new(alloc, [0].to_vec(alloc)?, Vec::new(alloc));
+    let mut source = PlainSource::new(joined(alloc, requests)?);
+    let mut sink = MemSink::new(alloc, ROOM, Vec::new(alloc), Vec::new(alloc))?;
+    let (ending, keeper) = pipe(alloc, keeper, &mut source, &mut sink);
+    Ok((ending, sink.taken().to_vec(alloc)?, rows(keeper)))
 }

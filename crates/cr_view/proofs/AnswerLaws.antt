@@ -13,7 +13,7 @@ use Rattle.cr_base.specs.declared.reply.Reply.TheVariants as replies
 use Rattle.cr_base.specs.declared.reply.Rule.{Rule}
 use Rattle.cr_base.specs.Accounts.{account_at, lines_of}
 use Rattle.cr_base.specs.Checks.{Check, judged}
-use Rattle.cr_base.specs.Judging.{name_in, names_in, reply_or_rule, answer_by_role}
+use Rattle.cr_base.specs.Judging.{names_in, reply_or_rule, answer_by_role}
 use Rattle.cr_base.specs.Lists.{listed}
 use Rattle.cr_base.specs.Tables.{Tables}
 use Rattle.cr_base.proofs.CheckLaws.{judged-Ok, judged-none, judged-Err}
@@ -82,10 +82,6 @@ page_reply-judged (check ∷ checks) page = by check.broken (page_reply-judged c
 rule_of : (told : Result Page Rule) (rule : Rule) → page_reply told ≡ replies.Refused rule → told ≡ Err rule
 rule_of (Ok page) rule h = cc
 rule_of (Err other) rule h = let e : other ≡ rule = cc in ap (λ (r : Rule). Err r) e
-
--- where a rule is the answer, it is broken
-pub broken-judged : (checks : List Check) (page : Page) (rule : Rule) → reply_or_rule (judged checks (replies.Page page)) ≡ replies.Refused rule → judged checks page ≡ Err rule
-broken-judged checks page rule h = rule_of (judged checks page) rule (page_reply-judged checks page ∙ h)
 
 -- ---- the conference
 

@@ -2,14 +2,11 @@
 use Rattle.std.proofs.Common.{ℕ, Bool, true, false, cond, ◌≡◌, ◌+◌, ◌<◌, List, [], ◌∷◌, ◌++◌, length, drop, get_or, refl, sym, ap, ◌∙◌, Option, Some, ◌&&◌, ◌||◌}
 use Rattle.std.specs.Prelude.{map, not, filter, unwrap_or}
 use Rattle.std.specs.Option.{option_map}
-use Rattle.cr_base.specs.declared.command.Query.{Query}
-use Rattle.cr_base.specs.declared.command.Query.TheVariants as queries
 use Rattle.cr_base.specs.declared.entry.Account.{Account}
 use Rattle.cr_base.specs.declared.me.Me.{Me}
-use Rattle.cr_base.specs.declared.reply.Reply.TheVariants as replies
 use Rattle.cr_base.specs.declared.words.Role.{Role}
 use Rattle.cr_base.specs.Accounts.{account_at, role_in}
-use Rattle.cr_base.specs.Judging.{facts_of_tables, me_by, answer_by_role}
+use Rattle.cr_base.specs.Judging.{facts_of_tables, me_by}
 use Rattle.cr_base.proofs.ListLaws.{name_in-lines_of}
 use Rattle.cr_base.specs.declared.paper.Paper.{Paper}
 use Rattle.cr_base.specs.declared.pairs.Pair.{Pair}

@@ -1,16 +1,13 @@
 -- Namings, modes and conflicts: what they are answered, and what they draw, by reads of the tables.
-use Rattle.std.proofs.Common.{ℕ, Bool, true, false, ◌≡◌, ◌≤◌, ◌<◌, ◌+◌, List, [], ◌∷◌, length, eqb, refl, sym, ap, subst, ◌∙◌, arith, cond, zero, suc, Option, Some, None, Result, Ok, Err, ◌&&◌, ◌-◌}
-use Rattle.std.specs.Prelude.{is_some, is_none, not, nat_le, map, unwrap_or, position, IsSome}
+use Rattle.std.proofs.Common.{ℕ, Bool, true, false, ◌≡◌, ◌≤◌, List, [], ◌∷◌, length, refl, sym, ap, subst, ◌∙◌, cond, Option, Some, None, Result, Ok, Err}
+use Rattle.std.specs.Prelude.{is_some, is_none, map, unwrap_or, IsSome}
 use Rattle.std.specs.List.{list_any}
-use Rattle.std.specs.Option.{option_map, option_and_then}
-use Rattle.std.specs.Str.{bytes_eq}
+use Rattle.std.specs.Option.{option_and_then}
 use Rattle.std.proofs.lemmas.Bool.{true≢false}
-use Rattle.std.proofs.lemmas.Bool.Decides.{nat_tests}
-use Rattle.std.proofs.lemmas.List.Quantifiers.{position-Some}
 use Rattle.cr_base.specs.declared.command.Command.{Command}
 use Rattle.cr_base.specs.declared.command.Command.TheVariants.{Name, SetMode, SetConflict}
 use Rattle.cr_base.specs.declared.entry.Account.{Account}
-use Rattle.cr_base.specs.declared.entry.Entry.TheVariants.{Named as NamedEntry, ModeSet, Conflict}
+use Rattle.cr_base.specs.declared.entry.Entry.TheVariants.{Named as NamedEntry, Conflict}
 use Rattle.cr_base.specs.declared.paper.Paper.{Paper}
 use Rattle.cr_base.specs.declared.reply.Receipt.{Receipt}
 use Rattle.cr_base.specs.declared.reply.Receipt.TheVariants.{Named, Mode, Noted}
@@ -18,17 +15,17 @@ use Rattle.cr_base.specs.declared.reply.Rule.{Rule}
 use Rattle.cr_base.specs.declared.standing.Standing.{Standing}
 use Rattle.cr_base.specs.declared.words.Mode.{Mode as ModeWord}
 use Rattle.cr_base.specs.declared.words.Role.{Role}
-use Rattle.cr_base.specs.declared.words.Role.TheVariants as role_words
-use Rattle.cr_base.specs.Accounts.{number_at, role_at, account_at, lines_of}
+use Rattle.cr_base.specs.Accounts.{number_at, role_at, lines_of}
 use Rattle.cr_base.specs.Checks.{Check, judged, name_checks, mode_checks, conflict_checks}
 use Rattle.cr_base.specs.History.{History}
-use Rattle.cr_base.specs.Judging.{Drawn, grouped, naming_drawn, mode_drawn, conflict_drawn, name_judged, conflict_judged, user_among, role_among, has_paper, maker_of, standing_at, facts_of_tables, shown_in_tables, judge_by_role}
-use Rattle.cr_base.specs.Lists.{at_some, is_number, listed, numbered, numbers_from}
-use Rattle.cr_base.specs.Papers.{authors_at, is_author_at}
+use Rattle.cr_base.specs.Judging.{Drawn, grouped, naming_drawn, mode_drawn, conflict_drawn, name_judged, conflict_judged, user_among, has_paper, maker_of, standing_at, facts_of_tables, shown_in_tables, judge_by_role}
+use Rattle.cr_base.specs.Lists.{at_some, is_number, listed, numbered}
+use Rattle.cr_base.specs.Papers.{is_author_at}
 use Rattle.cr_base.specs.Tables.{Tables, FitInTurn}
-use Rattle.cr_base.specs.Ties.{TiesState, is_author_in}
+use Rattle.cr_base.specs.Ties.{is_author_in}
 use Rattle.cr_base.proofs.AccountLaws.{number_in-lines_of}
-use Rattle.cr_base.proofs.ListLaws.{numbered-map, numbered-some, role_among-lines_of, list_any-numbers_from}
+use Rattle.cr_base.proofs.ListLaws.{numbered-map, role_among-lines_of}
+use Rattle.cr_base.proofs.TargetLaws.{target_within, paper_within}
 use Rattle.cr_view.specs.Judged.{receipt_or_rule, receipted, TellsNote}
 use Rattle.cr_view.specs.Targets.{target_at}
 use Rattle.cr_view.proofs.JudgeLaws.{as_many, along, answered, accepted, drawn-accepted}
@@ -47,55 +44,10 @@ target-among : (accounts : List Account) (name : Option (List ℕ)) → user_amo
 target-among accounts None = refl
 target-among accounts (Some name) = number_in-lines_of accounts name
 
--- whoever registered a name has an account
-registered : (accounts : List Account) (name : List ℕ) (user : ℕ) → number_at accounts name ≡ Some user → (a : Account) × (account_at accounts user ≡ Some a)
-registered accounts name user h = by (position test accounts) refl h
-  where
-    test : Account → Bool
-    test a = bytes_eq a.name name
-
-    by : (p : Option ℕ) → position test accounts ≡ p → option_map (λ i. i + 1) p ≡ Some user → (a : Account) × (account_at accounts user ≡ Some a)
-    by None is e = cc
-    by (Some k) is e =
-        let next : k + 1 ≡ user = cc in
-        let first : Account = record { name = []; digest = []; role = role_words.Account } in
-        let within : k < length accounts = (position-Some test accounts k first is).0 in
-        numbered-some accounts user (omega (arith, next)) (omega (arith, next, within))
-
-pub role-there : (accounts : List Account) (name : List ℕ) (user : ℕ) → number_at accounts name ≡ Some user → role_at accounts user ≡ None → ⊥
-role-there accounts name user h none =
-    let k = registered accounts name user h in
-    let e : option_map (λ (a : Account). a.role) (Some k.0) ≡ None = sym (ap (option_map (λ (a : Account). a.role)) k.1) ∙ none in
-    cc
-
-account_within : (accounts : List Account) (v : ℕ) → is_none (role_at accounts v) ≡ false → (1 ≤ v) × (v ≤ length accounts)
-account_within accounts zero h = absurd (true≢false h)
-account_within [] (suc v) h = absurd (true≢false h)
-account_within (a ∷ accounts) (suc zero) h = (omega arith, omega arith)
-account_within (a ∷ accounts) (suc (suc v)) h = let high = (account_within accounts (suc v) h).1 in (omega arith, omega (arith, high))
-
--- a user named who has a role has an account
-target_within : (accounts : List Account) (target : Option ℕ) → is_none (option_and_then (role_at accounts) target) ≡ false → (1 ≤ unwrap_or target 0) × (unwrap_or target 0 ≤ length accounts)
-target_within accounts None h = absurd (true≢false h)
-target_within accounts (Some v) h = account_within accounts v h
-
+-- a user named who has a role is somebody
 target_known : (accounts : List Account) (target : Option ℕ) → is_none (option_and_then (role_at accounts) target) ≡ false → IsSome target
 target_known accounts None h = absurd (true≢false h)
 target_known accounts (Some v) h = refl
-
--- a paper that is there has one of the papers' numbers
-paper_within : (papers : List Paper) (paper : Option ℕ) → not (at_some (λ p. list_any (λ q. eqb q p) (numbers_from 1 papers)) paper) ≡ false → (1 ≤ unwrap_or paper 0) × (unwrap_or paper 0 ≤ length papers)
-paper_within papers None h = absurd (true≢false h)
-paper_within papers (Some p) h = inside p (length papers) (sym (ap not (list_any-numbers_from 1 p papers (omega arith))) ∙ h)
-  where
-    inside : (p n : ℕ) → not (nat_le 1 p && nat_le p (1 + n - 1)) ≡ false → (1 ≤ p) × (p ≤ n)
-    inside p n h = (low, high)
-      where
-        low : 1 ≤ p
-        low = grind (arith, nat_tests)
-
-        high : p ≤ n
-        high = grind (arith, nat_tests)
 
 -- ---- the checks of each kind
 

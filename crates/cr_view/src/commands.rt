@@ -136,7 +136,8 @@ impl Live {
 
     /// The entries that the caller's command adds, where it was accepted with this receipt; an
     /// error only for want of memory. There is a caller, but for a registration. The entries may be
-    /// applied in their turn. They have copies of the command's texts.
+    /// applied in their turn. They have copies of the command's texts. A naming and a conflict take one
+    /// look-up by name.
     pub fn group(
         &self,
         alloc: Global,

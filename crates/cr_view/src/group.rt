@@ -50,7 +50,7 @@ pub(crate) fn paper_told(receipt: &Receipt) -> PaperNo
     }
 }
 
-/// The paper to which something was said, as its receipt tells it.
+/// The paper with which a conflict was turned on or off, as its receipt tells it.
 pub(crate) fn paper_noted(receipt: &Receipt) -> PaperNo
     requires { TellsNote receipt.now }
     ensures { receipt.now ≡ receipts.Noted result }

@@ -108,8 +108,8 @@ impl Live {
         self.accounts.caller(name, digest)
     }
 
-    /// What a user, or nobody, is to the conference and to a paper, where one is named. Nobody's role
-    /// is `Account`, and nobody has ties. Takes no memory; a few reads by number, and a binary search
+    /// What a user, or nobody, is to the conference and to a paper, where one is named. A
+    /// caller who is nobody is an `Account` without ties. Takes no memory; a few reads by number, and a binary search
     /// of the ties.
     pub fn standing(&self, user: &Option<UserNo>, paper: &Option<PaperNo>) -> Standing
         ensures { result ≡ standing_at self.now.tables user.now paper.now }
@@ -123,7 +123,7 @@ impl Live {
         }
     }
 
-    /// Whether the user is an author of the paper; nobody is, and none is of no paper.
+    /// Whether the user is an author of the paper; false for nobody, and where no paper is named.
     fn is_author(&self, user: &Option<UserNo>, paper: &Option<PaperNo>) -> bool
         ensures { result ≡ at_some (is_author_at self.now.tables.papers user.now) paper.now }
     {
@@ -133,7 +133,7 @@ impl Live {
         }
     }
 
-    /// Whether the user is in conflict with the paper; nobody is, and none is with no paper.
+    /// Whether the user is in conflict with the paper; false for nobody, and where no paper is named.
     fn is_conflicted(&self, user: &Option<UserNo>, paper: &Option<PaperNo>) -> bool
         ensures { result ≡ at_some (is_conflicted_in self.now.tables.ties user.now) paper.now }
     {

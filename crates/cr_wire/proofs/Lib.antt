@@ -1,2 +1,3 @@
+pub mod Logins
 pub mod Utf8
 pub mod Numbers

@@ -2,10 +2,7 @@
 use Rattle.std.specs.Prelude.{ℕ, Bool, true, false, Option, Some, None, if◌then◌else◌}
 use Rattle.cr_base.specs.History.{History}
 use Rattle.cr_base.specs.Facts.{caller_of}
-use Rattle.cr_base.specs.declared.command.Command.{Command}
-use Rattle.cr_base.specs.declared.command.Command.TheVariants.{Register, SetPhase, Submit, Name, SetMode, SetConflict}
-use Rattle.cr_base.specs.declared.command.Query.{Query}
-use Rattle.cr_base.specs.declared.command.Query.TheVariants as queries
+use Rattle.cr_base.specs.Logins.{command_wants_login, query_wants_login}
 use Rattle.cr_bodies.specs.declared.credentials.Credentials.{Credentials}
 use Rattle.cr_routes.specs.declared.ask.Ask.{Ask}
 use Rattle.cr_routes.specs.declared.ask.Ask.TheVariants as asks
@@ -26,37 +23,22 @@ ask_wants_login asks.Page = true
 ask_wants_login asks.SetConflict = true
 ask_wants_login asks.Me = true
 
--- what a command and a query ask for
-abbrev pub ask_of_command : Command → Ask
-ask_of_command (Register name digest) = asks.Register
-ask_of_command (SetPhase phase) = asks.SetPhase
-ask_of_command (Submit title abstract) = asks.Submit
-ask_of_command (Name user role) = asks.Name
-ask_of_command (SetMode mode) = asks.SetMode
-ask_of_command (SetConflict paper user on) = asks.SetConflict
-
-abbrev pub ask_of_query : Query → Ask
-ask_of_query queries.Me = asks.Me
-ask_of_query queries.Accounts = asks.Accounts
-ask_of_query queries.Phase = asks.Phase
-ask_of_query (queries.Page paper) = asks.Page
-
 -- whether a login is wanted, also where the body is a bad one; what is no request of the server's is refused alike to
 -- everybody
 abbrev pub wants_login : What → Bool
 wants_login NoRoute = false
 wants_login (WrongMethod place) = false
 wants_login (BadBody ask) = ask_wants_login ask
-wants_login (Commands command) = ask_wants_login (ask_of_command command)
-wants_login (Queries query) = ask_wants_login (ask_of_query query)
+wants_login (Commands command) = command_wants_login command
+wants_login (Queries query) = query_wants_login query
 
 -- whether the field Authorization is read: not where a request of the server's wants no login
 abbrev pub reads_credentials : What → Bool
 reads_credentials NoRoute = true
 reads_credentials (WrongMethod place) = true
 reads_credentials (BadBody ask) = ask_wants_login ask
-reads_credentials (Commands command) = ask_wants_login (ask_of_command command)
-reads_credentials (Queries query) = ask_wants_login (ask_of_query query)
+reads_credentials (Commands command) = command_wants_login command
+reads_credentials (Queries query) = query_wants_login query
 
 -- the user of the name told whose registration has the digest of the secret told; else nobody
 abbrev pub user_told : Option Credentials → History → Option ℕ

@@ -8,12 +8,16 @@ use Rattle.cr_wire.specs.declared.what.Wish.{Wish}
 abbrev pub last_request : ℕ
 last_request = 1048575
 
--- the connection closes behind this request, as number n: it asks so, or is the last
-abbrev pub is_last : ℕ → RequestText → Bool
-is_last n r = (wish_text r).closes || n == last_request
+-- whether the connection closes behind its request number n: the wish asks for it, or it is the last that may come
+abbrev pub closes : ℕ → Wish → Bool
+closes n w = w.closes || n == last_request
+
+-- the same of the request itself
+unfoldable pub closes_behind : ℕ → RequestText → Bool
+closes_behind n r = closes n (wish_text r)
 
 -- the bytes spell these wishes, and so they end
 pub record Wishes (bytes : List ℕ) (wishes : List Wish) (end : End) : Type 0 where
   pub requests : List RequestText
-  pub spells : SpellsFrom is_last 0 bytes requests end
+  pub spells : SpellsFrom closes_behind 0 bytes requests end
   pub wished : wishes ≡ map wish_text requests

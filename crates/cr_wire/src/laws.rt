@@ -1,10 +1,19 @@
 //! Laws over the definitions alone.
 ghost use Rattle.std.specs.Prelude.{◌≡◌, ℕ, List};
 ghost use Rattle.cr_http.specs.Requests.{End};
+ghost use Rattle.cr_routes.specs.declared.ask.Ask.{Ask};
+ghost use Rattle.cr_wire.specs.Asked.{asked};
+ghost use Rattle.cr_wire.specs.Caller.{ask_wants_login, wants_login};
 ghost use Rattle.cr_wire.specs.Wishes.{Wishes};
 ghost use Rattle.cr_wire.specs.declared.what.Wish.{Wish};
 
 use cr_http::law_one_reading;
+
+/// Whether a login is wanted is told by what is asked for, so by path and method: no body, be it a good
+/// or a bad one, changes it.
+pub fn law_login_by_ask()
+    ensures { (ask : Ask) (path body : List ℕ) → wants_login (asked ask path body) ≡ ask_wants_login ask }
+{}
 
 /// A text spells one list of wishes, and has one end.
 pub fn law_one_list_of_wishes()

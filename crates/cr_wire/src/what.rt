@@ -34,7 +34,7 @@ pub struct Wish {
     pub what: What,
 }
 
-// Whether what is asked for wants a login.
+/// Whether what is asked for wants a login.
 fn ask_wants_login(ask: Ask) -> bool
     ensures { result ≡ ask_wants_login_text ask }
 {
@@ -58,12 +58,8 @@ impl What {
         match self {
             What::NoRoute | What::WrongMethod(_) => false,
             What::BadBody(ask) => ask_wants_login(*ask),
-            What::Command(Command::Register { .. }) => false,
-            What::Command(Command::Name { .. } | Command::SetMode { .. }) => true,
-            What::Command(Command::SetConflict { .. }) => true,
-            What::Command(Command::SetPhase { .. } | Command::Submit { .. }) => true,
-            What::Query(Query::Accounts | Query::Phase) => false,
-            What::Query(Query::Page { .. } | Query::Me) => true,
+            What::Command(command) => command.wants_login(),
+            What::Query(query) => query.wants_login(),
         }
     }
 

@@ -11,7 +11,9 @@ returns-in-Ok g c = record {
 }
 
 pub returns : goal.returns
-returns g c = record {
-  serves = (stays_unprinted c.take_turn-turn.result c.args.wish.now _ _ _ _ c.take_turn-turn.ensures.turns c.in-Err.ensures.err, refl, c.take_turn-turn.ensures.count);
-  count = omega arith;
-}
+returns g c =
+    let stays = stays_unprinted c.take_turn-turn.result c.args.wish.now _ _ _ _ c.take_turn-turn.ensures.turns c.in-Err.ensures.err in
+    record {
+      serves = (stays.0, refl, stays.1);
+      count = omega arith;
+    }

@@ -38,4 +38,4 @@ returns-in-Command-clause-turns g c =
 
 pub returns-in-Query-clause-turns : goal.returns-in-Query-clause-turns
 returns-in-Query-clause-turns g c =
-    query-turn _ _ _ _ _ _ _ c.in-Query.is c.caller_of-caller.ensures (ap (λ (x : What). is_unauthorized c.caller_of-caller.result x) (sym c.in-Query.is) ∙ sym c.is_unauthorized.ensures ∙ c.if-is_unauthorized.false) c.answer.ensures
+    query-turn _ _ _ _ _ _ c.in-Query.is c.caller_of-caller.ensures (ap (λ (x : What). is_unauthorized c.caller_of-caller.result x) (sym c.in-Query.is) ∙ sym c.is_unauthorized.ensures ∙ c.if-is_unauthorized.false) c.answer.ensures

@@ -1,4 +1,4 @@
-use Rattle.std.proofs.Common.{ℕ, ◌≡◌, ◌++◌, drop}
+use Rattle.std.proofs.Common.{◌≡◌, ◌++◌, drop}
 use Rattle.std.specs.Prelude.{map}
 use Rattle.cr_base.specs.declared.pairs.Pair.{Pair}
 use Rattle.cr_view.proofs.me.papers_of.Given as goal

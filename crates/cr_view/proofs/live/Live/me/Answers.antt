@@ -1,8 +1,6 @@
-use Rattle.std.proofs.Common.{ℕ, List, Option, Some, [], ◌∙◌, ap}
-use Rattle.std.specs.Prelude.{filter, not, unwrap_or}
-use Rattle.std.specs.Option.{option_map}
-use Rattle.cr_base.specs.declared.entry.Account.{Account}
-use Rattle.cr_base.specs.Accounts.{account_at, role_in}
+use Rattle.std.proofs.Common.{ℕ, List, Some, ◌∙◌, ap}
+use Rattle.std.specs.Prelude.{filter, not}
+use Rattle.cr_base.specs.Accounts.{role_in}
 use Rattle.cr_base.specs.Lists.{numbers_from}
 use Rattle.cr_base.specs.Papers.{is_author_at}
 use Rattle.cr_base.specs.Ties.{is_author_in, is_declared_in}
