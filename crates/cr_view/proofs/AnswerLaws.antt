@@ -62,13 +62,16 @@ seconds-step accounts pairs i other before after wanted found within is pushed t
 
 -- ---- pages
 
--- a broken rule is told in place of the page
-pub refused : (checks : List Check) (page : Page) (rule : Rule) → ◌≡◌ {A = Result (Unit {0}) Rule} (Err rule) (judged checks tt) → ◌≡◌ {A = Result Page Rule} (Err rule) (judged checks page)
-refused checks page rule h = sym (judged-Err checks tt page rule (sym h))
+-- a broken rule is told in place of what would be
+pub refused : {A B : Type 0} (checks : List Check) (x : A) (y : B) (rule : Rule) → ◌≡◌ {A = Result A Rule} (Err rule) (judged checks x) → ◌≡◌ {A = Result B Rule} (Err rule) (judged checks y)
+refused checks x y rule h = sym (judged-Err checks x y rule (sym h))
 
--- where none is broken, the page is told
-pub shown : (checks : List Check) (page : Page) → ◌≡◌ {A = Result (Unit {0}) Rule} (Ok tt) (judged checks tt) → ◌≡◌ {A = Result Page Rule} (Ok page) (judged checks page)
-shown checks page h = let k = judged-Ok checks tt tt (sym h) in sym (judged-none checks page k.0)
+-- where none is broken, what would be is told, and the reader stands as she does
+pub shown : {A B : Type 0} (checks : List Check) (x given : A) (y : B) → ◌≡◌ {A = Result A Rule} (Ok given) (judged checks x) → ◌≡◌ {A = Result B Rule} (Ok y) (judged checks y)
+shown checks x given y h = let k = judged-Ok checks x given (sym h) in sym (judged-none checks y k.0)
+
+pub reader-is : {A : Type 0} (checks : List Check) (x given : A) → ◌≡◌ {A = Result A Rule} (Ok given) (judged checks x) → given ≡ x
+reader-is checks x given h = sym (judged-Ok checks x given (sym h)).1
 
 -- the page or the broken rule is the answer
 pub page_reply-judged : (checks : List Check) (page : Page) → page_reply (judged checks page) ≡ reply_or_rule (judged checks (replies.Page page))

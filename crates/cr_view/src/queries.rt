@@ -11,7 +11,7 @@ ghost use Rattle.cr_base.specs.declared.reply.Conference.{Conference};
 ghost use Rattle.cr_base.specs.declared.reply.Reply.TheVariants as replies;
 ghost use Rattle.cr_base.specs.declared.reply.Rule.{Rule};
 ghost use Rattle.cr_view.specs.Callers.{HasAsker};
-ghost use Rattle.cr_view.specs.Replies.{page_reply};
+ghost use Rattle.cr_view.specs.Replies.{page_at, page_reply};
 
 use crate::group::maker;
 use crate::live::Live;
@@ -20,7 +20,8 @@ use crate::page::{
 };
 use cr_anonymity::shows_author;
 use cr_base::{
-    AccountLines, Conference, Names, Page, Pair, PaperNo, Query, Reply, Rule, Short, UserNo,
+    AccountLines, Conference, Names, Page, Pair, PaperNo, Query, Reply, Rule, Short, Standing,
+    UserNo,
 };
 use std::alloc::{AllocError, Global};
 
@@ -34,12 +35,16 @@ impl Live {
     {
         match query {
             Query::Me | Query::Accounts | Query::Phase => Ok(()),
-            Query::Page { paper } => self.may_see(user, paper),
+            Query::Page { paper } => match self.reader(user, paper) {
+                Ok(_) => Ok(()),
+                Err(rule) => Err(rule),
+            },
         }
     }
 
-    fn may_see(&self, user: &Option<UserNo>, paper: &Option<PaperNo>) -> Result<(), Rule>
-        ensures { result ≡ judged (page_checks (standing_at self.now.tables user.now paper.now) (has_paper (facts_of_tables self.now.tables user.now) paper.now)) tt }
+    /// How she stands to the paper whose page she may see, or the first broken rule.
+    fn reader(&self, user: &Option<UserNo>, paper: &Option<PaperNo>) -> Result<Standing, Rule>
+        ensures { result ≡ judged (page_checks (standing_at self.now.tables user.now paper.now) (has_paper (facts_of_tables self.now.tables user.now) paper.now)) (standing_at self.now.tables user.now paper.now) }
     {
         if !self.has_paper(paper) {
             return Err(Rule::NoPaper);
@@ -48,7 +53,7 @@ impl Live {
         if !(by.role.is_member() || by.author) {
             return Err(Rule::NotMember);
         }
-        Ok(())
+        Ok(by)
     }
 
     /// Whether there is such a paper.
@@ -131,35 +136,34 @@ impl Live {
         ensures page { IfOk result (λ shown. shown ≡ judged (query_checks (facts_of_tables self.now.tables user.now) (queries.Page paper.now)) (page_by (facts_of_tables self.now.tables user.now) (shown_in_tables self.now.tables) (unwrap_or paper.now 0))) }
         ensures rule { (rule : Rule) → judged (query_checks (facts_of_tables self.now.tables user.now) (queries.Page paper.now)) (page_by (facts_of_tables self.now.tables user.now) (shown_in_tables self.now.tables) (unwrap_or paper.now 0)) ≡ Err rule → result ≡ Ok (Err rule) }
     {
-        match self.may_see(user, paper) {
-            Ok(()) => {}
+        let by = match self.reader(user, paper) {
+            Ok(by) => by,
             Err(rule) => return Ok(Err(rule)),
-        }
+        };
         match paper {
-            Some(paper) => Ok(Ok(self.page(alloc, user, *paper)?)),
+            Some(paper) => Ok(Ok(self.page(alloc, &by, *paper)?)),
             None => unreachable!(),
         }
     }
 
-    /// What a user is told of a paper.
-    fn page(&self, alloc: Global, user: &Option<UserNo>, paper: PaperNo) -> Result<Page, AllocError>
-        ensures { IfOk result (λ page. page ≡ page_by (facts_of_tables self.now.tables user.now) (shown_in_tables self.now.tables) paper) }
+    /// What a reader who stands so to a paper is told of it.
+    fn page(&self, alloc: Global, by: &Standing, paper: PaperNo) -> Result<Page, AllocError>
+        ensures { IfOk result (λ page. page ≡ page_at self.now.tables by.now paper) }
     {
-        let by = self.standing(user, &Some(paper));
-        let title = copy_where(alloc, gets_title(&by), self.papers.last_title(paper))?;
-        let abstract_ = copy_where(alloc, gets_abstract(&by), self.papers.last_abstract(paper))?;
-        let authors = self.authors_where(alloc, shows_author(&by, false), paper)?;
-        let conflicts = self.names_where(alloc, gets_conflicts(&by), self.ties.conflicts(paper))?;
-        let declared = self.names_where(alloc, gets_declared(&by), self.ties.declared(paper))?;
+        let title = copy_where(alloc, gets_title(by), self.papers.last_title(paper))?;
+        let abstract_ = copy_where(alloc, gets_abstract(by), self.papers.last_abstract(paper))?;
+        let authors = self.authors_where(alloc, shows_author(by, false), paper)?;
+        let conflicts = self.names_where(alloc, gets_conflicts(by), self.ties.conflicts(paper))?;
+        let declared = self.names_where(alloc, gets_declared(by), self.ties.declared(paper))?;
         Ok(Page {
             paper,
             abstract_,
             authors,
-            conflict: conflict_told(&by),
+            conflict: conflict_told(by),
             conflicts,
             declared,
             title,
-            bare: bare_keys(&by),
+            bare: bare_keys(by),
         })
     }
 

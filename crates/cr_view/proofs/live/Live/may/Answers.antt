@@ -1,0 +1,15 @@
+use Rattle.std.proofs.Common.{◌∙◌, ap, sym}
+use Rattle.cr_base.specs.declared.command.Query.{Query}
+use Rattle.cr_base.specs.declared.command.Query.TheVariants as queries
+use Rattle.cr_base.specs.Checks.{judged}
+use Rattle.cr_base.specs.Judging.{facts_of_tables, query_checks, standing_at}
+use Rattle.cr_view.proofs.AnswerLaws.{refused}
+use Rattle.cr_view.proofs.live.Live.may.Goals as goal
+
+pub returns-in-Err : goal.returns-in-Err
+returns-in-Err c =
+    let t = c.args.self.now.tables in
+    let u = c.args.user.now in
+    let facts = facts_of_tables t u in
+    refused (query_checks facts (queries.Page c.in-Page.paper)) (standing_at t u c.in-Page.paper) tt c.in-Err.rule c.in-Err.ensures
+    ∙ sym (ap (λ (q : Query). judged (query_checks facts q) tt) c.in-Page.is)
