@@ -156,8 +156,8 @@ pub record DeclaresInTime (H : History) : Type 0 where
 abbrev pub IsSpelled : Stamped → Type 0
 IsSpelled e = stamped (kind_of e.entry) (row_of e) ≡ e
 
--- what every legal history keeps: each entry is within its bounds, so that its row spells it; each fits the tables of what
--- stands before it; and so on
+-- what every legal history keeps. Each entry is within its bounds, so that its row spells it; it fits the tables of what
+-- stands before it; and it is in order there. No command's entries are cut off, and conflicts are declared in time
 pub record Invariants (H : History) : Type 0 where
   pub bounded : All IsBoundedEntry H
   pub spelled : All IsSpelled H
