@@ -1,6 +1,8 @@
 -- The small conference is legal, and each reader's view of it is the one that is written.
-use Rattle.std.proofs.Common.{ℕ, true, false, List, [], ◌∷◌, ◌++◌, refl, Some, arith}
-use Rattle.std.specs.Prelude.{codes}
+use Rattle.std.proofs.Common.{ℕ, true, false, List, [], ◌∷◌, ◌++◌, refl, ◌≡◌, length, ◌&&◌, Some, arith}
+use Rattle.std.specs.Prelude.{codes, nat_le}
+use Rattle.std.specs.List.{list_all}
+use Rattle.std.proofs.lemmas.Bool.{and_parts, leb-true}
 use Rattle.cr_base.specs.declared.command.Command.{Command}
 use Rattle.cr_base.specs.declared.command.Command.TheVariants.{SetPhase, Submit, Name, SetMode, SetConflict}
 use Rattle.cr_base.specs.declared.words.Mode.{Mode}
@@ -8,10 +10,10 @@ use Rattle.cr_base.specs.declared.words.Mode.TheVariants.{Overt, Blind, Anonymou
 use Rattle.cr_base.specs.declared.words.Phase.TheVariants.{Submission, Bidding}
 use Rattle.cr_base.specs.declared.words.Role.TheVariants.{Member, Chair}
 use Rattle.cr_base.specs.History.{History}
-use Rattle.cr_base.specs.Texts.{IsTitle, IsAbstract}
+use Rattle.cr_base.specs.Texts.{IsName, IsTitle, IsAbstract, is_name_byte, is_name}
 use Rattle.cr_policy.specs.Conference.{alice, bob, dave, fay, gus, Digests, AreDigests, proofs, we_prove, types, we_type, registered, opened, before_bidding, in_bidding}
 use Rattle.cr_policy.specs.ConferenceLaws.{AreCast, ConferenceLegal, ViewsBeforeBidding, ViewsInBidding}
-use Rattle.cr_policy.specs.Legal.{Call, LeadsTo, Legal}
+use Rattle.cr_policy.specs.Legal.{Call, IsAllowed, LeadsTo, Legal}
 use Rattle.cr_policy.proofs.LegalLaws.{LeadsTo-append}
 use Rattle.cr_policy.proofs.WitnessLaws.{register, ascii-utf8}
 
@@ -25,35 +27,21 @@ goes_on from to calls legal leads = (legal.0 ++ calls, LeadsTo-append [] from to
 abbrev by : ℕ → Command → Call
 by user command = record { caller = Some user; command = command }
 
+-- names are within their bounds by computing
+is_name-bounded : (name : List ℕ) → is_name name ≡ true → IsName name
+is_name-bounded name h =
+    let bytes = and_parts (nat_le 1 (length name) && nat_le (length name) 32) (list_all is_name_byte name) h in
+    let sized = and_parts (nat_le 1 (length name)) (nat_le (length name) 32) bytes.0 in
+    record { some = leb-true 1 (length name) sized.0; few = leb-true (length name) 32 sized.1; bytes = bytes.1 }
+
+-- anybody may register
+joins : {H : History} {name digest : List ℕ} → is_name name ≡ true → length digest ≡ 32 → IsAllowed H (register name digest)
+joins {H} {name} {digest} named digested = record { caller = refl; bounded = (is_name-bounded name named, digested) }
+
 registered-legal : (d : Digests) → AreDigests d → Legal (registered d)
 registered-legal d are = (
-  register (codes "alice") d.alice
-      ∷ register (codes "bob") d.bob
-      ∷ register (codes "carol") d.carol
-      ∷ register (codes "dave") d.dave
-      ∷ register (codes "erin") d.erin
-      ∷ register (codes "fay") d.fay
-      ∷ register (codes "gus") d.gus
-      ∷ [],
-  (
-    record { caller = refl; bounded = (record { some = omega arith; few = omega arith; bytes = refl }, are.alice) },
-    (
-      record { caller = refl; bounded = (record { some = omega arith; few = omega arith; bytes = refl }, are.bob) },
-      (
-        record { caller = refl; bounded = (record { some = omega arith; few = omega arith; bytes = refl }, are.carol) },
-        (
-          record { caller = refl; bounded = (record { some = omega arith; few = omega arith; bytes = refl }, are.dave) },
-          (
-            record { caller = refl; bounded = (record { some = omega arith; few = omega arith; bytes = refl }, are.erin) },
-            (
-              record { caller = refl; bounded = (record { some = omega arith; few = omega arith; bytes = refl }, are.fay) },
-              (record { caller = refl; bounded = (record { some = omega arith; few = omega arith; bytes = refl }, are.gus) }, refl),
-            ),
-          ),
-        ),
-      ),
-    ),
-  ),
+  register (codes "alice") d.alice ∷ register (codes "bob") d.bob ∷ register (codes "carol") d.carol ∷ register (codes "dave") d.dave ∷ register (codes "erin") d.erin ∷ register (codes "fay") d.fay ∷ register (codes "gus") d.gus ∷ [],
+  (joins refl are.alice, (joins refl are.bob, (joins refl are.carol, (joins refl are.dave, (joins refl are.erin, (joins refl are.fay, (joins refl are.gus, refl))))))),
 )
 
 opened-legal : (d : Digests) (mode : Mode) → Legal (registered d) → Legal (opened d mode)
