@@ -1,3 +1,6 @@
+pub mod BoundsLaws
+pub mod BoundsParts
+pub mod BoundsWalk
 pub mod CallerLaws
 pub mod ConflictTies
 pub mod Cuts

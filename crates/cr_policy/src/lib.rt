@@ -8,6 +8,7 @@
 ghost use Rattle.std.specs.Prelude.{ℕ, Option};
 ghost use Rattle.cr_base.specs.History.{History};
 ghost use Rattle.cr_policy.specs.Laws.{StandingFromView, PublicFactsFromView, ViewSuffices, DeclaredFromView, TwoRegistrations, DigestsHidden, OneSubmission, OneConflict};
+ghost use Rattle.cr_policy.specs.ViewBounds.{EntriesShown, MarksShown, PapersShown, UsersShown, NamesShown, DigestsShown, RolesShown, PhasesShown, ModesShown, MakersShown, TitlesShown, AbstractsShown, SwitchesShown, OneTitle, OneAbstract, LittleLeft, StrangersShown, NobodyShown};
 
 /// How a user stands can be read off what she sees: phase, mode, role and her ties to any paper, of
 /// every history and for every user, nobody among them. An author sees all authors of her paper, and
@@ -46,4 +47,27 @@ pub fn law_witness()
     ensures hidden { DigestsHidden }
     ensures submitted { OneSubmission }
     ensures conflict { OneConflict }
+{}
+
+/// What a user is shown, part by part, neither more nor less, whatever the history, whoever reads, and
+/// nobody too. Each clause names a part of the entries, or who should know little.
+pub fn law_bounds()
+    ensures entries { EntriesShown }
+    ensures marks { MarksShown }
+    ensures papers { PapersShown }
+    ensures users { UsersShown }
+    ensures names { NamesShown }
+    ensures digests { DigestsShown }
+    ensures roles { RolesShown }
+    ensures phases { PhasesShown }
+    ensures modes { ModesShown }
+    ensures makers { MakersShown }
+    ensures titles { TitlesShown }
+    ensures abstracts { AbstractsShown }
+    ensures switches { SwitchesShown }
+    ensures one_title { OneTitle }
+    ensures one_abstract { OneAbstract }
+    ensures little_left { LittleLeft }
+    ensures strangers { StrangersShown }
+    ensures nobody { NobodyShown }
 {}
