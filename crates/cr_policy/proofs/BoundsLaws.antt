@@ -17,8 +17,8 @@ use Rattle.cr_base.specs.Facts.{mode_of, phase_of, role_of, authors_of, is_autho
 use Rattle.cr_policy.specs.Sighting.{Sighting, blank}
 use Rattle.cr_policy.specs.View.{view}
 use Rattle.cr_policy.specs.ViewFacts.{only}
-use Rattle.cr_policy.specs.ShownTo.{is_on_committee, leads_committee, is_past_submission, hides_authors, serves, handles, oversees, has_conflict, is_told, where_known, gives_texts, are_silent, each_told, kind_for, paper_for, title_for, abstract_for}
-use Rattle.cr_policy.specs.ViewBounds.{OneTitle, OneAbstract, IsLeft, LittleLeft, IsPublic, names_her, IsStranger, StrangersShown, NobodyShown}
+use Rattle.cr_policy.specs.ShownTo.{is_on_committee, leads_committee, is_past_submission, hides_authors, serves, handles, oversees, has_conflict, is_told, where_known, gives_texts, is_replaced, each_told, kind_for, paper_for, title_for, abstract_for}
+use Rattle.cr_policy.specs.ViewBounds.{OneTitle, OneAbstract, IsLeft, OutsidersShown, IsPublic, names_her, IsStranger, StrangersShown, NobodyShown}
 use Rattle.cr_policy.proofs.BoundsParts.{IsWriters}
 use Rattle.cr_policy.proofs.BoundsWalk.{shown_to, writers-all, view-told}
 use Rattle.cr_policy.proofs.Tells.{stamp}
@@ -43,7 +43,7 @@ module _ {A : Type 0} (u : Option ℕ) (p : ℕ) (H : History) (seen : Sighting 
   record TellsLast : Type 0 where
     few : (later : History) (maker : ℕ) (e : Entry) → length (seen (shown_to u H later maker e)) ≤ 1
     other : (later : History) (maker : ℕ) (e : Entry) → gives_texts p e ≡ false → seen (shown_to u H later maker e) ≡ []
-    late : (later : History) (maker : ℕ) (e : Entry) → are_silent p later ≡ false → seen (shown_to u H later maker e) ≡ []
+    late : (later : History) (maker : ℕ) (e : Entry) → is_replaced p later ≡ true → seen (shown_to u H later maker e) ≡ []
 
   module _ (tells : TellsLast) where
     abbrev all_seen : History → List A
@@ -57,10 +57,10 @@ module _ {A : Type 0} (u : Option ℕ) (p : ℕ) (H : History) (seen : Sighting 
     only-nothing : (b : Bool) (xs : List A) → xs ≡ [] → only b xs ≡ []
     only-nothing b xs h = ap (only b) h
 
-    none-seen : (G : History) → list_any (λ (e : Stamped). gives_texts p e.entry) G ≡ false → all_seen G ≡ []
+    none-seen : (G : History) → is_replaced p G ≡ false → all_seen G ≡ []
     none-seen [] h = refl
     none-seen (e ∷ G) h =
-        let parts = or_parts (gives_texts p e.entry) (list_any (λ (e : Stamped). gives_texts p e.entry) G) h in
+        let parts = or_parts (gives_texts p e.entry) (is_replaced p G) h in
         first-seen e G
         ∙ ap (λ xs. xs ++ all_seen G) (only-nothing (is_told u H e.maker e.entry) (seen (shown_to u H G e.maker e.entry)) (tells.other G e.maker e.entry parts.0))
         ∙ none-seen G parts.1
@@ -73,10 +73,10 @@ module _ {A : Type 0} (u : Option ℕ) (p : ℕ) (H : History) (seen : Sighting 
     one-seen [] = omega arith
     one-seen (e ∷ G) =
         subst (λ (xs : List A). length xs ≤ 1) (sym (first-seen e G))
-        (by (only (is_told u H e.maker e.entry) (seen (shown_to u H G e.maker e.entry))) (all_seen G) (list_any (λ (e : Stamped). gives_texts p e.entry) G)
+        (by (only (is_told u H e.maker e.entry) (seen (shown_to u H G e.maker e.entry))) (all_seen G) (is_replaced p G)
         (none-seen G)
         (only-few (is_told u H e.maker e.entry) (seen (shown_to u H G e.maker e.entry)) (tells.few G e.maker e.entry))
-        (λ more. only-nothing (is_told u H e.maker e.entry) (seen (shown_to u H G e.maker e.entry)) (tells.late G e.maker e.entry (ap not more)))
+        (λ more. only-nothing (is_told u H e.maker e.entry) (seen (shown_to u H G e.maker e.entry)) (tells.late G e.maker e.entry more))
         (one-seen G))
       where
         by : (xs ys : List A) (more : Bool) → (more ≡ false → ys ≡ []) → length xs ≤ 1 → (more ≡ true → xs ≡ []) → length ys ≤ 1 → length (xs ++ ys) ≤ 1
@@ -89,7 +89,7 @@ module _ {A : Type 0} (u : Option ℕ) (p : ℕ) (H : History) (seen : Sighting 
 module _ (u : Option ℕ) (p : ℕ) (H : History) (may : ℕ → Bool) (pick : List ℕ → List ℕ → List ℕ) where
   -- a text of a paper, for its authors, and the last one for those who may know it
   abbrev text_for : History → Entry → Option (List ℕ)
-  text_for later (Submitted paper title abstract) = where_known (is_author u paper H || (are_silent paper later && may paper)) (pick title abstract)
+  text_for later (Submitted paper title abstract) = where_known (is_author u paper H || (not (is_replaced paper later) && may paper)) (pick title abstract)
   text_for later _ = None
 
   module _ (text : Sighting → Option (List ℕ)) (same : (later : History) (maker : ℕ) (e : Entry) → text (shown_to u H later maker e) ≡ text_for later e) (stranger : is_author u p H ≡ false) where
@@ -110,11 +110,11 @@ module _ (u : Option ℕ) (p : ℕ) (H : History) (may : ℕ → Bool) (pick : L
     other later maker (Submitted paper title abstract) h = ap (λ b. only b (listed (text_for later (Submitted paper title abstract)))) h ∙ only-false _
     other later maker e h = refl
 
-    late : (later : History) (maker : ℕ) (e : Entry) → are_silent p later ≡ false → text_told later maker e ≡ []
+    late : (later : History) (maker : ℕ) (e : Entry) → is_replaced p later ≡ true → text_told later maker e ≡ []
     late later maker (Submitted paper title abstract) more =
         text-late (eqb paper p) _ _ _ (pick title abstract) (λ same.
         let e : paper ≡ p = eqb-true paper p same in
-        (ap (λ n. is_author u n H) e ∙ stranger, ap (λ n. are_silent n later) e ∙ more))
+        (ap (λ n. is_author u n H) e ∙ stranger, ap (λ n. not (is_replaced n later)) e ∙ ap not more))
     late later maker e more = refl
 
     one-text : length (flat_map text_seen (view u H)) ≤ 1
@@ -199,7 +199,7 @@ module _ (u : Option ℕ) (p : ℕ) (H : History) (out : (is_author u p H || han
     mode = None;
     by = known-not _ maker (maker-hidden (is_author u paper H) (handles u paper H) (leads_committee (role_of u H)) (hides_authors (mode_of H)) wrote handled) i;
     title = titled (serves u H) i;
-    abstract = known-not _ abstract (text-hidden (is_author u paper H) (are_silent paper later) (handles u paper H) wrote handled) i;
+    abstract = known-not _ abstract (text-hidden (is_author u paper H) (not (is_replaced paper later)) (handles u paper H) wrote handled) i;
     on = None;
   }
     where
@@ -219,12 +219,12 @@ module _ (u : Option ℕ) (p : ℕ) (H : History) (out : (is_author u p H || han
           by true h = absurd (false≢true (sym wrote ∙ h refl))
           by false h = refl
 
-      titled : (served : Bool) → where_known (is_author u paper H || (are_silent paper later && served)) title ≡ cond served (where_known (is_author u paper H || (are_silent paper later && served)) title) None
+      titled : (served : Bool) → where_known (is_author u paper H || (not (is_replaced paper later) && served)) title ≡ cond served (where_known (is_author u paper H || (not (is_replaced paper later) && served)) title) None
       titled true = refl
-      titled false = known-not _ title (text-hidden (is_author u paper H) (are_silent paper later) false wrote refl)
+      titled false = known-not _ title (text-hidden (is_author u paper H) (not (is_replaced paper later)) false wrote refl)
 
-pub little-left : LittleLeft
-little-left u p H out =
+pub outsiders-shown : OutsidersShown
+outsiders-shown u p H out =
     all-view u H (λ (s : Sighting). is_number s.paper p ≡ true → IsLeft u (serves u H) s.kind s) (λ (e : Stamped). IsWriters u H e.maker e.entry)
     (left-one u p H out) (writers-all u H)
 
@@ -243,8 +243,8 @@ module _ (u : Option ℕ) (H : History) (stranger : IsStranger u H) where
     mine = other i;
     paper = Some paper;
     by = known-not _ maker (maker-hidden (is_author u paper H) (handles u paper H) (leads_committee (role_of u H)) (hides_authors (mode_of H)) (stranger.author paper) (unhandled paper)) i;
-    title = known-not _ title (text-hidden (is_author u paper H) (are_silent paper later) (serves u H) (stranger.author paper) stranger.serving) i;
-    abstract = known-not _ abstract (text-hidden (is_author u paper H) (are_silent paper later) (handles u paper H) (stranger.author paper) (unhandled paper)) i;
+    title = known-not _ title (text-hidden (is_author u paper H) (not (is_replaced paper later)) (serves u H) (stranger.author paper) stranger.serving) i;
+    abstract = known-not _ abstract (text-hidden (is_author u paper H) (not (is_replaced paper later)) (handles u paper H) (stranger.author paper) (unhandled paper)) i;
   }
   public-one later maker more (Conflict paper user on) unnamed told other = absurd (untold unnamed other (stranger.author paper) stranger.serving)
     where

@@ -1,10 +1,8 @@
 -- What an entry shows, part by part, is what the bounds give: one lemma a part.
 use Rattle.std.proofs.Common.{◌≡◌, ℕ, Bool, true, false, List, [], ◌∷◌, ◌++◌, eqb, refl, ap, ◌∙◌, arith, ◌||◌, ◌&&◌, Option, Some}
 use Rattle.std.specs.Prelude.{not}
-use Rattle.std.specs.List.{list_any}
 use Rattle.cr_base.specs.declared.entry.Entry.{Entry}
 use Rattle.cr_base.specs.declared.entry.Entry.TheVariants.{Registered, Submitted, Conflict}
-use Rattle.cr_base.specs.declared.entry.Stamped.{Stamped}
 use Rattle.cr_base.specs.declared.words.Phase.{Phase}
 use Rattle.cr_base.specs.declared.words.Phase.TheVariants.{Setup, Submission, Bidding, Reviewing, Discussion, Notification, Closed}
 use Rattle.cr_base.specs.declared.words.Mode.{Mode}
@@ -19,7 +17,7 @@ use Rattle.cr_base.specs.Words.{is_anonymous, is_member, is_chair}
 use Rattle.cr_policy.specs.Sighting.{Sighting, where_shown}
 use Rattle.cr_policy.specs.Triggers.{Reader, reader, Place, none_in}
 use Rattle.cr_policy.specs.View.{is_seen, joined}
-use Rattle.cr_policy.specs.ShownTo.{is_on_committee, leads_committee, is_past_submission, hides_authors, is_told, where_known, are_silent, gives_texts, kind_for, mark_for, paper_for, user_for, name_for, digest_for, role_for, phase_for, mode_for, maker_for, title_for, abstract_for, switch_for}
+use Rattle.cr_policy.specs.ShownTo.{is_on_committee, leads_committee, is_past_submission, hides_authors, is_told, where_known, is_replaced, gives_texts, kind_for, mark_for, paper_for, user_for, name_for, digest_for, role_for, phase_for, mode_for, maker_for, title_for, abstract_for, switch_for}
 use Rattle.cr_policy.proofs.Tells.{stamp}
 
 -- ---- the words of the table, and those of the bounds
@@ -54,9 +52,9 @@ anonymous-hides Overt = refl
 anonymous-hides Blind = refl
 anonymous-hides Anonymous = refl
 
-none_in-silent : (p : ℕ) (H : History) → none_in (title_told p) H ≡ are_silent p H
-none_in-silent p [] = refl
-none_in-silent p (e ∷ H) = by e.entry (all_told (title_told p) H) (list_any (λ (e : Stamped). gives_texts p e.entry) H) (none_in-silent p H)
+none_in-replaced : (p : ℕ) (H : History) → none_in (title_told p) H ≡ not (is_replaced p H)
+none_in-replaced p [] = refl
+none_in-replaced p (e ∷ H) = by e.entry (all_told (title_told p) H) (is_replaced p H) (none_in-replaced p H)
   where
     step : (same : Bool) (title : List ℕ) (rest : List (List ℕ)) (later : Bool) → is_nothing rest ≡ not later → is_nothing (given same title ++ rest) ≡ not (same || later)
     step true title rest later h = refl
@@ -161,7 +159,7 @@ module _ (u : Option ℕ) (H : History) (at : Place) (maker : ℕ) (more : Bool)
   title-one (Submitted paper title abstract) writes =
       let member = member-committee (role_of u H) in
       let from = from-past (phase_of H) in
-      known-same _ _ title (text-known (is_author u paper H) _ _ _ (is_number u maker) _ _ (none_in-silent paper at.after) (grind (arith, member, from)) writes)
+      known-same _ _ title (text-known (is_author u paper H) _ _ _ (is_number u maker) _ _ (none_in-replaced paper at.after) (grind (arith, member, from)) writes)
   title-one (Registered user name digest) writes = refl
   title-one e writes = refl
 
@@ -169,6 +167,6 @@ module _ (u : Option ℕ) (H : History) (at : Place) (maker : ℕ) (more : Bool)
   abstract-one (Submitted paper title abstract) writes =
       let member = member-committee (role_of u H) in
       let from = from-past (phase_of H) in
-      known-same _ _ abstract (text-known (is_author u paper H) _ _ _ (is_number u maker) _ _ (none_in-silent paper at.after) (grind (arith, member, from)) writes)
+      known-same _ _ abstract (text-known (is_author u paper H) _ _ _ (is_number u maker) _ _ (none_in-replaced paper at.after) (grind (arith, member, from)) writes)
   abstract-one (Registered user name digest) writes = refl
   abstract-one e writes = refl

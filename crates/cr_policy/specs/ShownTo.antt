@@ -148,18 +148,18 @@ abbrev pub gives_texts : ℕ → Entry → Bool
 gives_texts p (Submitted paper title abstract) = paper == p
 gives_texts p _ = false
 
--- none of these entries gives the paper its texts
-abbrev pub are_silent : ℕ → History → Bool
-are_silent p H = not (list_any (λ (e : Stamped). gives_texts p e.entry) H)
+-- one of these later entries gives the paper other texts
+abbrev pub is_replaced : ℕ → History → Bool
+is_replaced p later = list_any (λ (e : Stamped). gives_texts p e.entry) later
 
 -- a title: to the paper's authors, and the last one to those who serve
 abbrev pub title_for : PartFor (Option (List ℕ))
-title_for u H later maker (Submitted paper title abstract) = where_known (is_author u paper H || (are_silent paper later && serves u H)) title
+title_for u H later maker (Submitted paper title abstract) = where_known (is_author u paper H || (not (is_replaced paper later) && serves u H)) title
 title_for u H later maker _ = None
 
 -- an abstract: to the paper's authors, and the last one to those who handle the paper
 abbrev pub abstract_for : PartFor (Option (List ℕ))
-abstract_for u H later maker (Submitted paper title abstract) = where_known (is_author u paper H || (are_silent paper later && handles u paper H)) abstract
+abstract_for u H later maker (Submitted paper title abstract) = where_known (is_author u paper H || (not (is_replaced paper later) && handles u paper H)) abstract
 abstract_for u H later maker _ = None
 
 -- whether a conflict is on: always

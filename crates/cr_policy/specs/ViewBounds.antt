@@ -85,8 +85,8 @@ IsLeft u titled kinds.Submitted s = s ≡ record (blank kinds.Submitted) { paper
 IsLeft u titled kinds.Conflict s = IsTrue (s.mine || is_user u s.user) × (s ≡ record (blank kinds.Conflict) { mine = s.mine; paper = s.paper; user = s.user; on = s.on })
 
 -- so of any other than an author: one in conflict, one who isn't on the committee, and all before the bidding
-abbrev pub LittleLeft : Type 0
-LittleLeft = (u : Option ℕ) (p : ℕ) (H : History) → IsFalse (is_author u p H || handles u p H) → All (λ (s : Sighting). IsTrue (is_number s.paper p) → IsLeft u (serves u H) s.kind s) (view u H)
+abbrev pub OutsidersShown : Type 0
+OutsidersShown = (u : Option ℕ) (p : ℕ) (H : History) → IsFalse (is_author u p H || handles u p H) → All (λ (s : Sighting). IsTrue (is_number s.paper p) → IsLeft u (serves u H) s.kind s) (view u H)
 
 -- ---- strangers, and nobody
 

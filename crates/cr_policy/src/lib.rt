@@ -8,7 +8,7 @@
 ghost use Rattle.std.specs.Prelude.{ℕ, Option};
 ghost use Rattle.cr_base.specs.History.{History};
 ghost use Rattle.cr_policy.specs.Laws.{StandingFromView, PublicFactsFromView, ViewSuffices, DeclaredFromView, TwoRegistrations, DigestsHidden, OneSubmission, OneConflict};
-ghost use Rattle.cr_policy.specs.ViewBounds.{EntriesShown, MarksShown, PapersShown, UsersShown, NamesShown, DigestsShown, RolesShown, PhasesShown, ModesShown, MakersShown, TitlesShown, AbstractsShown, SwitchesShown, OneTitle, OneAbstract, LittleLeft, StrangersShown, NobodyShown};
+ghost use Rattle.cr_policy.specs.ViewBounds.{EntriesShown, MarksShown, PapersShown, UsersShown, NamesShown, DigestsShown, RolesShown, PhasesShown, ModesShown, MakersShown, TitlesShown, AbstractsShown, SwitchesShown, OneTitle, OneAbstract, OutsidersShown, StrangersShown, NobodyShown};
 
 /// How a user stands can be read off what she sees: phase, mode, role and her ties to any paper, of
 /// every history and for every user, nobody among them. An author sees all authors of her paper, and
@@ -67,7 +67,7 @@ pub fn law_bounds()
     ensures switches { SwitchesShown }
     ensures one_title { OneTitle }
     ensures one_abstract { OneAbstract }
-    ensures little_left { LittleLeft }
+    ensures outsiders { OutsidersShown }
     ensures strangers { StrangersShown }
     ensures nobody { NobodyShown }
 {}

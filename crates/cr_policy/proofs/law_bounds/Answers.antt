@@ -1,5 +1,5 @@
 use Rattle.cr_policy.proofs.BoundsWalk.{entries-shown, marks-shown, papers-shown, users-shown, names-shown, digests-shown, roles-shown, phases-shown, modes-shown, makers-shown, titles-shown, abstracts-shown, switches-shown}
-use Rattle.cr_policy.proofs.BoundsLaws.{one-title, one-abstract, little-left, strangers-shown, nobody-shown}
+use Rattle.cr_policy.proofs.BoundsLaws.{one-title, one-abstract, outsiders-shown, strangers-shown, nobody-shown}
 use Rattle.cr_policy.proofs.law_bounds.Goals as goal
 
 pub returns : goal.returns
@@ -19,7 +19,7 @@ returns c = record {
   switches = switches-shown;
   one_title = one-title;
   one_abstract = one-abstract;
-  little_left = little-left;
+  outsiders = outsiders-shown;
   strangers = strangers-shown;
   nobody = nobody-shown;
 }
