@@ -162,7 +162,8 @@ module _ (u p : ℕ) (H : History) (author : is_author (Some u) p H ≡ true) wh
       ∙ ap (λ ys. flat_map made_told (until is_opening H) ++ ys) second
       ∙ flat_map-cut is_opening made_told (λ e h. opening-silent (is_author (Some e.maker) p H) e.entry h) H
 
-nobody_author : (xs : List ℕ) → list_any (is_number None) xs ≡ false
+-- nobody is among any users
+pub nobody_author : (xs : List ℕ) → list_any (is_number None) xs ≡ false
 nobody_author [] = refl
 nobody_author (x ∷ xs) = nobody_author xs
 

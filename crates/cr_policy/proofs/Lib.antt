@@ -1,5 +1,6 @@
-pub mod BoundsLaws
+pub mod BoundsLeft
 pub mod BoundsParts
+pub mod BoundsTexts
 pub mod BoundsWalk
 pub mod CallerLaws
 pub mod ConflictTies

@@ -1,8 +1,9 @@
 -- Who is shown which part of an entry: a paragraph for each part, and in it a line for each kind of entry that has it. It
 -- is the trigger table turned round and written anew, from what a committee wants: who sees titles, abstracts and authors
--- is the HotCRP manual's, from when they do follows CoCon's phases (CAV 2014). It speaks of authors, the committee,
--- declared conflicts, phase and mode, and of no word that the trigger table or a paper's page is made of: such a word,
--- changed so that more is shown, changes nothing here.
+-- is the HotCRP manual's, from when they do follows CoCon's phases (CAV 2014). It rests on facts of the history (phase,
+-- mode, roles, authors, declared conflicts) and on no other word of the trigger table or of a paper's page: who is on the
+-- committee, who is in conflict, when the bidding begins and what a mode hides are said again, so that such a word,
+-- changed there so that more is shown, is refused here.
 use Rattle.std.specs.Prelude.{ℕ, Bool, true, false, not, List, [], ◌∷◌, ◌++◌, Option, Some, None, ◌&&◌, ◌||◌, ◌==◌, if◌then◌else◌}
 use Rattle.std.specs.List.{list_any}
 use Rattle.cr_base.specs.declared.entry.Entry.{Entry}

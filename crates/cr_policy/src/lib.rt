@@ -1,8 +1,8 @@
 //! Which parts of the history a user sees, and the laws of what follows from them.
 //!
-//! The definitions stand in this crate's specs: the trigger table, the view that it selects, the
-//! facts of a view, judgement and answer by a view alone, and legal histories. The functions here
-//! do nothing: each has a law as its contract.
+//! The definitions stand in this crate's specs: the trigger table, the view that it selects, its
+//! bounds, the facts of a view, judgement and answer by a view alone, and legal histories. The
+//! functions here do nothing: each has a law as its contract.
 #![tactic(auto)]
 
 ghost use Rattle.std.specs.Prelude.{ℕ, Option};
@@ -49,8 +49,13 @@ pub fn law_witness()
     ensures conflict { OneConflict }
 {}
 
-/// What a user is shown, part by part, neither more nor less, whatever the history, whoever reads, and
-/// nobody too. Each clause names a part of the entries, or who should know little.
+/// What a view shows, neither more nor less, of every history, legal or not, for every user and for
+/// nobody. The first clauses go part by part: a view has one sighting of each entry that the user is
+/// told of, and of each part exactly what she may know, by who wrote the paper, who is on the
+/// committee, who is declared in conflict, phase and mode. The last say what that leaves: of a paper's
+/// titles and abstracts the last one, for all but its authors; little of a paper for outsiders, who
+/// neither wrote nor handle it, so in conflict, or on no committee, or before the bidding; for strangers
+/// what is public and their own entries; and for nobody what is public.
 pub fn law_bounds()
     ensures entries { EntriesShown }
     ensures marks { MarksShown }

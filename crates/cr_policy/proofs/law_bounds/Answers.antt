@@ -1,5 +1,6 @@
 use Rattle.cr_policy.proofs.BoundsWalk.{entries-shown, marks-shown, papers-shown, users-shown, names-shown, digests-shown, roles-shown, phases-shown, modes-shown, makers-shown, titles-shown, abstracts-shown, switches-shown}
-use Rattle.cr_policy.proofs.BoundsLaws.{one-title, one-abstract, outsiders-shown, strangers-shown, nobody-shown}
+use Rattle.cr_policy.proofs.BoundsTexts.{one-title, one-abstract}
+use Rattle.cr_policy.proofs.BoundsLeft.{outsiders-shown, strangers-shown, nobody-shown}
 use Rattle.cr_policy.proofs.law_bounds.Goals as goal
 
 pub returns : goal.returns
