@@ -19,8 +19,8 @@ use Rattle.cr_policy.specs.ShownTo.{is_on_committee, leads_committee, is_past_su
 use Rattle.cr_policy.specs.ViewBounds.{IsLeft, OutsidersShown, IsPublic, names_her, IsStranger, StrangersShown, NobodyShown}
 use Rattle.cr_policy.proofs.BoundsParts.{IsWriters}
 use Rattle.cr_policy.proofs.BoundsWalk.{shown_to, writers-all, view-told}
-use Rattle.cr_policy.proofs.DeclaredLaws.{nobody_author}
 use Rattle.cr_policy.proofs.Tells.{stamp}
+use Rattle.cr_policy.proofs.Walk.{list_any-nobody}
 
 -- ---- each sighting
 
@@ -150,7 +150,7 @@ strangers-shown u H stranger =
 -- nobody is a stranger
 nobody-stranger : (H : History) → IsStranger None H
 nobody-stranger H = record {
-  author = λ p. nobody_author (authors_of p H);
+  author = λ p. list_any-nobody (authors_of p H);
   serving = ap (λ (role : Role). is_on_committee role && is_past_submission (phase_of H)) (ap (last_or Account) (no-role H));
   named = no-name H;
 }

@@ -1,8 +1,8 @@
 //! Which parts of the history a user sees, and the laws of what follows from them.
 //!
-//! The definitions stand in this crate's specs: the trigger table, the view that it selects, its
-//! bounds, the facts of a view, judgement and answer by a view alone, and legal histories. The
-//! functions here do nothing: each has a law as its contract.
+//! The definitions stand in this crate's specs: the trigger table, the view that it selects, the
+//! facts of a view, judgement and answer by a view alone, and legal histories. The functions here
+//! do nothing: each has a law as its contract.
 #![tactic(auto)]
 
 ghost use Rattle.std.specs.Prelude.{ℕ, Option};
