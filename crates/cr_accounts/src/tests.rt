@@ -1,3 +1,6 @@
+//! Each public call once, with ample memory. Each rule of a registration and of a naming, the last account among them, is shown by the cases of the program
+//! `conformance`.
+
 use crate::Accounts;
 use cr_base::{Digest, Entry, Mode, Phase, Role, Rule, Short, Stamped, Standing, UserNo};
 use std::alloc::Global;
@@ -24,41 +27,6 @@ fn register(accounts: &mut Accounts, name: &Short, digest: Digest) -> Result<Use
     Ok(user)
 }
 
-fn digit(number: u64) -> u8 {
-    b'0' + (number % 10) as u8
-}
-
-/// A name for each number below 10,000.
-fn numbered(number: u64) -> Short {
-    Short::from_slice(&[
-        digit(number / 1000),
-        digit(number / 100),
-        digit(number / 10),
-        digit(number),
-    ])
-}
-
-#[test]
-fn the_last_account(rt: HostRuntime) -> Result<(), Fail> {
-    let mut accounts = Accounts::new(rt.alloc());
-    for number in 0..9_999 {
-        register(&mut accounts, &numbered(number), ALICE)?;
-    }
-    let cases = [
-        (9_999, Rule::FullAccounts),
-        (0, Rule::NameTaken),
-        (9_998, Rule::NameTaken),
-    ];
-    for (number, rule) in cases {
-        assert!(rt;
-            accounts.register_check(&numbered(number)) == Err(rule),
-            "name {number}"
-        );
-    }
-    assert!(rt; accounts.number_of(&numbered(9_998)) == Some(UserNo::new(9_999)));
-    Ok(())
-}
-
 #[test]
 fn callers(rt: HostRuntime) -> Result<(), Fail> {
     let mut accounts = Accounts::new(rt.alloc());
@@ -69,6 +37,8 @@ fn callers(rt: HostRuntime) -> Result<(), Fail> {
     assert!(rt; accounts.register_check(&bob) == Err(Rule::NameTaken));
     assert!(rt; accounts.caller(&bob, &BOB) == Some(second));
     assert!(rt; accounts.caller(&bob, &ALICE).is_none());
+    assert!(rt; accounts.number_of(&bob) == Some(second) && accounts.count() == 2);
+    assert!(rt; accounts.name_of(second) == Some(bob));
     Ok(())
 }
 
@@ -93,55 +63,21 @@ fn lines(rt: HostRuntime) -> Result<(), Fail> {
     Ok(())
 }
 
-/// What a caller in this role is told in this phase who gives the second user, an account, this role.
-fn naming(accounts: &Accounts, by: Role, phase: Phase, role: Role) -> Option<Rule> {
-    let standing = Standing {
-        phase,
+#[test]
+fn names_a_member(rt: HostRuntime) -> Result<(), Fail> {
+    let mut accounts = Accounts::new(rt.alloc());
+    register(&mut accounts, &Short::from_slice(b"alice"), ALICE)?;
+    let user = register(&mut accounts, &Short::from_slice(b"bob"), BOB)?;
+    let chair = Standing {
+        phase: Phase::Setup,
         mode: Mode::Blind,
-        role: by,
+        role: Role::Chair,
         author: false,
         conflicted: false,
     };
-    accounts
-        .judge_name(&standing, &Some(UserNo::new(2)), role)
-        .err()
-}
-
-#[test]
-fn names_members(rt: HostRuntime) -> Result<(), Fail> {
-    let mut accounts = Accounts::new(rt.alloc());
-    let cases = [
-        (Role::Chair, Phase::Discussion, Role::Member, None),
-        (Role::Chair, Phase::Setup, Role::Chair, None),
-        (
-            Role::Chair,
-            Phase::Setup,
-            Role::Account,
-            Some(Rule::AlreadyNamed),
-        ),
-        (
-            Role::Chair,
-            Phase::Notification,
-            Role::Account,
-            Some(Rule::WrongPhase),
-        ),
-        (
-            Role::Member,
-            Phase::Notification,
-            Role::Member,
-            Some(Rule::NotChair),
-        ),
-    ];
-    for (by, phase, role, wanted) in cases {
-        assert!(rt;
-            naming(&accounts, by, phase, role) == Some(Rule::NoUser),
-            "{wanted:?}"
-        );
-    }
-    register(&mut accounts, &Short::from_slice(b"alice"), ALICE)?;
-    register(&mut accounts, &Short::from_slice(b"bob"), BOB)?;
-    for (by, phase, role, wanted) in cases {
-        assert!(rt; naming(&accounts, by, phase, role) == wanted);
-    }
+    let told = accounts.judge_name(&chair, &Some(user), Role::Member);
+    assert!(rt; told == Ok(()));
+    let told = accounts.judge_name(&chair, &None, Role::Member);
+    assert!(rt; told == Err(Rule::NoUser));
     Ok(())
 }
