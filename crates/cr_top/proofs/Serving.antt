@@ -7,7 +7,7 @@ use Rattle.cr_session.specs.Replay.{Judged, Ledger, Replays, lost_count}
 use Rattle.cr_session.proofs.Turns.{counted}
 use Rattle.cr_top.specs.declared.exit.Exit.{Exit}
 use Rattle.cr_top.specs.Exits.{exit_of}
-use Rattle.cr_top.specs.Runs.{Outside, Pipes, Serves}
+use Rattle.cr_top.specs.Runs.{Outside, Pipes, ServesPipe}
 
 -- as many were lost at most as the count rose by
 none_lost : (judged : List Judged) (b b' : Ledger) → b.faults ≡ 0 → b'.faults ≡ 0 → Replays judged b b' → lost_count judged ≡ 0
@@ -16,7 +16,7 @@ none_lost judged b b' first last r =
     omega (arith, first, last, most)
 
 pub serves-from : {K I : Type 0} (rows : K → Option (List Row)) (left : I → Option (List ℕ)) (gives : I → I → List ℕ → Type 0) (exit : Exit) (ending : Ending) (keeper keeper' : K) (o o' : Outside I)
-    → exit ≡ exit_of ending → Pipes rows (λ _. 0) left gives ending keeper keeper' o o' → Serves left gives exit o o'
+    → exit ≡ exit_of ending → Pipes rows (λ _. 0) left gives ending keeper keeper' o o' → ServesPipe left gives exit o o'
 serves-from rows left gives exit ending keeper keeper' o o' is p =
     record {
       ending = ending;

@@ -46,7 +46,7 @@ pub record Pipes {K I : Type 0} (rows : K → Option (List Row)) (faults : K →
 -- ---- the exits
 
 -- The same over a keeper that counts no fault, so that nothing is lost: the exit says how the connection ended.
-pub record Serves {I : Type 0} (left : I → Option (List ℕ)) (gives : I → I → List ℕ → Type 0) (exit : Exit) (o o' : Outside I) : Type 0 where
+pub record ServesPipe {I : Type 0} (left : I → Option (List ℕ)) (gives : I → I → List ℕ → Type 0) (exit : Exit) (o o' : Outside I) : Type 0 where
   pub ending : Ending
   pub exit_is : exit ≡ exit_of ending
   pub history : History
@@ -67,11 +67,11 @@ pub record TellsUsage {I : Type 0} (exit : Exit) (o o' : Outside I) : Type 0 whe
       ⊎ ((exit ≡ exits.WriteFault) × BreaksOff [] usage o.output o'.output)
 
 -- what a run did whose words were taken, and one whose words were refused
-abbrev pub Takes : {I : Type 0} → (I → Option (List ℕ)) → (I → I → List ℕ → Type 0) → Exit → Outside I → Outside I → Type 0
-Takes left gives exit o o' = IsUntouched exit o o' ⊎ Serves left gives exit o o'
+abbrev pub DoesPipe : {I : Type 0} → (I → Option (List ℕ)) → (I → I → List ℕ → Type 0) → Exit → Outside I → Outside I → Type 0
+DoesPipe left gives exit o o' = IsUntouched exit o o' ⊎ ServesPipe left gives exit o o'
 
-abbrev pub Refuses : {I : Type 0} → Exit → Outside I → Outside I → Type 0
-Refuses exit o o' = IsUntouched exit o o' ⊎ TellsUsage exit o o'
+abbrev pub RefusesWords : {I : Type 0} → Exit → Outside I → Outside I → Type 0
+RefusesWords exit o o' = IsUntouched exit o o' ⊎ TellsUsage exit o o'
 
 -- ---- nothing fails
 

@@ -3,7 +3,7 @@ ghost use Rattle.std.specs.Prelude.{◌≡◌, ◌≢◌, ◌⊎◌, ℕ, List, 
 ghost use Rattle.cr_ports.specs.Count.{Rises};
 ghost use Rattle.cr_session.specs.Writing.{BreaksOff, Writes, outlet_of};
 ghost use Rattle.cr_words.specs.Usage.{usage};
-ghost use Rattle.cr_top.specs.Runs.{outside_of, Takes, Refuses, IsFaultless, AnswersAll};
+ghost use Rattle.cr_top.specs.Runs.{outside_of, DoesPipe, RefusesWords, IsFaultless, AnswersAll};
 ghost use Rattle.cr_top.specs.Words.{AreTaken, AreRefused, PassTest};
 
 use crate::exit::{Exit, exit_of};
@@ -39,7 +39,7 @@ pub fn top<I: Source, O: Sink>(alloc: Global, words: &[String], input: &mut I, o
     // One connection, from the empty history on: the bytes that out took are the answers that the
     // wishes are told, each on the caller's view of the history at its turn.
     ensures takes { let outside = outside_of I.faults O.taken O.faults in
-        AreTaken words.now → Takes I.left I.read_gives result (outside input.old out.old) (outside input.new out.new) }
+        AreTaken words.now → DoesPipe I.left I.read_gives result (outside input.old out.old) (outside input.new out.new) }
 
     // Where nothing fails, all that the input's bytes spell is answered, or memory is wanting.
     ensures answers { let outside = outside_of I.faults O.taken O.faults in
@@ -49,7 +49,7 @@ pub fn top<I: Source, O: Sink>(alloc: Global, words: &[String], input: &mut I, o
 
     // Words that name no job are answered by the usage line, and nothing is read.
     ensures refuses { let outside = outside_of I.faults O.taken O.faults in
-        AreRefused words.now → Refuses result (outside input.old out.old) (outside input.new out.new) }
+        AreRefused words.now → RefusesWords result (outside input.old out.old) (outside input.new out.new) }
     ensures usage { result ≡ Exit.Usage → AreRefused words.now }
     ensures passes { PassTest words.now → result ≢ Exit.Usage }
 
