@@ -3,9 +3,8 @@ use Rattle.std.specs.Prelude.{ℕ, List, Option, Some, None, codes}
 use Rattle.serde_json.specs.Data.{Data}
 use Rattle.cr_base.specs.declared.command.Command.{Command}
 use Rattle.cr_base.specs.declared.command.Command.TheVariants as commands
-use Rattle.cr_bodies.specs.Field.{◌>>=◌, digest_at, flag_at, mode_at, phase_at, role_at, tested_at, user_at}
+use Rattle.cr_bodies.specs.Field.{◌>>=◌, abstract_at, digest_at, flag_at, mode_at, name_at, phase_at, role_at, title_at, user_at}
 use Rattle.cr_bodies.specs.Json.{json_of}
-use Rattle.cr_bodies.specs.declared.field.Grammar.TheVariants.{Name, Title, Abstract}
 use Rattle.cr_routes.specs.declared.ask.Ask.{Ask}
 use Rattle.cr_routes.specs.declared.ask.Ask.TheVariants as asks
 
@@ -13,7 +12,7 @@ use Rattle.cr_routes.specs.declared.ask.Ask.TheVariants as asks
 -- there. None is a bad body; a query has none
 abbrev pub command_in : Ask → Option ℕ → Data → Option Command
 command_in asks.Register paper d = do
-  name ← tested_at Name (codes "name") d
+  name ← name_at (codes "name") d
   digest ← digest_at (codes "secret") d
   Some (commands.Register name digest)
 command_in asks.Name paper d = do
@@ -27,8 +26,8 @@ command_in asks.SetPhase paper d = do
   phase ← phase_at (codes "phase") d
   Some (commands.SetPhase phase)
 command_in asks.Submit paper d = do
-  title ← tested_at Title (codes "title") d
-  abstract ← tested_at Abstract (codes "abstract") d
+  title ← title_at (codes "title") d
+  abstract ← abstract_at (codes "abstract") d
   Some (commands.Submit title abstract)
 command_in asks.SetConflict paper d = do
   on ← flag_at (codes "on") d

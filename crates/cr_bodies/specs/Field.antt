@@ -43,6 +43,16 @@ text_at key d = get key d >>= as_str
 abbrev pub tested_at : Grammar → List ℕ → Data → Option (List ℕ)
 tested_at grammar key d = text_at key d >>= passing (admits grammar)
 
+-- the name, the title and the abstract under a key
+abbrev pub name_at : List ℕ → Data → Option (List ℕ)
+name_at key d = tested_at Name key d
+
+abbrev pub title_at : List ℕ → Data → Option (List ℕ)
+title_at key d = tested_at Title key d
+
+abbrev pub abstract_at : List ℕ → Data → Option (List ℕ)
+abstract_at key d = tested_at Abstract key d
+
 -- the digest of the secret under a key
 abbrev pub digest_at : List ℕ → Data → Option (List ℕ)
 digest_at key d = option_map sha256 (tested_at Secret key d)

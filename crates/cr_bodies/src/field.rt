@@ -2,7 +2,7 @@
 ghost use Rattle.std.specs.Prelude.{◌≡◌, IfOk, IsTrue};
 ghost use Rattle.cr_base.specs.Texts.{IsName};
 ghost use Rattle.cr_base.specs.Words.{is_member};
-ghost use Rattle.cr_bodies.specs.Field.{IsOf, admits as admits_text, digest_at, flag_at, mode_at, passing, phase_at, role_at, text_at, tested_at, user_at};
+ghost use Rattle.cr_bodies.specs.Field.{IsOf, admits as admits_text, digest_at, flag_at, mode_at, name_at, passing, phase_at, role_at, text_at, tested_at, user_at};
 ghost use Rattle.cr_bodies.specs.Outcome.{Tells, TellsSeen};
 ghost use Rattle.cr_bodies.specs.declared.field.Grammar.TheVariants as grammars;
 ghost use Rattle.serde_json.specs.View.{view};
@@ -69,7 +69,7 @@ pub(crate) fn tested<'a>(
 
 /// The name under a key.
 pub(crate) fn name(body: &Value, key: &str) -> Result<Short, BodyError>
-    ensures told { Tells result (tested_at grammars.Name key.now (view body.now)) }
+    ensures told { Tells result (name_at key.now (view body.now)) }
     ensures valid { IfOk result IsName }
 {
     let text = tested(body, key, Grammar::Name)?;

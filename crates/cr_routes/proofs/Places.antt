@@ -1,7 +1,6 @@
 -- What the router finds is what the path's parts tell. The table is looked at by computing alone, in `good`, `spelt_by`,
 -- `placed`, `patterns` and `named`: another path changes nothing here.
-use Rattle.std.proofs.Common.{◌≡◌, ◌≢◌, ℕ, ◌≤◌, List, [], ◌∷◌, length, Bool, true, false, cond, ◌&&◌, ◌==◌, nat_le, Option, Some, None, option_map, find, map, refl, sym, ap, ap₂, subst, ◌∙◌, IsTrue, IsUtf8, arith}
-use Rattle.std.specs.List.{onto_first}
+use Rattle.std.proofs.Common.{◌≡◌, ◌≢◌, ℕ, ◌≤◌, List, [], ◌∷◌, length, Bool, true, false, cond, ◌&&◌, nat_le, Option, Some, None, option_map, find, map, refl, sym, ap, ap₂, subst, ◌∙◌, IsTrue, IsUtf8, arith}
 use Rattle.std.proofs.lemmas.Bool.{and_parts, ne_eqb}
 use Rattle.std.proofs.lemmas.Bool.Decides.{nat_tests}
 use Rattle.matchit.proofs.OnLiterals.{matchit_on_literals}
@@ -9,7 +8,7 @@ use Rattle.matchit.specs.Seek.{first}
 use Rattle.cr_routes.specs.declared.place.Place.{Place}
 use Rattle.cr_routes.specs.Paths.{paths}
 use Rattle.cr_routes.specs.Rows.{Rows, AreTexts, added, the_rows, walked}
-use Rattle.cr_routes.specs.Parts.{FoundPath, parts, fits_parts, taken, first_of, second_of, found_with, found_as, found_at}
+use Rattle.cr_routes.specs.Parts.{FoundPath, parts, fits_parts, first_of, second_of, found_with, found_as, found_at}
 use Rattle.cr_routes.proofs.Rows.{Route, are_good, is_plain}
 use Rattle.cr_routes.proofs.Taking.{fits_tokens, taking, first_takes}
 use Rattle.cr_routes.proofs.Spelling.{some_parts, spell, spelt}

@@ -6,7 +6,7 @@ use Rattle.matchit.specs.Rows.{param_token}
 use Rattle.cr_routes.specs.Parts.{parts, is_parameter, taken}
 use Rattle.cr_routes.proofs.Rows.{is_false}
 use Rattle.cr_routes.proofs.Taking.{from_slash, fits_tokens}
-use Rattle.cr_routes.proofs.Spelling.{some_parts, tail_of, rest_parts, spell}
+use Rattle.cr_routes.proofs.Spelling.{tail_of, rest_parts, spell}
 use Rattle.cr_routes.proofs.Walked.{before_slash, took}
 
 first_part : (path : List ℕ) → parts path ≡ before_slash path ∷ tail_of (parts path)

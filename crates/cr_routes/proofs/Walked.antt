@@ -1,10 +1,10 @@
 -- What the router's walk over a row's names gives: the parts of the path that the row's parameters take.
-use Rattle.std.proofs.Common.{◌≡◌, ℕ, zero, suc, ◌+◌, ◌-◌, ◌<◌, ◌≤◌, min, List, [], ◌∷◌, length, map, take, drop, get_or, Bool, true, false, cond, not, ◌&&◌, ◌||◌, ◌==◌, nat_lt, ltb, leb, refl, sym, ap, ap₂, subst, ◌∙◌, IsTrue, IsUtf8, arith, length-drop}
+use Rattle.std.proofs.Common.{◌≡◌, ℕ, suc, ◌+◌, ◌-◌, ◌<◌, ◌≤◌, List, [], ◌∷◌, length, map, take, drop, get_or, Bool, true, false, cond, not, ◌&&◌, ◌||◌, ◌==◌, nat_lt, ltb, leb, refl, sym, ap, ap₂, subst, ◌∙◌, IsTrue, IsUtf8, arith, length-drop}
 use Rattle.std.proofs.lemmas.Bool.{eqb-true, and_parts}
 use Rattle.std.proofs.lemmas.Bool.Decides.{nat_tests}
 use Rattle.std.proofs.lemmas.List.{drop-drop, drop_more}
 use Rattle.std.proofs.lemmas.Str.{IsUtf8-nil, IsUtf8-take, IsUtf8-drop, IsCharBoundary-before_ascii, IsCharBoundary-after_ascii}
-use Rattle.matchit.specs.Params.{walk, wild_from, wild_stop, next_at, part_of, after_token}
+use Rattle.matchit.specs.Params.{walk, wild_from, wild_stop, part_of, after_token}
 use Rattle.matchit.specs.Rows.{param_token, catch_all_token}
 use Rattle.matchit.specs.Seek.{segment, has_slash}
 use Rattle.cr_routes.specs.Rows.{AreTexts, walked}
@@ -165,9 +165,9 @@ over_byte pattern text path t q (n ∷ names) x b token at e f small =
     let here = cut pattern t x token e in
     let there = cut path q b at f in
     let step : wild_from (drop token pattern) (length path) token at ≡ wild_from (drop (token + 1) pattern) (length path) (token + 1) (at + 1) =
-      ap (λ (l : List ℕ). wild_from l (length path) token at) e
-      ∙ from_byte x (length path) token at t (is_less x 128 param_token small (omega arith)) (is_less at (length path) (length path) there.0 (omega arith))
-      ∙ ap (λ (l : List ℕ). wild_from l (length path) (token + 1) (at + 1)) (sym here.2) in
+    ap (λ (l : List ℕ). wild_from l (length path) token at) e
+    ∙ from_byte x (length path) token at t (is_less x 128 param_token small (omega arith)) (is_less at (length path) (length path) there.0 (omega arith))
+    ∙ ap (λ (l : List ℕ). wild_from l (length path) (token + 1) (at + 1)) (sym here.2) in
     ap (at_wild pattern text path n names) step
 
 -- at a parameter it takes a part
@@ -275,8 +275,8 @@ walked_from (x ∷ t) (b ∷ q) names pattern text path token at e f named plain
         let within : wild_stop pattern token path at ≤ length path = omega (arith, stop, short_front (b ∷ q), there.3) in
         let part = part_is path (b ∷ q) at (length (before_slash (b ∷ q))) (wild_stop pattern token path at) f stop within ∙ front (b ∷ q) in
         let next_path : drop (wild_stop pattern token path at) path ≡ from_slash q =
-          ap (λ (k : ℕ). drop k path) stop ∙ sym (drop-drop (length (before_slash (b ∷ q))) at path)
-          ∙ ap (λ (l : List ℕ). drop (length (before_slash (b ∷ q))) l) f ∙ back (b ∷ q) ∙ rest_is in
+        ap (λ (k : ℕ). drop k path) stop ∙ sym (drop-drop (length (before_slash (b ∷ q))) at path)
+        ∙ ap (λ (l : List ℕ). drop (length (before_slash (b ∷ q))) l) f ∙ back (b ∷ q) ∙ rest_is in
         let next_token : drop (after_token token) pattern ≡ t = ap (λ (k : ℕ). drop k pattern) (after token (length pattern) here.0 few) ∙ here.2 in
         ap parts_of (at_parameter pattern text path t n names token at e')
         ∙ ap₂ (λ (a : List ℕ) (l : List (List ℕ)). a ∷ l) part (behind (after_token token) (wild_stop pattern token path at) names next_token next_path named fit.1)

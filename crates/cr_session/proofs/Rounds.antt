@@ -32,7 +32,7 @@ use Rattle.cr_session.proofs.Turns.{replays-none}
 abbrev pub bench_of : World → Bench
 bench_of w = record { history = w.history; keeper_faults = w.keeper_faults; taken = w.taken; write_faults = w.write_faults }
 
-closes_behind-is : (n : ℕ) (r : RequestText) → closes_behind n r ≡ ((wish_text r).closes || n == 1048575)
+closes_behind-is : (n : ℕ) (r : RequestText) → closes_behind n r ≡ ((wish_text r).asks_close || n == 1048575)
 unfolding closes_behind
 closes_behind-is n r = refl
 
@@ -209,7 +209,7 @@ not_last n i i' w w' x last = one x.judged x.reaches.requests x.counted x.reache
     one : (js : List Judged) (rs : List RequestText) → length js ≡ 1 → wishes_of js ≡ map wish_text rs → ReachesFrom closes_behind n (i ++ x.got) rs i' → ⊥
     one [] rs e f r = omega arith
     one (j ∷ js) [] e f r = cc
-    one (j ∷ js) (q ∷ rs) e f r = or_true (wish_text q).closes (n == 1048575) (ap (λ k. k == 1048575) last) (sym (closes_behind-is n q) ∙ r.2)
+    one (j ∷ js) (q ∷ rs) e f r = or_true (wish_text q).asks_close (n == 1048575) (ap (λ k. k == 1048575) last) (sym (closes_behind-is n q) ∙ r.2)
 
 pub round_cut : (n : ℕ) (i i' : List ℕ) (w w' : World) → ReadsWish w.left w'.left i i' reads.Cut → w'.history ≡ w.history → w'.keeper_faults ≡ w.keeper_faults → w'.taken ≡ w.taken
     → CountsRise w w' → Connection endings.Cut n i w w'

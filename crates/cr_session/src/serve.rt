@@ -63,7 +63,7 @@ const LAST_REQUEST: usize = 1_048_575;
 fn closes(wish: &Wish, number: usize) -> bool
     ensures { result ≡ closes number wish.now }
 {
-    wish.closes || number == LAST_REQUEST
+    wish.asks_close || number == LAST_REQUEST
 }
 
 /// Makes the room for an answer that has no list in it. Takes memory only the first time.
