@@ -1,7 +1,7 @@
 -- What a body tells is what its request asks for, and it wants the login that its request does.
 use Rattle.std.proofs.Common.{◌≡◌, ℕ, List, Option, Some, None, refl, ap, ◌∙◌}
 use Rattle.std.specs.Prelude.{codes}
-use Rattle.cr_base.specs.Logins.{command_wants_login, query_wants_login}
+use Rattle.cr_base.specs.Logins.{command_wants_login}
 use Rattle.cr_base.specs.declared.command.Command.{Command}
 use Rattle.cr_base.specs.declared.command.Command.TheVariants as commands
 use Rattle.cr_bodies.specs.Bodies.{command_in, command_read}
