@@ -1,68 +1,43 @@
--- What each command's body says; None is a bad body.
-use Rattle.std.specs.Prelude.{ℕ, List, Option, Some, codes}
-use Rattle.sha2.specs.Sha256.{sha256}
+-- The one table of bodies: which members the body of each request must have, and which command they tell.
+use Rattle.std.specs.Prelude.{ℕ, List, Option, Some, None, codes}
 use Rattle.serde_json.specs.Data.{Data}
-use Rattle.cr_base.specs.Texts.{is_name, is_title, is_abstract}
 use Rattle.cr_base.specs.declared.command.Command.{Command}
-use Rattle.cr_base.specs.declared.command.Command.TheVariants.{Register, SetPhase, Submit, Name, SetMode, SetConflict}
-use Rattle.cr_bodies.specs.Field.{◌>>=◌, flag_at, mode_at, phase_at, role_at, tested_at, user_at}
+use Rattle.cr_base.specs.declared.command.Command.TheVariants as commands
+use Rattle.cr_bodies.specs.Field.{◌>>=◌, abstract_at, digest_at, flag_at, mode_at, name_at, phase_at, role_at, title_at, user_at}
 use Rattle.cr_bodies.specs.Json.{json_of}
-use Rattle.cr_bodies.specs.Secret.{is_secret}
+use Rattle.cr_routes.specs.declared.ask.Ask.{Ask}
+use Rattle.cr_routes.specs.declared.ask.Ask.TheVariants as asks
 
--- a registration: a name and a secret, of which the digest is kept
-abbrev pub register : Data → Option Command
-register d = do
-  name ← tested_at is_name (codes "name") d
-  secret ← tested_at is_secret (codes "secret") d
-  Some (Register name (sha256 secret))
-
-abbrev pub register_of : List ℕ → Option Command
-register_of body = json_of body >>= register
-
--- a phase, by its word
-abbrev pub set_phase : Data → Option Command
-set_phase d = do
-  phase ← phase_at (codes "phase") d
-  Some (SetPhase phase)
-
-abbrev pub set_phase_of : List ℕ → Option Command
-set_phase_of body = json_of body >>= set_phase
-
--- a submission: a title and an abstract
-abbrev pub submit : Data → Option Command
-submit d = do
-  title ← tested_at is_title (codes "title") d
-  abstract ← tested_at is_abstract (codes "abstract") d
-  Some (Submit title abstract)
-
-abbrev pub submit_of : List ℕ → Option Command
-submit_of body = json_of body >>= submit
-
--- a naming: a user, by a text that may be no name, and her role
-abbrev pub name : Data → Option Command
-name d = do
+-- the command that a JSON value tells a request, with the paper that its path tells: a line for each member that must be
+-- there. None is a bad body; a query has none
+abbrev pub command_in : Ask → Option ℕ → Data → Option Command
+command_in asks.Register paper d = do
+  name ← name_at (codes "name") d
+  digest ← digest_at (codes "secret") d
+  Some (commands.Register name digest)
+command_in asks.Name paper d = do
   user ← user_at (codes "name") d
   role ← role_at (codes "role") d
-  Some (Name user role)
-
-abbrev pub name_of : List ℕ → Option Command
-name_of body = json_of body >>= name
-
--- a mode, by its word
-abbrev pub set_mode : Data → Option Command
-set_mode d = do
+  Some (commands.Name user role)
+command_in asks.SetMode paper d = do
   mode ← mode_at (codes "mode") d
-  Some (SetMode mode)
-
-abbrev pub set_mode_of : List ℕ → Option Command
-set_mode_of body = json_of body >>= set_mode
-
--- a conflict with a paper that is told elsewhere: whether it is on, and a user, by a text that may be no name
-abbrev pub set_conflict : Option ℕ → Data → Option Command
-set_conflict paper d = do
+  Some (commands.SetMode mode)
+command_in asks.SetPhase paper d = do
+  phase ← phase_at (codes "phase") d
+  Some (commands.SetPhase phase)
+command_in asks.Submit paper d = do
+  title ← title_at (codes "title") d
+  abstract ← abstract_at (codes "abstract") d
+  Some (commands.Submit title abstract)
+command_in asks.SetConflict paper d = do
   on ← flag_at (codes "on") d
   user ← user_at (codes "user") d
-  Some (SetConflict paper user on)
+  Some (commands.SetConflict paper user on)
+command_in asks.Accounts paper d = None
+command_in asks.Phase paper d = None
+command_in asks.Page paper d = None
+command_in asks.Me paper d = None
 
-abbrev pub set_conflict_of : Option ℕ → List ℕ → Option Command
-set_conflict_of paper body = json_of body >>= set_conflict paper
+-- the same of a body's bytes
+abbrev pub command_read : Ask → Option ℕ → List ℕ → Option Command
+command_read ask paper body = json_of body >>= command_in ask paper

@@ -1,18 +1,35 @@
--- What a field of a JSON object says.
-use Rattle.std.specs.Prelude.{ℕ, List, Bool, Option, Some, None, option_map, if◌then◌else◌}
+-- What a member of a JSON object says, by its key and the kind of its value.
+use Rattle.std.specs.Prelude.{ℕ, List, Bool, IsTrue, Option, Some, None, option_map, if◌then◌else◌}
+use Rattle.sha2.specs.Sha256.{sha256}
 use Rattle.serde_json.specs.Data.{Data}
 use Rattle.serde_json.specs.Find.{get, as_bool, as_str}
 use Rattle.cr_base.specs.declared.words.Mode.{Mode}
 use Rattle.cr_base.specs.declared.words.Phase.{Phase}
 use Rattle.cr_base.specs.declared.words.Role.{Role}
-use Rattle.cr_base.specs.Texts.{is_name}
+use Rattle.cr_base.specs.Texts.{IsAbstract, IsName, IsTitle, is_abstract, is_name, is_title}
 use Rattle.cr_base.specs.Words.{mode_named, phase_named, role_named}
+use Rattle.cr_bodies.specs.Secret.{is_secret}
+use Rattle.cr_bodies.specs.declared.field.Grammar.{Grammar}
+use Rattle.cr_bodies.specs.declared.field.Grammar.TheVariants.{Name, Secret, Title, Abstract}
 
 -- what follows from a value that is there
 infixl 10 ◌>>=◌
 abbrev pub ◌>>=◌ : {A B : Type 0} → Option A → (A → Option B) → Option B
 None >>= f = None
 (Some x) >>= f = f x
+
+-- whether a text is of a grammar, as a test and as a fact
+abbrev pub admits : Grammar → List ℕ → Bool
+admits Name text = is_name text
+admits Secret text = is_secret text
+admits Title text = is_title text
+admits Abstract text = is_abstract text
+
+abbrev pub IsOf : Grammar → List ℕ → Type 0
+IsOf Name text = IsName text
+IsOf Secret text = IsTrue (is_secret text)
+IsOf Title text = IsTitle text
+IsOf Abstract text = IsAbstract text
 
 -- the text, where it passes the test
 abbrev pub passing : (List ℕ → Bool) → List ℕ → Option (List ℕ)
@@ -22,25 +39,38 @@ passing test text = if test text then Some text else None
 abbrev pub text_at : List ℕ → Data → Option (List ℕ)
 text_at key d = get key d >>= as_str
 
--- the text under a key, where it passes the test
-abbrev pub tested_at : (List ℕ → Bool) → List ℕ → Data → Option (List ℕ)
-tested_at test key d = text_at key d >>= passing test
+-- the text under a key, where it is of a grammar
+abbrev pub tested_at : Grammar → List ℕ → Data → Option (List ℕ)
+tested_at grammar key d = text_at key d >>= passing (admits grammar)
+
+-- the name, the title and the abstract under a key
+abbrev pub name_at : List ℕ → Data → Option (List ℕ)
+name_at key d = tested_at Name key d
+
+abbrev pub title_at : List ℕ → Data → Option (List ℕ)
+title_at key d = tested_at Title key d
+
+abbrev pub abstract_at : List ℕ → Data → Option (List ℕ)
+abstract_at key d = tested_at Abstract key d
+
+-- the digest of the secret under a key
+abbrev pub digest_at : List ℕ → Data → Option (List ℕ)
+digest_at key d = option_map sha256 (tested_at Secret key d)
 
 -- the user whose name is told under a key, None where the text there is no name
 abbrev pub user_at : List ℕ → Data → Option (Option (List ℕ))
-user_at key d = option_map (passing is_name) (text_at key d)
+user_at key d = option_map (passing (admits Name)) (text_at key d)
 
 -- what is true or false under a key
 abbrev pub flag_at : List ℕ → Data → Option Bool
 flag_at key d = get key d >>= as_bool
 
--- the role that somebody may be named to, and the mode, whose word stands under a key
-abbrev pub role_at : List ℕ → Data → Option Role
-role_at key d = text_at key d >>= role_named
+-- the phase, the mode, and the role that somebody may be named to, whose word stands under a key
+abbrev pub phase_at : List ℕ → Data → Option Phase
+phase_at key d = text_at key d >>= phase_named
 
 abbrev pub mode_at : List ℕ → Data → Option Mode
 mode_at key d = text_at key d >>= mode_named
 
--- the phase whose word stands under a key
-abbrev pub phase_at : List ℕ → Data → Option Phase
-phase_at key d = text_at key d >>= phase_named
+abbrev pub role_at : List ℕ → Data → Option Role
+role_at key d = text_at key d >>= role_named

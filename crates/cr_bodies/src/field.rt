@@ -1,83 +1,92 @@
-//! One field of a JSON object.
-ghost use Rattle.std.specs.Prelude.{◌≡◌, option_map, IfSome, IsTrue};
-ghost use Rattle.cr_base.specs.Texts.{IsAbstract, IsName, IsTitle, is_abstract as is_abstract_text, is_name as is_name_text, is_title as is_title_text};
+//! The members of a JSON object, each by its key and the kind of its value.
+ghost use Rattle.std.specs.Prelude.{◌≡◌, IfOk, IsTrue};
+ghost use Rattle.cr_base.specs.Texts.{IsName};
 ghost use Rattle.cr_base.specs.Words.{is_member};
-ghost use Rattle.cr_bodies.specs.Field.{flag_at, mode_at, passing, phase_at, role_at, text_at, tested_at, user_at};
-ghost use Rattle.cr_bodies.specs.Secret.{is_secret as is_secret_text};
+ghost use Rattle.cr_bodies.specs.Field.{IsOf, admits as admits_text, digest_at, flag_at, mode_at, name_at, passing, phase_at, role_at, text_at, tested_at, user_at};
+ghost use Rattle.cr_bodies.specs.Outcome.{Tells, TellsSeen};
+ghost use Rattle.cr_bodies.specs.declared.field.Grammar.TheVariants as grammars;
 ghost use Rattle.serde_json.specs.View.{view};
 
-use crate::secret::is_secret;
-use cr_base::{Mode, Phase, Role, Short, is_abstract, is_name, is_title};
+use crate::body::BodyError;
+use crate::secret::{digest_of, is_secret};
+use cr_base::{Digest, Mode, Phase, Role, Short, is_abstract, is_name, is_title};
 use serde_json::Value;
 
+/// What a text has to be.
+#[derive(Clone, Copy)]
+pub(crate) enum Grammar {
+    /// A user's name: 1 to 32 of `a-z0-9-`.
+    Name,
+    /// A secret: 16 to 64 of `A-Za-z0-9_~+-`.
+    Secret,
+    /// A title: 1 to 200 bytes of UTF-8 without characters below U+0020 and without U+007F.
+    Title,
+    /// An abstract: at most 5,000 bytes of UTF-8.
+    Abstract,
+}
+
+impl Grammar {
+    /// Whether a text is of this grammar. One walk over at most as many bytes as the grammar allows.
+    fn admits(self, text: &[u8]) -> bool
+        ensures test { result ≡ admits_text self text.now }
+        ensures valid { IsTrue result → IsOf self text.now }
+    {
+        match self {
+            Grammar::Name => is_name(text),
+            Grammar::Secret => is_secret(text),
+            Grammar::Title => is_title(text),
+            Grammar::Abstract => is_abstract(text),
+        }
+    }
+}
+
 /// The text under a key.
-fn text<'a>(body: &'a Value, key: &str) -> Option<&'a str>
-    ensures { option_map (λ t. t.now) result ≡ text_at key.now (view body.now) }
+fn text<'a>(body: &'a Value, key: &str) -> Result<&'a str, BodyError>
+    ensures { TellsSeen (λ t. t.now) result (text_at key.now (view body.now)) }
 {
-    body.get(key).and_then(Value::as_str)
-}
-
-/// The name under a key: None where none is there.
-pub(crate) fn name<'a>(body: &'a Value, key: &str) -> Option<&'a str>
-    ensures told { option_map (λ t. t.now) result ≡ tested_at is_name_text key.now (view body.now) }
-    ensures valid { IfSome result (λ t. IsName t.now) }
-{
-    let text = text(body, key)?;
-    if is_name(text.as_bytes()) {
-        Some(text)
-    } else {
-        None
+    match body.get(key).and_then(Value::as_str) {
+        Some(text) => Ok(text),
+        None => Err(BodyError::Bad),
     }
 }
 
-/// The secret under a key: None where none is there.
-pub(crate) fn secret<'a>(body: &'a Value, key: &str) -> Option<&'a str>
-    ensures { option_map (λ t. t.now) result ≡ tested_at is_secret_text key.now (view body.now) }
+/// The text under a key, where it is of a grammar.
+pub(crate) fn tested<'a>(
+    body: &'a Value,
+    key: &str,
+    grammar: Grammar,
+) -> Result<&'a str, BodyError>
+    ensures told { TellsSeen (λ t. t.now) result (tested_at grammar key.now (view body.now)) }
+    ensures valid { IfOk result (λ t. IsOf grammar t.now) }
 {
     let text = text(body, key)?;
-    if is_secret(text.as_bytes()) {
-        Some(text)
+    if grammar.admits(text.as_bytes()) {
+        Ok(text)
     } else {
-        None
+        Err(BodyError::Bad)
     }
 }
 
-/// The title under a key: None where none is there.
-pub(crate) fn title<'a>(body: &'a Value, key: &str) -> Option<&'a str>
-    ensures told { option_map (λ t. t.now) result ≡ tested_at is_title_text key.now (view body.now) }
-    ensures valid { IfSome result (λ t. IsTitle t.now) }
+/// The name under a key.
+pub(crate) fn name(body: &Value, key: &str) -> Result<Short, BodyError>
+    ensures told { Tells result (name_at key.now (view body.now)) }
+    ensures valid { IfOk result IsName }
 {
-    let text = text(body, key)?;
-    if is_title(text.as_bytes()) {
-        Some(text)
-    } else {
-        None
-    }
+    let text = tested(body, key, Grammar::Name)?;
+    Ok(Short::from_slice(text.as_bytes()))
 }
 
-/// The abstract under a key: None where none is there.
-pub(crate) fn abstract_<'a>(body: &'a Value, key: &str) -> Option<&'a str>
-    ensures told { option_map (λ t. t.now) result ≡ tested_at is_abstract_text key.now (view body.now) }
-    ensures valid { IfSome result (λ t. IsAbstract t.now) }
+/// The digest of the secret under a key.
+pub(crate) fn digest(body: &Value, key: &str) -> Result<Digest, BodyError>
+    ensures { Tells result (digest_at key.now (view body.now)) }
 {
-    let text = text(body, key)?;
-    if is_abstract(text.as_bytes()) {
-        Some(text)
-    } else {
-        None
-    }
-}
-
-/// The phase whose word stands under a key: None where none does.
-pub(crate) fn phase(body: &Value, key: &str) -> Option<Phase>
-    ensures { result ≡ phase_at key.now (view body.now) }
-{
-    Phase::from_name(text(body, key)?)
+    let text = tested(body, key, Grammar::Secret)?;
+    Ok(digest_of(text.as_bytes()))
 }
 
 /// The name that a text is, or None where it is no name.
 fn name_in(text: &str) -> Option<Short>
-    ensures { result ≡ passing is_name_text text.now }
+    ensures { result ≡ passing (admits_text grammars.Name) text.now }
 {
     if is_name(text.as_bytes()) {
         Some(Short::from_slice(text.as_bytes()))
@@ -86,32 +95,51 @@ fn name_in(text: &str) -> Option<Short>
     }
 }
 
-/// The user whose name is told under a key: None where no text stands there, `Some(None)` where the text is no name.
-pub(crate) fn user(body: &Value, key: &str) -> Option<Option<Short>>
-    ensures { result ≡ user_at key.now (view body.now) }
+/// The user whose name is told by the text under a key: None where the text is no name.
+pub(crate) fn user(body: &Value, key: &str) -> Result<Option<Short>, BodyError>
+    ensures { Tells result (user_at key.now (view body.now)) }
 {
     let text = text(body, key)?;
-    Some(name_in(text))
+    Ok(name_in(text))
 }
 
-/// What is true or false under a key: None where neither stands there.
-pub(crate) fn flag(body: &Value, key: &str) -> Option<bool>
-    ensures { result ≡ flag_at key.now (view body.now) }
+/// What is true or false under a key.
+pub(crate) fn flag(body: &Value, key: &str) -> Result<bool, BodyError>
+    ensures { Tells result (flag_at key.now (view body.now)) }
 {
-    body.get(key).and_then(Value::as_bool)
+    match body.get(key).and_then(Value::as_bool) {
+        Some(flag) => Ok(flag),
+        None => Err(BodyError::Bad),
+    }
 }
 
-/// The role that somebody may be named to, member or chair, whose word stands under a key: None where none does.
-pub(crate) fn role(body: &Value, key: &str) -> Option<Role>
-    ensures told { result ≡ role_at key.now (view body.now) }
-    ensures member { IfSome result (λ role. IsTrue (is_member role)) }
+/// The phase whose word stands under a key.
+pub(crate) fn phase(body: &Value, key: &str) -> Result<Phase, BodyError>
+    ensures { Tells result (phase_at key.now (view body.now)) }
 {
-    Role::from_name(text(body, key)?)
+    match Phase::from_name(text(body, key)?) {
+        Some(phase) => Ok(phase),
+        None => Err(BodyError::Bad),
+    }
 }
 
-/// The mode whose word stands under a key: None where none does.
-pub(crate) fn mode(body: &Value, key: &str) -> Option<Mode>
-    ensures { result ≡ mode_at key.now (view body.now) }
+/// The mode whose word stands under a key.
+pub(crate) fn mode(body: &Value, key: &str) -> Result<Mode, BodyError>
+    ensures { Tells result (mode_at key.now (view body.now)) }
 {
-    Mode::from_name(text(body, key)?)
+    match Mode::from_name(text(body, key)?) {
+        Some(mode) => Ok(mode),
+        None => Err(BodyError::Bad),
+    }
+}
+
+/// The role that somebody may be named to, member or chair, whose word stands under a key.
+pub(crate) fn role(body: &Value, key: &str) -> Result<Role, BodyError>
+    ensures told { Tells result (role_at key.now (view body.now)) }
+    ensures member { IfOk result (λ role. IsTrue (is_member role)) }
+{
+    match Role::from_name(text(body, key)?) {
+        Some(role) => Ok(role),
+        None => Err(BodyError::Bad),
+    }
 }

@@ -9,9 +9,6 @@ mod secret;
 #[cfg(test)]
 mod tests;
 
-pub use body::{
-    BodyError, read_name, read_register, read_set_conflict, read_set_mode, read_set_phase,
-    read_submit,
-};
-pub use bytes::{after_first, before_first};
+pub use body::{BodyError, read_command};
+pub use bytes::before_first;
 pub use credentials::{Credentials, read_credentials};

@@ -1,11 +1,6 @@
-//! Each public call once, with ample memory. Which bodies and credentials are good is shown by the cases of the
-//! program `conformance`.
-
-use crate::{
-    BodyError, read_credentials, read_name, read_register, read_set_conflict, read_set_mode,
-    read_set_phase, read_submit,
-};
+use crate::{BodyError, read_command, read_credentials};
 use cr_base::{Command, Mode, PaperNo, Phase, Role, Short};
+use cr_routes::Ask;
 use std::alloc::Global;
 use std::test::Fail;
 
@@ -15,116 +10,87 @@ const DIGEST: [u8; 32] = [
     0xa3, 0x3c, 0xe4, 0x59, 0x64, 0xff, 0x21, 0x67, 0xf6, 0xec, 0xed, 0xd4, 0x19, 0xdb, 0x06, 0xc1,
 ];
 
-#[test]
-fn reads_a_registration(rt: HostRuntime) -> Result<(), Fail> {
-    let body =
-        "{\"name\":\"alice\",\"secret\":\"abcdbcdecdefdefgefghfghighijhijkijkljklmklmnlmnomnopnopq\"}";
-    let read = read_register(rt.alloc(), body.as_bytes());
-    let Ok(Command::Register { name, digest }) = &read else {
-        assert!(rt; false);
-        return Ok(());
-    };
-    assert!(rt; name.as_slice() == b"alice".as_slice());
-    assert!(rt; *digest == DIGEST);
-    Ok(())
-}
-
-/// The phase of the change of phase that a body tells.
-fn phase_told(alloc: Global, body: &str) -> Option<Phase> {
-    match read_set_phase(alloc, body.as_bytes()) {
-        Ok(Command::SetPhase { phase }) => Some(phase),
-        _ => None,
-    }
-}
-
-#[test]
-fn reads_a_change_of_phase(rt: HostRuntime) {
-    let told = phase_told(rt.alloc(), "{\"phase\":\"bidding\"}");
-    assert_eq!(rt; told, Some(Phase::Bidding));
-}
-
-#[test]
-fn reads_a_submission(rt: HostRuntime) -> Result<(), Fail> {
-    let body = "{\"abstract\":\"We\\n\\tprove.\",\"authors\":[\"bob\"],\"title\":\"Pr\\u00f6ofs\"}";
-    let read = read_submit(rt.alloc(), body.as_bytes());
-    let Ok(Command::Submit { title, abstract_ }) = &read else {
-        assert!(rt; false);
-        return Ok(());
-    };
-    assert!(rt; title.as_str() == "Pr\u{f6}ofs");
-    assert!(rt; abstract_.as_str() == "We\n\tprove.");
-    Ok(())
-}
-
-/// A user told, as a word.
-fn word(user: &Option<Short>) -> &'static str {
+/// Whether a user told is bob.
+fn is_bob(user: &Option<Short>) -> bool {
     match user {
-        None => "none",
-        Some(name) if name.as_slice() == b"bob".as_slice() => "bob",
-        Some(_) => "other",
+        Some(name) => name.as_slice() == b"bob".as_slice(),
+        None => false,
     }
 }
 
-/// The naming that a body tells.
-fn naming_told(alloc: Global, body: &str) -> (&'static str, Option<Role>) {
-    let read = read_name(alloc, body.as_bytes());
-    match &read {
-        Ok(Command::Name { user, role }) => (word(user), Some(*role)),
-        Err(BodyError::Bad) => ("bad", None),
-        _ => ("", None),
+/// Whether a command tells what the bodies below do.
+fn is_told(command: &Command) -> bool {
+    match command {
+        Command::Register { name, digest } => {
+            name.as_slice() == b"alice".as_slice() && *digest == DIGEST
+        }
+        Command::SetPhase { phase } => *phase == Phase::Submission,
+        Command::SetMode { mode } => *mode == Mode::Anonymous,
+        Command::Name { user, role } => is_bob(user) && *role == Role::Chair,
+        Command::Submit { title, abstract_ } => {
+            title.as_str() == "Pr\u{f6}ofs" && abstract_.as_str() == "We\n\tprove."
+        }
+        Command::SetConflict { paper, user, on } => paper.is_some() && user.is_none() && *on,
     }
 }
 
-#[test]
-fn reads_a_naming(rt: HostRuntime) {
-    let told = naming_told(rt.alloc(), "{\"name\":\"bob\",\"role\":\"chair\"}");
-    assert_eq!(rt; told, ("bob", Some(Role::Chair)));
-}
-
-/// The mode of the change of mode that a body tells.
-fn mode_told(alloc: Global, body: &str) -> Option<Mode> {
-    match read_set_mode(alloc, body.as_bytes()) {
-        Ok(Command::SetMode { mode }) => Some(mode),
-        _ => None,
-    }
-}
-
-#[test]
-fn reads_a_change_of_mode(rt: HostRuntime) {
-    let told = mode_told(rt.alloc(), "{\"mode\":\"open\"}");
-    assert_eq!(rt; told, Some(Mode::Overt));
-}
-
-/// The conflict with paper 7 that a body tells.
-fn conflict_told(alloc: Global, body: &str) -> (&'static str, Option<bool>) {
-    let read = read_set_conflict(alloc, Some(PaperNo::new(7)), body.as_bytes());
-    match &read {
-        Ok(
-            Command::SetConflict {
-                paper: Some(paper),
-                user,
-                on,
-            },
-        ) if paper.number() == 7 => (word(user), Some(*on)),
-        Err(BodyError::Bad) => ("bad", None),
-        _ => ("", None),
+/// What a body of paper 7 is read as.
+fn read(alloc: Global, ask: Ask, body: &str) -> &'static str {
+    match read_command(alloc, ask, Some(PaperNo::new(7)), body.as_bytes()) {
+        Ok(command) => {
+            if is_told(&command) {
+                "told"
+            } else {
+                "other"
+            }
+        }
+        Err(BodyError::Bad) => "bad",
+        Err(BodyError::OutOfMemory) => "",
     }
 }
 
 #[test]
-fn reads_a_conflict(rt: HostRuntime) {
-    let told = conflict_told(rt.alloc(), "{\"on\":false,\"user\":\"bob\"}");
-    assert_eq!(rt; told, ("bob", Some(false)));
+fn reads_bodies(rt: HostRuntime) -> Result<(), Fail> {
+    for (ask, body, wanted) in [
+        (
+            Ask::Register,
+            "{\"name\":\"alice\",\"secret\":\"abcdbcdecdefdefgefghfghighijhijkijkljklmklmnlmnomnopnopq\"}",
+            "told",
+        ),
+        (
+            Ask::Register,
+            "{\"name\":\"alice\",\"secret\":\"0123456789abcde\"}",
+            "bad",
+        ),
+        (Ask::SetPhase, "{\"phase\":1,\"phase\":\"submission\"}", "told"),
+        (Ask::SetPhase, "{\"phase\":\"submission\",\"phase\":1}", "bad"),
+        (Ask::SetMode, "{\"x\":[],\"mode\":\"anonymous\"}", "told"),
+        (Ask::SetMode, "{\"x\":1e999,\"mode\":\"anonymous\"}", "bad"),
+        (Ask::Name, "{\"name\":\"b\\u006fb\",\"role\":\"chair\"}", "told"),
+        (Ask::Name, "{\"name\":\"bob\",\"role\":\"account\"}", "bad"),
+        (
+            Ask::Submit,
+            "{\"abstract\":\"We\\n\\tprove.\",\"title\":\"Pr\\u00f6ofs\"}",
+            "told",
+        ),
+        (Ask::SetConflict, "{\"on\":true,\"user\":\"B\"}", "told"),
+        (Ask::SetConflict, "{\"on\":1,\"user\":\"bob\"}", "bad"),
+        (Ask::Phase, "{}", "bad"),
+    ] {
+        assert_eq!(rt; read(rt.alloc(), ask, body), wanted);
+    }
+    Ok(())
 }
 
 #[test]
 fn tells_credentials(rt: HostRuntime) -> Result<(), Fail> {
-    let value = "Bearer alice.abcdbcdecdefdefgefghfghighijhijkijkljklmklmnlmnomnopnopq";
+    let value = "bearer  alice.abcdbcdecdefdefgefghfghighijhijkijkljklmklmnlmnomnopnopq";
     let Some(told) = read_credentials(value.as_bytes()) else {
         assert!(rt; false);
         return Ok(());
     };
     assert!(rt; told.name.as_slice() == b"alice".as_slice());
     assert!(rt; told.digest == DIGEST);
+    assert!(rt; read_credentials(b"Bearer\talice.0123456789abcdef").is_none());
     Ok(())
 }

@@ -6,7 +6,7 @@ use Rattle.matchit.specs.Router.{InsertsRead, nearest, Refused}
 use Rattle.matchit.specs.declared.error.InsertError.{InsertError}
 use Rattle.matchit.specs.declared.error.InsertError.TheVariants.{Conflict, InvalidParam, InvalidParamSegment, InvalidCatchAll, OutOfMemory}
 use Rattle.cr_routes.specs.declared.place.Place.{Place}
-use Rattle.cr_routes.specs.Paths.{Rows, added, fits, is_free, with_path, line}
+use Rattle.cr_routes.specs.Rows.{Rows, added, fits, is_free, with_path, line}
 
 -- a path went in
 pub inserted : (read : Result Scan InsertError) (place : Place) (old new : Rows) → InsertsRead read place old new (Ok tt) → new ≡ with_path read place old

@@ -1,6 +1,7 @@
 pub mod Adding
-pub mod Rooted
 pub mod Rows
 pub mod Taking
 pub mod Spelling
+pub mod Walked
+pub mod Shares
 pub mod Places

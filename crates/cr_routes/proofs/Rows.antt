@@ -5,8 +5,10 @@ use Rattle.matchit.specs.Rows.{param_token, catch_all_token}
 use Rattle.matchit.specs.Router.{RouteOf}
 use Rattle.matchit.specs.Seek.{step, segment, same_text, with_suffix}
 use Rattle.cr_routes.specs.declared.place.Place.{Place}
-use Rattle.cr_routes.specs.Paths.{Rows}
-use Rattle.cr_routes.proofs.Rooted.{none}
+use Rattle.cr_routes.specs.Rows.{Rows}
+
+abbrev pub none : Rows
+none = []
 
 abbrev pub Route : Type 0
 Route = RouteOf Place

@@ -8,7 +8,7 @@ use Rattle.cr_routes.specs.Parts.{parts, is_parameter, takes, fits_parts}
 use Rattle.cr_routes.proofs.Rows.{is_false}
 use Rattle.cr_routes.proofs.Taking.{from_slash, fits_tokens}
 
-some_parts : (path : List ℕ) → (p : List ℕ) × (ps : List (List ℕ)) × (parts path ≡ p ∷ ps)
+pub some_parts : (path : List ℕ) → (p : List ℕ) × (ps : List (List ℕ)) × (parts path ≡ p ∷ ps)
 some_parts [] = ([], [], refl)
 some_parts (b ∷ path) = by (b == 47) (parts path)
   where
@@ -63,11 +63,11 @@ at_word x b w path ps fits no_brace no_slash word e =
     by false is false same e = rw (no_brace, same) refl
 
 -- the parts but the first
-abbrev tail_of : List (List ℕ) → List (List ℕ)
+abbrev pub tail_of : List (List ℕ) → List (List ℕ)
 tail_of [] = []
 tail_of (p ∷ ps) = ps
 
-rest_parts : (path : List ℕ) → parts (from_slash path) ≡ [] ∷ tail_of (parts path)
+pub rest_parts : (path : List ℕ) → parts (from_slash path) ≡ [] ∷ tail_of (parts path)
 rest_parts [] = refl
 rest_parts (b ∷ path) = by (b == 47) refl (parts path) refl (rest_parts path)
   where

@@ -5,9 +5,8 @@ use Rattle.std.proofs.lemmas.Bool.{eqb-true, ne_eqb, and_parts}
 use Rattle.std.proofs.lemmas.Bool.Decides.{nat_tests}
 use Rattle.matchit.specs.Rows.{param_token}
 use Rattle.matchit.specs.Seek.{seek, first, step, own, or_else, param_step, has_slash, segment, cuts, longest_from, longest_suffix, with_suffix}
-use Rattle.cr_routes.specs.Paths.{Rows}
-use Rattle.cr_routes.proofs.Rooted.{none, nothing}
-use Rattle.cr_routes.proofs.Rows.{Route, precedes_all, are_good, all_next, front, behind_empty, good_step, good_suffix, no_catch_all, next_step, none_behind}
+use Rattle.cr_routes.specs.Rows.{Rows}
+use Rattle.cr_routes.proofs.Rows.{none, Route, precedes_all, are_good, all_next, front, behind_empty, good_step, good_suffix, no_catch_all, next_step, none_behind}
 
 -- what is left of a path from its first slash on
 abbrev pub from_slash : List ℕ → List ℕ
@@ -25,6 +24,20 @@ fits_tokens (x ∷ t) (b ∷ path) = cond (x == param_token) (not (b == 47) && f
 abbrev pub taking : Rows → List ℕ → Option Route
 taking [] path = None
 taking ((t, r) ∷ rest) path = cond (fits_tokens t path) (Some r) (taking rest path)
+
+-- with no rows left none is found behind a parameter
+no_param : (path : List ℕ) → (param_step none path).1 ≡ none
+unfolding param_step
+no_param path =
+    let P : Bool → Type 0 = λ b. (cond {A = ℕ × Rows} b (0, none) (length path, none)).1 ≡ none in
+    elim (has_slash path) as P [ true ↦ refl | false ↦ refl ]
+
+-- with no rows left none is found
+nothing : (skip : ℕ) (path : List ℕ) → seek skip none path ≡ None
+unfolding seek
+nothing skip [] = refl
+nothing (suc skip) (b ∷ path) = nothing skip path
+nothing zero (b ∷ path) = rw (nothing 0 path, no_param (b ∷ path), nothing ((param_step none (b ∷ path)).0 - 1) path) refl
 
 -- ---- one byte
 
@@ -238,7 +251,7 @@ all_skipped : (path : List ℕ) → skipped (length path) path ≡ []
 all_skipped [] = refl
 all_skipped (b ∷ path) = all_skipped path
 
-no_slash : (path : List ℕ) → has_slash path ≡ false → from_slash path ≡ []
+pub no_slash : (path : List ℕ) → has_slash path ≡ false → from_slash path ≡ []
 no_slash [] h = refl
 no_slash (b ∷ path) h = by (b == 47) h (λ e. no_slash path e)
   where
@@ -246,7 +259,7 @@ no_slash (b ∷ path) h = by (b == 47) h (λ e. no_slash path e)
     by true e rest = cc
     by false e rest = rest e
 
-a_slash : (path : List ℕ) → has_slash path ≡ true → (rest : List ℕ) × (from_slash path ≡ 47 ∷ rest)
+pub a_slash : (path : List ℕ) → has_slash path ≡ true → (rest : List ℕ) × (from_slash path ≡ 47 ∷ rest)
 a_slash [] h = cc
 a_slash (b ∷ path) h = by (b == 47) refl h (λ e. a_slash path e)
   where

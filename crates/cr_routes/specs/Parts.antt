@@ -1,8 +1,10 @@
--- The place of a path by its parts, without a router (the path of RFC 3986, section 3.3, has a slash between its parts).
-use Rattle.std.specs.Prelude.{ℕ, List, [], ◌∷◌, Bool, true, false, ◌==◌, Option, option_map, find, if◌then◌else◌}
+-- What a path is found to be: its place, and what its parameters take of it. A path is told by the parts between its
+-- slashes (RFC 3986, section 3.3), and no router comes into it.
+use Rattle.std.specs.Prelude.{ℕ, List, [], ◌∷◌, length, Bool, true, false, ◌==◌, nat_le, Option, Some, None, option_map, find, if◌then◌else◌}
 use Rattle.std.specs.List.{slice_split}
 use Rattle.std.specs.Str.{bytes_eq}
 use Rattle.std.specs.Cmp.Lexicographic.{pointwise}
+use Rattle.cr_routes.specs.declared.found.Found.{Found}
 use Rattle.cr_routes.specs.declared.place.Place.{Place}
 use Rattle.cr_routes.specs.Paths.{paths}
 
@@ -28,6 +30,43 @@ takes listed part = if is_parameter listed then has_bytes part else bytes_eq lis
 abbrev pub fits_parts : List (List ℕ) → List (List ℕ) → Bool
 fits_parts listed path = pointwise takes listed path
 
--- the place of the listed path that a path fits
-abbrev pub place_by_parts : List ℕ → Option Place
-place_by_parts path = option_map (λ line. line.1) (find (λ line. fits_parts (parts line.0) (parts path)) paths)
+-- the parts that the parameters of a listed path take of such a path, in their order
+abbrev pub taken : List (List ℕ) → List (List ℕ) → List (List ℕ)
+taken [] path = []
+taken (listed ∷ more) [] = []
+taken (listed ∷ more) (part ∷ path) = if is_parameter listed then part ∷ taken more path else taken more path
+
+-- the first and the second part, where they are there
+abbrev pub first_of : List (List ℕ) → Option (List ℕ)
+first_of [] = None
+first_of (part ∷ rest) = Some part
+
+abbrev pub second_of : List (List ℕ) → Option (List ℕ)
+second_of [] = None
+second_of (part ∷ rest) = first_of rest
+
+-- a path's place, and what its first and its second parameter took; none has a third
+pub record FoundPath : Type 0 where
+  pub place : Place
+  pub first : Option (List ℕ)
+  pub second : Option (List ℕ)
+
+-- a place with the parts that its parameters took
+abbrev pub found_with : Place → List (List ℕ) → FoundPath
+found_with place parts = record { place = place; first = first_of parts; second = second_of parts }
+
+-- what a path is found to be that fits a listed path
+abbrev pub found_as : List ℕ → List ℕ × Place → FoundPath
+found_as path line = found_with line.1 (taken (parts line.0) (parts path))
+
+-- what a path is found to be: the listed path that it fits
+unfoldable pub found_at : List ℕ → Option FoundPath
+found_at path = option_map (found_as path) (find (λ line. fits_parts (parts line.0) (parts path)) paths)
+
+-- the same of what the program has, which lends the parts
+abbrev pub seen : Found → FoundPath
+seen f = record { place = f.place; first = option_map (λ t. t.now) f.first; second = option_map (λ t. t.now) f.second }
+
+-- at most two parts of a listed path are parameters
+abbrev pub has_few_parameters : List ℕ → Bool
+has_few_parameters listed = nat_le (length (taken (parts listed) (parts listed))) 2

@@ -1,11 +1,12 @@
 //! The paths that the server knows, their methods, and what a method at a path asks for.
 //!
 //! One table lists the paths (`specs/Paths.antt`) and one function what a method asks for there
-//! (`specs/Asks.antt`); the field `Allow` of a 405 answer follows from the two. What the table means without a router
-//! stands in `specs/Parts.antt`: `law_paths` says that the router finds just that.
+//! (`specs/Asks.antt`); the field `Allow` of a 405 answer follows from the two. What the table means, parameters too,
+//! stands in `specs/Parts.antt`, without a router; `Routes::find` finds just that with one.
 #![tactic(auto)]
 
 mod ask;
+mod found;
 mod laws;
 mod method;
 mod place;
@@ -14,6 +15,7 @@ mod routes;
 mod tests;
 
 pub use ask::Ask;
+pub use found::Found;
 pub use laws::law_paths;
 pub use method::Method;
 pub use place::Place;

@@ -1,8 +1,9 @@
-//! From a path to its place.
-ghost use Rattle.std.specs.Prelude.{◌≡◌, IsTrue, OnOk, map};
-ghost use Rattle.cr_routes.specs.Paths.{added, fits, is_free, line, the_rows, with_path};
+//! From a path to its place and its parameters.
+ghost use Rattle.std.specs.Prelude.{◌≡◌, IsTrue, OnOk, map, option_map};
+ghost use Rattle.cr_routes.specs.Rows.{added, fits, is_free, line, the_rows, with_path};
 ghost use Rattle.matchit.specs.Route.{parse_route};
 
+use crate::found::{Found, taken};
 use crate::place::Place;
 use matchit::{InsertError, Router};
 use std::alloc::{AllocError, Global};
@@ -53,7 +54,7 @@ pub struct Routes {
 }
 
 impl Routes {
-    ghost use Rattle.cr_routes.specs.Paths.{place_of};
+    ghost use Rattle.cr_routes.specs.Parts.{found_at, seen};
 
     /// The router over all paths. Fails only for want of memory.
     pub fn new(alloc: Global) -> Result<Routes, AllocError> {
@@ -62,14 +63,20 @@ impl Routes {
         Ok(Routes { router })
     }
 
-    /// The place of a path, or None where the server doesn't know the path. Case counts, nothing is decoded, and a
-    /// parameter takes one part that isn't empty. Reads the path once and costs no allocation.
-    pub fn find(&self, path: &str) -> Option<Place>
-        ensures { result ≡ place_of path.now }
+    /// The place of a path with what its parameters took, or None where the server doesn't know the path. Case counts,
+    /// nothing is decoded, and a parameter takes one part that isn't empty. Reads the path once, and its parameters
+    /// once more; costs no allocation, since the parts are lent.
+    pub fn find<'p>(&self, path: &'p str) -> Option<Found<'p>>
+        ensures { option_map seen result ≡ found_at path.now }
     {
-        match self.router.at(path) {
-            Ok(found) => Some(*found.value),
-            Err(_) => None,
-        }
+        let Ok(route) = self.router.at(path) else {
+            return None;
+        };
+        let (first, second) = taken(&route.params);
+        Some(Found {
+            place: *route.value,
+            first,
+            second,
+        })
     }
 }

@@ -32,7 +32,7 @@ use Rattle.cr_session.proofs.NoFurther.{no_further-one, no_further-still}
 use Rattle.cr_session.proofs.Turns.{replays-one}
 use Rattle.cr_session.proofs.WritingLaws.{writes-nil}
 
-closes_behind-is : (n : ℕ) (r : RequestText) → closes_behind n r ≡ ((wish_text r).closes || n == 1048575)
+closes_behind-is : (n : ℕ) (r : RequestText) → closes_behind n r ≡ ((wish_text r).asks_close || n == 1048575)
 unfolding closes_behind
 closes_behind-is n r = refl
 
@@ -267,4 +267,4 @@ module _ {S : Type 0} (left : S → Option (List ℕ)) (gives : S → S → List
       one : (js : List Judged) (rs : List RequestText) → length js ≡ 1 → wishes_of js ≡ map wish_text rs → ReachesFrom closes_behind n (i ++ x.got) rs i' → ⊥
       one [] rs e f r = omega arith
       one (j ∷ js) [] e f r = cc
-      one (j ∷ js) (q ∷ rs) e f r = or_true (wish_text q).closes (n == 1048575) (ap (λ k. k == 1048575) last) (sym (closes_behind-is n q) ∙ r.2)
+      one (j ∷ js) (q ∷ rs) e f r = or_true (wish_text q).asks_close (n == 1048575) (ap (λ k. k == 1048575) last) (sym (closes_behind-is n q) ∙ r.2)

@@ -64,7 +64,7 @@ const LAST_REQUEST: usize = 1_048_575;
 fn closes(wish: &Wish, number: usize) -> bool
     ensures { result ≡ closes number wish.now }
 {
-    wish.closes || number == LAST_REQUEST
+    wish.asks_close || number == LAST_REQUEST
 }
 
 /// Judges one request and writes its answer, in room that was made when the connection began.

@@ -1,64 +1,94 @@
--- What is read of a body wants the login that its request does.
-use Rattle.std.proofs.Common.{◌≡◌, ℕ, List, Bool, true, false, Option, Some, None, refl}
+-- What a body tells is what its request asks for, and it wants the login that its request does.
+use Rattle.std.proofs.Common.{◌≡◌, ℕ, List, Option, Some, None, refl, ap, ◌∙◌}
 use Rattle.std.specs.Prelude.{codes}
 use Rattle.cr_base.specs.Logins.{command_wants_login}
-use Rattle.cr_base.specs.Texts.{is_name, is_title, is_abstract}
 use Rattle.cr_base.specs.declared.command.Command.{Command}
-use Rattle.cr_bodies.specs.Bodies.{name, register, set_conflict, set_mode, set_phase, submit, name_of, register_of, set_conflict_of, set_mode_of, set_phase_of, submit_of}
-use Rattle.cr_bodies.specs.Field.{◌>>=◌, flag_at, mode_at, phase_at, role_at, tested_at, user_at}
+use Rattle.cr_base.specs.declared.command.Command.TheVariants as commands
+use Rattle.cr_bodies.specs.Bodies.{command_in, command_read}
+use Rattle.cr_bodies.specs.Field.{◌>>=◌, abstract_at, digest_at, flag_at, mode_at, name_at, phase_at, role_at, title_at, user_at}
 use Rattle.cr_bodies.specs.Json.{json_of}
-use Rattle.cr_bodies.specs.Secret.{is_secret}
+use Rattle.cr_routes.specs.Parts.{FoundPath}
 use Rattle.cr_routes.specs.declared.ask.Ask.{Ask}
 use Rattle.cr_routes.specs.declared.ask.Ask.TheVariants as asks
 use Rattle.cr_wire.specs.Asked.{asked, command_of}
-use Rattle.cr_wire.specs.Caller.{ask_wants_login, wants_login}
-use Rattle.cr_wire.specs.Paper.{paper_told}
+use Rattle.cr_wire.specs.Caller.{ask_of, ask_wants_login, command_ask, wants_login}
+use Rattle.cr_wire.specs.Paper.{paper_of}
 
--- what a body tells, if it tells anything, wants a login or not
-abbrev Wants : Bool → Option Command → Type 0
-Wants login None = Unit {0}
-Wants login (Some command) = command_wants_login command ≡ login
+-- what a body tells, if it tells anything, is given by this request
+abbrev GivenBy : Ask → Option Command → Type 0
+GivenBy ask None = Unit {0}
+GivenBy ask (Some command) = command_ask command ≡ ask
 
 -- what is made of a value that may be there
-of_each : {A : Type 0} (login : Bool) (found : Option A) (made : A → Option Command) → ((x : A) → Wants login (made x)) → Wants login (found >>= made)
-of_each login None made each = tt
-of_each login (Some x) made each = each x
+of_each : {A : Type 0} (ask : Ask) (found : Option A) (made : A → Option Command) → ((x : A) → GivenBy ask (made x)) → GivenBy ask (found >>= made)
+of_each ask None made each = tt
+of_each ask (Some x) made each = each x
 
--- a bad body wants what its request does
-as_asked : (ask : Ask) (told : Option Command) → Wants (ask_wants_login ask) told → wants_login (command_of ask told) ≡ ask_wants_login ask
-as_asked ask None wants = refl
-as_asked ask (Some command) wants = wants
+given : (ask : Ask) (paper : Option ℕ) (body : List ℕ) → GivenBy ask (command_read ask paper body)
+given asks.Register paper body =
+    of_each asks.Register (json_of body) (command_in asks.Register paper) (λ d.
+    of_each asks.Register (name_at (codes "name") d) _ (λ name.
+    of_each asks.Register (digest_at (codes "secret") d) _ (λ digest. refl)))
+given asks.Name paper body =
+    of_each asks.Name (json_of body) (command_in asks.Name paper) (λ d.
+    of_each asks.Name (user_at (codes "name") d) _ (λ user.
+    of_each asks.Name (role_at (codes "role") d) _ (λ role. refl)))
+given asks.SetMode paper body =
+    of_each asks.SetMode (json_of body) (command_in asks.SetMode paper) (λ d.
+    of_each asks.SetMode (mode_at (codes "mode") d) _ (λ mode. refl))
+given asks.SetPhase paper body =
+    of_each asks.SetPhase (json_of body) (command_in asks.SetPhase paper) (λ d.
+    of_each asks.SetPhase (phase_at (codes "phase") d) _ (λ phase. refl))
+given asks.Submit paper body =
+    of_each asks.Submit (json_of body) (command_in asks.Submit paper) (λ d.
+    of_each asks.Submit (title_at (codes "title") d) _ (λ title.
+    of_each asks.Submit (abstract_at (codes "abstract") d) _ (λ abstract. refl)))
+given asks.SetConflict paper body =
+    of_each asks.SetConflict (json_of body) (command_in asks.SetConflict paper) (λ d.
+    of_each asks.SetConflict (flag_at (codes "on") d) _ (λ on.
+    of_each asks.SetConflict (user_at (codes "user") d) _ (λ user. refl)))
+given asks.Accounts paper body = of_each asks.Accounts (json_of body) (command_in asks.Accounts paper) (λ d. tt)
+given asks.Phase paper body = of_each asks.Phase (json_of body) (command_in asks.Phase paper) (λ d. tt)
+given asks.Page paper body = of_each asks.Page (json_of body) (command_in asks.Page paper) (λ d. tt)
+given asks.Me paper body = of_each asks.Me (json_of body) (command_in asks.Me paper) (λ d. tt)
 
-pub login_by_ask : (ask : Ask) (path body : List ℕ) → wants_login (asked ask path body) ≡ ask_wants_login ask
-login_by_ask asks.Register path body =
-    as_asked asks.Register (register_of body)
-    (of_each false (json_of body) register (λ d.
-    of_each false (tested_at is_name (codes "name") d) _ (λ name.
-    of_each false (tested_at is_secret (codes "secret") d) _ (λ secret. refl))))
-login_by_ask asks.Accounts path body = refl
-login_by_ask asks.Name path body =
-    as_asked asks.Name (name_of body)
-    (of_each true (json_of body) name (λ d.
-    of_each true (user_at (codes "name") d) _ (λ user.
-    of_each true (role_at (codes "role") d) _ (λ role. refl))))
-login_by_ask asks.SetMode path body =
-    as_asked asks.SetMode (set_mode_of body)
-    (of_each true (json_of body) set_mode (λ d.
-    of_each true (mode_at (codes "mode") d) _ (λ mode. refl)))
-login_by_ask asks.Phase path body = refl
-login_by_ask asks.SetPhase path body =
-    as_asked asks.SetPhase (set_phase_of body)
-    (of_each true (json_of body) set_phase (λ d.
-    of_each true (phase_at (codes "phase") d) _ (λ phase. refl)))
-login_by_ask asks.Submit path body =
-    as_asked asks.Submit (submit_of body)
-    (of_each true (json_of body) submit (λ d.
-    of_each true (tested_at is_title (codes "title") d) _ (λ title.
-    of_each true (tested_at is_abstract (codes "abstract") d) _ (λ abstract. refl))))
-login_by_ask asks.Page path body = refl
-login_by_ask asks.SetConflict path body =
-    as_asked asks.SetConflict (set_conflict_of (paper_told path) body)
-    (of_each true (json_of body) (set_conflict (paper_told path)) (λ d.
-    of_each true (flag_at (codes "on") d) _ (λ on.
-    of_each true (user_at (codes "user") d) _ (λ user. refl))))
-login_by_ask asks.Me path body = refl
+-- a command wants the login that its request does
+command_login : (command : Command) → command_wants_login command ≡ ask_wants_login (command_ask command)
+command_login (commands.Register name digest) = refl
+command_login (commands.SetPhase phase) = refl
+command_login (commands.Submit title abstract) = refl
+command_login (commands.Name user role) = refl
+command_login (commands.SetMode mode) = refl
+command_login (commands.SetConflict paper user on) = refl
+
+asks_for : (ask : Ask) (told : Option Command) → GivenBy ask told → ask_of (command_of ask told) ≡ Some ask
+asks_for ask None given = refl
+asks_for ask (Some command) given = ap (λ (a : Ask). Some a) given
+
+wants : (ask : Ask) (told : Option Command) → GivenBy ask told → wants_login (command_of ask told) ≡ ask_wants_login ask
+wants ask None given = refl
+wants ask (Some command) given = command_login command ∙ ap ask_wants_login given
+
+pub ask_by_ask : (ask : Ask) (found : FoundPath) (body : List ℕ) → ask_of (asked ask found body) ≡ Some ask
+ask_by_ask asks.Register found body = asks_for asks.Register _ (given asks.Register (paper_of found) body)
+ask_by_ask asks.Accounts found body = refl
+ask_by_ask asks.Name found body = asks_for asks.Name _ (given asks.Name (paper_of found) body)
+ask_by_ask asks.SetMode found body = asks_for asks.SetMode _ (given asks.SetMode (paper_of found) body)
+ask_by_ask asks.Phase found body = refl
+ask_by_ask asks.SetPhase found body = asks_for asks.SetPhase _ (given asks.SetPhase (paper_of found) body)
+ask_by_ask asks.Submit found body = asks_for asks.Submit _ (given asks.Submit (paper_of found) body)
+ask_by_ask asks.Page found body = refl
+ask_by_ask asks.SetConflict found body = asks_for asks.SetConflict _ (given asks.SetConflict (paper_of found) body)
+ask_by_ask asks.Me found body = refl
+
+pub login_by_ask : (ask : Ask) (found : FoundPath) (body : List ℕ) → wants_login (asked ask found body) ≡ ask_wants_login ask
+login_by_ask asks.Register found body = wants asks.Register _ (given asks.Register (paper_of found) body)
+login_by_ask asks.Accounts found body = refl
+login_by_ask asks.Name found body = wants asks.Name _ (given asks.Name (paper_of found) body)
+login_by_ask asks.SetMode found body = wants asks.SetMode _ (given asks.SetMode (paper_of found) body)
+login_by_ask asks.Phase found body = refl
+login_by_ask asks.SetPhase found body = wants asks.SetPhase _ (given asks.SetPhase (paper_of found) body)
+login_by_ask asks.Submit found body = wants asks.Submit _ (given asks.Submit (paper_of found) body)
+login_by_ask asks.Page found body = refl
+login_by_ask asks.SetConflict found body = wants asks.SetConflict _ (given asks.SetConflict (paper_of found) body)
+login_by_ask asks.Me found body = refl

@@ -4,14 +4,13 @@ use Rattle.std.specs.List.{before_first}
 use Rattle.std.specs.Str.{is_utf8}
 use Rattle.cr_base.specs.declared.command.Command.{Command}
 use Rattle.cr_base.specs.declared.command.Query.TheVariants as queries
-use Rattle.cr_bodies.specs.Bodies.{name_of, register_of, set_conflict_of, set_mode_of, set_phase_of, submit_of}
+use Rattle.cr_bodies.specs.Bodies.{command_read}
 use Rattle.cr_routes.specs.Asks.{ask_at}
-use Rattle.cr_routes.specs.Paths.{place_of}
+use Rattle.cr_routes.specs.Parts.{FoundPath, found_at}
 use Rattle.cr_routes.specs.Methods.{method_of}
 use Rattle.cr_routes.specs.declared.ask.Ask.{Ask}
 use Rattle.cr_routes.specs.declared.ask.Ask.TheVariants as asks
-use Rattle.cr_routes.specs.declared.place.Place.{Place}
-use Rattle.cr_wire.specs.Paper.{paper_told}
+use Rattle.cr_wire.specs.Paper.{paper_of}
 use Rattle.cr_wire.specs.declared.what.What.{What}
 use Rattle.cr_wire.specs.declared.what.What.TheVariants.{NoRoute, WrongMethod, BadBody, Command as Commands, Query as Queries}
 
@@ -19,38 +18,42 @@ use Rattle.cr_wire.specs.declared.what.What.TheVariants.{NoRoute, WrongMethod, B
 abbrev pub path_of : List ℕ → List ℕ
 path_of target = before_first (λ b. b == 63) target
 
--- the place of a path, which is text
-abbrev pub place_at : List ℕ → Option Place
-place_at path = if is_utf8 path then place_of path else None
+-- what a path is found to be, which is text
+abbrev pub find_at : List ℕ → Option FoundPath
+find_at path = if is_utf8 path then found_at path else None
 
 -- a command, where the body tells one
 abbrev pub command_of : Ask → Option Command → What
 command_of ask None = BadBody ask
 command_of ask (Some command) = Commands command
 
+-- the command that path and body tell
+abbrev pub commanded : Ask → FoundPath → List ℕ → What
+commanded ask found body = command_of ask (command_read ask (paper_of found) body)
+
 -- one line for each thing that can be asked for
-abbrev pub asked : Ask → List ℕ → List ℕ → What
-asked asks.Register path body = command_of asks.Register (register_of body)
-asked asks.Accounts path body = Queries queries.Accounts
-asked asks.Name path body = command_of asks.Name (name_of body)
-asked asks.SetMode path body = command_of asks.SetMode (set_mode_of body)
-asked asks.Phase path body = Queries queries.Phase
-asked asks.SetPhase path body = command_of asks.SetPhase (set_phase_of body)
-asked asks.Submit path body = command_of asks.Submit (submit_of body)
-asked asks.Page path body = Queries (queries.Page (paper_told path))
-asked asks.SetConflict path body = command_of asks.SetConflict (set_conflict_of (paper_told path) body)
-asked asks.Me path body = Queries queries.Me
+abbrev pub asked : Ask → FoundPath → List ℕ → What
+asked asks.Register found body = commanded asks.Register found body
+asked asks.Accounts found body = Queries queries.Accounts
+asked asks.Name found body = commanded asks.Name found body
+asked asks.SetMode found body = commanded asks.SetMode found body
+asked asks.Phase found body = Queries queries.Phase
+asked asks.SetPhase found body = commanded asks.SetPhase found body
+asked asks.Submit found body = commanded asks.Submit found body
+asked asks.Page found body = Queries (queries.Page (paper_of found))
+asked asks.SetConflict found body = commanded asks.SetConflict found body
+asked asks.Me found body = Queries queries.Me
 
-abbrev pub with_ask : Place → Option Ask → List ℕ → List ℕ → What
-with_ask place None path body = WrongMethod place
-with_ask place (Some ask) path body = asked ask path body
+abbrev pub with_ask : FoundPath → Option Ask → List ℕ → What
+with_ask found None body = WrongMethod found.place
+with_ask found (Some ask) body = asked ask found body
 
-abbrev pub with_place : Option Place → List ℕ → List ℕ → List ℕ → What
-with_place None method path body = NoRoute
-with_place (Some place) method path body = with_ask place (option_and_then (ask_at place) (method_of method)) path body
+abbrev pub with_path : Option FoundPath → List ℕ → List ℕ → What
+with_path None method body = NoRoute
+with_path (Some found) method body = with_ask found (option_and_then (ask_at found.place) (method_of method)) body
 
 abbrev pub what_of : List ℕ → List ℕ → List ℕ → What
-what_of method target body = with_place (place_at (path_of target)) method (path_of target) body
+what_of method target body = with_path (find_at (path_of target)) method body
 
 -- a body was looked at, which alone takes memory
 abbrev pub LooksAtBody : What → Type 0

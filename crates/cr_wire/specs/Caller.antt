@@ -1,8 +1,13 @@
 -- Caller: who gives a wish, by a history.
 use Rattle.std.specs.Prelude.{ℕ, Bool, true, false, Option, Some, None, if◌then◌else◌}
+use Rattle.std.specs.Option.{option_map_or}
 use Rattle.cr_base.specs.History.{History}
 use Rattle.cr_base.specs.Facts.{caller_of}
 use Rattle.cr_base.specs.Logins.{command_wants_login, query_wants_login}
+use Rattle.cr_base.specs.declared.command.Command.{Command}
+use Rattle.cr_base.specs.declared.command.Command.TheVariants as commands
+use Rattle.cr_base.specs.declared.command.Query.{Query}
+use Rattle.cr_base.specs.declared.command.Query.TheVariants as queries
 use Rattle.cr_bodies.specs.declared.credentials.Credentials.{Credentials}
 use Rattle.cr_routes.specs.declared.ask.Ask.{Ask}
 use Rattle.cr_routes.specs.declared.ask.Ask.TheVariants as asks
@@ -32,13 +37,46 @@ wants_login (BadBody ask) = ask_wants_login ask
 wants_login (Commands command) = command_wants_login command
 wants_login (Queries query) = query_wants_login query
 
--- whether the field Authorization is read: not where a request of the server's wants no login
+-- the request by which a command is given, and by which a query is asked
+abbrev pub command_ask : Command → Ask
+command_ask (commands.Register name digest) = asks.Register
+command_ask (commands.SetPhase phase) = asks.SetPhase
+command_ask (commands.Submit title abstract) = asks.Submit
+command_ask (commands.Name user role) = asks.Name
+command_ask (commands.SetMode mode) = asks.SetMode
+command_ask (commands.SetConflict paper user on) = asks.SetConflict
+
+abbrev pub query_ask : Query → Ask
+query_ask queries.Me = asks.Me
+query_ask queries.Accounts = asks.Accounts
+query_ask queries.Phase = asks.Phase
+query_ask (queries.Page paper) = asks.Page
+
+-- what a wish's request asks for; None where it is no request of the server's
+abbrev pub ask_of : What → Option Ask
+ask_of NoRoute = None
+ask_of (WrongMethod place) = None
+ask_of (BadBody ask) = Some ask
+ask_of (Commands command) = Some (command_ask command)
+ask_of (Queries query) = Some (query_ask query)
+
+-- whether a request for this reads the field Authorization: a table of its own, since a request may be told who calls
+-- though it wants no login
+abbrev pub ask_reads_credentials : Ask → Bool
+ask_reads_credentials asks.Register = false
+ask_reads_credentials asks.Accounts = false
+ask_reads_credentials asks.Phase = false
+ask_reads_credentials asks.Name = true
+ask_reads_credentials asks.SetMode = true
+ask_reads_credentials asks.SetPhase = true
+ask_reads_credentials asks.Submit = true
+ask_reads_credentials asks.Page = true
+ask_reads_credentials asks.SetConflict = true
+ask_reads_credentials asks.Me = true
+
+-- whether the field Authorization is read: not where it is no request of the server's
 abbrev pub reads_credentials : What → Bool
-reads_credentials NoRoute = true
-reads_credentials (WrongMethod place) = true
-reads_credentials (BadBody ask) = ask_wants_login ask
-reads_credentials (Commands command) = command_wants_login command
-reads_credentials (Queries query) = query_wants_login query
+reads_credentials what = option_map_or ask_reads_credentials (ask_of what) false
 
 -- the user of the name told whose registration has the digest of the secret told; else nobody
 abbrev pub user_told : Option Credentials → History → Option ℕ

@@ -1,8 +1,9 @@
--- The paper that a path names.
-use Rattle.std.specs.Prelude.{ℕ, List, length, Bool, ◌&&◌, ◌==◌, not, nat_le, Option, Some, None, if◌then◌else◌, slice_index}
+-- The paper that a path's parameter names.
+use Rattle.std.specs.Prelude.{ℕ, List, length, Bool, ◌&&◌, ◌==◌, not, nat_le, Option, Some, None, option_and_then, if◌then◌else◌, slice_index}
 use Rattle.std.specs.Char.{is_ascii_digit}
-use Rattle.std.specs.List.{list_all, before_first, after_first}
+use Rattle.std.specs.List.{list_all}
 use Rattle.std.specs.Str.Parse.{digits_value}
+use Rattle.cr_routes.specs.Parts.{FoundPath}
 
 -- from one to four bytes
 abbrev pub is_short : List ℕ → Bool
@@ -16,10 +17,6 @@ is_number text = is_short text && not (slice_index text 0 == 48) && list_all is_
 abbrev pub paper_named : List ℕ → Option ℕ
 paper_named text = if is_number text then Some (digits_value 10 text) else None
 
--- what stands behind a path's second slash, up to the next one
-abbrev pub second_part : List ℕ → List ℕ
-second_part path = before_first (λ b. b == 47) (after_first (λ b. b == 47) (after_first (λ b. b == 47) path))
-
--- the paper that a path names
-abbrev pub paper_told : List ℕ → Option ℕ
-paper_told path = paper_named (second_part path)
+-- the paper that a path is about: its first parameter names it
+abbrev pub paper_of : FoundPath → Option ℕ
+paper_of found = option_and_then paper_named found.first

@@ -10,7 +10,7 @@ last_request = 1048575
 
 -- whether the connection closes behind its request number n: the wish asks for it, or it is the last that may come
 abbrev pub closes : ℕ → Wish → Bool
-closes n w = w.closes || n == last_request
+closes n w = w.asks_close || n == last_request
 
 -- the same of the request itself
 unfoldable pub closes_behind : ℕ → RequestText → Bool

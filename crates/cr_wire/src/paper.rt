@@ -1,10 +1,11 @@
-//! The paper that a path names.
+//! The paper that a path's parameter names.
 ghost use Rattle.std.specs.Prelude.{◌≡◌};
+ghost use Rattle.cr_routes.specs.Parts.{seen};
 ghost use Rattle.cr_wire.specs.Paper as spec;
 
 use cr_base::PaperNo;
-use cr_bodies::{after_first, before_first};
 use cr_http::{all_digits, number_of};
+use cr_routes::Found;
 
 /// Whether a text has from one to four bytes.
 fn is_short(text: &[u8]) -> bool
@@ -31,12 +32,10 @@ fn paper_named(text: &[u8]) -> Option<PaperNo>
     }
 }
 
-/// The paper that a path names behind its second slash, up to the next one: Some exactly where a number from 1 to 9,999
-/// stands there in decimal, without a sign and without a zero in front. Costs one walk over the path and no allocation.
-pub(crate) fn paper_told(path: &[u8]) -> Option<PaperNo>
-    ensures { result ≡ spec.paper_told path.now }
+/// The paper that a path is about: Some exactly where its first parameter is a number from 1 to 9,999 in decimal, without
+/// a sign and without a zero in front. Looks at four bytes at most and costs no allocation.
+pub(crate) fn paper_of(found: Found<'_>) -> Option<PaperNo>
+    ensures { result ≡ spec.paper_of (seen found.entry) }
 {
-    let behind_first = after_first(b'/', path);
-    let behind_second = after_first(b'/', behind_first);
-    paper_named(before_first(b'/', behind_second))
+    paper_named(found.first?.as_bytes())
 }

@@ -1,6 +1,6 @@
 //! What a request wishes.
 ghost use Rattle.std.specs.Prelude.{◌≡◌};
-ghost use Rattle.cr_wire.specs.Caller.{ask_wants_login as ask_wants_login_text};
+ghost use Rattle.cr_wire.specs.Caller.{ask_reads_credentials as ask_reads_credentials_text, ask_wants_login as ask_wants_login_text, command_ask as command_ask_text, query_ask as query_ask_text};
 
 use cr_base::{Command, Query};
 use cr_bodies::Credentials;
@@ -24,12 +24,13 @@ pub enum What {
 /// What a whole request wishes, who tells so, and in which form the answer comes.
 #[derive(Drop, Debug)]
 pub struct Wish {
-    /// What the field Authorization tells; None where there is no such field, more than one, or one that tells none.
+    /// What the field Authorization tells a request that reads it; None where another comes with it, and where there is no
+    /// such field, more than one, or one that tells none.
     pub credentials: Option<Credentials>,
     /// The answer comes without its content: the method is HEAD.
     pub is_head: bool,
     /// The request asks that the connection be closed behind its answer.
-    pub closes: bool,
+    pub asks_close: bool,
     /// What is wished.
     pub what: What,
 }
@@ -45,8 +46,58 @@ fn ask_wants_login(ask: Ask) -> bool
     }
 }
 
+/// Whether a request for this reads the field Authorization: a table of its own, since a request may be told who calls
+/// though it wants no login.
+fn ask_reads_credentials(ask: Ask) -> bool
+    ensures { result ≡ ask_reads_credentials_text ask }
+{
+    match ask {
+        Ask::Register | Ask::Accounts | Ask::Phase => false,
+        Ask::Me | Ask::Page => true,
+        Ask::Name | Ask::SetMode | Ask::SetPhase | Ask::Submit | Ask::SetConflict => true,
+    }
+}
+
+/// The request by which a command is given.
+fn command_ask(command: &Command) -> Ask
+    ensures { result ≡ command_ask_text command.now }
+{
+    match command {
+        Command::Register { .. } => Ask::Register,
+        Command::SetPhase { .. } => Ask::SetPhase,
+        Command::Submit { .. } => Ask::Submit,
+        Command::Name { .. } => Ask::Name,
+        Command::SetMode { .. } => Ask::SetMode,
+        Command::SetConflict { .. } => Ask::SetConflict,
+    }
+}
+
+/// The request by which a query is asked.
+fn query_ask(query: &Query) -> Ask
+    ensures { result ≡ query_ask_text query.now }
+{
+    match query {
+        Query::Me => Ask::Me,
+        Query::Accounts => Ask::Accounts,
+        Query::Phase => Ask::Phase,
+        Query::Page { .. } => Ask::Page,
+    }
+}
+
 impl What {
-    ghost use Rattle.cr_wire.specs.Caller.{reads_credentials, wants_login};
+    ghost use Rattle.cr_wire.specs.Caller.{ask_of, reads_credentials, wants_login};
+
+    /// What its request asks for: None where it is no request of the server's.
+    fn ask(&self) -> Option<Ask>
+        ensures { result ≡ ask_of self.now }
+    {
+        match self {
+            What::NoRoute | What::WrongMethod(_) => None,
+            What::BadBody(ask) => Some(*ask),
+            What::Command(command) => Some(command_ask(command)),
+            What::Query(query) => Some(query_ask(query)),
+        }
+    }
 
     /// Whether a login is wanted, so that nobody is answered `unauthorized`: by each command but a registration, also
     /// where its body is a bad one, by a paper's page and by what the caller is told of herself. Registration, the list
@@ -63,14 +114,14 @@ impl What {
         }
     }
 
-    /// Whether the field Authorization counts. POST of `/register`, GET and HEAD of `/accounts` and of `/phase` don't
-    /// use it: their caller is nobody. What is no request of the server's is refused alike to everybody.
+    /// Whether its request reads the field Authorization. POST of `/register`, GET and HEAD of `/accounts` and of `/phase`
+    /// don't: their caller is nobody. Nor does what is no request of the server's, which is refused alike to everybody.
     pub fn reads_credentials(&self) -> bool
         ensures { result ≡ reads_credentials self.now }
     {
-        match self {
-            What::NoRoute | What::WrongMethod(_) => true,
-            What::BadBody(_) | What::Command(_) | What::Query(_) => self.wants_login(),
+        match self.ask() {
+            Some(ask) => ask_reads_credentials(ask),
+            None => false,
         }
     }
 }

@@ -6,11 +6,11 @@ ghost use Rattle.cr_wire.specs.Asked.{LooksAtBody, what_of as what_text};
 ghost use Rattle.cr_wire.specs.Bounds.{IsBoundedWhat};
 ghost use Rattle.cr_wire.specs.Connection.{has_close as has_close_element};
 ghost use Rattle.cr_wire.specs.Outcome.{Gives};
-ghost use Rattle.cr_wire.specs.Wish.{closes as closes_text, credentials_in as credentials_text, wish_text};
+ghost use Rattle.cr_wire.specs.Wish.{asks_close as asks_close_text, credentials_for as credentials_for_text, credentials_in as credentials_text, wish_text};
 
 use crate::asked::what_of;
 use crate::connection::has_close;
-use crate::what::Wish;
+use crate::what::{What, Wish};
 use cr_bodies::{Credentials, read_credentials};
 use cr_http::{Head, Values, Version};
 use cr_routes::Routes;
@@ -22,12 +22,23 @@ fn credentials_in(head: &Head<'_>) -> Option<Credentials>
 {
     match head.values_of(b"authorization") {
         Values::One(value) => read_credentials(value),
-        _ => None,
+        Values::None | Values::Many => None,
+    }
+}
+
+/// What it tells a request that reads it, so that no other costs the digest of a secret.
+fn credentials_for(what: &What, head: &Head<'_>) -> Option<Credentials>
+    ensures { result ≡ credentials_for_text what.now head.now.fields }
+{
+    if what.reads_credentials() {
+        credentials_in(head)
+    } else {
+        None
     }
 }
 
 /// Whether a field Connection asks for the close.
-fn asks_close(head: &Head<'_>) -> bool
+fn field_asks_close(head: &Head<'_>) -> bool
     ensures { result ≡ list_any has_close_element (values_of (codes "connection") head.now.fields) }
 {
     let mut values = head.all_values_of(b"connection");
@@ -40,15 +51,16 @@ fn asks_close(head: &Head<'_>) -> bool
 }
 
 /// Whether the request asks that the connection be closed behind its answer.
-fn closes(head: &Head<'_>) -> bool
-    ensures { result ≡ closes_text head.now }
+fn asks_close(head: &Head<'_>) -> bool
+    ensures { result ≡ asks_close_text head.now }
 {
-    head.version() == Version::Http10 || asks_close(head)
+    head.version() == Version::Http10 || field_asks_close(head)
 }
 
 /// The wish of a request, by its head and its body. Fails only for want of memory, which the reading of a JSON body
-/// alone takes. Reads the target, the fields' names, the fields Authorization and Connection once, and the body only
-/// where the method and the path want one. A command that is wished is within the bounds on commands.
+/// alone takes. Reads the target, the fields' names and the field Connection once, the body only where the method and the
+/// path want one, and the field Authorization only where `reads_credentials` says so. A command that is wished is within
+/// the bounds on commands.
 pub fn wish_of(
     alloc: Global,
     routes: &Routes,
@@ -64,9 +76,9 @@ pub fn wish_of(
         Err(error) => return Err(error),
     };
     Ok(Wish {
-        credentials: credentials_in(head),
+        credentials: credentials_for(&what, head),
         is_head: head.is_head(),
-        closes: closes(head),
+        asks_close: asks_close(head),
         what,
     })
 }

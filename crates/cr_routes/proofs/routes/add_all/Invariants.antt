@@ -1,5 +1,5 @@
 use Rattle.std.proofs.Common.{◌≡◌, drop, map, IsTrue}
-use Rattle.cr_routes.specs.Paths.{line, added, fits}
+use Rattle.cr_routes.specs.Rows.{line, added, fits}
 use Rattle.cr_routes.proofs.routes.add_all.Given as goal
 
 abbrev pub invariant-loop-path : goal.invariant-loop-path

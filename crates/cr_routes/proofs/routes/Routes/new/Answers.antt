@@ -1,6 +1,6 @@
 use Rattle.std.proofs.Common.{refl}
 use Rattle.matchit.proofs.OnLiterals.{matchit_on_literals}
-use Rattle.cr_routes.specs.Paths.{the_rows, fits}
+use Rattle.cr_routes.specs.Rows.{the_rows, fits}
 use Rattle.cr_routes.proofs.routes.Routes.new.Goals as goal
 
 pub add_all-requires : goal.add_all-requires

@@ -1,0 +1,34 @@
+//! What a path is found to be.
+ghost use Rattle.std.specs.Prelude.{◌≡◌, option_map};
+ghost use Rattle.cr_routes.specs.Parts.{first_of, second_of};
+ghost use Rattle.cr_routes.specs.Rows.{AreTexts, walked};
+
+use crate::place::Place;
+use matchit::Params;
+
+/// A path's place, with what its parameters took of the path, in their order. No path has more than two.
+#[derive(Clone, Copy, PartialEq, Eq, Debug)]
+pub struct Found<'p> {
+    /// Which of the server's paths it is.
+    pub place: Place,
+    /// What its first parameter took: one part of the path, of at least one byte. None where it has no parameter.
+    pub first: Option<&'p str>,
+    /// What its second parameter took, in the same way.
+    pub second: Option<&'p str>,
+}
+
+/// What the first two parameters of a match took.
+pub(crate) fn taken<'p>(params: &Params<'_, 'p>) -> (Option<&'p str>, Option<&'p str>)
+    requires { AreTexts (walked params.now.pattern.now params.now.text.now params.now.path.now params.now.names.now) }
+    ensures first { option_map (λ t. t.now) result.0 ≡ first_of (walked params.now.pattern.now params.now.text.now params.now.path.now params.now.names.now) }
+    ensures second { option_map (λ t. t.now) result.1 ≡ second_of (walked params.now.pattern.now params.now.text.now params.now.path.now params.now.names.now) }
+{
+    let mut parts = params.iter();
+    let Some((_, first)) = parts.next() else {
+        return (None, None);
+    };
+    match parts.next() {
+        Some((_, second)) => (Some(first), Some(second)),
+        None => (Some(first), None),
+    }
+}
