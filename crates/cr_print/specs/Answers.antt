@@ -1,5 +1,5 @@
 -- The bytes of whole answers: each to HEAD or not, and closing the connection or not.
-use Rattle.std.specs.Prelude.{ℕ, List, [], ◌++◌, Bool, true, if◌then◌else◌, length}
+use Rattle.std.specs.Prelude.{ℕ, List, [], ◌++◌, Bool, true, false, if◌then◌else◌, length}
 use Rattle.cr_base.specs.declared.me.Me.{Me}
 use Rattle.cr_base.specs.declared.page.Page.{Page}
 use Rattle.cr_base.specs.declared.reply.AccountLine.{AccountLine}
@@ -70,3 +70,12 @@ reply_text (replies.Me me) is_head closes = me_text me is_head closes
 -- want of memory, which ends the connection
 abbrev pub no_memory_text : Bool → List ℕ
 no_memory_text is_head = refusal_text NoMemory is_head true
+
+-- whether a reply is of bounded length, so that any answer room takes its answer
+abbrev pub is_brief : Reply → Bool
+is_brief (replies.Accepted receipt) = true
+is_brief (replies.Refused rule) = true
+is_brief (replies.Accounts accounts) = false
+is_brief (replies.Conference conference) = true
+is_brief (replies.Page page) = false
+is_brief (replies.Me me) = false

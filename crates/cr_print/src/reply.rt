@@ -1,11 +1,11 @@
 //! Receipts and replies.
-ghost use Rattle.std.specs.Prelude.{◌≡◌, ◌≤◌, ◌++◌, codes, decimal, length};
+ghost use Rattle.std.specs.Prelude.{◌≡◌, ◌≤◌, ◌++◌, true, codes, decimal, length, OnErr};
 ghost use Rattle.json.specs.Print.{quoted};
 ghost use Rattle.cr_base.specs.Words.{role_name};
 ghost use Rattle.cr_print.specs.Put.{HasRoom, Prints, Puts};
 ghost use Rattle.cr_print.specs.Receipt.{receipt_status, receipt_content};
 ghost use Rattle.cr_print.specs.Conference.{conference_content};
-ghost use Rattle.cr_print.specs.Answers.{answer_text, receipt_text, conference_text, accounts_text, page_text, me_text, reply_text};
+ghost use Rattle.cr_print.specs.Answers.{answer_text, receipt_text, conference_text, accounts_text, page_text, me_text, reply_text, is_brief};
 
 use crate::accounts::accounts_content;
 use crate::head::{Extra, HEAD_ROOM, print_head};
@@ -186,7 +186,8 @@ fn print_me(into: &mut Vec<u8>, me: &Me, is_head: bool, closes: bool) -> Result<
 /// content's without it. With `closes` the answer says that the connection ends behind it.
 ///
 /// An error comes only for want of memory, and `into` then has the bytes that it had; its room may
-/// have grown. The content of a list, a page or what one is told of oneself is made in a vector of its
+/// have grown. It never comes for a receipt, a refusal or the conference where room for 512 bytes is
+/// there. The content of a list, a page or what one is told of oneself is made in a vector of its
 /// own, to HEAD too, and copied once.
 pub fn print_reply(
     into: &mut Vec<u8>,
@@ -194,7 +195,8 @@ pub fn print_reply(
     is_head: bool,
     closes: bool,
 ) -> Result<(), AllocError>
-    ensures { Prints result into.old into.new (reply_text reply.now is_head closes) }
+    ensures prints { Prints result into.old into.new (reply_text reply.now is_head closes) }
+    ensures sure { OnErr result (is_brief reply.now ≡ true → HasRoom into.old 512 → ⊥) }
 {
     match reply {
         Reply::Accepted(receipt) => {
