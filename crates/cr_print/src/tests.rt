@@ -1,4 +1,6 @@
-use crate::{ANSWER_ROOM, Refused, no_memory_text, print_receipt, print_refusal, print_reply};
+use crate::{
+    ANSWER_ROOM, Form, Refused, no_memory_text, print_receipt, print_refusal, print_reply,
+};
 use cr_base::{
     AccountLine, AccountLines, BareKeys, Conference, Me, Mode, Names, Page, PaperNo, PaperNos,
     Phase, Receipt, Reply, Role, Rule, Short, Text, UserNo,
@@ -7,6 +9,12 @@ use cr_http::Refusal;
 use cr_routes::Place;
 use std::alloc::Global;
 use std::test::Fail;
+
+// With content, and the connection goes on.
+const OPEN: Form = Form {
+    is_head: false,
+    closes: false,
+};
 
 // Whether a refusal is printed as this text.
 fn prints(
@@ -17,7 +25,7 @@ fn prints(
     text: &str,
 ) -> Result<bool, Fail> {
     let mut into = Vec::with_capacity(alloc, ANSWER_ROOM)?;
-    print_refusal(&mut into, refused, is_head, closes);
+    print_refusal(&mut into, refused, Form { is_head, closes });
     Ok(into.as_slice() == text.as_bytes())
 }
 
@@ -180,7 +188,14 @@ fn keeps_the_length_and_tells_the_end(rt: HostRuntime) -> Result<(), Fail> {
     }
     for is_head in [false, true] {
         let mut into = Vec::with_capacity(alloc, ANSWER_ROOM)?;
-        print_refusal(&mut into, Refused::NoMemory, is_head, true);
+        print_refusal(
+            &mut into,
+            Refused::NoMemory,
+            Form {
+                is_head,
+                closes: true,
+            },
+        );
         assert!(rt; into.as_slice() == no_memory_text(is_head));
     }
     Ok(())
@@ -235,9 +250,9 @@ fn prints_receipts_behind_what_was_there(rt: HostRuntime) -> Result<(), Fail> {
         ),
     ] {
         let mut into = Vec::with_capacity(rt.alloc(), 2 * ANSWER_ROOM)?;
-        print_receipt(&mut into, &receipt, false, false);
+        print_receipt(&mut into, &receipt, OPEN);
         assert!(rt; into.as_slice() == text.as_bytes());
-        print_reply(&mut into, &Reply::Accepted(receipt), false, false)?;
+        print_reply(&mut into, &Reply::Accepted(receipt), OPEN)?;
         assert!(rt; &into[..text.len()] == text.as_bytes());
         assert!(rt; &into[text.len()..] == text.as_bytes());
     }
@@ -333,7 +348,14 @@ fn prints_replies(rt: HostRuntime) -> Result<(), Fail> {
         ),
     ] {
         let mut into = Vec::new(alloc);
-        print_reply(&mut into, &reply, is_head, false)?;
+        print_reply(
+            &mut into,
+            &reply,
+            Form {
+                is_head,
+                closes: false,
+            },
+        )?;
         assert!(rt; into.as_slice() == text.as_bytes());
     }
     Ok(())
@@ -484,12 +506,19 @@ fn prints_pages(rt: HostRuntime) -> Result<(), Fail> {
     ] {
         let reply = page(alloc, texts, authors, conflicts, declared, conflict, bare)?;
         let mut into = Vec::new(alloc);
-        print_reply(&mut into, &reply, true, false)?;
+        print_reply(
+            &mut into,
+            &reply,
+            Form {
+                is_head: true,
+                closes: false,
+            },
+        )?;
         assert!(rt; into.as_slice() == head.as_bytes());
         let mut whole = Vec::from_slice(alloc, head.as_bytes())?;
         whole.extend_from_slice(content.as_bytes())?;
         let mut into = Vec::new(alloc);
-        print_reply(&mut into, &reply, false, false)?;
+        print_reply(&mut into, &reply, OPEN)?;
         assert!(rt; into.as_slice() == whole.as_slice());
     }
     Ok(())
