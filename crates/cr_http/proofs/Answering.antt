@@ -5,8 +5,8 @@ use Rattle.cr_http.specs.declared.inbox.Extent.{Extent}
 use Rattle.cr_http.specs.declared.read.RequestRead.{RequestRead}
 use Rattle.cr_http.specs.declared.read.RequestRead.TheVariants as reads
 use Rattle.cr_http.specs.Extent.{InboxText, inbox_text}
-use Rattle.cr_http.specs.Filling.{Moves}
-use Rattle.cr_http.specs.Reading.{Answers, AtEndIfEnded, KeepsAll, Lies, Reads}
+use Rattle.cr_http.specs.Filling.{Moves, ReadsWhile}
+use Rattle.cr_http.specs.Reading.{Answers, AtEndIfEnded, IsUnsettled, KeepsAll, Lies, Reads}
 
 keeps : (text : List ℕ) (headers : List HeaderSpan) (request : Option Extent) → request ≡ None → KeepsAll text (inbox_text text headers request)
 keeps text headers None is = (refl, refl)
@@ -23,12 +23,17 @@ answers reads.ReadFault text headers request is = (is.1, keeps text headers requ
 answers (reads.OutOfMemory to_head) text headers request is = (is.1, is.2, keeps text headers request is.0)
 
 -- what one call says, where the inbox had these bytes and they became this text
-pub reads_lying : (left left' : Option (List ℕ)) (inbox : InboxText) (old text : List ℕ) (headers : List HeaderSpan) (request : Option Extent) (answer : RequestRead)
-    → inbox.rest ≡ old → Moves left left' old text → Lies answer text headers request → AtEndIfEnded answer left'
-    → Reads left left' inbox (inbox_text text headers request) answer
-reads_lying left left' inbox old text headers request answer rest m is ended = record {
-  got = m.got;
-  given = m.given;
-  answers = subst (λ (t : List ℕ). Answers answer t (inbox_text text headers request)) (m.kept ∙ ap (λ t. t ++ m.got) (sym rest)) (answers answer text headers request is);
-  ended = ended;
-}
+pub reads_lying : {S : Type 0} (left : S → Option (List ℕ)) (gives : S → S → List ℕ → Type 0) (source source' : S) (inbox : InboxText) (old text : List ℕ) (headers : List HeaderSpan) (request : Option Extent) (answer : RequestRead)
+    → inbox.rest ≡ old → Moves (left source) (left source') old text → Lies answer text headers request → AtEndIfEnded answer (left source')
+    → ReadsWhile left gives IsUnsettled source source' old text
+    → Reads left gives source source' inbox (inbox_text text headers request) answer
+reads_lying left gives source source' inbox old text headers request answer rest m is ended needed =
+    let came : text ≡ inbox.rest ++ m.got = m.kept ∙ ap (λ t. t ++ m.got) (sym rest) in
+    record {
+      got = m.got;
+      given = m.given;
+      answers = subst (λ (t : List ℕ). Answers answer t (inbox_text text headers request)) came (answers answer text headers request is);
+      ended = ended;
+      needed = subst (ReadsWhile left gives IsUnsettled source source' inbox.rest) came
+          (subst (λ (t : List ℕ). ReadsWhile left gives IsUnsettled source source' t text) (sym rest) needed);
+    }

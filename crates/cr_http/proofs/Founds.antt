@@ -8,6 +8,7 @@ use Rattle.cr_http.specs.declared.refusal.Refusal.TheVariants.{HeadTooLarge}
 use Rattle.cr_http.specs.Place.{blank_end_from, head_at}
 use Rattle.cr_http.specs.Head.{HeadText, head_text, framing_of}
 use Rattle.cr_http.specs.Found.{Found, whole, refused, clean, cut, without_head, with_body, line_feeds, StandsAfter, StandsFrom, StandsAt, IsFinal, found_and}
+use Rattle.cr_http.specs.Reading.{IsSettled}
 use Rattle.cr_http.proofs.Windows.{head_at-append, head_at-full, head_at_bounds}
 
 with_body-append : (h : HeadText) (framing : Framing) (rest more : List ℕ) → IsFinal (with_body h framing rest)
@@ -74,3 +75,13 @@ from-append text more (Some place) found at final is =
 -- the main fact: what was read of the bytes that came is what stands in the whole text
 pub StandsAt-append : (text more : List ℕ) (found : Found) → IsFinal found → StandsAt text found → StandsAt (text ++ more) (found_and found more)
 StandsAt-append text more found final is = from-append text more (head_at text) found refl final is
+
+final_and : (found : Found) (more : List ℕ) → IsFinal found → IsFinal (found_and found more)
+final_and (whole h body rest) more final = final
+final_and (refused why head) more final = final
+final_and clean more final = final
+final_and cut more final = final
+
+-- what a text settles, each longer one does
+pub settled-append : (text more : List ℕ) → IsSettled text → IsSettled (text ++ more)
+settled-append text more s = (found_and s.0 more, final_and s.0 more s.1, StandsAt-append text more s.0 s.1 s.2)

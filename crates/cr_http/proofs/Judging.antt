@@ -10,14 +10,15 @@ use Rattle.cr_http.specs.declared.refusal.Refusal.TheVariants.{HeadTooLarge, Bad
 use Rattle.std.proofs.lemmas.List.{drop-drop}
 use Rattle.cr_http.specs.declared.place.Place.{Place}
 use Rattle.cr_http.specs.declared.read.RequestRead.TheVariants as reads
-use Rattle.cr_http.specs.Reading.{IsSettled, Lies}
+use Rattle.cr_http.specs.Reading.{IsSettled, IsUnsettled, Lies}
 use Rattle.cr_http.specs.Place.{blank_end_from, head_at}
 use Rattle.cr_http.proofs.Unique.{StandsAt-unique}
 use Rattle.cr_http.specs.Head.{HeadText, framing_of}
-use Rattle.cr_http.specs.Filling.{Moves, NeedsHead}
+use Rattle.cr_http.specs.Filling.{IsStill, Moves, NeedsHead, ReadsWhile}
+use Rattle.cr_http.proofs.Moving.{reads_for}
 use Rattle.cr_http.specs.Found.{Found, whole, refused, cut, with_body, line_feeds, IsNoHead, StandsAfter, StandsFrom, StandsAt, IsFramed, IsFinal, without_head, clean}
 use Rattle.cr_http.proofs.Windows.{head_at-append, head_at_bounds}
-use Rattle.cr_http.proofs.Founds.{slice_range-append}
+use Rattle.cr_http.proofs.Founds.{slice_range-append, settled-append}
 
 le_true : (m n : ℕ) → m ≤ n → nat_le m n ≡ true
 le_true m n le = grind arith
@@ -135,3 +136,25 @@ settled_has_body text start end head len f s = there (nat_le (end + len) (length
         let short : length text < end + len = past_is (end + len) (length text) e in
         let same = StandsAt-unique text s.0 cut s.2 (framed_cut text start end head len f short) in
         absurd (subst IsFinal same s.1)
+
+module _ {S : Type 0} (left : S → Option (List ℕ)) (gives : S → S → List ℕ → Type 0) where
+  -- what is read while no head is there is read while nothing is settled
+  pub head_needed : (a b : S) (t u : List ℕ) → ReadsWhile left gives NeedsHead a b t u → ReadsWhile left gives IsUnsettled a b t u
+  head_needed a b t u reads =
+      reads_for left gives NeedsHead IsUnsettled a b t u (λ text left' moves needs settled. settled_needs_no_head text settled needs) reads
+
+  -- and so is what is read while a body isn't
+  pub body_needed : (a b : S) (t u : List ℕ) (start end : ℕ) (head : HeadText) (len : ℕ) → IsFramed t start end head len
+      → ReadsWhile left gives (λ text. length text < end + len) a b t u → ReadsWhile left gives IsUnsettled a b t u
+  body_needed a b t u start end head len framed reads =
+      reads_for left gives (λ text. length text < end + len) IsUnsettled a b t u
+      (λ text left' moves short settled. too_short text (settled_has_body text start end head len (framed_moved (left a) left' t text start end head len moves framed) settled) short) reads
+    where
+      too_short : (text : List ℕ) → end + len ≤ length text → length text < end + len → ⊥
+      too_short text le lt = omega arith
+
+  -- where what stands at the front was settled before, nothing is read
+  pub settled_is_still : (a b : S) (t u : List ℕ) → ReadsWhile left gives IsUnsettled a b t u → IsSettled t → IsStill a b t u
+  settled_is_still a b t u (inl still) settled = still
+  settled_is_still a b t u (inr last) settled =
+      absurd (last.wants (subst IsSettled (sym last.before.kept) (settled-append t last.before.got settled)))

@@ -1,5 +1,5 @@
 -- Bytes go from a source to the inbox.
-use Rattle.std.specs.Prelude.{◌≡◌, ℕ, ◌<◌, ◌≤◌, List, [], ◌++◌, length, Option, Some, None, IfSome}
+use Rattle.std.specs.Prelude.{◌≡◌, ◌⊎◌, ℕ, ◌<◌, ◌≤◌, List, [], ◌++◌, length, Option, Some, None, IfSome}
 use Rattle.cr_ports.specs.Stream.{and_left}
 use Rattle.cr_http.specs.declared.buffer.Fill.{Fill}
 use Rattle.cr_http.specs.declared.buffer.Fill.TheVariants as fills
@@ -39,3 +39,18 @@ NeedsHead bytes = (head_at bytes ≡ None) × (length bytes < 16384)
 -- nothing was read
 abbrev pub IsStill : {S : Type 0} → S → S → List ℕ → List ℕ → Type 0
 IsStill source source' bytes bytes' = (source' ≡ source) × (bytes' ≡ bytes)
+
+-- The read that was made last, from a state that those before it led to: it was made at a text that wants more.
+pub record LastRead {S : Type 0} (left : S → Option (List ℕ)) (gives : S → S → List ℕ → Type 0) (Wants : List ℕ → Type 0) (from to : S) (old new : List ℕ) : Type 0 where
+  pub at : S
+  pub text : List ℕ
+  pub before : Moves (left from) (left at) old text
+  pub wants : Wants text
+  pub piece : List ℕ
+  pub given : gives at to piece
+  pub kept : new ≡ text ++ piece
+
+-- nothing was read, or the last read was made at a text that wants more; so was each before it, where a text that
+-- wants no more still wants none once it is longer
+abbrev pub ReadsWhile : {S : Type 0} → (S → Option (List ℕ)) → (S → S → List ℕ → Type 0) → (List ℕ → Type 0) → S → S → List ℕ → List ℕ → Type 0
+ReadsWhile left gives Wants from to old new = IsStill from to old new ⊎ LastRead left gives Wants from to old new

@@ -10,7 +10,7 @@ use Rattle.cr_http.specs.declared.read.RequestRead.TheVariants as reads
 use Rattle.cr_http.specs.declared.judge.Judged.{Judged}
 use Rattle.cr_http.specs.declared.judge.Judged.TheVariants as judged
 use Rattle.cr_http.specs.Extent.{spans_head, extent_text, IsExtent, InboxText}
-use Rattle.cr_http.specs.Filling.{IsAtEnd}
+use Rattle.cr_http.specs.Filling.{IsAtEnd, ReadsWhile}
 use Rattle.cr_http.specs.Found.{Found, whole, refused, clean, cut, StandsAt, IsFinal, IsFramed}
 use Rattle.cr_http.specs.Head.{is_head_method}
 use Rattle.cr_http.specs.Requests.{RequestText}
@@ -23,6 +23,10 @@ StandsWhole text r rest = StandsAt text (whole r.head r.body rest)
 -- a request or a refusal stands at the front of the text, however it goes on
 abbrev pub IsSettled : List ℕ → Type 0
 IsSettled text = (found : Found) × IsFinal found × StandsAt text found
+
+-- what stands at the front can't be told without more bytes, or the end
+abbrev pub IsUnsettled : List ℕ → Type 0
+IsUnsettled text = IsSettled text → ⊥
 
 -- all of the text is kept, and no request
 abbrev pub KeepsAll : List ℕ → InboxText → Type 0
@@ -46,12 +50,14 @@ AtEndIfEnded reads.Cut left = IsAtEnd left
 AtEndIfEnded reads.ReadFault left = ⊤
 AtEndIfEnded (reads.OutOfMemory to_head) left = ⊤
 
--- The source gave these bytes; behind those of the inbox they are a text at whose front the answer stands.
-pub record Reads (left left' : Option (List ℕ)) (inbox inbox' : InboxText) (answer : RequestRead) : Type 0 where
+-- The source gave these bytes; behind those of the inbox they are a text at whose front the answer stands. No read was
+-- made once that was settled.
+pub record Reads {S : Type 0} (left : S → Option (List ℕ)) (gives : S → S → List ℕ → Type 0) (source source' : S) (inbox inbox' : InboxText) (answer : RequestRead) : Type 0 where
   pub got : List ℕ
-  pub given : left ≡ and_left got left'
+  pub given : left source ≡ and_left got (left source')
   pub answers : Answers answer (inbox.rest ++ got) inbox'
-  pub ended : AtEndIfEnded answer left'
+  pub ended : AtEndIfEnded answer (left source')
+  pub needed : ReadsWhile left gives IsUnsettled source source' inbox.rest (inbox.rest ++ got)
 
 -- the same by where a request lies in the text
 abbrev pub Lies : RequestRead → List ℕ → List HeaderSpan → Option Extent → Type 0

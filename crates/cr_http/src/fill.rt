@@ -2,7 +2,7 @@
 ghost use Rattle.std.specs.Prelude.{◌≡◌, ◌≤◌, ◌<◌, ◌≢◌, length, take};
 ghost use Rattle.cr_ports.specs.Count.{Rises};
 ghost use Rattle.cr_http.specs.Buffer.{text_of};
-ghost use Rattle.cr_http.specs.Filling.{Moves, IsAtEnd, IsStill, FindsHead, NeedsHead};
+ghost use Rattle.cr_http.specs.Filling.{Moves, IsAtEnd, FindsHead, NeedsHead, ReadsWhile};
 ghost use Rattle.cr_http.specs.Place.{window};
 
 use crate::buffer::{Buffer, Fill};
@@ -46,11 +46,12 @@ fn front(bytes: &[u8], most: usize) -> &[u8]
 /// goes on looking where it stopped.
 pub fn fill_head<S: Source>(source: &mut S, buffer: &mut Buffer) -> HeadFill
     ensures moves { Moves (S.left source.old) (S.left source.new) (text_of buffer.old) (text_of buffer.new) }
+    ensures needed { ReadsWhile S.left S.read_gives NeedsHead source.old source.new (text_of buffer.old) (text_of buffer.new) }
     ensures finds { FindsHead result (text_of buffer.new) }
-    ensures still { (NeedsHead (text_of buffer.old) → ⊥) → IsStill source.old source.new (text_of buffer.old) (text_of buffer.new) }
     ensures ended { result ≡ HeadFill.Ended → IsAtEnd (S.left source.new) }
     ensures count { S.faults source.old ≤ S.faults source.new }
     ensures failed { result ≡ HeadFill.Failed → Rises (S.faults source.old) (S.faults source.new) }
+    ensures steady { result ≢ HeadFill.Failed → S.faults source.new ≡ S.faults source.old }
 {
     let mut search = Search::Skipping(0);
     'reading: loop {
@@ -74,12 +75,13 @@ pub fn fill_head<S: Source>(source: &mut S, buffer: &mut Buffer) -> HeadFill
 #[tactic(auto, using(crate::proofs::Moving::moving))]
 pub fn fill_to<S: Source>(source: &mut S, buffer: &mut Buffer, len: usize) -> Fill
     ensures moves { Moves (S.left source.old) (S.left source.new) (text_of buffer.old) (text_of buffer.new) }
+    ensures needed { ReadsWhile S.left S.read_gives (λ text. length text < len) source.old source.new (text_of buffer.old) (text_of buffer.new) }
     ensures full { result ≡ Fill.Grew → len ≤ length (text_of buffer.new) }
-    ensures still { len ≤ length (text_of buffer.old) → IsStill source.old source.new (text_of buffer.old) (text_of buffer.new) }
     ensures ended { result ≡ Fill.Ended → IsAtEnd (S.left source.new) }
     ensures short { result ≢ Fill.Grew → length (text_of buffer.new) < len }
     ensures count { S.faults source.old ≤ S.faults source.new }
     ensures failed { result ≡ Fill.Failed → Rises (S.faults source.old) (S.faults source.new) }
+    ensures steady { result ≢ Fill.Failed → S.faults source.new ≡ S.faults source.old }
 {
     'reading: while buffer.len() < len {
         let step = buffer.read_more(source);

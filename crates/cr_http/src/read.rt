@@ -1,12 +1,12 @@
 //! Reads one request.
-ghost use Rattle.std.specs.Prelude.{◌≡◌, ◌⊎◌, ◌≤◌, ◌<◌, IsSome, length};
+ghost use Rattle.std.specs.Prelude.{◌≡◌, ◌≢◌, ◌⊎◌, ◌≤◌, ◌<◌, IsSome, length};
 ghost use Rattle.cr_ports.specs.Count.{Rises};
 ghost use Rattle.cr_http.specs.Buffer.{text_of};
 ghost use Rattle.cr_http.specs.Extent.{used};
-ghost use Rattle.cr_http.specs.Filling.{Moves};
+ghost use Rattle.cr_http.specs.Filling.{Moves, ReadsWhile};
 ghost use Rattle.cr_http.specs.Found.{StandsAt, clean, cut};
 ghost use Rattle.cr_http.specs.Place.{head_at};
-ghost use Rattle.cr_http.specs.Reading.{AtEndIfEnded, IsSettled, Lies, Reads};
+ghost use Rattle.cr_http.specs.Reading.{AtEndIfEnded, IsSettled, IsUnsettled, Lies, Reads};
 
 use crate::buffer::{Buffer, Fill};
 use crate::fill::{HeadFill, fill_head, fill_to};
@@ -46,16 +46,22 @@ pub enum RequestRead {
 /// Reads the request at the front of the bytes that the inbox has not used and those that the
 /// source has left. The request that the inbox lent before is dropped first.
 ///
-/// It reads only where what it has doesn't tell the answer: where a whole request or a refusal
-/// stands in the inbox, the source isn't asked. Where bytes of a head come later, the search goes on
-/// where it stopped. `ReadFault` comes only where the source's count of faults rose, or stands at its
-/// last value. Costs a few looks at each byte of the head, and the reads.
+/// Nothing is read ahead: each read is made only where neither a whole request nor a refusal stands in
+/// what has come, so behind a refusal that closes no byte of a body is asked for. Bytes behind the
+/// request that came with its last piece stay in the inbox. Where bytes of a head come later, the
+/// search goes on where it stopped.
+///
+/// `ReadFault` comes only where the source's count of faults rose, or stands at its last value, and
+/// with every other answer that count is as it was. Behind it, and behind `OutOfMemory`, the inbox
+/// keeps all that came, and the source has left what follows. Costs a few looks at each byte of the
+/// head, and the reads.
 pub fn read_request<S: Source>(source: &mut S, inbox: &mut Inbox) -> RequestRead
-    ensures reads { Reads (S.left source.old) (S.left source.new) inbox.old inbox.new result }
+    ensures reads { Reads S.left S.read_gives source.old source.new inbox.old inbox.new result }
     ensures still { IsSettled inbox.old.rest → source.new ≡ source.old }
     ensures request { result ≡ RequestRead.Whole → IsSome inbox.new.request }
     ensures count { S.faults source.old ≤ S.faults source.new }
     ensures fault { result ≡ RequestRead.ReadFault → Rises (S.faults source.old) (S.faults source.new) }
+    ensures steady { result ≢ RequestRead.ReadFault → S.faults source.new ≡ S.faults source.old }
 {
     if let Some(extent) = inbox.request {
         inbox.buffer.discard(extent.end);
@@ -79,11 +85,12 @@ fn read_into<S: Source>(
     requires room { length headers.old ≡ 64 }
     requires none { request.old ≡ None }
     ensures moves { Moves (S.left source.old) (S.left source.new) (text_of buffer.old) (text_of buffer.new) }
+    ensures needed { ReadsWhile S.left S.read_gives IsUnsettled source.old source.new (text_of buffer.old) (text_of buffer.new) }
     ensures lies { Lies result (text_of buffer.new) headers.new request.new }
-    ensures still { IsSettled (text_of buffer.old) → source.new ≡ source.old }
     ensures ended { AtEndIfEnded result (S.left source.new) }
     ensures count { S.faults source.old ≤ S.faults source.new }
     ensures fault { result ≡ RequestRead.ReadFault → Rises (S.faults source.old) (S.faults source.new) }
+    ensures steady { result ≢ RequestRead.ReadFault → S.faults source.new ≡ S.faults source.old }
 {
     match fill_head(source, buffer) {
         HeadFill::Found(place) => read_framed(source, buffer, headers, request, place),
@@ -109,11 +116,12 @@ fn read_framed<S: Source>(
     requires room { length headers.old ≡ 64 }
     requires none { request.old ≡ None }
     ensures moves { Moves (S.left source.old) (S.left source.new) (text_of buffer.old) (text_of buffer.new) }
+    ensures needed { ReadsWhile S.left S.read_gives IsUnsettled source.old source.new (text_of buffer.old) (text_of buffer.new) }
     ensures lies { Lies result (text_of buffer.new) headers.new request.new }
-    ensures still { IsSettled (text_of buffer.old) → source.new ≡ source.old }
     ensures ended { AtEndIfEnded result (S.left source.new) }
     ensures count { S.faults source.old ≤ S.faults source.new }
     ensures fault { result ≡ RequestRead.ReadFault → Rises (S.faults source.old) (S.faults source.new) }
+    ensures steady { result ≢ RequestRead.ReadFault → S.faults source.new ≡ S.faults source.old }
 {
     let (spans, len, to_head) = match judge_head(buffer.as_slice(), place, headers) {
         Judged::Framed {

@@ -4,3 +4,4 @@ pub mod Stream
 pub mod Script
 pub mod Memory
 pub mod Keeping
+pub mod Adapter

@@ -1,8 +1,8 @@
 -- Streams in memory, as contracts see them, and what each of their calls does.
-use Rattle.std.specs.Prelude.{ℕ, List, length, ◌||◌, ◌&&◌, not, ◌==◌, min, if◌then◌else◌}
+use Rattle.std.specs.Prelude.{◌≡◌, ℕ, List, length, ◌++◌, ◌||◌, ◌&&◌, not, ◌==◌, min, if◌then◌else◌}
 use Rattle.cr_ports.specs.Count.{counted}
 use Rattle.cr_ports.specs.Calls.{fails}
-use Rattle.cr_ports.specs.Script.{moved}
+use Rattle.cr_ports.specs.Script.{FollowsScript, moved}
 use Rattle.cr_ports.specs.declared.script.Script.{Script}
 use Rattle.cr_ports.specs.declared.source.ReadStep.{ReadStep}
 use Rattle.cr_ports.specs.declared.source.ReadStep.TheVariants as reads
@@ -47,3 +47,22 @@ write_faults writes.Failed faults = counted faults
 -- a read that never fails, of so many bytes that are left into a buffer of this length
 abbrev pub plain_step : ℕ → ℕ → ReadStep
 plain_step left room = if left == 0 then reads.End else reads.Got (min left room)
+
+-- how many bytes a read gives
+abbrev pub given_len : ReadStep → ℕ
+given_len (reads.Got n) = n
+given_len reads.End = 0
+given_len reads.Failed = 0
+
+-- One read of a source in memory, into a buffer of some length, leads from the one to the other and gives these bytes.
+pub record ReadGives (old new : Input) (piece : List ℕ) : Type 0 where
+  pub room : ℕ
+  pub len : length piece ≡ given_len (read_step old room)
+  pub bytes : old.left ≡ piece ++ new.left
+  pub script : FollowsScript old.script new.script
+
+-- The same of a source that never fails, by the bytes that are left.
+pub record PlainReadGives (old new : List ℕ) (piece : List ℕ) : Type 0 where
+  pub room : ℕ
+  pub len : length piece ≡ given_len (plain_step (length old) room)
+  pub bytes : old ≡ piece ++ new

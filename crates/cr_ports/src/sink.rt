@@ -1,5 +1,5 @@
 //! Takes bytes in pieces.
-ghost use Rattle.std.specs.Prelude.{◌≡◌, ◌≤◌, ℕ, List, Option, length};
+ghost use Rattle.std.specs.Prelude.{◌≡◌, ◌≢◌, ◌≤◌, ℕ, List, Option, length};
 ghost use Rattle.cr_ports.specs.Count.{Rises};
 ghost use Rattle.cr_ports.specs.Stream.{taken_and, took, TakesWithin};
 
@@ -23,12 +23,14 @@ pub trait Sink {
     /// Takes bytes from the front of `piece`, behind those taken before.
     ///
     /// A sink that has room for no byte of a piece fails, the empty piece aside, and where it fails
-    /// it has taken none. A write costs at most a look at each byte of `piece`; an adapter's may
-    /// wait for its stream.
+    /// it has taken none. The count of faults rises where it fails, unless it stands at its last
+    /// value, and nowhere else. A write costs at most a look at each byte of `piece`; an adapter's
+    /// may wait for its stream.
     fn write(&mut self, piece: &[u8]) -> WriteStep
         ensures bytes { taken self.new ≡ taken_and (taken self.old) (took result piece.now) }
         ensures size { TakesWithin result (length piece.now) }
 
         ensures count { faults self.old ≤ faults self.new }
-        ensures failed { result ≡ WriteStep.Failed → Rises (faults self.old) (faults self.new) };
+        ensures failed { result ≡ WriteStep.Failed → Rises (faults self.old) (faults self.new) }
+        ensures steady { result ≢ WriteStep.Failed → faults self.new ≡ faults self.old };
 }

@@ -1,5 +1,5 @@
 //! A sink in memory, which tells all that it took.
-ghost use Rattle.std.specs.Prelude.{◌≡◌, ◌≤◌, ◌+◌, ◌++◌, [], Some, length, IfOk, vec_len, vec_capacity};
+ghost use Rattle.std.specs.Prelude.{◌≡◌, ◌≢◌, ◌≤◌, ◌+◌, ◌++◌, [], Some, length, IfOk, vec_len, vec_capacity};
 ghost use Rattle.cr_ports.specs.Count.{Rises};
 ghost use Rattle.cr_ports.specs.Memory.{Output, write_step, write_faults};
 ghost use Rattle.cr_ports.specs.Script.{FollowsScript};
@@ -77,6 +77,7 @@ impl Sink for MemSink {
         ensures size { TakesWithin result (length piece.now) }
         ensures count { self.old.script.faults ≤ self.new.script.faults }
         ensures failed { result ≡ WriteStep.Failed → Rises self.old.script.faults self.new.script.faults }
+        ensures steady { result ≢ WriteStep.Failed → self.new.script.faults ≡ self.old.script.faults }
 
         // It fails at the listed calls, where it has no room for a piece, and nowhere else.
         ensures step { result ≡ write_step self.old (length piece.now) }

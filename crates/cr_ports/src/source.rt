@@ -1,5 +1,5 @@
 //! Bytes that come in pieces.
-ghost use Rattle.std.specs.Prelude.{◌≡◌, ◌<◌, ◌≤◌, ℕ, List, [], Option, length, IfSome};
+ghost use Rattle.std.specs.Prelude.{◌≡◌, ◌≢◌, ◌<◌, ◌≤◌, ℕ, List, [], Option, length, IfSome};
 ghost use Rattle.cr_ports.specs.Count.{Rises};
 ghost use Rattle.cr_ports.specs.Stream.{and_left, given, FillsWithin};
 
@@ -22,10 +22,15 @@ pub trait Source {
     /// How often a read has failed.
     ghost faults: { Self → ℕ };
 
+    /// One read leads from the first state to the second, and gives these bytes: none at the end,
+    /// and none where it fails.
+    ghost read_gives: { Self → Self → List ℕ → Type 0 };
+
     /// Reads the next bytes into the front of `buf`, which isn't empty.
     ///
-    /// After `End` and after `Failed` the bytes that are left are as before. A read costs at most
-    /// a look at each byte of `buf`; an adapter's may wait for its stream.
+    /// After `End` and after `Failed` the bytes that are left are as before. The count of faults rises
+    /// where it fails, unless it stands at its last value, and nowhere else. A read costs at most a
+    /// look at each byte of `buf`; an adapter's may wait for its stream.
     fn read(&mut self, buf: &mut [u8]) -> ReadStep
         requires { 0 < length buf.old }
 
@@ -33,7 +38,9 @@ pub trait Source {
         ensures bytes { left self.old ≡ and_left (given result buf.new) (left self.new) }
         ensures size { FillsWithin result (length buf.old) }
         ensures end { result ≡ ReadStep.End → IfSome (left self.old) (λ bytes. bytes ≡ []) }
+        ensures gives { read_gives self.old self.new (given result buf.new) }
 
         ensures count { faults self.old ≤ faults self.new }
-        ensures failed { result ≡ ReadStep.Failed → Rises (faults self.old) (faults self.new) };
+        ensures failed { result ≡ ReadStep.Failed → Rises (faults self.old) (faults self.new) }
+        ensures steady { result ≢ ReadStep.Failed → faults self.new ≡ faults self.old };
 }

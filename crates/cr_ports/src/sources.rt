@@ -1,7 +1,7 @@
 //! Sources in memory, which tell all that they hold.
-ghost use Rattle.std.specs.Prelude.{◌≡◌, ◌<◌, ◌≤◌, ℕ, List, [], Some, length, take, drop, vec_len, IfSome};
+ghost use Rattle.std.specs.Prelude.{◌≡◌, ◌≢◌, ◌<◌, ◌≤◌, ℕ, List, [], Some, length, take, drop, vec_len, IfSome};
 ghost use Rattle.cr_ports.specs.Count.{Rises};
-ghost use Rattle.cr_ports.specs.Memory.{Input, plain_step, read_step, read_faults};
+ghost use Rattle.cr_ports.specs.Memory.{Input, PlainReadGives, ReadGives, plain_step, read_step, read_faults};
 ghost use Rattle.cr_ports.specs.Script.{FollowsScript};
 ghost use Rattle.cr_ports.specs.Stream.{and_left, given, FillsWithin};
 
@@ -69,14 +69,18 @@ impl Source for MemSource {
 
     ghost faults = { λ s. s.script.faults };
 
+    ghost read_gives = { ReadGives };
+
     fn read(&mut self, buf: &mut [u8]) -> ReadStep
         requires { 0 < length buf.old }
 
         ensures bytes { Some self.old.left ≡ and_left (given result buf.new) (Some self.new.left) }
         ensures size { FillsWithin result (length buf.old) }
         ensures end { result ≡ ReadStep.End → IfSome (Some self.old.left) (λ bytes. bytes ≡ []) }
+        ensures gives { ReadGives self.old self.new (given result buf.new) }
         ensures count { self.old.script.faults ≤ self.new.script.faults }
         ensures failed { result ≡ ReadStep.Failed → Rises self.old.script.faults self.new.script.faults }
+        ensures steady { result ≢ ReadStep.Failed → self.new.script.faults ≡ self.old.script.faults }
 
         // It fails at the listed calls and at no other, and ends where nothing is left.
         ensures step { result ≡ read_step self.old (length buf.old) }
@@ -130,14 +134,18 @@ impl Source for PlainSource {
 
     ghost faults = { λ _. 0 };
 
+    ghost read_gives = { PlainReadGives };
+
     fn read(&mut self, buf: &mut [u8]) -> ReadStep
         requires { 0 < length buf.old }
 
         ensures bytes { Some self.old ≡ and_left (given result buf.new) (Some self.new) }
         ensures size { FillsWithin result (length buf.old) }
         ensures end { result ≡ ReadStep.End → IfSome (Some self.old) (λ bytes. bytes ≡ []) }
+        ensures gives { PlainReadGives self.old self.new (given result buf.new) }
         ensures count { 0 ≤ 0 }
         ensures failed { result ≡ ReadStep.Failed → Rises 0 0 }
+        ensures steady { result ≢ ReadStep.Failed → ◌≡◌ {A = ℕ} 0 0 }
 
         ensures step { result ≡ plain_step (length self.old) (length buf.old) }
     {

@@ -1,5 +1,12 @@
-//! The trusted edge: std's readers and writers, which tell no content.
-ghost use Rattle.std.specs.Prelude.{◌≡◌, ℕ, None};
+//! The trusted edge: std's readers and writers, which tell a port no content.
+//!
+//! What an adapter does to the bytes that its stream itself tells, as one in memory does, stands in
+//! clauses of its own.
+ghost use Rattle.std.specs.Prelude.{◌≡◌, ◌≢◌, ◌<◌, ◌≤◌, ℕ, List, ⊤, None, Option, length};
+ghost use Rattle.std.specs.Io.KnownBytes.{Consumes, IsAtEnd};
+ghost use Rattle.cr_ports.specs.Adapter.{Adapter, HasWritten};
+ghost use Rattle.cr_ports.specs.Count.{Rises};
+ghost use Rattle.cr_ports.specs.Stream.{and_left, given, FillsWithin, taken_and, took, TakesWithin};
 
 use crate::{ReadStep, Sink, Source, WriteStep};
 use std::io::{Read, Write};
@@ -7,7 +14,7 @@ use std::marker::Model;
 
 /// A reader, such as standard input, as a source that doesn't tell its bytes.
 ///
-/// Contracts see its count of faults.
+/// Contracts see the reader and the count of faults.
 #[derive(Drop)]
 pub struct ReadSource<R: Read> {
     reader: R,
@@ -15,15 +22,16 @@ pub struct ReadSource<R: Read> {
 }
 
 impl<R: Read> Model for ReadSource<R> {
-    ghost Value = { ℕ };
+    ghost Value = { Adapter R };
 
-    ghost view = { λ s. s.faults };
+    ghost view = { λ s. record { stream = s.reader; faults = s.faults } };
 }
 
 impl<R: Read> ReadSource<R> {
     /// A source over `reader`, with no fault counted.
     pub fn new(reader: R) -> Self
-        ensures { result ≡ 0 }
+        ensures reader { result.stream ≡ reader }
+        ensures faults { result.faults ≡ 0 }
     {
         ReadSource { reader, faults: 0 }
     }
@@ -32,11 +40,25 @@ impl<R: Read> ReadSource<R> {
 impl<R: Read> Source for ReadSource<R> {
     ghost left = { λ _. None };
 
-    ghost faults = { λ s. s };
+    ghost faults = { λ s. s.faults };
+
+    ghost read_gives = { λ s t piece. Consumes (R.remaining s.stream) (R.remaining t.stream) piece };
 
     /// One read of the reader: 0 bytes are the end, and each `Err` is a fault. So is a read that a
     /// signal interrupts: the program catches none.
-    fn read(&mut self, buf: &mut [u8]) -> ReadStep {
+    fn read(&mut self, buf: &mut [u8]) -> ReadStep
+        requires { 0 < length buf.old }
+        ensures bytes { ◌≡◌ {A = Option (List ℕ)} None (and_left (given result buf.new) None) }
+        ensures size { FillsWithin result (length buf.old) }
+        ensures end { result ≡ ReadStep.End → ⊤ }
+        ensures count { self.old.faults ≤ self.new.faults }
+        ensures failed { result ≡ ReadStep.Failed → Rises self.old.faults self.new.faults }
+        ensures steady { result ≢ ReadStep.Failed → self.new.faults ≡ self.old.faults }
+
+        // What is given are the reader's next bytes, and the end is told only where it has no more.
+        ensures gives { Consumes (R.remaining self.old.stream) (R.remaining self.new.stream) (given result buf.new) }
+        ensures ended { result ≡ ReadStep.End → IsAtEnd (R.remaining self.new.stream) }
+    {
         match self.reader.read(buf) {
             Ok(0) => ReadStep::End,
             Ok(n) => ReadStep::Got(n),
@@ -50,7 +72,7 @@ impl<R: Read> Source for ReadSource<R> {
 
 /// A writer, such as standard output, as a sink that doesn't tell its bytes.
 ///
-/// Contracts see its count of faults.
+/// Contracts see the writer and the count of faults.
 #[derive(Drop)]
 pub struct WriteSink<W: Write> {
     writer: W,
@@ -58,18 +80,16 @@ pub struct WriteSink<W: Write> {
 }
 
 impl<W: Write> Model for WriteSink<W> {
-    ghost Value = { ℕ };
+    ghost Value = { Adapter W };
 
-    ghost view = { λ s. s.faults };
+    ghost view = { λ s. record { stream = s.writer; faults = s.faults } };
 }
 
 impl<W: Write> WriteSink<W> {
-    ghost use Rattle.std.specs.Prelude.{◌≡◌, ◌≤◌};
-    ghost use Rattle.cr_ports.specs.Count.{Rises};
-
     /// A sink over `writer`, with no fault counted.
     pub fn new(writer: W) -> Self
-        ensures { result ≡ 0 }
+        ensures writer { result.stream ≡ writer }
+        ensures faults { result.faults ≡ 0 }
     {
         WriteSink { writer, faults: 0 }
     }
@@ -77,8 +97,9 @@ impl<W: Write> WriteSink<W> {
     /// Counts a fault.
     fn failed(&mut self) -> WriteStep
         ensures step { result ≡ WriteStep.Failed }
-        ensures count { self.old ≤ self.new }
-        ensures failed { Rises self.old self.new }
+        ensures count { self.old.faults ≤ self.new.faults }
+        ensures failed { Rises self.old.faults self.new.faults }
+        ensures stream { self.new.stream ≡ self.old.stream }
     {
         self.faults = self.faults.saturating_add(1);
         WriteStep::Failed
@@ -88,12 +109,21 @@ impl<W: Write> WriteSink<W> {
 impl<W: Write> Sink for WriteSink<W> {
     ghost taken = { λ _. None };
 
-    ghost faults = { λ s. s };
+    ghost faults = { λ s. s.faults };
 
     /// One write, and then a flush, so that nothing that was taken waits in a buffer. Each `Err`
     /// of either is a fault, though the writer may have taken bytes whose flush fails, and so is a
     /// write that takes nothing of a piece that isn't empty.
-    fn write(&mut self, piece: &[u8]) -> WriteStep {
+    fn write(&mut self, piece: &[u8]) -> WriteStep
+        ensures bytes { ◌≡◌ {A = Option (List ℕ)} None (taken_and None (took result piece.now)) }
+        ensures size { TakesWithin result (length piece.now) }
+        ensures count { self.old.faults ≤ self.new.faults }
+        ensures failed { result ≡ WriteStep.Failed → Rises self.old.faults self.new.faults }
+        ensures steady { result ≢ WriteStep.Failed → self.new.faults ≡ self.old.faults }
+
+        // The writer has what is told as taken behind what it had, and where that fails at most the front of the piece.
+        ensures written { HasWritten result (W.contents self.old.stream) (W.contents self.new.stream) piece.now }
+    {
         match self.writer.write(piece) {
             Ok(0) if !piece.is_empty() => self.failed(),
             Ok(n) => {

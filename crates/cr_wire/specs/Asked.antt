@@ -51,3 +51,11 @@ with_place (Some place) method path body = with_ask place (option_and_then (ask_
 
 abbrev pub what_of : List ℕ → List ℕ → List ℕ → What
 what_of method target body = with_place (place_at (path_of target)) method (path_of target) body
+
+-- a body was looked at, which alone takes memory
+abbrev pub LooksAtBody : What → Type 0
+LooksAtBody NoRoute = ⊥
+LooksAtBody (WrongMethod place) = ⊥
+LooksAtBody (BadBody ask) = Unit {0}
+LooksAtBody (Commands command) = Unit {0}
+LooksAtBody (Queries query) = ⊥

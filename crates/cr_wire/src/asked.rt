@@ -1,5 +1,5 @@
 //! From a path, a method and a body to what is wished.
-ghost use Rattle.std.specs.Prelude.{◌≡◌, option_and_then, IfOk};
+ghost use Rattle.std.specs.Prelude.{◌≡◌, option_and_then, IfOk, OnErr};
 ghost use Rattle.cr_base.specs.Bounds.{IsBoundedCommand};
 ghost use Rattle.cr_bodies.specs.Outcome.{Gives as Reads};
 ghost use Rattle.cr_routes.specs.Asks.{ask_at as ask_of_place};
@@ -40,6 +40,7 @@ fn ask_at(place: Place, method: &[u8]) -> Option<Ask>
 fn command(ask: Ask, read: Result<Command, BodyError>) -> Result<What, AllocError>
     ensures told { (told : _) → Reads read told → Gives result (spec.command_of ask told) }
     ensures bounded { IfOk read IsBoundedCommand → IfOk result IsBoundedWhat }
+    ensures sure { (told : _) → OnErr result (spec.LooksAtBody (spec.command_of ask told)) }
 {
     match read {
         Ok(command) => Ok(What::Command(command)),
@@ -52,6 +53,7 @@ fn command(ask: Ask, read: Result<Command, BodyError>) -> Result<What, AllocErro
 fn asked(alloc: Global, ask: Ask, path: &[u8], body: &[u8]) -> Result<What, AllocError>
     ensures told { Gives result (spec.asked ask path.now body.now) }
     ensures bounded { IfOk result IsBoundedWhat }
+    ensures sure { OnErr result (spec.LooksAtBody (spec.asked ask path.now body.now)) }
 {
     match ask {
         Ask::Register => command(ask, read_register(alloc, body)),
@@ -80,6 +82,7 @@ pub(crate) fn what_of(
 ) -> Result<What, AllocError>
     ensures told { Gives result (spec.what_of method.now target.now body.now) }
     ensures bounded { IfOk result IsBoundedWhat }
+    ensures sure { OnErr result (spec.LooksAtBody (spec.what_of method.now target.now body.now)) }
 {
     let path = before_first(b'?', target);
     let Some(place) = place_at(routes, path) else {

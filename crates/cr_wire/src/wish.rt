@@ -1,7 +1,8 @@
 //! From a request to its wish.
-ghost use Rattle.std.specs.Prelude.{◌≡◌, codes, IfOk};
+ghost use Rattle.std.specs.Prelude.{◌≡◌, codes, IfOk, OnErr};
 ghost use Rattle.std.specs.List.{list_any};
 ghost use Rattle.cr_http.specs.Head.{values_of};
+ghost use Rattle.cr_wire.specs.Asked.{LooksAtBody, what_of as what_text};
 ghost use Rattle.cr_wire.specs.Bounds.{IsBoundedWhat};
 ghost use Rattle.cr_wire.specs.Connection.{has_close as has_close_element};
 ghost use Rattle.cr_wire.specs.Outcome.{Gives};
@@ -56,8 +57,12 @@ pub fn wish_of(
 ) -> Result<Wish, AllocError>
     ensures told { Gives result (wish_text (record { head = head.now; body = body.now })) }
     ensures bounded { IfOk result (λ wish. IsBoundedWhat wish.what) }
+    ensures sure { OnErr result (LooksAtBody (what_text head.now.method head.now.target body.now)) }
 {
-    let what = what_of(alloc, routes, head.method(), head.target(), body)?;
+    let what = match what_of(alloc, routes, head.method(), head.target(), body) {
+        Ok(what) => what,
+        Err(error) => return Err(error),
+    };
     Ok(Wish {
         credentials: credentials_in(head),
         is_head: head.is_head(),

@@ -1,8 +1,8 @@
-use Rattle.std.proofs.Common.{◌≡◌, ◌∙◌, None, subst, arith}
+use Rattle.std.proofs.Common.{◌≡◌, ◌∙◌, None, arith}
 use Rattle.cr_http.specs.Buffer.{text_of}
 use Rattle.cr_http.specs.Filling.{NeedsHead}
 use Rattle.cr_http.specs.Place.{head_at}
-use Rattle.cr_http.proofs.Moving.{moves_on}
+use Rattle.cr_http.proofs.Moving.{moves_on, reads_once}
 use Rattle.cr_http.proofs.Searching.{found_there, stands_on}
 use Rattle.cr_http.proofs.fill.fill_head.Goals as goal
 
@@ -24,9 +24,11 @@ reading-preserved g c =
     let needs : NeedsHead (text_of c.reading.buffer) = (none, omega arith) in
     record {
       moves = moves_on _ _ _ _ _ _ c.reading.invariant.moves moves;
+      needed = reads_once g.S.Source.left g.S.Source.read_gives NeedsHead c.args.source.now c.reading.source c.read_more.new.source
+          (text_of c.args.buffer.now) (text_of c.reading.buffer) (text_of c.read_more.new.self) c.reading.invariant.moves needs c.reading.invariant.needed c.in-Grew.ensures.once;
       there = rw moves.kept (stands_on (text_of c.reading.buffer) moves.got c.reading.search c.in-NotYet.next c.reading.invariant.there seen.1);
-      still = λ idle. absurd (idle (subst NeedsHead (c.reading.invariant.still idle).1 needs));
       count = omega arith;
+      steady = c.in-Grew.ensures.steady (λ is. cc) ∙ c.reading.invariant.steady;
     }
 
 pub returns-in-Ended-clause-moves : goal.returns-in-Ended-clause-moves
@@ -37,3 +39,24 @@ returns-in-Failed-clause-moves g c = moves_on _ _ _ _ _ _ c.reading.invariant.mo
 
 pub returns-in-OutOfMemory-clause-moves : goal.returns-in-OutOfMemory-clause-moves
 returns-in-OutOfMemory-clause-moves g c = moves_on _ _ _ _ _ _ c.reading.invariant.moves c.in-OutOfMemory.ensures.moves
+
+pub returns-in-Ended-clause-needed : goal.returns-in-Ended-clause-needed
+returns-in-Ended-clause-needed g c =
+    let seen = rw (c.window.ensures, c.as_slice.ensures) at c.in-NotYet.ensures in
+    let none : head_at (text_of c.reading.buffer) ≡ None = found_there (text_of c.reading.buffer) c.reading.search c.reading.invariant.there ∙ seen.0 in
+    reads_once g.S.Source.left g.S.Source.read_gives NeedsHead c.args.source.now c.reading.source c.read_more.new.source
+    (text_of c.args.buffer.now) (text_of c.reading.buffer) (text_of c.read_more.new.self) c.reading.invariant.moves (none, omega arith) c.reading.invariant.needed c.in-Ended.ensures.once
+
+pub returns-in-Failed-clause-needed : goal.returns-in-Failed-clause-needed
+returns-in-Failed-clause-needed g c =
+    let seen = rw (c.window.ensures, c.as_slice.ensures) at c.in-NotYet.ensures in
+    let none : head_at (text_of c.reading.buffer) ≡ None = found_there (text_of c.reading.buffer) c.reading.search c.reading.invariant.there ∙ seen.0 in
+    reads_once g.S.Source.left g.S.Source.read_gives NeedsHead c.args.source.now c.reading.source c.read_more.new.source
+    (text_of c.args.buffer.now) (text_of c.reading.buffer) (text_of c.read_more.new.self) c.reading.invariant.moves (none, omega arith) c.reading.invariant.needed c.in-Failed.ensures.once
+
+pub returns-in-OutOfMemory-clause-needed : goal.returns-in-OutOfMemory-clause-needed
+returns-in-OutOfMemory-clause-needed g c =
+    let seen = rw (c.window.ensures, c.as_slice.ensures) at c.in-NotYet.ensures in
+    let none : head_at (text_of c.reading.buffer) ≡ None = found_there (text_of c.reading.buffer) c.reading.search c.reading.invariant.there ∙ seen.0 in
+    reads_once g.S.Source.left g.S.Source.read_gives NeedsHead c.args.source.now c.reading.source c.read_more.new.source
+    (text_of c.args.buffer.now) (text_of c.reading.buffer) (text_of c.read_more.new.self) c.reading.invariant.moves (none, omega arith) c.reading.invariant.needed c.in-OutOfMemory.ensures.once

@@ -1,6 +1,6 @@
 use Rattle.std.proofs.Common.{arith, refl, inr}
 use Rattle.cr_http.proofs.HeadsRead.{to_head_framed}
-use Rattle.cr_http.proofs.Judging.{request_lies, body_cut, settled_has_body, framed_moved}
+use Rattle.cr_http.proofs.Judging.{request_lies, body_cut, body_needed, framed_moved}
 use Rattle.cr_http.proofs.Windows.{head_at_end_le}
 use Rattle.cr_http.specs.Buffer.{text_of}
 use Rattle.cr_http.proofs.read.read_framed.Goals as goal
@@ -35,22 +35,22 @@ returns-in-OutOfMemory-clause-lies g c =
       to_head_framed _ c.args.place.start c.args.place.end _ c.in-Framed.len c.in-Framed.to_head framed judged.3,
     )
 
-pub returns-in-Grew-clause-still : goal.returns-in-Grew-clause-still
-returns-in-Grew-clause-still g c =
+pub returns-in-Grew-clause-needed : goal.returns-in-Grew-clause-needed
+returns-in-Grew-clause-needed g c =
     let judged = rw c.as_slice.ensures at c.in-Framed.ensures in
-    λ settled. (c.in-Grew.ensures.still (settled_has_body (text_of c.args.buffer.now) c.args.place.start c.args.place.end _ c.in-Framed.len judged.0 settled)).0
+    body_needed g.S.Source.left g.S.Source.read_gives c.args.source.now c.fill_to.new.source (text_of c.args.buffer.now) (text_of c.fill_to.new.buffer) c.args.place.start c.args.place.end _ c.in-Framed.len judged.0 c.in-Grew.ensures.needed
 
-pub returns-in-Ended-clause-still : goal.returns-in-Ended-clause-still
-returns-in-Ended-clause-still g c =
+pub returns-in-Ended-clause-needed : goal.returns-in-Ended-clause-needed
+returns-in-Ended-clause-needed g c =
     let judged = rw c.as_slice.ensures at c.in-Framed.ensures in
-    λ settled. (c.in-Ended.ensures.still (settled_has_body (text_of c.args.buffer.now) c.args.place.start c.args.place.end _ c.in-Framed.len judged.0 settled)).0
+    body_needed g.S.Source.left g.S.Source.read_gives c.args.source.now c.fill_to.new.source (text_of c.args.buffer.now) (text_of c.fill_to.new.buffer) c.args.place.start c.args.place.end _ c.in-Framed.len judged.0 c.in-Ended.ensures.needed
 
-pub returns-in-Failed-clause-still : goal.returns-in-Failed-clause-still
-returns-in-Failed-clause-still g c =
+pub returns-in-Failed-clause-needed : goal.returns-in-Failed-clause-needed
+returns-in-Failed-clause-needed g c =
     let judged = rw c.as_slice.ensures at c.in-Framed.ensures in
-    λ settled. (c.in-Failed.ensures.still (settled_has_body (text_of c.args.buffer.now) c.args.place.start c.args.place.end _ c.in-Framed.len judged.0 settled)).0
+    body_needed g.S.Source.left g.S.Source.read_gives c.args.source.now c.fill_to.new.source (text_of c.args.buffer.now) (text_of c.fill_to.new.buffer) c.args.place.start c.args.place.end _ c.in-Framed.len judged.0 c.in-Failed.ensures.needed
 
-pub returns-in-OutOfMemory-clause-still : goal.returns-in-OutOfMemory-clause-still
-returns-in-OutOfMemory-clause-still g c =
+pub returns-in-OutOfMemory-clause-needed : goal.returns-in-OutOfMemory-clause-needed
+returns-in-OutOfMemory-clause-needed g c =
     let judged = rw c.as_slice.ensures at c.in-Framed.ensures in
-    λ settled. (c.in-OutOfMemory.ensures.still (settled_has_body (text_of c.args.buffer.now) c.args.place.start c.args.place.end _ c.in-Framed.len judged.0 settled)).0
+    body_needed g.S.Source.left g.S.Source.read_gives c.args.source.now c.fill_to.new.source (text_of c.args.buffer.now) (text_of c.fill_to.new.buffer) c.args.place.start c.args.place.end _ c.in-Framed.len judged.0 c.in-OutOfMemory.ensures.needed

@@ -1,6 +1,8 @@
-use Rattle.std.proofs.Common.{◌≡◌, ◌∙◌, ◌+◌, ◌≤◌, ◌++◌, ap, arith, length, take, drop}
+use Rattle.std.proofs.Common.{◌≡◌, ◌∙◌, sym, [], append-nil, ◌+◌, ◌≤◌, ◌++◌, ap, arith, length, take, drop}
 use Rattle.std.proofs.lemmas.List.{with_items_is}
 use Rattle.cr_http.proofs.Blocks.{grown}
+use Rattle.cr_http.proofs.Moving.{one_read}
+use Rattle.cr_http.specs.Buffer.{text_of}
 use Rattle.cr_http.proofs.buffer.Buffer.read_more.Goals as goal
 
 pub returns-in-Got-clause-moves : goal.returns-in-Got-clause-moves
@@ -19,3 +21,31 @@ returns-in-Got-clause-moves g c =
           ∙ ap (λ t. drop b.start (take b.end t) ++ take n (drop b.end block)) c.deref_mut.ensures.value
           ∙ ap (λ t. t ++ take n (drop b.end block)) c.make_room.ensures.text;
     }
+
+pub returns-in-Got-clause-once : goal.returns-in-Got-clause-once
+unfolding returns-in-Got-clause-moves
+returns-in-Got-clause-once g c =
+    let moves = returns-in-Got-clause-moves g c in
+    one_read g.S.Source.left g.S.Source.read_gives c.args.source.now c.read_behind.new.source (text_of c.args.self.now) _ moves.got c.in-Got.ensures.gives moves.kept
+
+pub returns-in-End-clause-once : goal.returns-in-End-clause-once
+returns-in-End-clause-once g c =
+    let b = c.make_room.new.self in
+    let block = c.read_behind.new.block in
+    let len : length block ≡ b.block.len = (let l = c.deref_mut.ensures.len in let k = c.read_behind.auto.block in omega (arith, l, k)) in
+    one_read g.S.Source.left g.S.Source.read_gives c.args.source.now c.read_behind.new.source (text_of c.args.self.now) _ [] c.in-End.ensures.gives
+    (ap (λ t. drop b.start (take b.end t)) (with_items_is b.block block len)
+      ∙ ap (drop b.start) c.in-End.ensures.front
+      ∙ ap (λ t. drop b.start (take b.end t)) c.deref_mut.ensures.value
+      ∙ c.make_room.ensures.text ∙ sym (append-nil (text_of c.args.self.now)))
+
+pub returns-in-Failed-clause-once : goal.returns-in-Failed-clause-once
+returns-in-Failed-clause-once g c =
+    let b = c.make_room.new.self in
+    let block = c.read_behind.new.block in
+    let len : length block ≡ b.block.len = (let l = c.deref_mut.ensures.len in let k = c.read_behind.auto.block in omega (arith, l, k)) in
+    one_read g.S.Source.left g.S.Source.read_gives c.args.source.now c.read_behind.new.source (text_of c.args.self.now) _ [] c.in-Failed.ensures.gives
+    (ap (λ t. drop b.start (take b.end t)) (with_items_is b.block block len)
+      ∙ ap (drop b.start) c.in-Failed.ensures.front
+      ∙ ap (λ t. drop b.start (take b.end t)) c.deref_mut.ensures.value
+      ∙ c.make_room.ensures.text ∙ sym (append-nil (text_of c.args.self.now)))

@@ -1,5 +1,9 @@
-use Rattle.std.proofs.Common.{ap, Some, take}
-use Rattle.std.proofs.lemmas.List.{take_rest}
+use Rattle.std.proofs.Common.{rules, arith, ◌≡◌, ◌≤◌, ◌∙◌, sym, ap, Some, length, take, drop}
+use Rattle.std.proofs.lemmas.List.{length-take-le, take_rest}
+use Rattle.std.proofs.lemmas.Grind.{common_steps}
+use Rattle.cr_ports.specs.Memory.{plain_step, given_len}
+use Rattle.cr_ports.specs.declared.source.ReadStep.{ReadStep}
+use Rattle.cr_ports.specs.declared.source.ReadStep.TheVariants as reads
 use Rattle.cr_ports.proofs.Fronts.{piece_and_rest}
 use Rattle.cr_ports.proofs.sources.PlainSourceSource.read.Goals as goal
 
@@ -9,3 +13,16 @@ returns-clause-bytes c =
     let self = c.self.inside in
     let left = rw c.deref.ensures.value at c.copy_front.ensures in
     rw (← c.self.view_is) (ap Some (piece_and_rest self.bytes.items (take n c.copy_front.new.buf) self.at n (rw take_rest at left)))
+
+pub returns-clause-gives : goal.returns-clause-gives
+returns-clause-gives c =
+    let n = c.min-n.result in
+    let self = c.self.inside in
+    let left = rw c.deref.ensures.value at c.copy_front.ensures in
+    let step : reads.Got n ≡ plain_step (length c.args.self.now) (length c.args.buf.now) = grind (arith, common_steps) in
+    let fits : n ≤ length c.copy_front.new.buf = (let k = c.copy_front.auto.buf in omega (arith, k, c.min-n.ensures)) in
+    record {
+      room = length c.args.buf.now;
+      len = length-take-le n c.copy_front.new.buf fits ∙ ap given_len step;
+      bytes = rw (← c.self.view_is) (piece_and_rest self.bytes.items (take n c.copy_front.new.buf) self.at n (rw take_rest at left));
+    }
