@@ -1,4 +1,5 @@
 pub mod Chain
 pub mod Lists
 pub mod Objects
+pub mod Plain
 pub mod Ready

@@ -1,24 +1,27 @@
 -- A list appended item by item.
 use Rattle.std.proofs.Common.{◌≡◌, Bool, true, false, ◌∙◌, ℕ, ◌+◌, ◌<◌, ◌≤◌, List, ◌∷◌, ◌++◌, length, get_or, sym, ap, append_assoc, append-nil}
 use Rattle.std.specs.Prelude.{flat_map, drop, map}
+use Rattle.std.specs.List.{slice_range}
+use Rattle.std.proofs.lemmas.Grind.{flat_map-append}
 use Rattle.std.proofs.lemmas.List.{drop_more, drop_all}
+use Rattle.std.proofs.lemmas.List.Folds.{drop_split}
 use Rattle.cr_print.specs.Put.{Bytes}
 use Rattle.cr_print.specs.Json.{comma, separated}
 
 -- ---- items as they are
 
--- i items were appended: what is left to append
+-- the items before the i-th were appended: what is left to append
 module _ {X : Type 0} (text_of : X → List ℕ) where
   pub record Written (start now : List ℕ) (xs : List X) (i : ℕ) : Type 0 where
     pub rest : now ++ flat_map text_of (drop i xs) ≡ start ++ flat_map text_of xs
 
-  pub written_one : (start now next : List ℕ) (xs : List X) (i : ℕ) (d : X) → i < length xs → Written start now xs i
-      → next ≡ now ++ text_of (get_or xs i d) → Written start next xs (i + 1)
-  written_one start now next xs i d h w add =
-      let x = get_or xs i d in
-      let first : drop i xs ≡ x ∷ drop (i + 1) xs = drop_more xs i d h in
-      let so_far : now ++ (text_of x ++ flat_map text_of (drop (i + 1) xs)) ≡ start ++ flat_map text_of xs = rw first at w.rest in
-      record { rest = rw add (append_assoc now (text_of x) (flat_map text_of (drop (i + 1) xs)) ∙ so_far) }
+  pub written_range : (start now next : List ℕ) (xs : List X) (i j : ℕ) → i ≤ j → Written start now xs i
+      → next ≡ now ++ flat_map text_of (slice_range xs i j) → Written start next xs j
+  written_range start now next xs i j h w add =
+      let front = slice_range xs i j in
+      let parts : flat_map text_of (drop i xs) ≡ flat_map text_of front ++ flat_map text_of (drop j xs) =
+      ap (flat_map text_of) (drop_split xs i j h) ∙ flat_map-append text_of front (drop j xs) in
+      record { rest = rw add (append_assoc now (flat_map text_of front) (flat_map text_of (drop j xs)) ∙ ap (λ s. now ++ s) (sym parts) ∙ w.rest) }
 
   pub written_all : (start now : List ℕ) (xs : List X) (i : ℕ) → length xs ≤ i → Written start now xs i → now ≡ start ++ flat_map text_of xs
   written_all start now xs i h w = sym (append-nil now) ∙ rw (drop_all i xs h) at w.rest

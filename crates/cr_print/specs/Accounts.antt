@@ -1,15 +1,19 @@
 -- The content of the list of accounts.
-use Rattle.std.specs.Prelude.{ℕ, List, ◌++◌, true, codes, decimal, map}
+use Rattle.std.specs.Prelude.{ℕ, List, ◌++◌, Some, codes, decimal, map}
 use Rattle.json.specs.Print.{quoted}
 use Rattle.cr_base.specs.Words.{role_name}
 use Rattle.cr_base.specs.declared.reply.AccountLine.{AccountLine}
-use Rattle.cr_print.specs.Json.{separated}
+use Rattle.cr_print.specs.Json.{Member, told, array_text, object_text}
 
--- one account, its keys in the order of their bytes
-unfoldable pub account_text : AccountLine → List ℕ
-account_text account =
-    codes "{\"name\":" ++ quoted account.name ++ codes ",\"role\":\"" ++ role_name account.role ++ codes "\",\"user\":"
-    ++ decimal account.user ++ codes "}"
+-- the keys of an account in the order of their bytes
+unfoldable pub account_members : AccountLine → List Member
+account_members account =
+    told (codes "name") (Some (quoted account.name))
+    ++ told (codes "role") (Some (quoted (role_name account.role)))
+    ++ told (codes "user") (Some (decimal account.user))
+
+abbrev pub account_text : AccountLine → List ℕ
+account_text account = object_text (account_members account)
 
 unfoldable pub accounts_content : List AccountLine → List ℕ
-accounts_content accounts = codes "{\"accounts\":[" ++ separated true (map account_text accounts) ++ codes "]}"
+accounts_content accounts = object_text (told (codes "accounts") (Some (array_text (map account_text accounts))))

@@ -1,4 +1,4 @@
--- The bytes of whole answers: each to HEAD or not, and closing the connection or not.
+-- The bytes of whole answers, each in the form that its request wants.
 use Rattle.std.specs.Prelude.{ℕ, List, [], ◌++◌, Bool, true, if◌then◌else◌, length}
 use Rattle.cr_base.specs.declared.me.Me.{Me}
 use Rattle.cr_base.specs.declared.page.Page.{Page}
@@ -10,6 +10,11 @@ use Rattle.cr_base.specs.declared.reply.Reply.TheVariants as replies
 use Rattle.cr_http.specs.declared.refusal.Refusal.{Refusal}
 use Rattle.cr_print.specs.declared.head.Extra.{Extra}
 use Rattle.cr_print.specs.declared.head.Extra.TheVariants.{Nothing}
+use Rattle.cr_print.specs.declared.head.Head.{Head}
+use Rattle.cr_print.specs.declared.head.MediaType.TheVariants.{Json}
+use Rattle.cr_print.specs.declared.status.Status.{Status}
+use Rattle.cr_print.specs.declared.status.Status.TheVariants.{Okay}
+use Rattle.cr_print.specs.declared.form.Form.{Form}
 use Rattle.cr_print.specs.declared.refused.Refused.{Refused}
 use Rattle.cr_print.specs.declared.refused.Refused.TheVariants.{Closing, NoMemory, Rule}
 use Rattle.cr_print.specs.Head.{head_text}
@@ -25,53 +30,59 @@ abbrev pub unless_head : Bool → List ℕ → List ℕ
 unless_head is_head content = if is_head then [] else content
 
 -- the head tells the content's length whether the content follows or not
-abbrev pub answer_text : ℕ → Extra → List ℕ → Bool → Bool → List ℕ
-answer_text status extra content is_head closes =
-    head_text status extra (length content) closes ++ unless_head is_head content
+abbrev pub answer_text : Head → List ℕ → Form → List ℕ
+answer_text head content form = head_text head (length content) form.closes ++ unless_head form.is_head content
+
+-- the head of an answer whose content is JSON
+abbrev pub json_head : Status → Extra → Head
+json_head status extra = record { status = status; media_type = Json; extra = extra }
+
+-- the answer to a query that is served, in JSON
+abbrev pub served_text : List ℕ → Form → List ℕ
+served_text content form = answer_text (json_head Okay Nothing) content form
 
 -- a refused request
-unfoldable pub refusal_text : Refused → Bool → Bool → List ℕ
-refusal_text refused is_head closes =
-    answer_text (status_of refused) (extra_of refused) (refusal_content refused) is_head closes
+unfoldable pub refusal_text : Refused → Form → List ℕ
+refusal_text refused form = answer_text (json_head (status_of refused) (extra_of refused)) (refusal_content refused) form
 
 -- what ends the connection before a whole request was read
 abbrev pub closing_text : Refusal → Bool → List ℕ
-closing_text refusal is_head = refusal_text (Closing refusal) is_head true
+closing_text refusal is_head = refusal_text (Closing refusal) (record { is_head = is_head; closes = true })
 
 -- an accepted command
-unfoldable pub receipt_text : Receipt → Bool → Bool → List ℕ
-receipt_text receipt is_head closes = answer_text (receipt_status receipt) Nothing (receipt_content receipt) is_head closes
+unfoldable pub receipt_text : Receipt → Form → List ℕ
+receipt_text receipt form = answer_text (json_head (receipt_status receipt) Nothing) (receipt_content receipt) form
 
 -- what everyone may know of the conference
-unfoldable pub conference_text : Conference → Bool → Bool → List ℕ
-conference_text conference is_head closes = answer_text 200 Nothing (conference_content conference) is_head closes
+unfoldable pub conference_text : Conference → Form → List ℕ
+conference_text conference form = served_text (conference_content conference) form
 
 -- the list of accounts
-unfoldable pub accounts_text : List AccountLine → Bool → Bool → List ℕ
-accounts_text accounts is_head closes = answer_text 200 Nothing (accounts_content accounts) is_head closes
+unfoldable pub accounts_text : List AccountLine → Form → List ℕ
+accounts_text accounts form = served_text (accounts_content accounts) form
 
 -- a paper's page
-unfoldable pub page_text : Page → Bool → Bool → List ℕ
-page_text page is_head closes = answer_text 200 Nothing (page_content page) is_head closes
+unfoldable pub page_text : Page → Form → List ℕ
+page_text page form = served_text (page_content page) form
 
 -- what a user is told of herself
-unfoldable pub me_text : Me → Bool → Bool → List ℕ
-me_text me is_head closes = answer_text 200 Nothing (me_content me) is_head closes
+unfoldable pub me_text : Me → Form → List ℕ
+me_text me form = served_text (me_content me) form
 
 -- a reply
-abbrev pub reply_text : Reply → Bool → Bool → List ℕ
-reply_text (replies.Accepted receipt) is_head closes = receipt_text receipt is_head closes
-reply_text (replies.Refused rule) is_head closes = refusal_text (Rule rule) is_head closes
-reply_text (replies.Accounts accounts) is_head closes = accounts_text accounts is_head closes
-reply_text (replies.Conference conference) is_head closes = conference_text conference is_head closes
-reply_text (replies.Page page) is_head closes = page_text page is_head closes
-reply_text (replies.Me me) is_head closes = me_text me is_head closes
+abbrev pub reply_text : Reply → Form → List ℕ
+reply_text (replies.Accepted receipt) form = receipt_text receipt form
+reply_text (replies.Refused rule) form = refusal_text (Rule rule) form
+reply_text (replies.Accounts accounts) form = accounts_text accounts form
+reply_text (replies.Conference conference) form = conference_text conference form
+reply_text (replies.Page page) form = page_text page form
+reply_text (replies.Me me) form = me_text me form
 
 -- want of memory, which ends the connection
 abbrev pub no_memory_text : Bool → List ℕ
-no_memory_text is_head = refusal_text NoMemory is_head true
+no_memory_text is_head = refusal_text NoMemory (record { is_head = is_head; closes = true })
 
--- the answer is of bounded length
+-- a reply of bounded length, so that any answer room takes its answer
 abbrev pub IsBrief : Reply → Type 0
 IsBrief (replies.Accepted receipt) = Unit {0}
 IsBrief (replies.Refused rule) = Unit {0}

@@ -1,29 +1,17 @@
 -- The status line and the fields of an answer (RFC 9112, sections 4 and 5; RFC 9110, sections 8, 10.2.1 and 11.6.1).
-use Rattle.std.specs.Prelude.{ℕ, List, [], ◌++◌, Bool, ◌==◌, if◌then◌else◌, codes, decimal}
+use Rattle.std.specs.Prelude.{ℕ, List, [], ◌++◌, Bool, if◌then◌else◌, codes, decimal}
 use Rattle.http.specs.StatusCode.{code_digits}
 use Rattle.cr_routes.specs.Asks.{allow_text}
 use Rattle.cr_print.specs.declared.head.Extra.{Extra}
 use Rattle.cr_print.specs.declared.head.Extra.TheVariants.{Nothing, Challenge, Allow}
+use Rattle.cr_print.specs.declared.head.Head.{Head}
+use Rattle.cr_print.specs.declared.head.MediaType.{MediaType}
+use Rattle.cr_print.specs.declared.head.MediaType.TheVariants.{Json, PlainText, OctetStream}
+use Rattle.cr_print.specs.declared.status.Status.{Status}
+use Rattle.cr_print.specs.Status.{code_of, phrase_of}
 
--- the phrase of each code that an answer has (RFC 9110, section 15; RFC 6585 for 431; RFC 4918 for 507)
-unfoldable pub phrase : ℕ → List ℕ
-phrase status =
-    if status == 200 then codes "OK"
-    else (if status == 201 then codes "Created"
-    else (if status == 400 then codes "Bad Request"
-    else (if status == 401 then codes "Unauthorized"
-    else (if status == 403 then codes "Forbidden"
-    else (if status == 404 then codes "Not Found"
-    else (if status == 405 then codes "Method Not Allowed"
-    else (if status == 409 then codes "Conflict"
-    else (if status == 411 then codes "Length Required"
-    else (if status == 413 then codes "Content Too Large"
-    else (if status == 431 then codes "Request Header Fields Too Large"
-    else (if status == 503 then codes "Service Unavailable"
-    else codes "Insufficient Storage")))))))))))
-
-unfoldable pub status_line : ℕ → List ℕ
-status_line status = codes "HTTP/1.1 " ++ code_digits status ++ codes " " ++ phrase status ++ codes "\r\n"
+unfoldable pub status_line : Status → List ℕ
+status_line status = codes "HTTP/1.1 " ++ code_digits (code_of status) ++ codes " " ++ phrase_of status ++ codes "\r\n"
 
 -- the field that only some answers have: how to log in (RFC 6750, section 3), or the methods of a path that doesn't
 -- answer the one it was asked by
@@ -32,8 +20,14 @@ extra_line Nothing = []
 extra_line Challenge = codes "WWW-Authenticate: Bearer realm=\"confd\"\r\n"
 extra_line (Allow place) = codes "Allow: " ++ allow_text place ++ codes "\r\n"
 
-unfoldable pub type_line : List ℕ
-type_line = codes "Content-Type: application/json\r\n"
+-- the registered names (RFC 8259, section 11; RFC 2046, sections 4.1 and 4.5.1)
+unfoldable pub media_type_name : MediaType → List ℕ
+media_type_name Json = codes "application/json"
+media_type_name PlainText = codes "text/plain; charset=utf-8"
+media_type_name OctetStream = codes "application/octet-stream"
+
+unfoldable pub type_line : MediaType → List ℕ
+type_line media_type = codes "Content-Type: " ++ media_type_name media_type ++ codes "\r\n"
 
 unfoldable pub length_line : ℕ → List ℕ
 length_line n = codes "Content-Length: " ++ decimal n ++ codes "\r\n"
@@ -42,6 +36,7 @@ unfoldable pub close_line : Bool → List ℕ
 close_line closes = if closes then codes "Connection: close\r\n" else []
 
 -- the head of an answer whose content has n bytes, with the empty line
-abbrev pub head_text : ℕ → Extra → ℕ → Bool → List ℕ
-head_text status extra n closes =
-    status_line status ++ extra_line extra ++ type_line ++ length_line n ++ close_line closes ++ codes "\r\n"
+abbrev pub head_text : Head → ℕ → Bool → List ℕ
+head_text head n closes =
+    status_line head.status ++ extra_line head.extra ++ type_line head.media_type ++ length_line n ++ close_line closes
+    ++ codes "\r\n"

@@ -1,7 +1,7 @@
 -- Lists and objects of JSON without blanks (RFC 8259, sections 4 and 5).
 use Rattle.std.specs.Prelude.{◌≡◌, ℕ, List, [], ◌∷◌, ◌++◌, Bool, true, false, if◌then◌else◌, Option, Some, None, codes, decimal, map, Result, OnOk}
 use Rattle.json.specs.Print.{quoted}
-use Rattle.cr_print.specs.declared.object.Object.{Object}
+use Rattle.cr_print.specs.Put.{Bytes}
 
 -- ---- texts with commas
 
@@ -27,13 +27,16 @@ numbers_text numbers = array_text (map decimal numbers)
 
 -- ---- objects
 
--- a key and the text of its value
+-- a key, which needs no escape, and the text of its value
 pub record Member : Type 0 where
   pub key : List ℕ
   pub value : List ℕ
 
+unfoldable pub key_text : List ℕ → List ℕ
+key_text key = codes "\"" ++ key ++ codes "\":"
+
 unfoldable pub member_text : Member → List ℕ
-member_text member = quoted member.key ++ codes ":" ++ member.value
+member_text member = key_text member.key ++ member.value
 
 unfoldable pub object_text : List Member → List ℕ
 object_text members = codes "{" ++ separated true (map member_text members) ++ codes "}"
@@ -55,10 +58,10 @@ still_first is_first [] = is_first
 still_first is_first (member ∷ rest) = false
 
 -- these members were written
-pub record Added (old new : Object) (members : List Member) : Type 0 where
-  pub text : new.text.items ≡ old.text.items ++ separated old.is_first (map member_text members)
-  pub first : new.is_first ≡ still_first old.is_first members
+pub record Added (old new : Bytes) (is_first is_first' : Bool) (members : List Member) : Type 0 where
+  pub text : new.items ≡ old.items ++ separated is_first (map member_text members)
+  pub first : is_first' ≡ still_first is_first members
 
 -- these members were written, unless memory ran out
-abbrev pub Adds : {E : Type 0} → Result (Unit {0}) E → Object → Object → List Member → Type 0
-Adds r old new members = OnOk r (Added old new members)
+abbrev pub Adds : {E : Type 0} → Result (Unit {0}) E → Bytes → Bytes → Bool → Bool → List Member → Type 0
+Adds r old new is_first is_first' members = OnOk r (Added old new is_first is_first' members)

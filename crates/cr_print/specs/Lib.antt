@@ -1,4 +1,5 @@
 pub mod Put
+pub mod Status
 pub mod Head
 pub mod Refused
 pub mod Receipt

@@ -1,5 +1,5 @@
 -- Bytes appended to a buffer.
-use Rattle.std.specs.Prelude.{◌≡◌, ℕ, ◌+◌, ◌≤◌, List, ◌++◌, Vec, vec_len, vec_capacity, Result, OnOk, OnErr}
+use Rattle.std.specs.Prelude.{◌≡◌, ℕ, ◌+◌, ◌≤◌, List, ◌++◌, Vec, vec_len, vec_capacity, Result, IsOk, OnOk, OnErr}
 use Rattle.std.specs.declared.alloc.Global.{Global}
 
 abbrev pub Bytes : Type 0
@@ -9,15 +9,29 @@ Bytes = Vec ℕ Global
 abbrev pub HasRoom : Bytes → ℕ → Type 0
 HasRoom v n = vec_len v + n ≤ vec_capacity v
 
+-- ---- where room was made before
+
 -- the text was appended, in at most n bytes of the room
 pub record Puts (old new : Bytes) (text : List ℕ) (n : ℕ) : Type 0 where
   pub items : new.items ≡ old.items ++ text
   pub within : vec_len new ≤ vec_len old + n
   pub capacity : vec_capacity old ≤ vec_capacity new
 
+-- ---- where the buffer grows
+
 -- the text was appended, unless memory ran out
-abbrev pub Appends : {E : Type 0} → Result (Unit {0}) E → Bytes → Bytes → List ℕ → Type 0
+abbrev pub Appends : {A E : Type 0} → Result A E → Bytes → Bytes → List ℕ → Type 0
 Appends r old new text = OnOk r (new.items ≡ old.items ++ text)
+
+-- at most n bytes were appended
+pub record Grows (old new : Bytes) (n : ℕ) : Type 0 where
+  pub within : vec_len new ≤ vec_len old + n
+  pub capacity : vec_capacity old ≤ vec_capacity new
+
+-- at most n bytes were appended, and memory ran out only where room for n bytes was missing
+pub record Takes {A E : Type 0} (r : Result A E) (old new : Bytes) (n : ℕ) : Type 0 where
+  pub ok : OnOk r (Grows old new n)
+  pub sure : HasRoom old n → IsOk r
 
 -- the text was appended whole, or memory ran out and nothing was; the room never shrinks
 pub record Prints {E : Type 0} (r : Result (Unit {0}) E) (old new : Bytes) (text : List ℕ) : Type 0 where

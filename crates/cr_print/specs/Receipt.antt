@@ -1,23 +1,29 @@
 -- The status and the content of each receipt.
-use Rattle.std.specs.Prelude.{ℕ, List, ◌++◌, codes, decimal}
+use Rattle.std.specs.Prelude.{ℕ, List, ◌++◌, Some, codes, decimal}
 use Rattle.json.specs.Print.{quoted}
 use Rattle.cr_base.specs.Words.{phase_name, mode_name, role_name}
 use Rattle.cr_base.specs.declared.reply.Receipt.{Receipt}
 use Rattle.cr_base.specs.declared.reply.Receipt.TheVariants.{User, Phase, Paper, Named, Mode, Noted}
+use Rattle.cr_print.specs.declared.status.Status.{Status}
+use Rattle.cr_print.specs.declared.status.Status.TheVariants.{Okay, Created}
+use Rattle.cr_print.specs.Json.{Member, told, object_text}
 
-unfoldable pub receipt_status : Receipt → ℕ
-receipt_status (User user) = 201
-receipt_status (Phase phase) = 200
-receipt_status (Paper paper) = 201
-receipt_status (Named name role) = 200
-receipt_status (Mode mode) = 200
-receipt_status (Noted paper) = 200
+unfoldable pub receipt_status : Receipt → Status
+receipt_status (User user) = Created
+receipt_status (Phase phase) = Okay
+receipt_status (Paper paper) = Created
+receipt_status (Named name role) = Okay
+receipt_status (Mode mode) = Okay
+receipt_status (Noted paper) = Okay
 
-unfoldable pub receipt_content : Receipt → List ℕ
-receipt_content (User user) = codes "{\"user\":" ++ decimal user ++ codes "}"
-receipt_content (Phase phase) = codes "{\"phase\":\"" ++ phase_name phase ++ codes "\"}"
-receipt_content (Paper paper) = codes "{\"paper\":" ++ decimal paper ++ codes "}"
-receipt_content (Named name role) =
-    codes "{\"name\":" ++ quoted name ++ codes ",\"role\":\"" ++ role_name role ++ codes "\"}"
-receipt_content (Mode mode) = codes "{\"mode\":\"" ++ mode_name mode ++ codes "\"}"
-receipt_content (Noted paper) = codes "{\"paper\":" ++ decimal paper ++ codes "}"
+-- the keys in the order of their bytes
+unfoldable pub receipt_members : Receipt → List Member
+receipt_members (User user) = told (codes "user") (Some (decimal user))
+receipt_members (Phase phase) = told (codes "phase") (Some (quoted (phase_name phase)))
+receipt_members (Paper paper) = told (codes "paper") (Some (decimal paper))
+receipt_members (Named name role) = told (codes "name") (Some (quoted name)) ++ told (codes "role") (Some (quoted (role_name role)))
+receipt_members (Mode mode) = told (codes "mode") (Some (quoted (mode_name mode)))
+receipt_members (Noted paper) = told (codes "paper") (Some (decimal paper))
+
+abbrev pub receipt_content : Receipt → List ℕ
+receipt_content receipt = object_text (receipt_members receipt)

@@ -1,5 +1,6 @@
 -- The name, the status and the content of each refusal.
-use Rattle.std.specs.Prelude.{ℕ, List, ◌++◌, codes}
+use Rattle.std.specs.Prelude.{ℕ, List, Some, codes}
+use Rattle.json.specs.Print.{quoted}
 use Rattle.cr_base.specs.declared.reply.Rule.{Rule as BaseRule}
 use Rattle.cr_base.specs.declared.reply.Rule.TheVariants.{NameTaken, FullAccounts, NotChair, WrongPhase, FullPapers, QuotaPapers, NoPaper, NotMember, NoUser, AlreadyNamed, NotAuthor, NotAMember, Conflict, AuthorConflict}
 use Rattle.cr_http.specs.declared.refusal.Refusal.{Refusal}
@@ -8,6 +9,9 @@ use Rattle.cr_print.specs.declared.refused.Refused.{Refused}
 use Rattle.cr_print.specs.declared.refused.Refused.TheVariants.{Closing, NoRoute, WrongMethod, Unauthorized, BadBody, Rule, KeeperFault, NoMemory}
 use Rattle.cr_print.specs.declared.head.Extra.{Extra}
 use Rattle.cr_print.specs.declared.head.Extra.TheVariants.{Nothing, Challenge, Allow}
+use Rattle.cr_print.specs.declared.status.Status.{Status}
+use Rattle.cr_print.specs.declared.status.Status.TheVariants as statuses
+use Rattle.cr_print.specs.Json.{Member, told, object_text}
 
 unfoldable pub closing_name : Refusal → List ℕ
 closing_name HeadTooLarge = codes "head_too_large"
@@ -43,39 +47,39 @@ name_of (Rule rule) = rule_name rule
 name_of KeeperFault = codes "keeper_fault"
 name_of NoMemory = codes "no_memory"
 
-unfoldable pub closing_status : Refusal → ℕ
-closing_status HeadTooLarge = 431
-closing_status BadHttp = 400
-closing_status NoHost = 400
-closing_status LengthRequired = 411
-closing_status BadLength = 400
-closing_status TooLarge = 413
+unfoldable pub closing_status : Refusal → Status
+closing_status HeadTooLarge = statuses.HeaderFieldsTooLarge
+closing_status BadHttp = statuses.BadRequest
+closing_status NoHost = statuses.BadRequest
+closing_status LengthRequired = statuses.LengthRequired
+closing_status BadLength = statuses.BadRequest
+closing_status TooLarge = statuses.ContentTooLarge
 
-unfoldable pub rule_status : BaseRule → ℕ
-rule_status NameTaken = 409
-rule_status FullAccounts = 409
-rule_status NotChair = 403
-rule_status WrongPhase = 409
-rule_status FullPapers = 409
-rule_status QuotaPapers = 409
-rule_status NoPaper = 404
-rule_status NotMember = 403
-rule_status NoUser = 404
-rule_status AlreadyNamed = 409
-rule_status NotAuthor = 403
-rule_status NotAMember = 409
-rule_status Conflict = 403
-rule_status AuthorConflict = 409
+unfoldable pub rule_status : BaseRule → Status
+rule_status NameTaken = statuses.Conflict
+rule_status FullAccounts = statuses.Conflict
+rule_status NotChair = statuses.Forbidden
+rule_status WrongPhase = statuses.Conflict
+rule_status FullPapers = statuses.Conflict
+rule_status QuotaPapers = statuses.Conflict
+rule_status NoPaper = statuses.NotFound
+rule_status NotMember = statuses.Forbidden
+rule_status NoUser = statuses.NotFound
+rule_status AlreadyNamed = statuses.Conflict
+rule_status NotAuthor = statuses.Forbidden
+rule_status NotAMember = statuses.Conflict
+rule_status Conflict = statuses.Forbidden
+rule_status AuthorConflict = statuses.Conflict
 
-unfoldable pub status_of : Refused → ℕ
+unfoldable pub status_of : Refused → Status
 status_of (Closing refusal) = closing_status refusal
-status_of NoRoute = 404
-status_of (WrongMethod place) = 405
-status_of Unauthorized = 401
-status_of BadBody = 400
+status_of NoRoute = statuses.NotFound
+status_of (WrongMethod place) = statuses.MethodNotAllowed
+status_of Unauthorized = statuses.Unauthorized
+status_of BadBody = statuses.BadRequest
 status_of (Rule rule) = rule_status rule
-status_of KeeperFault = 503
-status_of NoMemory = 507
+status_of KeeperFault = statuses.ServiceUnavailable
+status_of NoMemory = statuses.InsufficientStorage
 
 -- the field that only this refusal has
 unfoldable pub extra_of : Refused → Extra
@@ -88,5 +92,9 @@ extra_of (Rule rule) = Nothing
 extra_of KeeperFault = Nothing
 extra_of NoMemory = Nothing
 
+-- why it was refused, before all else that it may tell
+unfoldable pub refusal_members : Refused → List Member
+refusal_members refused = told (codes "error") (Some (quoted (name_of refused)))
+
 unfoldable pub refusal_content : Refused → List ℕ
-refusal_content refused = codes "{\"error\":\"" ++ name_of refused ++ codes "\"}"
+refusal_content refused = object_text (refusal_members refused)

@@ -1,15 +1,69 @@
 //! The head of an answer: the status line and the fields (RFC 9112, sections 4 and 5).
 ghost use Rattle.std.specs.Prelude.{◌≡◌, ◌≤◌, length};
 ghost use Rattle.cr_print.specs.Put.{HasRoom, Puts};
-ghost use Rattle.cr_print.specs.Head.{phrase, status_line, extra_line, type_line, length_line, close_line, head_text};
+ghost use Rattle.cr_print.specs.Answers.{json_head};
+ghost use Rattle.cr_print.specs.Head.{media_type_name, status_line, extra_line, type_line, length_line, close_line, head_text};
 
-use crate::put::{put, put_number};
+use crate::put::put;
+use crate::status::Status;
 use cr_routes::Place;
-use http::StatusCode;
+use itoa::Buffer;
 
-/// Bytes that suffice for any head: 48 for the status line and for each of its four fields, and the
-/// empty line. The longest status line has 46 bytes, the longest field 41.
-pub(crate) const HEAD_ROOM: usize = 256;
+/// Bytes that suffice for any status line.
+const STATUS_LINE: usize = 46;
+
+/// Bytes that suffice for the field that only some answers have: `Allow` with 32 bytes of methods.
+const EXTRA_LINE: usize = 41;
+
+/// Bytes that suffice for `Content-Type`.
+const TYPE_LINE: usize = 41;
+
+/// Bytes that suffice for `Content-Length`, whose number has at most 20 digits.
+const LENGTH_LINE: usize = 38;
+
+/// The bytes of `Date` (RFC 9110, section 5.6.7), which no answer has yet.
+const DATE_LINE: usize = 37;
+
+/// The bytes of `Connection: close`.
+const CLOSE_LINE: usize = 19;
+
+/// The bytes of the empty line.
+const EMPTY_LINE: usize = 2;
+
+/// Bytes that suffice for any head: 224.
+pub(crate) const HEAD_ROOM: usize = STATUS_LINE
+    + EXTRA_LINE
+    + TYPE_LINE
+    + LENGTH_LINE
+    + DATE_LINE
+    + CLOSE_LINE
+    + EMPTY_LINE;
+
+/// What kind of content an answer has (RFC 9110, section 8.3.1).
+#[derive(Clone, Copy, PartialEq, Eq, Debug)]
+pub(crate) enum MediaType {
+    /// JSON (RFC 8259).
+    Json,
+    /// Text in UTF-8.
+    PlainText,
+    /// Bytes of any kind.
+    OctetStream,
+}
+
+impl MediaType {
+    /// Its name, at most 25 bytes.
+    #[tactic(auto, unfolding(crate::specs::Head::media_type_name))]
+    fn name(self) -> &'static str
+        ensures value { result.now ≡ media_type_name self }
+        ensures short { length result.now ≤ 25 }
+    {
+        match self {
+            MediaType::Json => "application/json",
+            MediaType::PlainText => "text/plain; charset=utf-8",
+            MediaType::OctetStream => "application/octet-stream",
+        }
+    }
+}
 
 /// The field that only some answers have, right behind the status line.
 #[derive(Clone, Copy, PartialEq, Eq, Debug)]
@@ -22,43 +76,43 @@ pub(crate) enum Extra {
     Allow(Place),
 }
 
-#[tactic(auto, unfolding(crate::specs::Head::phrase))]
-fn phrase_of(status: u16) -> &'static str
-    ensures value { result.now ≡ phrase status }
-    ensures short { length result.now ≤ 31 }
+/// What a head tells that follows from what is answered.
+#[derive(Clone, Copy, PartialEq, Eq, Debug)]
+pub(crate) struct Head {
+    /// The status.
+    pub status: Status,
+    /// What kind of content it has.
+    pub media_type: MediaType,
+    /// The field that only some answers have.
+    pub extra: Extra,
+}
+
+/// The head of an answer whose content is JSON.
+pub(crate) fn json(status: Status, extra: Extra) -> Head
+    ensures { result ≡ json_head status extra }
 {
-    match status {
-        200 => "OK",
-        201 => "Created",
-        400 => "Bad Request",
-        401 => "Unauthorized",
-        403 => "Forbidden",
-        404 => "Not Found",
-        405 => "Method Not Allowed",
-        409 => "Conflict",
-        411 => "Length Required",
-        413 => "Content Too Large",
-        431 => "Request Header Fields Too Large",
-        503 => "Service Unavailable",
-        _ => "Insufficient Storage",
+    Head {
+        status,
+        media_type: MediaType::Json,
+        extra,
     }
 }
 
-fn put_status(into: &mut Vec<u8>, status: StatusCode)
-    requires { HasRoom into.old 48 }
-    ensures { Puts into.old into.new (status_line status) 48 }
+fn put_status(into: &mut Vec<u8>, status: Status)
+    requires { HasRoom into.old 46 }
+    ensures { Puts into.old into.new (status_line status) 46 }
 {
     put(into, b"HTTP/1.1 ");
-    put(into, status.as_str().as_bytes());
+    put(into, status.code().as_str().as_bytes());
     put(into, b" ");
-    put(into, phrase_of(status.as_u16()).as_bytes());
+    put(into, status.phrase().as_bytes());
     put(into, b"\r\n");
 }
 
 #[tactic(auto, unfolding(crate::specs::Head::extra_line))]
 fn put_allow(into: &mut Vec<u8>, place: Place)
-    requires { HasRoom into.old 48 }
-    ensures { Puts into.old into.new (extra_line (Extra.Allow place)) 48 }
+    requires { HasRoom into.old 41 }
+    ensures { Puts into.old into.new (extra_line (Extra.Allow place)) 41 }
 {
     put(into, b"Allow: ");
     put(into, place.allow().as_bytes());
@@ -67,8 +121,8 @@ fn put_allow(into: &mut Vec<u8>, place: Place)
 
 #[tactic(auto, unfolding(crate::specs::Head::extra_line))]
 fn put_extra(into: &mut Vec<u8>, extra: Extra)
-    requires { HasRoom into.old 48 }
-    ensures { Puts into.old into.new (extra_line extra) 48 }
+    requires { HasRoom into.old 41 }
+    ensures { Puts into.old into.new (extra_line extra) 41 }
 {
     match extra {
         Extra::Nothing => {}
@@ -78,48 +132,45 @@ fn put_extra(into: &mut Vec<u8>, extra: Extra)
 }
 
 #[tactic(auto, unfolding(crate::specs::Head::type_line))]
-fn put_type(into: &mut Vec<u8>)
-    requires { HasRoom into.old 48 }
-    ensures { Puts into.old into.new type_line 48 }
+fn put_type(into: &mut Vec<u8>, media_type: MediaType)
+    requires { HasRoom into.old 41 }
+    ensures { Puts into.old into.new (type_line media_type) 41 }
 {
-    put(into, b"Content-Type: application/json\r\n");
+    put(into, b"Content-Type: ");
+    put(into, media_type.name().as_bytes());
+    put(into, b"\r\n");
 }
 
 #[tactic(auto, unfolding(crate::specs::Head::length_line))]
-fn put_length(into: &mut Vec<u8>, len: usize)
-    requires { HasRoom into.old 48 }
-    ensures { Puts into.old into.new (length_line len) 48 }
+fn put_length(into: &mut Vec<u8>, length: usize)
+    requires { HasRoom into.old 38 }
+    ensures { Puts into.old into.new (length_line length) 38 }
 {
+    let mut buffer = Buffer::new();
     put(into, b"Content-Length: ");
-    put_number(into, len as u64);
+    put(into, buffer.format(length as u64).as_bytes());
     put(into, b"\r\n");
 }
 
 #[tactic(auto, unfolding(crate::specs::Head::close_line))]
 fn put_close(into: &mut Vec<u8>, closes: bool)
-    requires { HasRoom into.old 48 }
-    ensures { Puts into.old into.new (close_line closes) 48 }
+    requires { HasRoom into.old 19 }
+    ensures { Puts into.old into.new (close_line closes) 19 }
 {
     if closes {
         put(into, b"Connection: close\r\n");
     }
 }
 
-/// Appends the head of an answer whose content has `len` bytes. It can't fail.
-pub(crate) fn print_head(
-    into: &mut Vec<u8>,
-    status: StatusCode,
-    extra: Extra,
-    len: usize,
-    closes: bool,
-)
-    requires { HasRoom into.old 256 }
-    ensures { Puts into.old into.new (head_text status extra len closes) 256 }
+/// Appends the head of an answer whose content has so many bytes. It can't fail.
+pub(crate) fn print_head(into: &mut Vec<u8>, head: Head, length: usize, closes: bool)
+    requires { HasRoom into.old 224 }
+    ensures { Puts into.old into.new (head_text head length closes) 224 }
 {
-    put_status(into, status);
-    put_extra(into, extra);
-    put_type(into);
-    put_length(into, len);
+    put_status(into, head.status);
+    put_extra(into, head.extra);
+    put_type(into, head.media_type);
+    put_length(into, length);
     put_close(into, closes);
     put(into, b"\r\n");
 }

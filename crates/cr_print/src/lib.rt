@@ -2,9 +2,15 @@
 //!
 //! An answer is appended to a buffer whole or not at all. Refusals and receipts are written into room
 //! that was made before, so that writing them can't fail; `print_reply` makes its own room.
+//!
+//! One writer of JSON serves all contents, objects and lists of any kind: each of its calls says what
+//! it appends, and for what is brief, how much room suffices for it to take no memory.
 #![tactic(auto)]
 
 mod accounts;
+mod brief;
+mod conference;
+mod form;
 mod head;
 mod list;
 mod me;
@@ -13,14 +19,18 @@ mod object;
 mod page;
 mod put;
 mod quoted;
+mod receipt;
 mod refused;
 mod reply;
-mod short;
+mod runs;
+mod status;
 
+pub use brief::ANSWER_ROOM;
+pub use form::Form;
 pub use no_memory::no_memory_text;
+pub use receipt::print_receipt;
 pub use refused::{Refused, print_refusal};
-pub use reply::{print_receipt, print_reply};
-pub use short::ANSWER_ROOM;
+pub use reply::print_reply;
 
 #[cfg(test)]
 mod tests;

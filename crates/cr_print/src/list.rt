@@ -1,63 +1,74 @@
 //! Lists of JSON (RFC 8259, section 5).
-ghost use Rattle.std.specs.Prelude.{◌≡◌, true, decimal, map};
+ghost use Rattle.std.specs.Prelude.{◌≡◌, List, ℕ, true, decimal, map};
 ghost use Rattle.json.specs.Print.{quoted};
-ghost use Rattle.cr_print.specs.Put.{Appends};
-ghost use Rattle.cr_print.specs.Json.{comma, separated, names_text, numbers_text};
+ghost use Rattle.cr_print.specs.Put.{Appends, Takes};
+ghost use Rattle.cr_print.specs.Json.{comma, separated, array_text};
 
 use crate::put::{append, append_number};
 use crate::quoted::append_quoted;
 use cr_base::{PaperNo, Short};
 use std::alloc::AllocError;
 
+/// What a list has.
+pub(crate) trait Item {
+    /// Its text in JSON.
+    ghost text: { Self → List ℕ };
+
+    /// Appends it.
+    fn append_to(&self, into: &mut Vec<u8>) -> Result<(), AllocError>
+        ensures { Appends result into.old into.new (text self.now) };
+}
+
+/// A name.
+impl Item for Short {
+    ghost text = { quoted };
+
+    fn append_to(&self, into: &mut Vec<u8>) -> Result<(), AllocError> {
+        append_quoted(into, self.as_slice())
+    }
+}
+
+/// A paper's number.
+impl Item for PaperNo {
+    ghost text = { decimal };
+
+    fn append_to(&self, into: &mut Vec<u8>) -> Result<(), AllocError> {
+        append_number(into, self.number())
+    }
+}
+
 /// Appends the comma before a value, or nothing before the first of its list.
 #[tactic(auto, unfolding(crate::specs::Json::comma))]
 pub(crate) fn append_comma(into: &mut Vec<u8>, is_first: bool) -> Result<(), AllocError>
-    ensures { Appends result into.old into.new (comma is_first) }
+    ensures text { Appends result into.old into.new (comma is_first) }
+    ensures room { Takes result into.old into.new 1 }
 {
     if is_first {
         return Ok(());
     }
-    append(into, b",")
+    append(into, b",")?;
+    Ok(())
 }
 
-fn append_names_separated(into: &mut Vec<u8>, names: &[Short]) -> Result<(), AllocError>
-    ensures { Appends result into.old into.new (separated true (map quoted names.now)) }
+fn append_separated<T: Item>(into: &mut Vec<u8>, items: &[T]) -> Result<(), AllocError>
+    ensures { Appends result into.old into.new (separated true (map T.text items.now)) }
 {
     let mut is_first = true;
-    for name in names {
+    for item in items {
         append_comma(into, is_first)?;
-        append_quoted(into, name.as_slice())?;
+        item.append_to(into)?;
         is_first = false;
     }
     Ok(())
 }
 
-/// Appends the list of these names.
-pub(crate) fn append_names(into: &mut Vec<u8>, names: &[Short]) -> Result<(), AllocError>
-    ensures { Appends result into.old into.new (names_text names.now) }
+/// Appends a list.
+#[tactic(auto, unfolding(crate::specs::Json::array_text))]
+pub(crate) fn append_list<T: Item>(into: &mut Vec<u8>, items: &[T]) -> Result<(), AllocError>
+    ensures { Appends result into.old into.new (array_text (map T.text items.now)) }
 {
     append(into, b"[")?;
-    append_names_separated(into, names)?;
-    append(into, b"]")
-}
-
-fn append_papers_separated(into: &mut Vec<u8>, papers: &[PaperNo]) -> Result<(), AllocError>
-    ensures { Appends result into.old into.new (separated true (map decimal papers.now)) }
-{
-    let mut is_first = true;
-    for paper in papers {
-        append_comma(into, is_first)?;
-        append_number(into, paper.number())?;
-        is_first = false;
-    }
+    append_separated(into, items)?;
+    append(into, b"]")?;
     Ok(())
-}
-
-/// Appends the list of the numbers of these papers.
-pub(crate) fn append_papers(into: &mut Vec<u8>, papers: &[PaperNo]) -> Result<(), AllocError>
-    ensures { Appends result into.old into.new (numbers_text papers.now) }
-{
-    append(into, b"[")?;
-    append_papers_separated(into, papers)?;
-    append(into, b"]")
 }

@@ -1,23 +1,23 @@
 //! What a user is told of herself.
-ghost use Rattle.std.specs.Prelude.{◌≡◌, IfOk};
+ghost use Rattle.cr_print.specs.Put.{Appends};
 ghost use Rattle.cr_print.specs.Me.{me_content};
 
 use crate::object::Object;
 use cr_base::Me;
-use std::alloc::{AllocError, Global};
+use std::alloc::AllocError;
 
-/// The content that tells a user of herself.
-pub(crate) fn me_content(alloc: Global, me: &Me) -> Result<Vec<u8>, AllocError>
-    ensures { IfOk result (λ v. v.items ≡ me_content me.now) }
+/// Appends the content that tells a user of herself.
+pub(crate) fn append_me(into: &mut Vec<u8>, me: &Me) -> Result<(), AllocError>
+    ensures { Appends result into.old into.new (me_content me.now) }
 {
-    let mut object = Object::open(alloc)?;
-    object.fixed("assigned", true, "[]")?;
-    object.fixed("bytes", true, "0")?;
-    object.fixed("comments", true, "0")?;
-    object.papers("conflicts", me.conflicts.as_slice())?;
-    object.string("name", me.name.as_slice())?;
-    object.papers("papers", me.papers.as_slice())?;
-    object.string("role", me.role.name().as_bytes())?;
-    object.number("user", me.user.number())?;
-    object.close()
+    let mut object = Object::open(into)?;
+    object.fixed(into, "assigned", true, "[]")?;
+    object.fixed(into, "bytes", true, "0")?;
+    object.fixed(into, "comments", true, "0")?;
+    object.list(into, "conflicts", me.conflicts.as_slice())?;
+    object.string(into, "name", me.name.as_slice())?;
+    object.list(into, "papers", me.papers.as_slice())?;
+    object.string(into, "role", me.role.name().as_bytes())?;
+    object.number(into, "user", me.user.number())?;
+    object.close(into)
 }

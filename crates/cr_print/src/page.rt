@@ -1,30 +1,43 @@
 //! A paper's page.
-ghost use Rattle.std.specs.Prelude.{◌≡◌, IfOk};
+ghost use Rattle.cr_print.specs.Put.{Appends};
 ghost use Rattle.cr_print.specs.Page.{page_content};
 
 use crate::object::Object;
 use cr_base::Page;
-use std::alloc::{AllocError, Global};
+use std::alloc::AllocError;
 
-/// The content of a page.
-pub(crate) fn page_content(alloc: Global, page: &Page) -> Result<Vec<u8>, AllocError>
-    ensures { IfOk result (λ v. v.items ≡ page_content page.now) }
+/// Bytes that suffice for a page beside its texts and most lists of names.
+const PAGE_ROOM: usize = 1_024;
+
+/// The bytes that a page takes, mostly: more where its texts need many escapes, or its lists are long.
+pub(crate) fn page_room(page: &Page) -> usize {
+    let abstract_ = page
+        .abstract_
+        .as_ref()
+        .map_or(0, |text| text.as_str().len());
+    let title = page.title.as_ref().map_or(0, |text| text.as_str().len());
+    abstract_.saturating_add(title).saturating_add(PAGE_ROOM)
+}
+
+/// Appends the content of a page.
+pub(crate) fn append_page(into: &mut Vec<u8>, page: &Page) -> Result<(), AllocError>
+    ensures { Appends result into.old into.new (page_content page.now) }
 {
     let bare = page.bare;
-    let mut object = Object::open(alloc)?;
-    object.text("abstract", &page.abstract_)?;
-    object.names("authors", &page.authors)?;
-    object.fixed("bid", bare.bid, "0")?;
-    object.fixed("bids", bare.bids, "[]")?;
-    object.truth("conflict", page.conflict)?;
-    object.names("conflicts", &page.conflicts)?;
-    object.fixed("decision", bare.decision, "\"none\"")?;
-    object.names("declared", &page.declared)?;
-    object.number("paper", page.paper.number())?;
-    object.fixed("reviewers", bare.reviewers, "[]")?;
-    object.fixed("tags", bare.tags, "[]")?;
-    object.text("title", &page.title)?;
-    object.fixed("versions", bare.versions, "[]")?;
-    object.fixed("withdrawn", bare.withdrawn, "false")?;
-    object.close()
+    let mut object = Object::open(into)?;
+    object.text(into, "abstract", &page.abstract_)?;
+    object.names(into, "authors", &page.authors)?;
+    object.fixed(into, "bid", bare.bid, "0")?;
+    object.fixed(into, "bids", bare.bids, "[]")?;
+    object.truth(into, "conflict", page.conflict)?;
+    object.names(into, "conflicts", &page.conflicts)?;
+    object.fixed(into, "decision", bare.decision, "\"none\"")?;
+    object.names(into, "declared", &page.declared)?;
+    object.number(into, "paper", page.paper.number())?;
+    object.fixed(into, "reviewers", bare.reviewers, "[]")?;
+    object.fixed(into, "tags", bare.tags, "[]")?;
+    object.text(into, "title", &page.title)?;
+    object.fixed(into, "versions", bare.versions, "[]")?;
+    object.fixed(into, "withdrawn", bare.withdrawn, "false")?;
+    object.close(into)
 }

@@ -1,15 +1,18 @@
 //! Refusals, which are written without memory.
 ghost use Rattle.std.specs.Prelude.{◌≡◌, ◌≤◌, length};
-ghost use Rattle.cr_print.specs.Put.{HasRoom, Puts};
+ghost use Rattle.cr_print.specs.Put.{Appends, HasRoom, Puts, Takes};
 ghost use Rattle.cr_print.specs.Refused.{closing_name, rule_name, name_of, closing_status, rule_status, status_of, extra_of, refusal_content};
 ghost use Rattle.cr_print.specs.Answers.{refusal_text};
 
-use crate::head::Extra;
-use crate::short::{Content, add, print_short};
+use crate::brief::print_brief;
+use crate::form::Form;
+use crate::head::{Extra, json};
+use crate::object::Object;
+use crate::status::Status;
 use cr_base::Rule;
 use cr_http::Refusal;
 use cr_routes::Place;
-use http::StatusCode;
+use std::alloc::AllocError;
 
 /// Why a request is refused.
 #[derive(Clone, Copy, PartialEq, Eq, Debug)]
@@ -89,14 +92,12 @@ fn name(refused: Refused) -> &'static str
 }
 
 #[tactic(auto, unfolding(crate::specs::Refused::rule_status))]
-fn rule_status(rule: Rule) -> StatusCode
+fn rule_status(rule: Rule) -> Status
     ensures { result ≡ rule_status rule }
 {
     match rule {
-        Rule::NotChair | Rule::NotMember | Rule::NotAuthor | Rule::Conflict => {
-            StatusCode::FORBIDDEN
-        }
-        Rule::NoPaper | Rule::NoUser => StatusCode::NOT_FOUND,
+        Rule::NotChair | Rule::NotMember | Rule::NotAuthor | Rule::Conflict => { Status::Forbidden }
+        Rule::NoPaper | Rule::NoUser => Status::NotFound,
         Rule::NameTaken
         | Rule::FullAccounts
         | Rule::WrongPhase
@@ -104,35 +105,35 @@ fn rule_status(rule: Rule) -> StatusCode
         | Rule::QuotaPapers
         | Rule::AlreadyNamed
         | Rule::NotAMember
-        | Rule::AuthorConflict => StatusCode::CONFLICT,
+        | Rule::AuthorConflict => Status::Conflict,
     }
 }
 
 #[tactic(auto, unfolding(crate::specs::Refused::closing_status))]
-fn closing_status(refusal: Refusal) -> StatusCode
+fn closing_status(refusal: Refusal) -> Status
     ensures { result ≡ closing_status refusal }
 {
     match refusal {
-        Refusal::BadHttp | Refusal::NoHost | Refusal::BadLength => StatusCode::BAD_REQUEST,
-        Refusal::LengthRequired => StatusCode::LENGTH_REQUIRED,
-        Refusal::TooLarge => StatusCode::PAYLOAD_TOO_LARGE,
-        Refusal::HeadTooLarge => StatusCode::REQUEST_HEADER_FIELDS_TOO_LARGE,
+        Refusal::BadHttp | Refusal::NoHost | Refusal::BadLength => Status::BadRequest,
+        Refusal::LengthRequired => Status::LengthRequired,
+        Refusal::TooLarge => Status::ContentTooLarge,
+        Refusal::HeadTooLarge => Status::HeaderFieldsTooLarge,
     }
 }
 
 #[tactic(auto, unfolding(crate::specs::Refused::status_of))]
-fn status(refused: Refused) -> StatusCode
+fn status(refused: Refused) -> Status
     ensures { result ≡ status_of refused }
 {
     match refused {
         Refused::Closing(refusal) => closing_status(refusal),
-        Refused::NoRoute => StatusCode::NOT_FOUND,
-        Refused::WrongMethod(_) => StatusCode::METHOD_NOT_ALLOWED,
-        Refused::Unauthorized => StatusCode::UNAUTHORIZED,
-        Refused::BadBody => StatusCode::BAD_REQUEST,
+        Refused::NoRoute => Status::NotFound,
+        Refused::WrongMethod(_) => Status::MethodNotAllowed,
+        Refused::Unauthorized => Status::Unauthorized,
+        Refused::BadBody => Status::BadRequest,
         Refused::Rule(rule) => rule_status(rule),
-        Refused::KeeperFault => StatusCode::SERVICE_UNAVAILABLE,
-        Refused::NoMemory => StatusCode::INSUFFICIENT_STORAGE,
+        Refused::KeeperFault => Status::ServiceUnavailable,
+        Refused::NoMemory => Status::InsufficientStorage,
     }
 }
 
@@ -147,31 +148,24 @@ fn extra(refused: Refused) -> Extra
     }
 }
 
-fn refusal_content(refused: Refused) -> Content
-    ensures { result.items ≡ refusal_content refused }
+/// Appends what a refusal tells: why, before all else.
+fn append_refusal(into: &mut Vec<u8>, refused: Refused) -> Result<(), AllocError>
+    ensures text { Appends result into.old into.new (refusal_content refused) }
+    ensures room { Takes result into.old into.new 288 }
 {
-    let mut content = Content::new();
-    add(&mut content, "{\"error\":\"");
-    add(&mut content, name(refused));
-    add(&mut content, "\"}");
-    content
+    let mut object = Object::open(into)?;
+    object.string(into, "error", name(refused).as_bytes())?;
+    object.close(into)
 }
 
 /// Appends the answer of a refused request, which can't fail and takes no memory: `into` has room for
-/// 512 bytes. An answer to HEAD has no content, and its `Content-Length` is the content's without it.
-/// With `closes` the answer says that the connection ends behind it.
+/// 512 bytes.
 #[tactic(auto, unfolding(crate::specs::Answers::refusal_text))]
-pub fn print_refusal(into: &mut Vec<u8>, refused: Refused, is_head: bool, closes: bool)
+pub fn print_refusal(into: &mut Vec<u8>, refused: Refused, form: Form)
     requires { HasRoom into.old 512 }
-    ensures { Puts into.old into.new (refusal_text refused is_head closes) 512 }
+    ensures { Puts into.old into.new (refusal_text refused form) 512 }
 {
-    let content = refusal_content(refused);
-    print_short(
-        into,
-        status(refused),
-        extra(refused),
-        &content,
-        is_head,
-        closes,
-    );
+    let start = into.len();
+    append_refusal(into, refused).unwrap();
+    print_brief(into, start, json(status(refused), extra(refused)), form);
 }

@@ -6,7 +6,7 @@ use Rattle.cr_session.specs.declared.turn.Turn.{Turn}
 use Rattle.cr_session.specs.declared.turn.Turn.TheVariants as turns
 use Rattle.cr_session.specs.declared.serve.Served.{Served}
 use Rattle.cr_session.specs.declared.serve.Served.TheVariants as served
-use Rattle.cr_session.specs.Told.{told, unkept, step}
+use Rattle.cr_session.specs.Told.{form_of, told, unkept, step}
 use Rattle.cr_session.specs.Replay.{Judged, Ledger, answer_to, history_after}
 use Rattle.cr_wire.specs.Wishes.{closes}
 use Rattle.cr_session.specs.Writing.{Outlet, Writes, BreaksOff}
@@ -22,7 +22,7 @@ history_after-kept : (w : Wish) (old : History) → history_after (record { wish
 unfolding history_after
 history_after-kept w old = refl
 
-answer_to-lost : (n : ℕ) (w : Wish) (old : History) → answer_to n (record { wish = w; seen = old; lost = true }) ≡ turn_text turns.Lost w.is_head (closes n w)
+answer_to-lost : (n : ℕ) (w : Wish) (old : History) → answer_to n (record { wish = w; seen = old; lost = true }) ≡ turn_text turns.Lost (form_of w (closes n w))
 unfolding answer_to unkept
 answer_to-lost n w old = refl
 
@@ -33,7 +33,7 @@ history_after-lost w old = refl
 -- a turn came to this, and the request was judged with that answer
 record WasJudged (turn : Turn) (n : ℕ) (w : Wish) (b b' : Ledger) : Type 0 where
   judges : Judges w b b'
-  text : turn_text turn w.is_head (closes n w) ≡ answer_to n judges.judged
+  text : turn_text turn (form_of w (closes n w)) ≡ answer_to n judges.judged
 
 kept-judged : (turn : Turn) (n : ℕ) (w : Wish) (b b' : Ledger) → Answers turn w b b' → WasJudged turn n w b b'
 kept-judged turn n w b b' a =
@@ -67,14 +67,14 @@ was_judged turns.OutOfMemory n w b b' memory t = absurd (memory refl)
 
 -- the answer was sent
 pub serves_sent : (turn : Turn) (sent : Served) (n : ℕ) (w : Wish) (close : Bool) (reply : List ℕ) (b b' : Ledger) (s s' : Outlet) → (turn ≡ turns.OutOfMemory → ⊥)
-    → Turns turn w b b' → close ≡ closes n w → reply ≡ turn_text turn w.is_head close → Sends sent close reply s s' → Serves sent n w b b' s s'
+    → Turns turn w b b' → close ≡ closes n w → reply ≡ turn_text turn (form_of w close) → Sends sent close reply s s' → Serves sent n w b b' s s'
 serves_sent turn sent n w close reply b b' s s' memory t closing is sends = by sent sends
   where
     j : WasJudged turn n w b b'
     j = was_judged turn n w b b' memory t
 
     text : reply ≡ answer_to n j.judges.judged
-    text = is ∙ ap (turn_text turn w.is_head) closing ∙ j.text
+    text = is ∙ ap (λ (b : Bool). turn_text turn (form_of w b)) closing ∙ j.text
 
     by : (x : Served) → Sends x close reply s s' → Serves x n w b b' s s'
     by served.Goes x = (j.judges, sym closing ∙ x.0, subst (λ (r : List ℕ). Writes r s s') text x.1)

@@ -23,7 +23,7 @@ use Rattle.cr_wire.specs.declared.what.Wish.{Wish}
 use Rattle.cr_wire.specs.Caller.{caller, reads_credentials, user_told, wants_login}
 use Rattle.cr_session.specs.declared.turn.Turn.{Turn}
 use Rattle.cr_session.specs.declared.turn.Turn.TheVariants as turns
-use Rattle.cr_session.specs.Told.{told, told_to, served_to, is_unauthorized, reply_of, drawn, drawn_for, drawn_of, accepted, and_drawn, step}
+use Rattle.cr_session.specs.Told.{form_of, told, told_to, served_to, is_unauthorized, reply_of, drawn, drawn_for, drawn_of, accepted, and_drawn, step}
 use Rattle.cr_session.specs.Replay.{Ledger}
 use Rattle.cr_session.specs.Turning.{Turns, Answers, JudgesCommand, AnswersQuery, WantsRoom, MayWantFor, MayWantMemory}
 use Rattle.cr_print.specs.Answers.{IsBrief}
@@ -31,12 +31,12 @@ use Rattle.cr_base.specs.declared.reply.Reply.{Reply}
 use Rattle.cr_base.specs.declared.reply.Reply.TheVariants as replies
 
 -- what a wish is told, by what it is and who gives it, where she may
-told-by : (H : History) (w : Wish) (u : Option ℕ) (what : What) (close : Bool) → w.what ≡ what → u ≡ caller H w → is_unauthorized u what ≡ false → told H w close ≡ served_to u (view u H) w.is_head close what
+told-by : (H : History) (w : Wish) (u : Option ℕ) (what : What) (close : Bool) → w.what ≡ what → u ≡ caller H w → is_unauthorized u what ≡ false → told H w close ≡ served_to u (view u H) (form_of w close) what
 unfolding told
 told-by H w u what close is by may =
-    ap (told_to (caller H w) (view (caller H w) H) w.is_head close) is
-    ∙ ap (λ v. told_to v (view v H) w.is_head close what) (sym by)
-    ∙ ap (λ b. cond b (refusal_text refused.Unauthorized w.is_head close) (served_to u (view u H) w.is_head close what)) may
+    ap (told_to (caller H w) (view (caller H w) H) (form_of w close)) is
+    ∙ ap (λ v. told_to v (view v H) (form_of w close) what) (sym by)
+    ∙ ap (λ b. cond b (refusal_text refused.Unauthorized (form_of w close)) (served_to u (view u H) (form_of w close) what)) may
 
 drawn-by : (H : History) (w : Wish) (u : Option ℕ) (what : What) → w.what ≡ what → u ≡ caller H w → is_unauthorized u what ≡ false → drawn H w ≡ drawn_of u (view u H) what
 unfolding drawn
@@ -58,7 +58,7 @@ unauthorized w b u by is =
     let old : History = b.history in
     let now : is_unauthorized (caller old w) w.what ≡ true = ap (λ v. is_unauthorized v w.what) (sym by) ∙ is in
     record {
-      told_is = λ close. sym (ap (λ t. cond t (refusal_text refused.Unauthorized w.is_head close) (served_to (caller old w) (view (caller old w) old) w.is_head close w.what)) now);
+      told_is = λ close. sym (ap (λ t. cond t (refusal_text refused.Unauthorized (form_of w close)) (served_to (caller old w) (view (caller old w) old) (form_of w close) w.what)) now);
       stepped = sym (ap (λ t. and_drawn old (cond t None (drawn_of (caller old w) (view (caller old w) old) w.what))) now);
       steady = refl;
     }
@@ -67,7 +67,7 @@ unauthorized w b u by is =
 
 -- a wish that is told a refusal, and adds nothing
 refused-turn : (r : Refused) (w : Wish) (u : Option ℕ) (what : What) (b : Ledger) → w.what ≡ what → u ≡ caller b.history w → is_unauthorized u what ≡ false
-    → ((close : Bool) → refusal_text r w.is_head close ≡ served_to u (view u b.history) w.is_head close what) → drawn_of u (view u b.history) what ≡ None
+    → ((close : Bool) → refusal_text r (form_of w close) ≡ served_to u (view u b.history) (form_of w close) what) → drawn_of u (view u b.history) what ≡ None
     → Answers (turns.Refused r) w b b
 refused-turn r w u what b is by may text none = record {
   told_is = λ close. text close ∙ sym (told-by b.history w u what close is by may);
@@ -87,9 +87,9 @@ bad_body w u b ask is by may = refused-turn refused.BadBody w u (whats.BadBody a
 -- ---- commands
 
 told-command : (H : History) (w : Wish) (u : Option ℕ) (command : Command) (r : Result Drawn Rule) (close : Bool) → w.what ≡ whats.Command command → u ≡ caller H w → is_unauthorized u (whats.Command command) ≡ false
-    → judge u (view u H) command ≡ r → reply_text (reply_of r) w.is_head close ≡ told H w close
+    → judge u (view u H) command ≡ r → reply_text (reply_of r) (form_of w close) ≡ told H w close
 told-command H w u command r close is by may e =
-    ap (λ x. reply_text (reply_of x) w.is_head close) (sym e) ∙ sym (told-by H w u (whats.Command command) close is by may)
+    ap (λ x. reply_text (reply_of x) (form_of w close)) (sym e) ∙ sym (told-by H w u (whats.Command command) close is by may)
 
 stepped-command : (H : History) (w : Wish) (u : Option ℕ) (command : Command) (r : Result Drawn Rule) → w.what ≡ whats.Command command → u ≡ caller H w → is_unauthorized u (whats.Command command) ≡ false
     → judge u (view u H) command ≡ r → step H w ≡ and_drawn H (accepted r)
@@ -114,7 +114,7 @@ command-turn (turns.Refused refused.BadBody) w u command b b' is by may j = absu
 command-turn (turns.Refused refused.KeeperFault) w u command b b' is by may j = absurd j
 command-turn (turns.Refused refused.NoMemory) w u command b b' is by may j = absurd j
 command-turn (turns.Accepted receipt) w u command b b' is by may j = record {
-  told_is = λ close. ap (λ x. receipt_text x w.is_head close) j.0.receipt_is ∙ told-command b.history w u command (Ok j.0.drawn) close is by may j.0.judged;
+  told_is = λ close. ap (λ x. receipt_text x (form_of w close)) j.0.receipt_is ∙ told-command b.history w u command (Ok j.0.drawn) close is by may j.0.judged;
   stepped = j.0.added ∙ sym (stepped-command b.history w u command (Ok j.0.drawn) is by may j.0.judged);
   steady = j.1;
 }
@@ -138,7 +138,7 @@ query-turn (turns.Refused r) w u query b is by may j = absurd j
 query-turn (turns.Accepted receipt) w u query b is by may j = absurd j
 query-turn (turns.Answered reply) w u query b is by may j = (
   record {
-    told_is = λ close. ap (λ x. reply_text x w.is_head close) j ∙ sym (told-by b.history w u (whats.Query query) close is by may);
+    told_is = λ close. ap (λ x. reply_text x (form_of w close)) j ∙ sym (told-by b.history w u (whats.Query query) close is by may);
     stepped = sym (ap (and_drawn b.history) (drawn-by b.history w u (whats.Query query) is by may));
     steady = refl;
   },

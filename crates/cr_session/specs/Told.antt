@@ -8,6 +8,7 @@ use Rattle.cr_base.specs.History.{History}
 use Rattle.cr_base.specs.Judging.{Drawn}
 use Rattle.cr_policy.specs.Judge.{judge, answer}
 use Rattle.cr_policy.specs.View.{View, view}
+use Rattle.cr_print.specs.declared.form.Form.{Form}
 use Rattle.cr_print.specs.declared.refused.Refused.TheVariants as refused
 use Rattle.cr_print.specs.Answers.{refusal_text, reply_text}
 use Rattle.cr_wire.specs.declared.what.What.{What}
@@ -27,27 +28,30 @@ abbrev pub is_unauthorized : Option ℕ → What → Bool
 is_unauthorized None what = wants_login what
 is_unauthorized (Some user) what = false
 
--- the answer's bytes to what a caller wishes who may, on her view, to HEAD or not, where the connection closes behind it
--- or not
-abbrev pub served_to : Option ℕ → View → Bool → Bool → What → List ℕ
-served_to u V head close NoRoute = refusal_text refused.NoRoute head close
-served_to u V head close (WrongMethod place) = refusal_text (refused.WrongMethod place) head close
-served_to u V head close (BadBody ask) = refusal_text refused.BadBody head close
-served_to u V head close (Command command) = reply_text (reply_of (judge u V command)) head close
-served_to u V head close (Query query) = reply_text (answer u V query) head close
+-- how the answer to a wish is sent, where the connection closes behind it or not
+abbrev pub form_of : Wish → Bool → Form
+form_of w close = record { is_head = w.is_head; closes = close }
+
+-- the answer's bytes to what a caller wishes who may, on her view
+abbrev pub served_to : Option ℕ → View → Form → What → List ℕ
+served_to u V form NoRoute = refusal_text refused.NoRoute form
+served_to u V form (WrongMethod place) = refusal_text (refused.WrongMethod place) form
+served_to u V form (BadBody ask) = refusal_text refused.BadBody form
+served_to u V form (Command command) = reply_text (reply_of (judge u V command)) form
+served_to u V form (Query query) = reply_text (answer u V query) form
 
 -- the answer's bytes to what a caller wishes: whoever can't be told from nobody is answered one and the same, where a
 -- login is wanted
-abbrev pub told_to : Option ℕ → View → Bool → Bool → What → List ℕ
-told_to u V head close what = if is_unauthorized u what then refusal_text refused.Unauthorized head close else served_to u V head close what
+abbrev pub told_to : Option ℕ → View → Form → What → List ℕ
+told_to u V form what = if is_unauthorized u what then refusal_text refused.Unauthorized form else served_to u V form what
 
 -- Told: the answer's bytes to a wish, computed from its caller's view
 unfoldable pub told : History → Wish → Bool → List ℕ
-told H w close = told_to (caller H w) (view (caller H w) H) w.is_head close w.what
+told H w close = told_to (caller H w) (view (caller H w) H) (form_of w close) w.what
 
 -- the answer's bytes where what the wish adds was not kept
 unfoldable pub unkept : Wish → Bool → List ℕ
-unkept w close = refusal_text refused.KeeperFault w.is_head close
+unkept w close = refusal_text refused.KeeperFault (form_of w close)
 
 -- ---- what is added
 

@@ -9,6 +9,7 @@ use Rattle.cr_policy.specs.Judge.{judge, answer}
 use Rattle.cr_policy.specs.View.{View, view}
 use Rattle.cr_base.specs.History.{History}
 use Rattle.cr_ports.specs.Count.{Rises}
+use Rattle.cr_print.specs.declared.form.Form.{Form}
 use Rattle.cr_print.specs.declared.refused.Refused.TheVariants as refused
 use Rattle.cr_print.specs.Answers.{IsBrief, refusal_text, receipt_text, reply_text}
 use Rattle.cr_wire.specs.declared.what.What.{What}
@@ -19,7 +20,7 @@ use Rattle.cr_session.specs.declared.turn.Turn.{Turn}
 use Rattle.cr_session.specs.declared.turn.Turn.TheVariants as turns
 use Rattle.cr_session.specs.declared.serve.Served.{Served}
 use Rattle.cr_session.specs.declared.serve.Served.TheVariants as served
-use Rattle.cr_session.specs.Told.{told, is_unauthorized, drawn, step}
+use Rattle.cr_session.specs.Told.{form_of, told, is_unauthorized, drawn, step}
 use Rattle.cr_session.specs.Replay.{Judged, Ledger, Turned, CountsLoss, answer_to}
 use Rattle.cr_session.specs.Writing.{Outlet, Writes, BreaksOff}
 use Rattle.cr_wire.specs.Wishes.{closes}
@@ -27,12 +28,12 @@ use Rattle.cr_wire.specs.Wishes.{closes}
 -- ---- one turn
 
 -- the answer's bytes by what the turn came to
-abbrev pub turn_text : Turn → Bool → Bool → List ℕ
-turn_text (turns.Refused refused) head close = refusal_text refused head close
-turn_text (turns.Accepted receipt) head close = receipt_text receipt head close
-turn_text (turns.Answered reply) head close = reply_text reply head close
-turn_text turns.Lost head close = refusal_text refused.KeeperFault head close
-turn_text turns.OutOfMemory head close = []
+abbrev pub turn_text : Turn → Form → List ℕ
+turn_text (turns.Refused refused) form = refusal_text refused form
+turn_text (turns.Accepted receipt) form = receipt_text receipt form
+turn_text (turns.Answered reply) form = reply_text reply form
+turn_text turns.Lost form = refusal_text refused.KeeperFault form
+turn_text turns.OutOfMemory form = []
 
 -- memory may be wanting in the turn of what a caller wishes on her view: for a command that Judge accepts, and for a query
 -- that Answer doesn't refuse
@@ -52,7 +53,7 @@ MayWantMemory H w = MayWantFor (caller H w) (view (caller H w) H) w.what
 
 -- a wish was judged or answered: its answer is Told's, the history is stepped on, and the keeper's count stands
 pub record Answers (turn : Turn) (w : Wish) (b b' : Ledger) : Type 0 where
-  pub told_is : (close : Bool) → turn_text turn w.is_head close ≡ told b.history w close
+  pub told_is : (close : Bool) → turn_text turn (form_of w close) ≡ told b.history w close
   pub stepped : b'.history ≡ step b.history w
   pub steady : b'.faults ≡ b.faults
 

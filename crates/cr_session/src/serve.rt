@@ -14,7 +14,7 @@ use crate::writing::write_reply;
 use cr_book::Book;
 use cr_http::Refusal;
 use cr_ports::{Keeper, Sink, Source};
-use cr_print::{ANSWER_ROOM, Refused, no_memory_text, print_refusal};
+use cr_print::{ANSWER_ROOM, Form, Refused, no_memory_text, print_refusal};
 use cr_wire::Wish;
 use std::alloc::Global;
 
@@ -82,12 +82,16 @@ fn serve_request<K: Keeper, O: Sink>(
     ensures room { 512 ≤ vec_capacity reply.new }
 {
     let close = closes(wish, number);
+    let form = Form {
+        is_head: wish.is_head,
+        closes: close,
+    };
     reply.clear();
     let turn = take_turn(book, wish);
     if let Turn::OutOfMemory = turn {
         return Served::OutOfMemory;
     }
-    match print_turn(reply, &turn, wish.is_head, close) {
+    match print_turn(reply, &turn, form) {
         Ok(()) => send(sink, reply, close),
         Err(_) => Served::OutOfMemory,
     }
@@ -111,7 +115,11 @@ fn refuse<O: Sink>(sink: &mut O, reply: &mut Vec<u8>, why: Refusal, to_head: boo
     ensures room { 512 ≤ vec_capacity reply.new }
 {
     reply.clear();
-    print_refusal(reply, Refused::Closing(why), to_head, true);
+    let form = Form {
+        is_head: to_head,
+        closes: true,
+    };
+    print_refusal(reply, Refused::Closing(why), form);
     match write_reply(sink, reply) {
         Ok(()) => Ending::Closed(Why::Refused(why)),
         Err(_) => Ending::WriteFault,

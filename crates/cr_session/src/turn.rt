@@ -12,7 +12,7 @@ ghost use Rattle.cr_session.specs.Turning.{Turns, JudgesCommand, AnswersQuery, t
 use cr_base::{Command, Query, Receipt, Reply, UserNo};
 use cr_book::{Book, BookError};
 use cr_ports::Keeper;
-use cr_print::{Refused, print_receipt, print_refusal, print_reply};
+use cr_print::{Form, Refused, print_receipt, print_refusal, print_reply};
 use cr_wire::{What, Wish};
 use std::alloc::AllocError;
 
@@ -99,23 +99,18 @@ fn answer<K: Keeper>(book: &Book<K>, caller: &Option<UserNo>, query: &Query) -> 
 
 /// Appends the answer to what a turn came to: only a query's answer may want more memory than the room
 /// that was made before, and none of those that are bounded. The room never gets smaller.
-pub(crate) fn print_turn(
-    reply: &mut Vec<u8>,
-    turn: &Turn,
-    is_head: bool,
-    closes: bool,
-) -> Result<(), AllocError>
+pub(crate) fn print_turn(reply: &mut Vec<u8>, turn: &Turn, form: Form) -> Result<(), AllocError>
     requires empty { reply.old.items ≡ [] }
     requires room { HasRoom reply.old 512 }
-    ensures ok { OnOk result (reply.new.items ≡ turn_text turn.now is_head closes) }
+    ensures ok { OnOk result (reply.new.items ≡ turn_text turn.now form) }
     ensures err { OnErr result (MayWantToPrint turn.now) }
     ensures kept { vec_capacity reply.old ≤ vec_capacity reply.new }
 {
     match turn {
-        Turn::Refused(refused) => print_refusal(reply, *refused, is_head, closes),
-        Turn::Accepted(receipt) => print_receipt(reply, receipt, is_head, closes),
-        Turn::Answered(answer) => return print_reply(reply, answer, is_head, closes),
-        Turn::Lost => print_refusal(reply, Refused::KeeperFault, is_head, closes),
+        Turn::Refused(refused) => print_refusal(reply, *refused, form),
+        Turn::Accepted(receipt) => print_receipt(reply, receipt, form),
+        Turn::Answered(answer) => return print_reply(reply, answer, form),
+        Turn::Lost => print_refusal(reply, Refused::KeeperFault, form),
         Turn::OutOfMemory => {}
     }
     Ok(())

@@ -1,10 +1,14 @@
+use Rattle.std.proofs.Common.{arith}
 use Rattle.json.specs.Print.{escape_byte}
-use Rattle.cr_print.proofs.Lists.{written_one, written_all}
+use Rattle.cr_print.proofs.Lists.{written_range}
 use Rattle.cr_print.proofs.quoted.append_escaped.Goals as goal
 
-pub loop-byte-preserved : goal.loop-byte-preserved
-loop-byte-preserved c =
-    written_one escape_byte _ _ _ _ _ _ c.loop-byte-test.true c.loop-byte.invariant (rw (c.as_slice.ensures.value, c.escaped.ensures) at c.in_ok-append.ensures)
-
-pub returns : goal.returns
-returns c = written_all escape_byte _ _ _ _ c.loop-byte-test.false c.loop-byte.invariant
+pub runs-preserved : goal.runs-preserved
+runs-preserved c = record {
+  within = c.in_ok-at.ensures.within;
+  written = written_range escape_byte _ _ _ _ _ _ (omega (arith, c.in_ok-at.ensures.after)) c.runs.invariant.written c.in_ok-at.ensures.puts.items;
+  grows = record {
+    within = omega (arith, c.in_ok-at.ensures.after, c.in_ok-at.ensures.puts.within);
+    capacity = omega (arith, c.in_ok-at.ensures.puts.capacity);
+  };
+}
