@@ -1,16 +1,20 @@
 -- What is there after a pair was switched on or off, who the authors of a paper are, and which papers have ties.
-use Rattle.std.proofs.Common.{ℕ, Bool, true, false, cond, ◌≡◌, ◌≤◌, ◌+◌, List, [], ◌∷◌, ◌++◌, eqb, refl, sym, ap, subst, ◌∙◌, arith, ◌||◌, ◌&&◌, Some}
+use Rattle.std.proofs.Common.{ℕ, Bool, true, false, cond, ◌≡◌, ◌≤◌, ◌+◌, List, [], ◌∷◌, ◌++◌, length, length-append, eqb, refl, sym, ap, subst, ◌∙◌, arith, ◌||◌, ◌&&◌, Some}
 use Rattle.std.specs.Prelude.{nat_le, nat_lt, not, map}
 use Rattle.std.specs.Cmp.Derive.{both_true}
 use Rattle.std.specs.List.{list_any, list_all}
 use Rattle.std.proofs.lemmas.Bool.{and_parts}
 use Rattle.std.proofs.lemmas.Bool.Decides.{nat_tests}
+use Rattle.cr_base.specs.declared.entry.Entry.{Entry}
+use Rattle.cr_base.specs.declared.entry.Entry.TheVariants.{Submitted, Conflict}
 use Rattle.cr_base.specs.declared.pairs.Order.TheVariants.{ByPaper}
 use Rattle.cr_base.specs.declared.pairs.Pair.{Pair}
 use Rattle.cr_base.specs.declared.pairs.Tie.{Tie}
-use Rattle.cr_base.specs.Lists.{given, is_number}
+use Rattle.cr_base.specs.declared.paper.Paper.{Paper}
+use Rattle.cr_base.specs.Lists.{given}
 use Rattle.cr_base.specs.Pairs.{same_pair, is_tied, with_tie, has_pair, ties_of, users_of}
-use Rattle.cr_base.specs.Ties.{BareTies, pair_of, bare_tie, switched, are_before, are_within}
+use Rattle.cr_base.specs.Papers.{PapersState, papers_after, paper_count, PapersFit}
+use Rattle.cr_base.specs.Ties.{BareTies, TiesState, pair_of, bare_tie, switched, ties_after, are_before, are_within, AreWithin}
 use Rattle.cr_base.proofs.PairLaws.{same_pair-is, list_all-with_tie, list_all-filter, has_pair-with_tie, has_pair-without_pair}
 
 -- ---- pairs
@@ -56,7 +60,7 @@ all-push f [] s all one = both_true one refl
 all-push f (t ∷ ts) s all one = let parts = and_parts (f t) (list_all f ts) all in both_true parts.0 (all-push f ts s parts.1 one)
 
 -- they do among more papers
-pub within-more : (n m : ℕ) → n ≤ m → (ts : BareTies) → are_within n ts ≡ true → are_within m ts ≡ true
+within-more : (n m : ℕ) → n ≤ m → (ts : BareTies) → are_within n ts ≡ true → are_within m ts ≡ true
 within-more n m h ts all = weaker _ _ (λ t. more n m t.pair.paper h) ts all
   where
     more : (n m p : ℕ) → n ≤ m → (nat_le 1 p && nat_le p n) ≡ true → (nat_le 1 p && nat_le p m) ≡ true
@@ -69,14 +73,14 @@ within-before n paper next ts all = weaker _ _ (λ t. less n paper t.pair.paper 
     less : (n paper p : ℕ) → paper ≡ n + 1 → (nat_le 1 p && nat_le p n) ≡ true → nat_lt p paper ≡ true
     less n paper p next is = grind (arith, nat_tests)
 
-inside : (n p : ℕ) → 1 ≤ p → p ≤ n → (nat_le 1 p && nat_le p n) ≡ true
-inside n p low high = grind (arith, nat_tests)
+in_range : (n p : ℕ) → 1 ≤ p → p ≤ n → (nat_le 1 p && nat_le p n) ≡ true
+in_range n p low high = grind (arith, nat_tests)
 
-pub within-push : (n paper user : ℕ) (ts : BareTies) → 1 ≤ paper → paper ≤ n → are_within n ts ≡ true → are_within n (ts ++ bare_tie paper user ∷ []) ≡ true
-within-push n paper user ts low high all = all-push _ ts (bare_tie paper user) all (inside n paper low high)
+within-push : (n paper user : ℕ) (ts : BareTies) → 1 ≤ paper → paper ≤ n → are_within n ts ≡ true → are_within n (ts ++ bare_tie paper user ∷ []) ≡ true
+within-push n paper user ts low high all = all-push _ ts (bare_tie paper user) all (in_range n paper low high)
 
-pub within-switched : (n : ℕ) (on : Bool) (paper user : ℕ) (ts : BareTies) → 1 ≤ paper → paper ≤ n → are_within n ts ≡ true → are_within n (switched on paper user ts) ≡ true
-within-switched n true paper user ts low high all = list_all-with_tie ByPaper _ (bare_tie paper user) ts (inside n paper low high) all
+within-switched : (n : ℕ) (on : Bool) (paper user : ℕ) (ts : BareTies) → 1 ≤ paper → paper ≤ n → are_within n ts ≡ true → are_within n (switched on paper user ts) ≡ true
+within-switched n true paper user ts low high all = list_all-with_tie ByPaper _ (bare_tie paper user) ts (in_range n paper low high) all
 within-switched n false paper user ts low high all = list_all-filter ByPaper _ (λ r. not (is_tied (pair_of paper user) r)) ts all
 
 -- a pair that is there has one of the numbers
@@ -100,3 +104,21 @@ within-pair n q (t ∷ ts) all there =
         let e : t.pair ≡ q = sym (same_pair-is q t.pair same) in
         subst (λ (x : Pair). (1 ≤ x.paper) × (x.paper ≤ n)) e (low t.pair.paper n first, high t.pair.paper n first)
     by false same h rest = rest h
+
+-- where each entry fits, the papers that have ties are there
+pub within-after : (state : PapersState) (ties : TiesState) (maker : ℕ) (e : Entry) → PapersFit state maker e → AreWithin (paper_count state) ties → AreWithin (paper_count (papers_after state maker e)) (ties_after ties maker e)
+within-after state ties maker (Submitted paper title abstract) fits within =
+    let made : Paper = record { title = title; abstract_ = abstract } in
+    let before : ℕ = paper_count state in
+    let now : ℕ = paper_count (papers_after state maker (Submitted paper title abstract)) in
+    let n = length-append state.papers (made ∷ []) in
+    let next = fits.0 in
+    record {
+      authors = within-push now paper maker ties.authors (omega (arith, next)) (omega (arith, n, next)) (within-more before now (omega (arith, n)) ties.authors within.authors);
+      conflicts = within-more before now (omega (arith, n)) ties.conflicts within.conflicts;
+    }
+within-after state ties maker (Conflict paper user on) fits within = record {
+  authors = within.authors;
+  conflicts = within-switched (paper_count state) on paper user ties.conflicts fits.0 fits.1 within.conflicts;
+}
+within-after state ties maker e fits within = within

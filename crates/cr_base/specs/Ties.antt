@@ -75,6 +75,11 @@ are_before paper ties = list_all (λ (t : Tie (Unit {0})). nat_lt t.pair.paper p
 abbrev pub are_within : ℕ → BareTies → Bool
 are_within n ties = list_all (λ (t : Tie (Unit {0})). nat_le 1 t.pair.paper && nat_le t.pair.paper n) ties
 
+-- each paper with an author, or with a declared conflict, has one of the first n numbers
+pub record AreWithin (n : ℕ) (ties : TiesState) : Type 0 where
+  pub authors : IsTrue (are_within n ties.authors)
+  pub conflicts : IsTrue (are_within n ties.conflicts)
+
 -- an entry fits: the paper that it makes comes behind all that have authors
 abbrev pub TiesFit : TiesState → Entry → Type 0
 TiesFit ties (Submitted paper title abstract) = IsTrue (are_before paper ties.authors)

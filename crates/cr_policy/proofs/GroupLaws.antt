@@ -20,7 +20,7 @@ use Rattle.cr_base.specs.declared.words.Role.TheVariants.{Chair}
 use Rattle.cr_base.specs.declared.words.Role.TheVariants as role
 use Rattle.cr_base.specs.Accounts.{number_at, role_at, lines_of}
 use Rattle.cr_base.specs.Papers.{paper_count, paper_numbers, own_count, PapersFit}
-use Rattle.cr_base.specs.Ties.{authors_in, are_within}
+use Rattle.cr_base.specs.Ties.{authors_in, AreWithin}
 use Rattle.cr_base.specs.Shapes.{InRange, users, papers, roles, unused}
 use Rattle.cr_base.specs.Texts.{IsName, IsTitle, IsAbstract}
 use Rattle.cr_base.specs.Words.{phase_number, mode_number, role_number, is_member}
@@ -134,17 +134,17 @@ module _ (t : Tables) (maker paper : ℕ) (title abstract : List ℕ) where
   bounded_submission : InRange users maker → InRange papers paper → IsTitle title → IsAbstract abstract → IsBoundedEntry submitted
   bounded_submission made numbered titled abstracted = record { maker = made; more = omega arith; n1 = numbered; n2 = zero_in; n3 = zero_in; n4 = zero_in; n5 = zero_in; b1 = titled; b2 = abstracted }
 
-  submission-good : InRange users maker → PapersFit t.papers maker submitted.entry → are_within (paper_count t.papers) t.ties.authors ≡ true → IsTitle title → IsAbstract abstract → IsGoodGroup t (submitted ∷ [])
+  submission-good : InRange users maker → PapersFit t.papers maker submitted.entry → AreWithin (paper_count t.papers) t.ties → IsTitle title → IsAbstract abstract → IsGoodGroup t (submitted ∷ [])
   submission-good made fits tied titled abstracted =
       let next = fits.0 in
       let few = fits.1 in
       record {
-        fits = (record { accounts = tt; papers = fits; ties = within-before (paper_count t.papers) paper next t.ties.authors tied }, tt);
+        fits = (record { accounts = tt; papers = fits; ties = within-before (paper_count t.papers) paper next t.ties.authors tied.authors }, tt);
         bounded = All-from_recursion IsBoundedEntry (submitted ∷ []) (bounded_submission made (omega (arith, next), few) titled abstracted, tt);
         some = omega arith;
       }
 
-submit-good : (t : Tables) (user : ℕ) (title abstract : List ℕ) (drawn : Drawn) → IsTitle title → IsAbstract abstract → InRange users user → are_within (paper_count t.papers) t.ties.authors ≡ true → judge_by_role t (Some user) (Submit title abstract) ≡ Ok drawn → IsGoodGroup t drawn.group
+submit-good : (t : Tables) (user : ℕ) (title abstract : List ℕ) (drawn : Drawn) → IsTitle title → IsAbstract abstract → InRange users user → AreWithin (paper_count t.papers) t.ties → judge_by_role t (Some user) (Submit title abstract) ≡ Ok drawn → IsGoodGroup t drawn.group
 submit-good t user title abstract drawn titled abstracted made tied accepted =
     let n : ℕ = length (paper_numbers t.papers) in
     let k = judged-Ok (submit_checks (standing_at t (Some user) None) n (own_count t.papers (Some user))) (submission_drawn user (n + 1) title abstract) drawn accepted in
@@ -256,7 +256,7 @@ accepted-good t (Some user) (SetPhase to) drawn bounded maker sized accepted =
     let k = judged-Ok (phase_checks by by.phase to) (phase_drawn user to) drawn accepted in
     subst (λ (d : Drawn). IsGoodGroup t d.group) k.1 (phase-good t user to maker)
 accepted-good t None (Submit title abstract) drawn bounded maker sized accepted = absurd maker
-accepted-good t (Some user) (Submit title abstract) drawn bounded maker sized accepted = submit-good t user title abstract drawn bounded.0 bounded.1 maker sized.authors accepted
+accepted-good t (Some user) (Submit title abstract) drawn bounded maker sized accepted = submit-good t user title abstract drawn bounded.0 bounded.1 maker sized.ties accepted
 accepted-good t None (Name name role) drawn bounded maker sized accepted = absurd maker
 accepted-good t (Some user) (Name name role) drawn bounded maker sized accepted = name-good t user name role drawn maker bounded sized.accounts accepted
 accepted-good t None (SetMode to) drawn bounded maker sized accepted = absurd maker

@@ -1,24 +1,24 @@
--- Where each entry fits in its turn, the tables hold no more accounts and papers than rows can number, and authors of no
+-- Where each entry fits in its turn, the tables hold no more accounts and papers than rows can number, and ties to no
 -- others.
-use Rattle.std.proofs.Common.{ℕ, true, ◌≡◌, ◌≤◌, ◌+◌, ◌-◌, List, [], ◌∷◌, length, refl, arith, length-append}
+use Rattle.std.proofs.Common.{ℕ, ◌≡◌, ◌≤◌, ◌+◌, ◌-◌, List, [], ◌∷◌, length, refl, arith, length-append}
 use Rattle.cr_base.specs.declared.entry.Account.{Account}
 use Rattle.cr_base.specs.declared.entry.Entry.{Entry}
-use Rattle.cr_base.specs.declared.entry.Entry.TheVariants.{Registered, Named, Submitted, Conflict}
+use Rattle.cr_base.specs.declared.entry.Entry.TheVariants.{Registered, Named, Submitted}
 use Rattle.cr_base.specs.declared.paper.Paper.{Paper}
 use Rattle.cr_base.specs.declared.words.Role.TheVariants as role
 use Rattle.cr_base.specs.Accounts.{accounts_after, AccountsFit}
 use Rattle.cr_base.specs.Papers.{PapersState, papers_after, paper_count, PapersFit}
-use Rattle.cr_base.specs.Ties.{TiesState, ties_after, are_within}
+use Rattle.cr_base.specs.Ties.{AreWithin}
 use Rattle.cr_base.specs.History.{History}
 use Rattle.cr_base.specs.Tables.{Tables, no_tables, tables_after, tables_from, tables_of, FitInTurn}
 use Rattle.cr_base.proofs.AccountLaws.{length-with_role}
-use Rattle.cr_base.proofs.TieLaws.{within-more, within-push}
+use Rattle.cr_base.proofs.TieLaws.{within-after}
 
--- accounts and papers are few, and whatever has an author is one of the papers
+-- accounts and papers are few, and what users are tied to is one of the papers
 pub record IsSized (t : Tables) : Type 0 where
   pub accounts : length t.accounts ≤ 9999
   pub papers : paper_count t.papers ≤ 9999
-  pub authors : are_within (paper_count t.papers) t.ties.authors ≡ true
+  pub ties : AreWithin (paper_count t.papers) t.ties
 
 accounts-few : (accounts : List Account) (e : Entry) → AccountsFit accounts e → length accounts ≤ 9999 → length (accounts_after accounts e) ≤ 9999
 accounts-few accounts (Registered user name digest) fits h =
@@ -39,24 +39,14 @@ papers-few state maker (Submitted paper title abstract) fits h =
     omega (arith, n, next, few)
 papers-few state maker e fits h = h
 
-authors-within : (state : PapersState) (ties : TiesState) (maker : ℕ) (e : Entry) → PapersFit state maker e → are_within (paper_count state) ties.authors ≡ true → are_within (paper_count (papers_after state maker e)) (ties_after ties maker e).authors ≡ true
-authors-within state ties maker (Submitted paper title abstract) fits h =
-    let made : Paper = record { title = title; abstract_ = abstract } in
-    let now : ℕ = paper_count (papers_after state maker (Submitted paper title abstract)) in
-    let n = length-append state.papers (made ∷ []) in
-    let next = fits.0 in
-    within-push now paper maker ties.authors (omega (arith, next)) (omega (arith, n, next)) (within-more (paper_count state) now (omega (arith, n)) ties.authors h)
-authors-within state ties maker (Conflict paper user on) fits h = h
-authors-within state ties maker e fits h = h
-
 sized-from : (t : Tables) (H : History) → FitInTurn t H → IsSized t → IsSized (tables_from t H)
 sized-from t [] fits sized = sized
 sized-from t (s ∷ H) fits sized =
     sized-from (tables_after t s) H fits.1 (record {
       accounts = accounts-few t.accounts s.entry fits.0.accounts sized.accounts;
       papers = papers-few t.papers s.maker s.entry fits.0.papers sized.papers;
-      authors = authors-within t.papers t.ties s.maker s.entry fits.0.papers sized.authors;
+      ties = within-after t.papers t.ties s.maker s.entry fits.0.papers sized.ties;
     })
 
 pub sized-tables : (H : History) → FitInTurn no_tables H → IsSized (tables_of H)
-sized-tables H fits = sized-from no_tables H fits (record { accounts = omega arith; papers = omega arith; authors = refl })
+sized-tables H fits = sized-from no_tables H fits (record { accounts = omega arith; papers = omega arith; ties = record { authors = refl; conflicts = refl } })
