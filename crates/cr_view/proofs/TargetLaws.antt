@@ -1,5 +1,5 @@
 -- Namings, modes and conflicts: what they are answered, and what they draw, by reads of the tables.
-use Rattle.std.proofs.Common.{ℕ, Bool, true, false, ◌≡◌, ◌≤◌, List, [], ◌∷◌, length, refl, sym, ap, subst, ◌∙◌, cond, Option, Some, None, Result, Ok, Err}
+use Rattle.std.proofs.Common.{ℕ, Bool, true, false, ◌≡◌, ◌≤◌, List, [], ◌∷◌, length, refl, sym, ap, subst, ◌∙◌, ◌||◌, cond, Option, Some, None, Result, Ok, Err}
 use Rattle.std.specs.Prelude.{is_some, is_none, map, unwrap_or, IsSome}
 use Rattle.std.specs.List.{list_any}
 use Rattle.std.specs.Option.{option_and_then}
@@ -9,25 +9,41 @@ use Rattle.cr_base.specs.declared.command.Command.TheVariants.{Name, SetMode, Se
 use Rattle.cr_base.specs.declared.entry.Account.{Account}
 use Rattle.cr_base.specs.declared.entry.Entry.TheVariants.{Named as NamedEntry, Conflict}
 use Rattle.cr_base.specs.declared.reply.Receipt.{Receipt}
-use Rattle.cr_base.specs.declared.reply.Receipt.TheVariants.{Named, Mode, Noted}
+use Rattle.cr_base.specs.declared.reply.Receipt.TheVariants.{Phase, Named, Mode, Noted}
 use Rattle.cr_base.specs.declared.reply.Rule.{Rule}
 use Rattle.cr_base.specs.declared.standing.Standing.{Standing}
 use Rattle.cr_base.specs.declared.words.Mode.{Mode as ModeWord}
+use Rattle.cr_base.specs.declared.words.Phase.{Phase as PhaseWord}
 use Rattle.cr_base.specs.declared.words.Role.{Role}
 use Rattle.cr_base.specs.Accounts.{number_at, role_at, lines_of}
-use Rattle.cr_base.specs.Checks.{Check, judged, name_checks, mode_checks, conflict_checks}
+use Rattle.cr_base.specs.Checks.{Check, judged, phase_checks, name_checks, mode_checks, conflict_checks}
 use Rattle.cr_base.specs.History.{History}
 use Rattle.cr_base.specs.Judging.{Drawn, grouped, naming_drawn, mode_drawn, conflict_drawn, name_judged, conflict_judged, user_among, has_paper, maker_of, standing_at, facts_of_tables, shown_in_tables, judge_by_role}
 use Rattle.cr_base.specs.Lists.{at_some, is_number}
 use Rattle.cr_base.specs.Papers.{paper_count}
 use Rattle.cr_base.specs.Tables.{Tables, FitInTurn}
-use Rattle.cr_base.specs.Ties.{is_author_in}
+use Rattle.cr_base.specs.Ties.{TiesState, authors_in, is_author_in, is_conflicted_in}
 use Rattle.cr_base.proofs.AccountLaws.{number_in-lines_of}
 use Rattle.cr_base.proofs.ListLaws.{role_among-lines_of}
 use Rattle.cr_base.proofs.TargetLaws.{target_within, paper_within}
 use Rattle.cr_view.specs.Judged.{receipt_or_rule, receipted, TellsNote}
 use Rattle.cr_view.specs.Targets.{target_at}
 use Rattle.cr_view.proofs.JudgeLaws.{along, answered, accepted, drawn-accepted}
+
+-- ---- nobody
+
+nobody : (users : List ℕ) → list_any (is_number None) users ≡ false
+nobody [] = refl
+nobody (v ∷ users) = nobody users
+
+-- nobody is an author, nor in conflict
+pub nobody-author : (ties : TiesState) (user paper : Option ℕ) → user ≡ None → false ≡ at_some (is_author_in ties user) paper
+nobody-author ties user None is = refl
+nobody-author ties user (Some p) is = sym (ap (λ (u : Option ℕ). is_author_in ties u p) is ∙ nobody (authors_in ties p))
+
+pub nobody-conflicted : (ties : TiesState) (user paper : Option ℕ) → user ≡ None → false ≡ at_some (is_conflicted_in ties user) paper
+nobody-conflicted ties user None is = refl
+nobody-conflicted ties user (Some p) is = sym (ap (λ (u : Option ℕ). is_conflicted_in ties u p) is ∙ ap (λ b. b || false) (nobody (authors_in ties p)))
 
 -- ---- the user named
 
@@ -95,6 +111,16 @@ receipted-judged (check ∷ checks) receipt = by check.broken (receipted-judged 
     by : (b : Bool) → receipted receipt (judged checks tt) ≡ judged checks receipt → receipted receipt (cond b (Err check.rule) (judged checks tt)) ≡ cond b (Err check.rule) (judged checks receipt)
     by true h = refl
     by false h = h
+
+-- a change of the phase's
+pub phase-told : (t : Tables) (caller : Option ℕ) (to : PhaseWord) (by : Standing) (kept : Result (Unit {0}) Rule) (answer : Result Receipt Rule)
+    → by ≡ standing_at t caller None → kept ≡ judged (phase_checks by t.stage.phase to) tt → answer ≡ receipted (Phase to) kept
+    → answer ≡ judged (phase_checks (standing_at t caller None) t.stage.phase to) (Phase to)
+phase-told t caller to by kept answer stands judges told =
+    told
+    ∙ ap (receipted (Phase to)) judges
+    ∙ receipted-judged (phase_checks by t.stage.phase to) (Phase to)
+    ∙ ap (λ (s : Standing). judged (phase_checks s t.stage.phase to) (Phase to)) stands
 
 -- a naming's, where there is a name
 pub named-told : (t : Tables) (caller : Option ℕ) (name : Option (List ℕ)) (given_name : List ℕ) (role : Role) (by : Standing) (target : Option ℕ) (kept : Result (Unit {0}) Rule) (answer : Result Receipt Rule)

@@ -50,8 +50,8 @@ impl Live {
         ensures { result ≡ judged (phase_checks (standing_at self.now.tables caller.now None) self.now.tables.stage.phase to) (receipts.Phase to) }
     {
         let by = self.standing(caller, &None);
-        self.stage.judge_phase(&by, to)?;
-        Ok(Receipt::Phase { phase: to })
+        let kept = self.stage.judge_phase(&by, to);
+        receipted(Receipt::Phase { phase: to }, kept)
     }
 
     fn judge_submission(&self, maker: UserNo) -> Result<Receipt, Rule>

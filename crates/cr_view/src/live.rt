@@ -129,9 +129,12 @@ impl Live {
     fn is_author(&self, user: &Option<UserNo>, paper: &Option<PaperNo>) -> bool
         ensures { result ≡ at_some (is_author_in self.now.tables.ties user.now) paper.now }
     {
-        match (user, paper) {
-            (Some(user), Some(paper)) => self.ties.is_author(*user, *paper),
-            (None, _) | (_, None) => false,
+        let Some(user) = user else {
+            return false;
+        };
+        match paper {
+            Some(paper) => self.ties.is_author(*user, *paper),
+            None => false,
         }
     }
 
@@ -139,9 +142,12 @@ impl Live {
     fn is_conflicted(&self, user: &Option<UserNo>, paper: &Option<PaperNo>) -> bool
         ensures { result ≡ at_some (is_conflicted_in self.now.tables.ties user.now) paper.now }
     {
-        match (user, paper) {
-            (Some(user), Some(paper)) => self.ties.is_conflicted(*user, *paper),
-            (None, _) | (_, None) => false,
+        let Some(user) = user else {
+            return false;
+        };
+        match paper {
+            Some(paper) => self.ties.is_conflicted(*user, *paper),
+            None => false,
         }
     }
 
