@@ -1,107 +1,115 @@
--- What is there after a pair came into a list or went out of it, and that the order stays.
+-- What is there after a tie came into a list or a pair went out of it, and that the order stays.
 use Rattle.std.proofs.Common.{ℕ, Bool, true, false, cond, not, ◌||◌, ◌&&◌, ◌≡◌, List, [], ◌∷◌, map, eqb, refl, sym, ap, ◌∙◌, arith}
 use Rattle.std.specs.Cmp.Derive.{both_true}
 use Rattle.std.specs.List.{filter, list_any, list_all}
 use Rattle.std.proofs.lemmas.Bool.{and_parts}
 use Rattle.std.proofs.lemmas.Bool.Decides.{nat_tests}
+use Rattle.cr_base.specs.declared.pairs.Order.{Order}
+use Rattle.cr_base.specs.declared.pairs.Order.TheVariants.{ByPaper, ByUser}
 use Rattle.cr_base.specs.declared.pairs.Pair.{Pair}
-use Rattle.cr_base.specs.Pairs.{same_pair, comes_before, IsAscending, with_pair, without_pair, has_pair, pairs_of, seconds_of}
+use Rattle.cr_base.specs.declared.pairs.Tie.{Tie}
+use Rattle.cr_base.specs.Pairs.{same_pair, leads, follows, paired, comes_before, is_tied, stands, IsAscending, with_tie, without_pair, has_pair, ties_of, others_of}
 
 -- ---- two pairs
 
 -- pairs with the same numbers are equal
 pub same_pair-is : (p q : Pair) → same_pair p q ≡ true → p ≡ q
 same_pair-is p q h =
-    let firsts : p.first ≡ q.first = grind (arith, nat_tests) in
-    let seconds : p.second ≡ q.second = grind (arith, nat_tests) in
-    ap (λ (n : ℕ). let r : Pair = record { first = n; second = p.second } in r) firsts
-    ∙ ap (λ (n : ℕ). let r : Pair = record { first = q.first; second = n } in r) seconds
+    let papers : p.paper ≡ q.paper = grind (arith, nat_tests) in
+    let users : p.user ≡ q.user = grind (arith, nat_tests) in
+    ap (λ (n : ℕ). let r : Pair = record { paper = n; user = p.user } in r) papers
+    ∙ ap (λ (n : ℕ). let r : Pair = record { paper = q.paper; user = n } in r) users
 
 pub same_pair-refl : (p : Pair) → same_pair p p ≡ true
 same_pair-refl p = grind (arith, nat_tests)
 
 -- of two pairs that aren't the same, one comes before the other
-pub comes_before-other : (p q : Pair) → same_pair p q ≡ false → comes_before p q ≡ false → comes_before q p ≡ true
-comes_before-other p q same before = grind (arith, nat_tests)
+pub comes_before-other : (order : Order) (p q : Pair) → same_pair p q ≡ false → comes_before order p q ≡ false → comes_before order q p ≡ true
+comes_before-other ByPaper p q same before = grind (arith, nat_tests)
+comes_before-other ByUser p q same before = grind (arith, nat_tests)
 
-pub comes_before-trans : (p q r : Pair) → comes_before p q ≡ true → comes_before q r ≡ true → comes_before p r ≡ true
-comes_before-trans p q r pq qr = grind (arith, nat_tests)
+pub comes_before-trans : (order : Order) (p q r : Pair) → comes_before order p q ≡ true → comes_before order q r ≡ true → comes_before order p r ≡ true
+comes_before-trans ByPaper p q r pq qr = grind (arith, nat_tests)
+comes_before-trans ByUser p q r pq qr = grind (arith, nat_tests)
 
 -- a pair that comes before another isn't the same
-pub comes_before-not_same : (p q : Pair) → comes_before p q ≡ true → same_pair p q ≡ false
-comes_before-not_same p q h = grind (arith, nat_tests)
+pub comes_before-not_same : (order : Order) (p q : Pair) → comes_before order p q ≡ true → same_pair p q ≡ false
+comes_before-not_same ByPaper p q h = grind (arith, nat_tests)
+comes_before-not_same ByUser p q h = grind (arith, nat_tests)
 
--- ---- tests on lists
-
--- what is true of the pairs and of one more is true where that one came in
-list_all-with_pair : (test : Pair → Bool) (q : Pair) (ps : List Pair) → test q ≡ true → list_all test ps ≡ true → list_all test (with_pair q ps) ≡ true
-list_all-with_pair test q [] one all = both_true one refl
-list_all-with_pair test q (p ∷ ps) one all =
-    let parts = and_parts (test p) (list_all test ps) all in
-    by (same_pair q p) (comes_before q p) (both_true parts.0 (list_all-with_pair test q ps one parts.1))
+-- pairs of numbers are the same where both numbers are
+pub same_pair-paired : (order : Order) (n m : ℕ) (q : Pair) → same_pair (paired order n m) q ≡ (eqb n (leads order q) && eqb m (follows order q))
+same_pair-paired ByPaper n m q = refl
+same_pair-paired ByUser n m q = turned (eqb m q.paper) (eqb n q.user)
   where
-    by : (same before : Bool) → list_all test (p ∷ with_pair q ps) ≡ true → list_all test (cond same (p ∷ ps) (cond before (q ∷ p ∷ ps) (p ∷ with_pair q ps))) ≡ true
-    by true before h = all
-    by false true h = both_true one all
-    by false false h = h
+    turned : (a b : Bool) → (a && b) ≡ (b && a)
+    turned true true = refl
+    turned true false = refl
+    turned false true = refl
+    turned false false = refl
 
--- what is true of the pairs is true of those that stay
-list_all-filter : (test stays : Pair → Bool) (ps : List Pair) → list_all test ps ≡ true → list_all test (filter stays ps) ≡ true
-list_all-filter test stays [] all = refl
-list_all-filter test stays (p ∷ ps) all =
-    let parts = and_parts (test p) (list_all test ps) all in
-    by (stays p) parts.0 (list_all-filter test stays ps parts.1)
-  where
-    by : (b : Bool) → test p ≡ true → list_all test (filter stays ps) ≡ true → list_all test (cond b (p ∷ filter stays ps) (filter stays ps)) ≡ true
-    by true one rest = both_true one rest
-    by false one rest = rest
+module _ {V : Type 0} (order : Order) where
+  -- ---- tests on lists
 
--- what comes before a pair comes before all that it comes before
-pub all_behind : (p q : Pair) (ps : List Pair) → comes_before p q ≡ true → list_all (comes_before q) ps ≡ true → list_all (comes_before p) ps ≡ true
-all_behind p q [] h all = refl
-all_behind p q (r ∷ ps) h all =
-    let parts = and_parts (comes_before q r) (list_all (comes_before q) ps) all in
-    both_true (comes_before-trans p q r h parts.0) (all_behind p q ps h parts.1)
+  -- what is true of the ties and of one more is true where that one came in
+  pub list_all-with_tie : (test : Tie V → Bool) (s : Tie V) (ts : List (Tie V)) → test s ≡ true → list_all test ts ≡ true → list_all test (with_tie order s ts) ≡ true
+  list_all-with_tie test s [] one all = both_true one refl
+  list_all-with_tie test s (t ∷ ts) one all =
+      let parts = and_parts (test t) (list_all test ts) all in
+      by (is_tied s.pair t) (stands (comes_before order) s.pair t) (both_true parts.0 (list_all-with_tie test s ts one parts.1)) (both_true one parts.1)
+    where
+      by : (same before : Bool) → list_all test (t ∷ with_tie order s ts) ≡ true → list_all test (s ∷ ts) ≡ true → list_all test (cond same (s ∷ ts) (cond before (s ∷ t ∷ ts) (t ∷ with_tie order s ts))) ≡ true
+      by true before h k = k
+      by false true h k = both_true one all
+      by false false h k = h
 
--- ---- the order stays
+  -- what is true of the ties is true of those that stay
+  pub list_all-filter : (test stays : Tie V → Bool) (ts : List (Tie V)) → list_all test ts ≡ true → list_all test (filter stays ts) ≡ true
+  list_all-filter test stays [] all = refl
+  list_all-filter test stays (t ∷ ts) all =
+      let parts = and_parts (test t) (list_all test ts) all in
+      by (stays t) parts.0 (list_all-filter test stays ts parts.1)
+    where
+      by : (b : Bool) → test t ≡ true → list_all test (filter stays ts) ≡ true → list_all test (cond b (t ∷ filter stays ts) (filter stays ts)) ≡ true
+      by true one rest = both_true one rest
+      by false one rest = rest
 
-pub IsAscending-with_pair : (q : Pair) (ps : List Pair) → IsAscending ps → IsAscending (with_pair q ps)
-IsAscending-with_pair q [] h = (refl, tt)
-IsAscending-with_pair q (p ∷ ps) h = by (same_pair q p) (comes_before q p) refl refl (IsAscending-with_pair q ps h.1)
-  where
-    by : (same before : Bool) → same_pair q p ≡ same → comes_before q p ≡ before → IsAscending (with_pair q ps) → IsAscending (cond same (p ∷ ps) (cond before (q ∷ p ∷ ps) (p ∷ with_pair q ps)))
-    by true before is comes rest = h
-    by false true is comes rest = (both_true comes (all_behind q p ps comes h.0), h)
-    by false false is comes rest = (list_all-with_pair (comes_before p) q ps (comes_before-other q p is comes) h.0, rest)
+  -- what comes before a pair comes before all that it comes before
+  pub all_behind : (p q : Pair) (ts : List (Tie V)) → comes_before order p q ≡ true → list_all (stands (comes_before order) q) ts ≡ true → list_all (stands (comes_before order) p) ts ≡ true
+  all_behind p q [] h all = refl
+  all_behind p q (t ∷ ts) h all =
+      let parts = and_parts (stands (comes_before order) q t) (list_all (stands (comes_before order) q) ts) all in
+      both_true (comes_before-trans order p q t.pair h parts.0) (all_behind p q ts h parts.1)
 
-pub IsAscending-without_pair : (q : Pair) (ps : List Pair) → IsAscending ps → IsAscending (without_pair q ps)
-IsAscending-without_pair q [] h = tt
-IsAscending-without_pair q (p ∷ ps) h = by (same_pair q p) (IsAscending-without_pair q ps h.1)
-  where
-    by : (same : Bool) → IsAscending (without_pair q ps) → IsAscending (cond (not same) (p ∷ without_pair q ps) (without_pair q ps))
-    by true rest = rest
-    by false rest = (list_all-filter (comes_before p) (λ r. not (same_pair q r)) ps h.0, rest)
+  -- ---- the order stays
+
+  pub IsAscending-with_tie : (s : Tie V) (ts : List (Tie V)) → IsAscending order ts → IsAscending order (with_tie order s ts)
+  IsAscending-with_tie s [] h = (refl, tt)
+  IsAscending-with_tie s (t ∷ ts) h = by (is_tied s.pair t) (stands (comes_before order) s.pair t) refl refl (IsAscending-with_tie s ts h.1)
+    where
+      by : (same before : Bool) → is_tied s.pair t ≡ same → stands (comes_before order) s.pair t ≡ before → IsAscending order (with_tie order s ts) → IsAscending order (cond same (s ∷ ts) (cond before (s ∷ t ∷ ts) (t ∷ with_tie order s ts)))
+      by true before is comes rest = (ap (λ (p : Pair). list_all (stands (comes_before order) p) ts) (same_pair-is s.pair t.pair is) ∙ h.0, h.1)
+      by false true is comes rest = (both_true comes (all_behind s.pair t.pair ts comes h.0), h)
+      by false false is comes rest = (list_all-with_tie (stands (comes_before order) t.pair) s ts (comes_before-other order s.pair t.pair is comes) h.0, rest)
+
+  pub IsAscending-without_pair : (q : Pair) (ts : List (Tie V)) → IsAscending order ts → IsAscending order (without_pair q ts)
+  IsAscending-without_pair q [] h = tt
+  IsAscending-without_pair q (t ∷ ts) h = by (is_tied q t) (IsAscending-without_pair q ts h.1)
+    where
+      by : (same : Bool) → IsAscending order (without_pair q ts) → IsAscending order (cond (not same) (t ∷ without_pair q ts) (without_pair q ts))
+      by true rest = rest
+      by false rest = (list_all-filter (stands (comes_before order) t.pair) (λ r. not (is_tied q r)) ts h.0, rest)
 
 -- ---- what is there
 
-or_twice : (a b : Bool) → (a || b) ≡ (a || (a || b))
-or_twice true b = refl
-or_twice false b = refl
+or_twice : (a b c : Bool) → a ≡ c → (a || b) ≡ (a || (c || b))
+or_twice true b c h = refl
+or_twice false b c h = ap (λ (x : Bool). x || b) h
 
 or_swap : (a b c : Bool) → (a || (b || c)) ≡ (b || (a || c))
 or_swap true true c = refl
 or_swap true false c = refl
 or_swap false b c = refl
-
--- a pair came in: it is there, and every other pair is there as before
-pub has_pair-with_pair : (q r : Pair) (ps : List Pair) → has_pair q (with_pair r ps) ≡ (same_pair q r || has_pair q ps)
-has_pair-with_pair q r [] = refl
-has_pair-with_pair q r (p ∷ ps) = by (same_pair r p) (comes_before r p) refl (has_pair-with_pair q r ps)
-  where
-    by : (same before : Bool) → same_pair r p ≡ same → has_pair q (with_pair r ps) ≡ (same_pair q r || has_pair q ps) → has_pair q (cond same (p ∷ ps) (cond before (r ∷ p ∷ ps) (p ∷ with_pair r ps))) ≡ (same_pair q r || has_pair q (p ∷ ps))
-    by true before is rest = or_twice (same_pair q p) (has_pair q ps) ∙ ap (λ (x : Pair). same_pair q x || has_pair q (p ∷ ps)) (sym (same_pair-is r p is))
-    by false true is rest = refl
-    by false false is rest = ap (λ b. same_pair q p || b) rest ∙ or_swap (same_pair q p) (same_pair q r) (has_pair q ps)
 
 not_both : (q r p : Pair) → same_pair r p ≡ false → (same_pair q p && same_pair q r) ≡ false
 not_both q r p h = grind (arith, nat_tests)
@@ -115,24 +123,39 @@ kept true true b h = absurd (cc)
 kept true false b h = refl
 kept false c b h = refl
 
--- a pair went out: it isn't there, and every other pair is there as before
-pub has_pair-without_pair : (q r : Pair) (ps : List Pair) → has_pair q (without_pair r ps) ≡ (not (same_pair q r) && has_pair q ps)
-has_pair-without_pair q r [] = none (same_pair q r)
-  where
-    none : (a : Bool) → false ≡ (not a && false)
-    none true = refl
-    none false = refl
-has_pair-without_pair q r (p ∷ ps) = by (same_pair r p) refl (has_pair-without_pair q r ps)
-  where
-    by : (same : Bool) → same_pair r p ≡ same → has_pair q (without_pair r ps) ≡ (not (same_pair q r) && has_pair q ps) → has_pair q (cond (not same) (p ∷ without_pair r ps) (without_pair r ps)) ≡ (not (same_pair q r) && has_pair q (p ∷ ps))
-    by true is rest = rest ∙ gone (same_pair q r) (has_pair q ps) ∙ ap (λ (x : Pair). not (same_pair q r) && (same_pair q x || has_pair q ps)) (same_pair-is r p is)
-    by false is rest = ap (λ b. same_pair q p || b) rest ∙ kept (same_pair q p) (same_pair q r) (has_pair q ps) (not_both q r p is)
+module _ {V : Type 0} where
+  -- a tie came in: its pair is there, and every other pair is there as before
+  pub has_pair-with_tie : (order : Order) (q : Pair) (s : Tie V) (ts : List (Tie V)) → has_pair q (with_tie order s ts) ≡ (same_pair q s.pair || has_pair q ts)
+  has_pair-with_tie order q s [] = refl
+  has_pair-with_tie order q s (t ∷ ts) = by (is_tied s.pair t) (stands (comes_before order) s.pair t) refl (has_pair-with_tie order q s ts)
+    where
+      by : (same before : Bool) → is_tied s.pair t ≡ same → has_pair q (with_tie order s ts) ≡ (same_pair q s.pair || has_pair q ts) → has_pair q (cond same (s ∷ ts) (cond before (s ∷ t ∷ ts) (t ∷ with_tie order s ts))) ≡ (same_pair q s.pair || has_pair q (t ∷ ts))
+      by true before is rest = or_twice (same_pair q s.pair) (has_pair q ts) (same_pair q t.pair) (ap (same_pair q) (same_pair-is s.pair t.pair is))
+      by false true is rest = refl
+      by false false is rest = ap (λ b. is_tied q t || b) rest ∙ or_swap (is_tied q t) (same_pair q s.pair) (has_pair q ts)
 
--- a number is among the seconds of another where the two are a pair that is there
-pub list_any-seconds_of : (q : Pair) (ps : List Pair) → list_any (λ n. eqb q.second n) (seconds_of q.first ps) ≡ has_pair q ps
-list_any-seconds_of q [] = refl
-list_any-seconds_of q (p ∷ ps) = by (eqb q.first p.first) (list_any-seconds_of q ps)
-  where
-    by : (same : Bool) → list_any (λ n. eqb q.second n) (seconds_of q.first ps) ≡ has_pair q ps → list_any (λ n. eqb q.second n) (map (λ (x : Pair). x.second) (cond same (p ∷ pairs_of q.first ps) (pairs_of q.first ps))) ≡ ((same && eqb q.second p.second) || has_pair q ps)
-    by true rest = ap (λ b. eqb q.second p.second || b) rest
-    by false rest = rest
+  -- a pair went out: it isn't there, and every other pair is there as before
+  pub has_pair-without_pair : (q r : Pair) (ts : List (Tie V)) → has_pair q (without_pair r ts) ≡ (not (same_pair q r) && has_pair q ts)
+  has_pair-without_pair q r [] = none (same_pair q r)
+    where
+      none : (a : Bool) → false ≡ (not a && false)
+      none true = refl
+      none false = refl
+  has_pair-without_pair q r (t ∷ ts) = by (is_tied r t) refl (has_pair-without_pair q r ts)
+    where
+      by : (same : Bool) → is_tied r t ≡ same → has_pair q (without_pair r ts) ≡ (not (same_pair q r) && has_pair q ts) → has_pair q (cond (not same) (t ∷ without_pair r ts) (without_pair r ts)) ≡ (not (same_pair q r) && has_pair q (t ∷ ts))
+      by true is rest = rest ∙ gone (same_pair q r) (has_pair q ts) ∙ ap (λ (x : Pair). not (same_pair q r) && (same_pair q x || has_pair q ts)) (same_pair-is r t.pair is)
+      by false is rest = ap (λ b. is_tied q t || b) rest ∙ kept (is_tied q t) (same_pair q r) (has_pair q ts) (not_both q r t.pair is)
+
+  -- ---- the ties of a number
+
+  -- a number is among the others of another where the pair of the two is there
+  pub list_any-others_of : (order : Order) (n m : ℕ) (ts : List (Tie V)) → list_any (λ k. eqb m k) (others_of order n ts) ≡ has_pair (paired order n m) ts
+  list_any-others_of order n m [] = refl
+  list_any-others_of order n m (t ∷ ts) =
+      by (eqb n (leads order t.pair)) (list_any-others_of order n m ts)
+      ∙ ap (λ b. b || has_pair (paired order n m) ts) (sym (same_pair-paired order n m t.pair))
+    where
+      by : (same : Bool) → list_any (λ k. eqb m k) (others_of order n ts) ≡ has_pair (paired order n m) ts → list_any (λ k. eqb m k) (map (λ (x : Tie V). follows order x.pair) (cond same (t ∷ ties_of order n ts) (ties_of order n ts))) ≡ ((same && eqb m (follows order t.pair)) || has_pair (paired order n m) ts)
+      by true rest = ap (λ b. eqb m (follows order t.pair) || b) rest
+      by false rest = rest

@@ -1,21 +1,19 @@
--- Numbers in rising order: two such lists with the same members are equal; what is in rising order; and the seconds of
--- pairs among numbered elements.
+-- Numbers in rising order: two such lists with the same members are equal; what is in rising order; and the other numbers
+-- of ties among numbered elements.
 use Rattle.std.proofs.Common.{ℕ, Bool, true, false, cond, ◌≡◌, ◌≤◌, ◌<◌, ◌+◌, ◌-◌, List, [], ◌∷◌, length, eqb, refl, sym, ap, ◌∙◌, arith, ◌||◌, ◌&&◌}
 use Rattle.std.specs.Prelude.{nat_le, nat_lt, map}
 use Rattle.std.specs.List.{filter, list_any, list_all}
 use Rattle.std.proofs.lemmas.Bool.{eqb-true, eq-eqb, and_parts, true≢false}
 use Rattle.std.proofs.lemmas.Bool.Decides.{nat_tests}
+use Rattle.cr_base.specs.declared.pairs.Order.{Order}
+use Rattle.cr_base.specs.declared.pairs.Order.TheVariants.{ByPaper, ByUser}
 use Rattle.cr_base.specs.declared.pairs.Pair.{Pair}
-use Rattle.cr_base.specs.Lists.{numbers_from}
-use Rattle.cr_base.specs.Pairs.{comes_before, IsAscending, has_pair, pairs_of, seconds_of}
+use Rattle.cr_base.specs.declared.pairs.Tie.{Tie}
+use Rattle.cr_base.specs.Lists.{IsRising, numbers_from}
+use Rattle.cr_base.specs.Pairs.{leads, follows, paired, comes_before, stands, IsSortedBy, IsAscending, has_pair, ties_of, others_of}
 use Rattle.cr_base.proofs.ListLaws.{list_any-numbers_from}
-use Rattle.cr_base.proofs.PairLaws.{list_any-seconds_of}
+use Rattle.cr_base.proofs.PairLaws.{list_any-others_of}
 use Rattle.std.proofs.lemmas.Map.Views.{any-filter_same}
-
--- each number is less than all those behind it
-abbrev pub IsRising : List ℕ → Type 0
-IsRising [] = Unit {0}
-IsRising (x ∷ xs) = (list_all (nat_lt x) xs ≡ true) × IsRising xs
 
 -- the number is in the list
 abbrev pub has_number : ℕ → List ℕ → Bool
@@ -108,29 +106,43 @@ rising-filter test (x ∷ xs) rising = by (test x) (rising-filter test xs rising
     by true rest = (above-filter x test xs rising.0, rest)
     by false rest = rest
 
--- the second numbers of ascending pairs with the same first
-above-seconds_of : (q : Pair) (first : ℕ) (ps : List Pair) → eqb first q.first ≡ true → list_all (comes_before q) ps ≡ true → list_all (nat_lt q.second) (seconds_of first ps) ≡ true
-above-seconds_of q first [] is all = refl
-above-seconds_of q first (p ∷ ps) is all =
-    let parts = and_parts (comes_before q p) (list_all (comes_before q) ps) all in
-    by (eqb first p.first) refl (above-seconds_of q first ps is parts.1) parts.0
-  where
-    by : (b : Bool) → eqb first p.first ≡ b → list_all (nat_lt q.second) (seconds_of first ps) ≡ true → comes_before q p ≡ true → list_all (nat_lt q.second) (map (λ (x : Pair). x.second) (cond b (p ∷ pairs_of first ps) (pairs_of first ps))) ≡ true
-    by true same rest before = ap (λ b. b && list_all (nat_lt q.second) (seconds_of first ps)) (less q p first is same before) ∙ rest
-      where
-        less : (q p : Pair) (first : ℕ) → eqb first q.first ≡ true → eqb first p.first ≡ true → comes_before q p ≡ true → nat_lt q.second p.second ≡ true
-        less q p first is same before = grind (arith, nat_tests)
-    by false same rest before = rest
+-- the other numbers of ties with the same number, where they rise from each tie to those behind it
+module _ {V : Type 0} (before : Pair → Pair → Bool) (order : Order) (n : ℕ) (rises : (p q : Pair) → eqb n (leads order p) ≡ true → eqb n (leads order q) ≡ true → before p q ≡ true → nat_lt (follows order p) (follows order q) ≡ true) where
+  above-others_of : (p : Pair) (ts : List (Tie V)) → eqb n (leads order p) ≡ true → list_all (stands before p) ts ≡ true → list_all (nat_lt (follows order p)) (others_of order n ts) ≡ true
+  above-others_of p [] is all = refl
+  above-others_of p (t ∷ ts) is all =
+      let parts = and_parts (stands before p t) (list_all (stands before p) ts) all in
+      by (eqb n (leads order t.pair)) refl (above-others_of p ts is parts.1) parts.0
+    where
+      by : (b : Bool) → eqb n (leads order t.pair) ≡ b → list_all (nat_lt (follows order p)) (others_of order n ts) ≡ true → stands before p t ≡ true → list_all (nat_lt (follows order p)) (map (λ (x : Tie V). follows order x.pair) (cond b (t ∷ ties_of order n ts) (ties_of order n ts))) ≡ true
+      by true same rest comes = ap (λ b. b && list_all (nat_lt (follows order p)) (others_of order n ts)) (rises p t.pair is same comes) ∙ rest
+      by false same rest comes = rest
 
-pub rising-seconds_of : (first : ℕ) (ps : List Pair) → IsAscending ps → IsRising (seconds_of first ps)
-rising-seconds_of first [] ascending = tt
-rising-seconds_of first (p ∷ ps) ascending = by (eqb first p.first) refl (rising-seconds_of first ps ascending.1)
-  where
-    by : (b : Bool) → eqb first p.first ≡ b → IsRising (seconds_of first ps) → IsRising (map (λ (x : Pair). x.second) (cond b (p ∷ pairs_of first ps) (pairs_of first ps)))
-    by true is rest = (above-seconds_of p first ps is ascending.0, rest)
-    by false is rest = rest
+  pub rising-sorted : (ts : List (Tie V)) → IsSortedBy before ts → IsRising (others_of order n ts)
+  rising-sorted [] sorted = tt
+  rising-sorted (t ∷ ts) sorted = by (eqb n (leads order t.pair)) refl (rising-sorted ts sorted.1)
+    where
+      by : (b : Bool) → eqb n (leads order t.pair) ≡ b → IsRising (others_of order n ts) → IsRising (map (λ (x : Tie V). follows order x.pair) (cond b (t ∷ ties_of order n ts) (ties_of order n ts)))
+      by true is rest = (above-others_of t.pair ts is sorted.0, rest)
+      by false is rest = rest
 
--- ---- the seconds of pairs among numbered elements
+-- those of ascending ties, in whichever of the two orders
+ascends : (stood order : Order) (n : ℕ) (p q : Pair) → eqb n (leads order p) ≡ true → eqb n (leads order q) ≡ true → comes_before stood p q ≡ true → nat_lt (follows order p) (follows order q) ≡ true
+ascends ByPaper ByPaper n p q here there before = grind (arith, nat_tests)
+ascends ByPaper ByUser n p q here there before = grind (arith, nat_tests)
+ascends ByUser ByPaper n p q here there before = grind (arith, nat_tests)
+ascends ByUser ByUser n p q here there before = grind (arith, nat_tests)
+
+pub rising-others_of : {V : Type 0} (stood order : Order) (n : ℕ) (ts : List (Tie V)) → IsAscending stood ts → IsRising (others_of order n ts)
+rising-others_of stood order n ts ascending = rising-sorted (comes_before stood) order n (ascends stood order n) ts ascending
+
+-- two rising lists of others are the same where the ties have the same pairs
+pub others_of-same : {V W : Type 0} (order : Order) (n : ℕ) (ts : List (Tie V)) (us : List (Tie W)) → IsRising (others_of order n ts) → IsRising (others_of order n us) → ((q : Pair) → has_pair q ts ≡ has_pair q us) → others_of order n ts ≡ others_of order n us
+others_of-same order n ts us rising rising' same =
+    rising-same (others_of order n ts) (others_of order n us) rising rising'
+    (λ m. list_any-others_of order n m ts ∙ same (paired order n m) ∙ sym (list_any-others_of order n m us))
+
+-- ---- the others of ties among numbered elements
 
 has_number-numbers_from : {A : Type 0} (v : ℕ) (xs : List A) → has_number v (numbers_from 1 xs) ≡ (nat_le 1 v && nat_le v (1 + length xs - 1))
 has_number-numbers_from v xs = ap (λ (test : ℕ → Bool). list_any test (numbers_from 1 xs)) (λ i m. turned v m i) ∙ list_any-numbers_from 1 v xs (omega arith)
@@ -145,15 +157,14 @@ inside v n true h = let low = (h refl).0 in let high = (h refl).1 in both v n lo
     both v n low high = grind (arith, nat_tests)
 inside v n false h = refl
 
--- of the numbers of elements, those that are in a pair with this first number are the pairs' seconds, in the same order
-pub numbers-seconds_of : {A : Type 0} (test : ℕ → Bool) (first : ℕ) (xs : List A) (ps : List Pair) → IsAscending ps → ((q : Pair) → has_pair q ps ≡ true → (1 ≤ q.second) × (q.second ≤ length xs)) → ((v : ℕ) → test v ≡ has_pair (record { first = first; second = v }) ps) → filter test (numbers_from 1 xs) ≡ seconds_of first ps
-numbers-seconds_of test first xs ps ascending within same =
+-- of the numbers of elements, those that are paired with this number are the others of its ties, in the same order
+pub numbers-others_of : {A V : Type 0} (test : ℕ → Bool) (order : Order) (n : ℕ) (xs : List A) (ts : List (Tie V)) → IsRising (others_of order n ts) → ((m : ℕ) → has_pair (paired order n m) ts ≡ true → (1 ≤ m) × (m ≤ length xs)) → ((m : ℕ) → test m ≡ has_pair (paired order n m) ts) → filter test (numbers_from 1 xs) ≡ others_of order n ts
+numbers-others_of test order n xs ts rising within same =
     let ns : List ℕ = numbers_from 1 xs in
-    let pair : ℕ → Pair = λ v. record { first = first; second = v } in
-    rising-same (filter test ns) (seconds_of first ps) (rising-filter test ns (rising-numbers_from 1 xs)) (rising-seconds_of first ps ascending)
-    (λ v.
-    any-filter_same (eqb v) test (test v) (λ k is. ap test (sym (eqb-true v k is))) ns
-    ∙ ap (λ b. b && has_number v ns) (same v)
-    ∙ ap (λ b. has_pair (pair v) ps && b) (has_number-numbers_from v xs)
-    ∙ inside v (length xs) (has_pair (pair v) ps) (within (pair v))
-    ∙ sym (list_any-seconds_of (pair v) ps))
+    rising-same (filter test ns) (others_of order n ts) (rising-filter test ns (rising-numbers_from 1 xs)) rising
+    (λ m.
+    any-filter_same (eqb m) test (test m) (λ k is. ap test (sym (eqb-true m k is))) ns
+    ∙ ap (λ b. b && has_number m ns) (same m)
+    ∙ ap (λ b. has_pair (paired order n m) ts && b) (has_number-numbers_from m xs)
+    ∙ inside m (length xs) (has_pair (paired order n m) ts) (within m)
+    ∙ sym (list_any-others_of order n m ts))

@@ -1,64 +1,124 @@
--- What is there after a pair was switched on or off, and the papers that have an author.
-use Rattle.std.proofs.Common.{ℕ, Bool, true, false, cond, ◌≡◌, ◌≤◌, ◌+◌, List, [], ◌∷◌, ◌++◌, length, eqb, refl, sym, ap, ◌∙◌, arith, zero, suc, ◌||◌, ◌&&◌, Option, Some, None}
-use Rattle.std.specs.Prelude.{nat_le, not}
-use Rattle.std.specs.List.{list_any}
-use Rattle.std.proofs.lemmas.Bool.{true≢false, eqb-true}
+-- What is there after a pair was switched on or off, who the authors of a paper are, and which papers have ties.
+use Rattle.std.proofs.Common.{ℕ, Bool, true, false, cond, ◌≡◌, ◌≤◌, ◌+◌, List, [], ◌∷◌, ◌++◌, length, length-append, eqb, refl, sym, ap, subst, ◌∙◌, arith, ◌||◌, ◌&&◌, Some}
+use Rattle.std.specs.Prelude.{nat_le, nat_lt, not, map}
+use Rattle.std.specs.Cmp.Derive.{both_true}
+use Rattle.std.specs.List.{list_any, list_all}
+use Rattle.std.proofs.lemmas.Bool.{and_parts}
 use Rattle.std.proofs.lemmas.Bool.Decides.{nat_tests}
+use Rattle.cr_base.specs.declared.entry.Entry.{Entry}
+use Rattle.cr_base.specs.declared.entry.Entry.TheVariants.{Submitted, Conflict}
+use Rattle.cr_base.specs.declared.pairs.Order.TheVariants.{ByPaper}
 use Rattle.cr_base.specs.declared.pairs.Pair.{Pair}
-use Rattle.cr_base.specs.Lists.{listed, is_number, numbered}
-use Rattle.cr_base.specs.Pairs.{same_pair, has_pair}
-use Rattle.cr_base.specs.Ties.{tie, switched}
-use Rattle.cr_base.proofs.ListLaws.{numbered-none, numbered-push}
-use Rattle.cr_base.proofs.PairLaws.{has_pair-with_pair, has_pair-without_pair}
+use Rattle.cr_base.specs.declared.pairs.Tie.{Tie}
+use Rattle.cr_base.specs.declared.paper.Paper.{Paper}
+use Rattle.cr_base.specs.Lists.{given}
+use Rattle.cr_base.specs.Pairs.{same_pair, is_tied, with_tie, has_pair, ties_of, users_of}
+use Rattle.cr_base.specs.Papers.{PapersState, papers_after, paper_count, PapersFit}
+use Rattle.cr_base.specs.Ties.{BareTies, TiesState, pair_of, bare_tie, switched, ties_after, are_before, are_within, AreWithin}
+use Rattle.cr_base.proofs.PairLaws.{same_pair-is, list_all-with_tie, list_all-filter, has_pair-with_tie, has_pair-without_pair}
 
 -- ---- pairs
 
 -- the pair switched is there or not, and every other pair is as before
-pub has_pair-switched : (on : Bool) (q r : Pair) (ps : List Pair) → has_pair q (switched on r ps) ≡ cond on (same_pair q r || has_pair q ps) (not (same_pair q r) && has_pair q ps)
-has_pair-switched true q r ps = has_pair-with_pair q r ps
-has_pair-switched false q r ps = has_pair-without_pair q r ps
+pub has_pair-switched : (on : Bool) (q : Pair) (paper user : ℕ) (ts : BareTies) → has_pair q (switched on paper user ts) ≡ cond on (same_pair q (pair_of paper user) || has_pair q ts) (not (same_pair q (pair_of paper user)) && has_pair q ts)
+has_pair-switched true q paper user ts = has_pair-with_tie ByPaper q (bare_tie paper user) ts
+has_pair-switched false q paper user ts = has_pair-without_pair q (pair_of paper user) ts
 
--- pairs are the same where they are so the other way round
-pub same_pair-turned : (u p v q : ℕ) → same_pair (tie u p) (tie v q) ≡ same_pair (tie p u) (tie q v)
-same_pair-turned u p v q = by (eqb u v) (eqb p q)
+-- ---- a paper's users
+
+-- with one tie more, its user comes last among those of its paper
+pub users_of-push : (p : ℕ) (ts : BareTies) (paper user : ℕ) → users_of p (ts ++ bare_tie paper user ∷ []) ≡ users_of p ts ++ given (eqb p paper) user
+users_of-push p [] paper user = by (eqb p paper)
   where
-    by : (a b : Bool) → (a && b) ≡ (b && a)
-    by true true = refl
-    by true false = refl
-    by false true = refl
-    by false false = refl
-
--- ---- authors
-
--- a paper that has an author is there
-pub author-within : (authors : List ℕ) (u : Option ℕ) (p : ℕ) → list_any (is_number u) (listed (numbered authors p)) ≡ true → (1 ≤ p) × (p ≤ length authors)
-author-within authors u zero h = absurd (true≢false (sym h))
-author-within authors u (suc p) h = (omega arith, by (nat_le (suc p) (length authors)) refl)
+    by : (b : Bool) → map (λ (t : Tie (Unit {0})). t.pair.user) (cond b (bare_tie paper user ∷ []) []) ≡ given b user
+    by true = refl
+    by false = refl
+users_of-push p (t ∷ ts) paper user = by (eqb p t.pair.paper) (users_of-push p ts paper user)
   where
-    by : (b : Bool) → nat_le (suc p) (length authors) ≡ b → suc p ≤ length authors
-    by true is = low (suc p) (length authors) is
-      where
-        low : (n m : ℕ) → nat_le n m ≡ true → n ≤ m
-        low n m is = grind (arith, nat_tests)
-    by false is = absurd (true≢false (sym h ∙ ap (λ (o : Option ℕ). list_any (is_number u) (listed o)) (numbered-none authors (suc p) (high (suc p) (length authors) is))))
-      where
-        high : (n m : ℕ) → nat_le n m ≡ false → m + 1 ≤ n
-        high n m is = grind (arith, nat_tests)
+    by : (b : Bool) → users_of p (ts ++ bare_tie paper user ∷ []) ≡ users_of p ts ++ given (eqb p paper) user → map (λ (x : Tie (Unit {0})). x.pair.user) (cond b (t ∷ ties_of ByPaper p (ts ++ bare_tie paper user ∷ [])) (ties_of ByPaper p (ts ++ bare_tie paper user ∷ []))) ≡ map (λ (x : Tie (Unit {0})). x.pair.user) (cond b (t ∷ ties_of ByPaper p ts) (ties_of ByPaper p ts)) ++ given (eqb p paper) user
+    by true rest = ap (λ us. t.pair.user ∷ us) rest
+    by false rest = rest
 
--- one more paper has its author, and every other paper the one that it had
-pub author-push : (authors : List ℕ) (maker u p : ℕ) → list_any (is_number (Some u)) (listed (numbered (authors ++ maker ∷ []) p)) ≡ (same_pair (tie u p) (tie maker (length authors + 1)) || list_any (is_number (Some u)) (listed (numbered authors p)))
-author-push authors maker u p = ap (λ (o : Option ℕ). list_any (is_number (Some u)) (listed o)) (numbered-push authors maker p) ∙ by (eqb p (length authors + 1)) refl
+-- and its pair is there too
+pub has_pair-push : (q : Pair) (ts : BareTies) (s : Tie (Unit {0})) → has_pair q (ts ++ s ∷ []) ≡ (is_tied q s || has_pair q ts)
+has_pair-push q [] s = refl
+has_pair-push q (t ∷ ts) s = ap (λ b. is_tied q t || b) (has_pair-push q ts s) ∙ swap (is_tied q t) (is_tied q s) (has_pair q ts)
   where
-    by : (b : Bool) → eqb p (length authors + 1) ≡ b → list_any (is_number (Some u)) (listed (cond b (Some maker) (numbered authors p))) ≡ ((eqb u maker && b) || list_any (is_number (Some u)) (listed (numbered authors p)))
-    by true is =
-        let e : p ≡ length authors + 1 = eqb-true p (length authors + 1) is in
-        new (eqb u maker) (numbered authors p) (numbered-none authors p (omega (arith, e)))
-      where
-        new : (same : Bool) (o : Option ℕ) → o ≡ None → (same || false) ≡ ((same && true) || list_any (is_number (Some u)) (listed o))
-        new true o none = refl
-        new false o none = sym (ap (λ (x : Option ℕ). list_any (is_number (Some u)) (listed x)) none)
-    by false is = other (eqb u maker)
-      where
-        other : (same : Bool) → list_any (is_number (Some u)) (listed (numbered authors p)) ≡ ((same && false) || list_any (is_number (Some u)) (listed (numbered authors p)))
-        other true = refl
-        other false = refl
+    swap : (a b c : Bool) → (a || (b || c)) ≡ (b || (a || c))
+    swap true true c = refl
+    swap true false c = refl
+    swap false b c = refl
+
+-- ---- which papers have ties
+
+weaker : (f g : Tie (Unit {0}) → Bool) → ((t : Tie (Unit {0})) → f t ≡ true → g t ≡ true) → (ts : BareTies) → list_all f ts ≡ true → list_all g ts ≡ true
+weaker f g each [] all = refl
+weaker f g each (t ∷ ts) all = let parts = and_parts (f t) (list_all f ts) all in both_true (each t parts.0) (weaker f g each ts parts.1)
+
+pub all-push : (f : Tie (Unit {0}) → Bool) (ts : BareTies) (s : Tie (Unit {0})) → list_all f ts ≡ true → f s ≡ true → list_all f (ts ++ s ∷ []) ≡ true
+all-push f [] s all one = both_true one refl
+all-push f (t ∷ ts) s all one = let parts = and_parts (f t) (list_all f ts) all in both_true parts.0 (all-push f ts s parts.1 one)
+
+-- they do among more papers
+within-more : (n m : ℕ) → n ≤ m → (ts : BareTies) → are_within n ts ≡ true → are_within m ts ≡ true
+within-more n m h ts all = weaker _ _ (λ t. more n m t.pair.paper h) ts all
+  where
+    more : (n m p : ℕ) → n ≤ m → (nat_le 1 p && nat_le p n) ≡ true → (nat_le 1 p && nat_le p m) ≡ true
+    more n m p h is = grind (arith, nat_tests)
+
+-- the next paper comes behind them
+pub within-before : (n paper : ℕ) → paper ≡ n + 1 → (ts : BareTies) → are_within n ts ≡ true → are_before paper ts ≡ true
+within-before n paper next ts all = weaker _ _ (λ t. less n paper t.pair.paper next) ts all
+  where
+    less : (n paper p : ℕ) → paper ≡ n + 1 → (nat_le 1 p && nat_le p n) ≡ true → nat_lt p paper ≡ true
+    less n paper p next is = grind (arith, nat_tests)
+
+in_range : (n p : ℕ) → 1 ≤ p → p ≤ n → (nat_le 1 p && nat_le p n) ≡ true
+in_range n p low high = grind (arith, nat_tests)
+
+within-push : (n paper user : ℕ) (ts : BareTies) → 1 ≤ paper → paper ≤ n → are_within n ts ≡ true → are_within n (ts ++ bare_tie paper user ∷ []) ≡ true
+within-push n paper user ts low high all = all-push _ ts (bare_tie paper user) all (in_range n paper low high)
+
+within-switched : (n : ℕ) (on : Bool) (paper user : ℕ) (ts : BareTies) → 1 ≤ paper → paper ≤ n → are_within n ts ≡ true → are_within n (switched on paper user ts) ≡ true
+within-switched n true paper user ts low high all = list_all-with_tie ByPaper _ (bare_tie paper user) ts (in_range n paper low high) all
+within-switched n false paper user ts low high all = list_all-filter ByPaper _ (λ r. not (is_tied (pair_of paper user) r)) ts all
+
+-- a pair that is there has one of the numbers
+pub within-pair : (n : ℕ) (q : Pair) (ts : BareTies) → are_within n ts ≡ true → has_pair q ts ≡ true → (1 ≤ q.paper) × (q.paper ≤ n)
+within-pair n q [] all there = absurd (cc)
+within-pair n q (t ∷ ts) all there =
+    let parts = and_parts (nat_le 1 t.pair.paper && nat_le t.pair.paper n) (are_within n ts) all in
+    by (is_tied q t) refl there (within-pair n q ts parts.1)
+  where
+    low : (p n : ℕ) → (nat_le 1 p && nat_le p n) ≡ true → 1 ≤ p
+    low p n h = grind (arith, nat_tests)
+
+    high : (p n : ℕ) → (nat_le 1 p && nat_le p n) ≡ true → p ≤ n
+    high p n h = grind (arith, nat_tests)
+
+    first : (nat_le 1 t.pair.paper && nat_le t.pair.paper n) ≡ true
+    first = (and_parts (nat_le 1 t.pair.paper && nat_le t.pair.paper n) (are_within n ts) all).0
+
+    by : (b : Bool) → is_tied q t ≡ b → (b || has_pair q ts) ≡ true → (has_pair q ts ≡ true → (1 ≤ q.paper) × (q.paper ≤ n)) → (1 ≤ q.paper) × (q.paper ≤ n)
+    by true same h rest =
+        let e : t.pair ≡ q = sym (same_pair-is q t.pair same) in
+        subst (λ (x : Pair). (1 ≤ x.paper) × (x.paper ≤ n)) e (low t.pair.paper n first, high t.pair.paper n first)
+    by false same h rest = rest h
+
+-- where each entry fits, the papers that have ties are there
+pub within-after : (state : PapersState) (ties : TiesState) (maker : ℕ) (e : Entry) → PapersFit state maker e → AreWithin (paper_count state) ties → AreWithin (paper_count (papers_after state maker e)) (ties_after ties maker e)
+within-after state ties maker (Submitted paper title abstract) fits within =
+    let made : Paper = record { title = title; abstract_ = abstract } in
+    let before : ℕ = paper_count state in
+    let now : ℕ = paper_count (papers_after state maker (Submitted paper title abstract)) in
+    let n = length-append state.papers (made ∷ []) in
+    let next = fits.0 in
+    record {
+      authors = within-push now paper maker ties.authors (omega (arith, next)) (omega (arith, n, next)) (within-more before now (omega (arith, n)) ties.authors within.authors);
+      conflicts = within-more before now (omega (arith, n)) ties.conflicts within.conflicts;
+    }
+within-after state ties maker (Conflict paper user on) fits within = record {
+  authors = within.authors;
+  conflicts = within-switched (paper_count state) on paper user ties.conflicts fits.0 fits.1 within.conflicts;
+}
+within-after state ties maker e fits within = within

@@ -26,9 +26,9 @@ use Rattle.cr_base.specs.declared.standing.Standing.{Standing}
 use Rattle.cr_base.specs.Lists.{listed, is_number, at_some}
 use Rattle.cr_base.specs.History.{History}
 use Rattle.cr_base.specs.Accounts.{lines_of, role_in}
-use Rattle.cr_base.specs.Papers.{paper_numbers, title_at, abstract_at, authors_at, is_author_at, own_count}
-use Rattle.cr_base.specs.Ties.{is_conflicted_in}
-use Rattle.cr_base.specs.Pairs.{seconds_of}
+use Rattle.cr_base.specs.Papers.{paper_numbers, title_at, abstract_at, own_count}
+use Rattle.cr_base.specs.Ties.{authors_in, is_author_in, is_conflicted_in}
+use Rattle.cr_base.specs.Pairs.{users_of}
 use Rattle.cr_base.specs.Tables.{Tables}
 use Rattle.cr_base.specs.Checks.{Check, judged, register_checks, phase_checks, submit_checks, page_checks, name_checks, mode_checks, conflict_checks}
 use Rattle.cr_base.specs.Page.{page_of}
@@ -58,7 +58,7 @@ standing_at t u paper = record {
   phase = t.stage.phase;
   mode = t.stage.mode;
   role = role_in t.accounts u;
-  author = at_some (is_author_at t.papers u) paper;
+  author = at_some (is_author_in t.ties u) paper;
   conflicted = at_some (is_conflicted_in t.ties u) paper;
 }
 
@@ -75,9 +75,9 @@ abbrev pub shown_in_tables : Tables → Shown
 shown_in_tables t = record {
   title = title_at t.papers;
   abstract_ = abstract_at t.papers;
-  authors = authors_at t.papers;
-  conflicts = λ p. seconds_of p t.ties.conflicts;
-  declared = λ p. seconds_of p t.ties.declared;
+  authors = authors_in t.ties;
+  conflicts = λ p. users_of p t.ties.conflicts;
+  declared = λ p. users_of p t.ties.declared;
 }
 
 -- the user of this name among the accounts, and the name of a user

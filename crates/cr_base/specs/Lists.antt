@@ -1,6 +1,6 @@
 -- Words on lists that the facts of a history and of a view are said in.
-use Rattle.std.specs.Prelude.{ℕ, Bool, true, false, List, [], ◌∷◌, Option, Some, None, ◌==◌, ◌+◌, zero, suc, if◌then◌else◌, unwrap_or}
-use Rattle.std.specs.List.{slice_get}
+use Rattle.std.specs.Prelude.{ℕ, Bool, true, false, List, [], ◌∷◌, Option, Some, None, ◌==◌, ◌+◌, zero, suc, if◌then◌else◌, unwrap_or, nat_lt, IsTrue}
+use Rattle.std.specs.List.{slice_get, list_all}
 
 -- the value alone, or nothing
 abbrev pub given : {A : Type 0} → Bool → A → List A
@@ -47,6 +47,11 @@ numbered xs (suc n) = slice_get xs n
 abbrev pub numbers_from : {A : Type 0} → ℕ → List A → List ℕ
 numbers_from n [] = []
 numbers_from n (x ∷ xs) = n ∷ numbers_from (n + 1) xs
+
+-- each number is less than all those behind it
+abbrev pub IsRising : List ℕ → Type 0
+IsRising [] = Unit {0}
+IsRising (n ∷ ns) = IsTrue (list_all (nat_lt n) ns) × IsRising ns
 
 -- what is said of a number, where it is there; else no
 abbrev pub at_some : (ℕ → Bool) → Option ℕ → Bool

@@ -2,23 +2,22 @@
 use Rattle.std.specs.Prelude.{List, [], ◌∷◌, fold}
 use Rattle.cr_base.specs.declared.entry.Account.{Account}
 use Rattle.cr_base.specs.declared.entry.Stamped.{Stamped}
-use Rattle.cr_base.specs.declared.paper.Paper.{Paper}
 use Rattle.cr_base.specs.History.{History}
 use Rattle.cr_base.specs.Accounts.{accounts_after, AccountsFit}
 use Rattle.cr_base.specs.Stage.{StageState, first_stage, stage_after}
-use Rattle.cr_base.specs.Papers.{papers_after, PapersFit}
+use Rattle.cr_base.specs.Papers.{PapersState, no_papers, papers_after, PapersFit}
 use Rattle.cr_base.specs.Ties.{TiesState, no_ties, ties_after, TiesFit}
 
--- the tables: the stage, the accounts by user number, the papers by their numbers, and who is tied to them
+-- the tables: the stage, the accounts by user number, the papers, and who is tied to them
 pub record Tables : Type 0 where
   pub stage : StageState
   pub accounts : List Account
-  pub papers : List Paper
+  pub papers : PapersState
   pub ties : TiesState
 
 -- the tables of no entries
 abbrev pub no_tables : Tables
-no_tables = record { stage = first_stage; accounts = []; papers = []; ties = no_ties }
+no_tables = record { stage = first_stage; accounts = []; papers = no_papers; ties = no_ties }
 
 -- the tables after one more entry
 abbrev pub tables_after : Tables → Stamped → Tables

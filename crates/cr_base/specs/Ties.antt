@@ -1,55 +1,65 @@
 -- The table of ties: who is an author of which paper, and who is declared in conflict with it.
-use Rattle.std.specs.Prelude.{ℕ, Bool, ◌≡◌, ◌+◌, ◌≤◌, ◌||◌, List, [], ◌∷◌, ◌++◌, length, Option, Some, None, false, if◌then◌else◌}
-use Rattle.std.specs.List.{list_any}
+use Rattle.std.specs.Prelude.{ℕ, Bool, ◌||◌, ◌&&◌, nat_le, nat_lt, IsTrue, List, [], ◌∷◌, ◌++◌, Option, Some, None, false, if◌then◌else◌}
+use Rattle.std.specs.List.{list_any, list_all}
 use Rattle.cr_base.specs.declared.entry.Entry.{Entry}
-use Rattle.cr_base.specs.declared.entry.Entry.TheVariants.{Registered, Named, PhaseSet, ModeSet, Submitted, Conflict}
+use Rattle.cr_base.specs.declared.entry.Entry.TheVariants.{Submitted, Conflict}
+use Rattle.cr_base.specs.declared.pairs.Order.TheVariants.{ByPaper}
 use Rattle.cr_base.specs.declared.pairs.Pair.{Pair}
-use Rattle.cr_base.specs.Lists.{listed, is_number, numbered}
-use Rattle.cr_base.specs.Pairs.{with_pair, without_pair, has_pair}
+use Rattle.cr_base.specs.declared.pairs.Tie.{Tie}
+use Rattle.cr_base.specs.Lists.{is_number}
+use Rattle.cr_base.specs.Pairs.{with_tie, without_pair, has_pair, users_of}
 
 -- ---- the state
 
--- the author of each paper, by its number; of papers and users, those in declared conflict; and those that an author
--- named in one
+-- papers and users who are tied, with nothing kept of them
+abbrev pub BareTies : Type 0
+BareTies = List (Tie (Unit {0}))
+
+-- papers and their authors, in the order in which they were told; in ascending order, papers and the users in declared
+-- conflict with them, and papers and those whom an author named in one
 pub record TiesState : Type 0 where
-  pub authors : List ℕ
-  pub conflicts : List Pair
-  pub declared : List Pair
+  pub authors : BareTies
+  pub conflicts : BareTies
+  pub declared : BareTies
 
 -- no ties
 abbrev pub no_ties : TiesState
 no_ties = record { authors = []; conflicts = []; declared = [] }
 
--- a paper and a user
-abbrev pub tie : ℕ → ℕ → Pair
-tie paper user = record { first = paper; second = user }
+-- a paper and a user; and their tie
+abbrev pub pair_of : ℕ → ℕ → Pair
+pair_of paper user = record { paper = paper; user = user }
+
+abbrev pub bare_tie : ℕ → ℕ → Tie (Unit {0})
+bare_tie paper user = record { pair = pair_of paper user; value = tt }
+
+-- the paper's authors, the submitter first
+abbrev pub authors_in : TiesState → ℕ → List ℕ
+authors_in ties p = users_of p ties.authors
 
 -- whether the user is an author of the paper
 abbrev pub is_author_in : TiesState → Option ℕ → ℕ → Bool
-is_author_in ties u p = list_any (is_number u) (listed (numbered ties.authors p))
+is_author_in ties u p = list_any (is_number u) (authors_in ties p)
 
--- the pairs with this one, or without it
-abbrev pub switched : Bool → Pair → List Pair → List Pair
-switched on pair pairs = if on then with_pair pair pairs else without_pair pair pairs
+-- the ties with this one, or without it
+abbrev pub switched : Bool → ℕ → ℕ → BareTies → BareTies
+switched on paper user ties = if on then with_tie ByPaper (bare_tie paper user) ties else without_pair (pair_of paper user) ties
 
 -- the ties after one more entry, by this maker
 abbrev pub ties_after : TiesState → ℕ → Entry → TiesState
-ties_after ties maker (Registered user name digest) = ties
-ties_after ties maker (Named user role) = ties
-ties_after ties maker (PhaseSet phase) = ties
-ties_after ties maker (ModeSet mode) = ties
-ties_after ties maker (Submitted paper title abstract) = record ties { authors = ties.authors ++ maker ∷ [] }
+ties_after ties maker (Submitted paper title abstract) = record ties { authors = ties.authors ++ bare_tie paper maker ∷ [] }
 ties_after ties maker (Conflict paper user on) = record ties {
-  conflicts = switched on (tie paper user) ties.conflicts;
-  declared = if is_author_in ties (Some maker) paper then with_pair (tie paper user) ties.declared else ties.declared;
+  conflicts = switched on paper user ties.conflicts;
+  declared = if is_author_in ties (Some maker) paper then with_tie ByPaper (bare_tie paper user) ties.declared else ties.declared;
 }
+ties_after ties maker _ = ties
 
 -- ---- what is read
 
 -- whether the user is declared in conflict with the paper
 abbrev pub is_declared_in : TiesState → Option ℕ → ℕ → Bool
 is_declared_in ties None p = false
-is_declared_in ties (Some user) p = has_pair (tie p user) ties.conflicts
+is_declared_in ties (Some user) p = has_pair (pair_of p user) ties.conflicts
 
 -- whether the user is in conflict with the paper: as an author, or declared so
 abbrev pub is_conflicted_in : TiesState → Option ℕ → ℕ → Bool
@@ -57,11 +67,20 @@ is_conflicted_in ties u p = is_author_in ties u p || is_declared_in ties u p
 
 -- ---- which entry may come next
 
--- an entry fits: a paper's number is the next one, or the paper is there
+-- the papers of all these ties have lower numbers
+abbrev pub are_before : ℕ → BareTies → Bool
+are_before paper ties = list_all (λ (t : Tie (Unit {0})). nat_lt t.pair.paper paper) ties
+
+-- the papers of all these ties have one of the first n numbers
+abbrev pub are_within : ℕ → BareTies → Bool
+are_within n ties = list_all (λ (t : Tie (Unit {0})). nat_le 1 t.pair.paper && nat_le t.pair.paper n) ties
+
+-- each paper with an author, or with a declared conflict, has one of the first n numbers
+pub record AreWithin (n : ℕ) (ties : TiesState) : Type 0 where
+  pub authors : IsTrue (are_within n ties.authors)
+  pub conflicts : IsTrue (are_within n ties.conflicts)
+
+-- an entry fits: the paper that it makes comes behind all that have authors
 abbrev pub TiesFit : TiesState → Entry → Type 0
-TiesFit ties (Registered user name digest) = Unit {0}
-TiesFit ties (Named user role) = Unit {0}
-TiesFit ties (PhaseSet phase) = Unit {0}
-TiesFit ties (ModeSet mode) = Unit {0}
-TiesFit ties (Submitted paper title abstract) = (paper ≡ length ties.authors + 1) × (paper ≤ 9999)
-TiesFit ties (Conflict paper user on) = (1 ≤ paper) × (paper ≤ length ties.authors)
+TiesFit ties (Submitted paper title abstract) = IsTrue (are_before paper ties.authors)
+TiesFit ties _ = Unit {0}

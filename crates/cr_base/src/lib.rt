@@ -24,7 +24,7 @@ pub use entry::{Account, Digest, Entry, EntryKind, Stamped};
 pub use me::{Me, PaperNos};
 pub use numbers::{LAST_NUMBER, PaperNo, UserNo};
 pub use page::{BareKeys, Names, Page};
-pub use pairs::Pair;
+pub use pairs::{Order, Pair, Tie};
 pub use paper::Paper;
 pub use reply::{AccountLine, AccountLines, Conference, Receipt, Reply, Rule};
 pub use row::Row;

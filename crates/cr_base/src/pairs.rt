@@ -1,11 +1,54 @@
-//! A pair of numbers: two things that are tied to each other.
+//! Ties of papers and users: the pair that is tied, and what is kept of it.
+ghost use Rattle.std.specs.Prelude.{◌≡◌};
+ghost use Rattle.cr_base.specs.Pairs.{leads, follows};
 
-/// Two numbers that are tied, 0 to 65,535 each. Pairs are in order by the first number, and among
-/// those with the same first number by the second.
-#[derive(Clone, Copy, Debug, PartialEq, Eq, PartialOrd, Ord)]
+use crate::numbers::{PaperNo, UserNo};
+
+/// A paper and a user.
+#[derive(Clone, Copy, Debug)]
 pub struct Pair {
-    /// The number by which the pair is found.
-    pub first: u16,
-    /// The number that is tied to it.
-    pub second: u16,
+    /// The paper.
+    pub paper: PaperNo,
+    /// The user who is tied to it.
+    pub user: UserNo,
+}
+
+/// A paper and a user who are tied, and what is kept of the two: `()` where nothing is but that.
+#[derive(Clone, Copy, Debug)]
+pub struct Tie<V> {
+    /// Who is tied to what.
+    pub pair: Pair,
+    /// What is kept of the two.
+    pub value: V,
+}
+
+/// In which order pairs stand, and so by which of their numbers they are found.
+#[derive(Clone, Copy, Debug, PartialEq, Eq)]
+pub enum Order {
+    /// By the paper, and those of one paper by the user.
+    ByPaper,
+    /// By the user, and those of one user by the paper.
+    ByUser,
+}
+
+impl Pair {
+    /// The number by which the pair is found in this order, 1 to 9,999.
+    pub fn leads(&self, order: Order) -> u64
+        ensures { result ≡ leads order self.now }
+    {
+        match order {
+            Order::ByPaper => self.paper.number(),
+            Order::ByUser => self.user.number(),
+        }
+    }
+
+    /// The number by which those that have the same first one are ordered, 1 to 9,999.
+    pub fn follows(&self, order: Order) -> u64
+        ensures { result ≡ follows order self.now }
+    {
+        match order {
+            Order::ByPaper => self.user.number(),
+            Order::ByUser => self.paper.number(),
+        }
+    }
 }

@@ -1,12 +1,9 @@
 //! What is kept of a paper.
-use crate::numbers::UserNo;
 use crate::texts::Text;
 
-/// What is kept of a submitted paper.
+/// What is kept of a submitted paper. Its authors are no part of it: they stand among the ties.
 #[derive(Drop, Debug)]
 pub struct Paper {
-    /// Who submitted it: its author.
-    pub submitter: UserNo,
     /// Its title.
     pub title: Text,
     /// Its abstract.

@@ -1,13 +1,20 @@
--- The index by users that the table of ties keeps beside what it keeps by papers.
-use Rattle.std.specs.Prelude.{ℕ, ◌≡◌, ◌≤◌, true, List, length, Some}
+-- How the table of ties keeps authors by paper and by user.
+use Rattle.std.specs.Prelude.{◌≡◌, Bool, ◌&&◌, nat_le, not}
+use Rattle.cr_base.specs.declared.pairs.Order.{Order}
+use Rattle.cr_base.specs.declared.pairs.Order.TheVariants.{ByPaper, ByUser}
 use Rattle.cr_base.specs.declared.pairs.Pair.{Pair}
-use Rattle.cr_base.specs.Pairs.{has_pair}
-use Rattle.cr_base.specs.Ties.{TiesState, tie, is_author_in}
+use Rattle.cr_base.specs.Pairs.{same_pair, IsSortedBy, IsAscending, has_pair}
+use Rattle.cr_base.specs.Ties.{BareTies}
 
--- users are paired with the papers whose author they are, and with those with which they are declared in conflict; all
--- of these are there, and there are at most 9,999
-pub record IsIndexed (ties : TiesState) (papers conflicts : List Pair) : Type 0 where
-  pub authored : (user paper : ℕ) → has_pair (tie user paper) papers ≡ is_author_in ties (Some user) paper
-  pub conflicting : (user paper : ℕ) → has_pair (tie user paper) conflicts ≡ has_pair (tie paper user) ties.conflicts
-  pub there : (user paper : ℕ) → has_pair (tie user paper) conflicts ≡ true → (1 ≤ paper) × (paper ≤ length ties.authors)
-  pub few : length ties.authors ≤ 9999
+-- the paper's number is no less, and it is another pair
+abbrev pub is_told_before : Pair → Pair → Bool
+is_told_before p q = nat_le p.paper q.paper && not (same_pair p q)
+
+-- authors were told paper by paper, none of them twice; by user there are the same, in ascending order; and whom authors
+-- named is in the order of papers
+pub record IsIndexed (authors : BareTies) (users : Order) (authored : BareTies) (declared : Order) : Type 0 where
+  pub told : IsSortedBy is_told_before authors
+  pub by_user : users ≡ ByUser
+  pub ascending : IsAscending ByUser authored
+  pub same : (q : Pair) → has_pair q authored ≡ has_pair q authors
+  pub by_paper : declared ≡ ByPaper

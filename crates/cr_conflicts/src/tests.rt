@@ -1,14 +1,15 @@
-ghost use Rattle.std.specs.Prelude.{◌≡◌, ◌≤◌, ◌+◌, ◌∷◌, ◌++◌, [], OnOk, length};
+ghost use Rattle.std.specs.Prelude.{◌≡◌, ◌≤◌, ◌∷◌, ◌++◌, [], IsTrue, OnOk};
+ghost use Rattle.cr_base.specs.Ties.{bare_tie, are_before};
 
 use crate::Ties;
-use cr_base::{Entry, Mode, Pair, PaperNo, Phase, Role, Rule, Stamped, Standing, Text, UserNo};
+use cr_base::{Entry, Mode, PaperNo, Phase, Role, Rule, Stamped, Standing, Text, Tie, UserNo};
 use std::alloc::Global;
 use std::test::Fail;
 
 /// One submission by this user.
 fn submit(alloc: Global, ties: &mut Ties, maker: UserNo, paper: PaperNo) -> Result<(), Fail>
-    requires { paper ≡ length ties.old.ties.authors + 1 }
-    ensures { OnOk result (ties.new.ties.authors ≡ ties.old.ties.authors ++ maker ∷ []) }
+    requires { IsTrue (are_before paper ties.old.ties.authors) }
+    ensures { OnOk result (ties.new.ties.authors ≡ ties.old.ties.authors ++ bare_tie paper maker ∷ []) }
 {
     let group = [Stamped {
         maker,
@@ -32,8 +33,6 @@ fn declare(
     user: UserNo,
     on: bool,
 ) -> Result<(), Fail>
-    requires { paper ≤ length ties.old.ties.authors }
-    ensures { OnOk result (ties.new.ties.authors ≡ ties.old.ties.authors) }
 {
     let group = [Stamped {
         maker,
@@ -45,13 +44,22 @@ fn declare(
     Ok(())
 }
 
-/// Whether the seconds of these pairs are these numbers.
-fn are(pairs: &[Pair], wanted: &[u16]) -> bool {
-    pairs.len() == wanted.len()
-        && pairs
+/// Whether the users of these ties have these numbers.
+fn are_users(ties: &[Tie<()>], wanted: &[u64]) -> bool {
+    ties.len() == wanted.len()
+        && ties
             .iter()
             .zip(wanted)
-            .all(|(pair, number)| pair.second == *number)
+            .all(|(tie, number)| tie.pair.user.number() == *number)
+}
+
+/// Whether the papers of these ties have these numbers.
+fn are_papers(ties: &[Tie<()>], wanted: &[u64]) -> bool {
+    ties.len() == wanted.len()
+        && ties
+            .iter()
+            .zip(wanted)
+            .all(|(tie, number)| tie.pair.paper.number() == *number)
 }
 
 #[test]
@@ -79,12 +87,13 @@ fn ties_by_paper_and_by_user(rt: HostRuntime) -> Result<(), Fail> {
         assert!(rt; ties.is_conflicted(user, paper) == wanted);
     }
     // By user number, whoever was named first; whom an author named stays named when it is turned off.
-    assert!(rt; are(ties.conflicts(first), &[2]));
-    assert!(rt; are(ties.declared(first), &[2, 9]));
-    assert!(rt; are(ties.conflicts(second), &[9]));
-    assert!(rt; are(ties.declared(second), &[]));
-    assert!(rt; are(ties.authored(author), &[1, 2]));
-    assert!(rt; are(ties.authored(high), &[]));
+    assert!(rt; are_users(ties.authors(second), &[7]));
+    assert!(rt; are_users(ties.conflicts(first), &[2]));
+    assert!(rt; are_users(ties.declared(first), &[2, 9]));
+    assert!(rt; are_users(ties.conflicts(second), &[9]));
+    assert!(rt; are_users(ties.declared(second), &[]));
+    assert!(rt; are_papers(ties.authored(author), &[1, 2]));
+    assert!(rt; are_papers(ties.conflicting(high), &[2]));
     Ok(())
 }
 

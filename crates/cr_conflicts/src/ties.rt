@@ -1,33 +1,32 @@
 //! The ties of users to papers, by paper and by user.
-ghost use Rattle.std.specs.Prelude.{◌≡◌, ◌≤◌, ◌<◌, ◌+◌, ◌-◌, OnOk, Some, length, map, filter, is_some, All};
+ghost use Rattle.std.specs.Prelude.{◌≡◌, ◌≤◌, ◌<◌, ◌+◌, OnOk, Some, length, map, is_some, if◌then◌else◌};
 ghost use Rattle.std.specs.Option.{option_map};
 ghost use Rattle.cr_base.specs.Checks.{judged, conflict_checks};
-ghost use Rattle.cr_base.specs.Lists.{at_some, is_number, numbers_from};
-ghost use Rattle.cr_base.specs.Pairs.{seconds_of};
-ghost use Rattle.cr_base.specs.Ties.{no_ties, ties_after, switched, tie, is_author_in, is_declared_in, is_conflicted_in, TiesFit};
+ghost use Rattle.cr_base.specs.Lists.{IsRising, at_some, is_number};
+ghost use Rattle.cr_base.specs.Pairs.{with_tie, users_of, papers_of};
+ghost use Rattle.cr_base.specs.Ties.{no_ties, ties_after, switched, bare_tie, authors_in, is_author_in, is_conflicted_in, TiesFit};
 
 use crate::judging;
-use cr_base::{Entry, Pair, PaperNo, Role, Rule, Stamped, Standing, UserNo};
-use cr_pairs::PairSet;
+use cr_base::{Entry, Order, Pair, PaperNo, Role, Rule, Stamped, Standing, Tie, UserNo};
+use cr_pairs::{IndexedPairs, PairMap, run_of};
 use std::alloc::{AllocError, Global};
 use std::marker::Model;
 
 /// Who is an author of which paper, who is declared in conflict with it, and whom its authors named so.
 ///
-/// Contracts see these by paper, and for how many more entries there is room. The same is found by
-/// user; that it agrees is true of every table.
+/// Contracts see these by paper, and for how many more entries there is room. Authors and conflicts
+/// are found by user too; that these agree is true of every table.
 #[derive(Drop)]
 pub struct Ties {
-    // The author of each paper, by the paper's number.
-    authors: Vec<UserNo>,
+    // Papers and their authors, in the order in which they were told: a paper's stand together, the
+    // submitter first, so the place of an author among them needn't be kept.
+    authors: Vec<Tie<()>>,
+    // The same, by user.
+    authored: PairMap<()>,
     // Papers, and the users declared in conflict with them.
-    conflicts: PairSet,
+    conflicts: IndexedPairs<()>,
     // Papers, and the users whom an author named in a conflict.
-    declared: PairSet,
-    // Users, and the papers whose author they are.
-    authored: PairSet,
-    // Users, and the papers with which they are declared in conflict.
-    conflicting: PairSet,
+    declared: PairMap<()>,
 }
 
 impl Model for Ties {
@@ -38,43 +37,46 @@ impl Model for Ties {
     ghost Value = { SeenTies };
 
     ghost view = { λ t. record {
-      ties = record { authors = t.authors.items; conflicts = t.conflicts.pairs; declared = t.declared.pairs };
-      room = min (vec_capacity t.authors - vec_len t.authors) (min (min t.conflicts.room t.declared.room) (min t.authored.room t.conflicting.room));
+      ties = record { authors = t.authors.items; conflicts = t.conflicts.ties; declared = t.declared.ties };
+      room = min (vec_capacity t.authors - vec_len t.authors) (min t.authored.room (min t.conflicts.room t.declared.room));
     } };
 
-    ghost invariant = { λ t. IsIndexed (record { authors = t.authors.items; conflicts = t.conflicts.pairs; declared = t.declared.pairs }) t.authored.pairs t.conflicting.pairs };
+    ghost invariant = { λ t. IsIndexed t.authors.items t.authored.order t.authored.ties t.declared.order };
 }
 
-/// A paper and a user.
-fn by_paper(paper: PaperNo, user: UserNo) -> Pair
-    ensures { result ≡ tie paper user }
+/// A paper and a user who are tied.
+fn bare(paper: PaperNo, user: UserNo) -> Tie<()>
+    ensures { result ≡ bare_tie paper user }
 {
-    Pair {
-        first: paper.number() as u16,
-        second: user.number() as u16,
-    }
-}
-
-/// A user and a paper.
-fn by_user(user: UserNo, paper: PaperNo) -> Pair
-    ensures { result ≡ tie user paper }
-{
-    Pair {
-        first: user.number() as u16,
-        second: paper.number() as u16,
+    Tie {
+        pair: Pair { paper, user },
+        value: (),
     }
 }
 
 /// The pair is there from now on, or no longer; takes no memory.
-fn switch(pairs: &mut PairSet, pair: Pair, on: bool)
-    requires { 0 < pairs.old.room }
-    ensures pairs { pairs.new.pairs ≡ switched on pair pairs.old.pairs }
-    ensures room { pairs.old.room ≤ pairs.new.room + 1 }
+fn switch(ties: &mut IndexedPairs<()>, paper: PaperNo, user: UserNo, on: bool)
+    requires { 0 < ties.old.room }
+    ensures ties { ties.new.ties ≡ switched on paper user ties.old.ties }
+    ensures room { ties.old.room ≤ ties.new.room + 1 }
 {
+    let tie = bare(paper, user);
     if on {
-        pairs.insert(pair);
+        ties.insert(tie);
     } else {
-        pairs.remove(pair);
+        ties.remove(&tie.pair);
+    }
+}
+
+/// The tie is there from now on, where it is told; takes no memory.
+fn insert_where(ties: &mut PairMap<()>, told: bool, tie: Tie<()>)
+    requires { 0 < ties.old.room }
+    ensures order { ties.new.order ≡ ties.old.order }
+    ensures ties { ties.new.ties ≡ (if told then with_tie ties.old.order tie ties.old.ties else ties.old.ties) }
+    ensures room { ties.old.room ≤ ties.new.room + 1 }
+{
+    if told {
+        ties.insert(tie);
     }
 }
 
@@ -86,69 +88,73 @@ impl Ties {
     {
         Ties {
             authors: Vec::new(alloc),
-            conflicts: PairSet::new(alloc),
-            declared: PairSet::new(alloc),
-            authored: PairSet::new(alloc),
-            conflicting: PairSet::new(alloc),
+            authored: PairMap::new(alloc, Order::ByUser),
+            conflicts: IndexedPairs::new(alloc),
+            declared: PairMap::new(alloc, Order::ByPaper),
         }
     }
 
-    /// Whether the user is an author of the paper; false where there is no such paper. One read by
-    /// number.
+    /// The authors of the paper, the submitter first and the others in the order in which they were
+    /// told; none where there is no such paper. Two binary searches; takes no memory.
+    pub fn authors(&self, paper: PaperNo) -> &[Tie<()>]
+        ensures { map (λ t. t.pair.user) result.now ≡ authors_in self.now.ties paper }
+    {
+        run_of(&self.authors, Order::ByPaper, paper.number())
+    }
+
+    /// Whether the user is an author of the paper; false where there is no such paper. One binary
+    /// search.
     pub fn is_author(&self, user: UserNo, paper: PaperNo) -> bool
         ensures { result ≡ is_author_in self.now.ties (Some user) paper }
     {
-        match self.authors.get(paper.place()) {
-            Some(author) => user.number() == author.number(),
-            None => false,
-        }
+        self.authored.contains(&Pair { paper, user })
     }
 
-    /// Whether the user is in conflict with the paper, as an author or declared so. One read by number
-    /// and one binary search.
+    /// Whether the user is in conflict with the paper, as an author or declared so. Two binary
+    /// searches.
     pub fn is_conflicted(&self, user: UserNo, paper: PaperNo) -> bool
         ensures { result ≡ is_conflicted_in self.now.ties (Some user) paper }
     {
-        self.is_author(user, paper) || self.conflicts.contains(by_paper(paper, user))
+        self.is_author(user, paper) || self.conflicts.contains(&Pair { paper, user })
     }
 
-    /// Who is declared in conflict with the paper: the users stand second, in the order of their
-    /// numbers. Two binary searches; takes no memory.
-    pub fn conflicts(&self, paper: PaperNo) -> &[Pair]
-        ensures { map (λ pair. pair.second) result.now ≡ seconds_of paper self.now.ties.conflicts }
+    /// Who is declared in conflict with the paper, in the order of user numbers. Two binary searches;
+    /// takes no memory.
+    pub fn conflicts(&self, paper: PaperNo) -> &[Tie<()>]
+        ensures { map (λ t. t.pair.user) result.now ≡ users_of paper self.now.ties.conflicts }
     {
-        self.conflicts.seconds(paper.number() as u16)
+        self.conflicts.of_paper(paper)
     }
 
-    /// Whom the paper's authors named in a conflict with it: the users stand second, in the order of
-    /// their numbers. Two binary searches; takes no memory.
-    pub fn declared(&self, paper: PaperNo) -> &[Pair]
-        ensures { map (λ pair. pair.second) result.now ≡ seconds_of paper self.now.ties.declared }
+    /// Whom the paper's authors named in a conflict with it, in the order of user numbers. Two binary
+    /// searches; takes no memory.
+    pub fn declared(&self, paper: PaperNo) -> &[Tie<()>]
+        ensures { map (λ t. t.pair.user) result.now ≡ users_of paper self.now.ties.declared }
     {
-        self.declared.seconds(paper.number() as u16)
+        self.declared.of_paper(paper)
     }
 
-    /// The papers whose author the user is: they stand second, in the order of their numbers. Two
+    /// The papers whose author the user is, in the order of their numbers. Two binary searches; takes
+    /// no memory.
+    pub fn authored(&self, user: UserNo) -> &[Tie<()>]
+        ensures papers { map (λ t. t.pair.paper) result.now ≡ papers_of user self.now.ties.authors }
+        ensures rising { IsRising (papers_of user self.now.ties.authors) }
+    {
+        self.authored.of_user(user)
+    }
+
+    /// The papers with which the user is declared in conflict, in the order of their numbers. Two
     /// binary searches; takes no memory.
-    pub fn authored(&self, user: UserNo) -> &[Pair]
-        ensures within { All (λ pair. (1 ≤ pair.second) × (pair.second ≤ 9999)) result.now }
-        ensures papers { map (λ pair. pair.second) result.now ≡ filter (λ paper. is_author_in self.now.ties (Some user) paper) (numbers_from 1 self.now.ties.authors) }
+    pub fn conflicting(&self, user: UserNo) -> &[Tie<()>]
+        ensures papers { map (λ t. t.pair.paper) result.now ≡ papers_of user self.now.ties.conflicts }
+        ensures rising { IsRising (papers_of user self.now.ties.conflicts) }
     {
-        self.authored.seconds(user.number() as u16)
-    }
-
-    /// The papers with which the user is declared in conflict: they stand second, in the order of their
-    /// numbers. Two binary searches; takes no memory.
-    pub fn conflicting(&self, user: UserNo) -> &[Pair]
-        ensures within { All (λ pair. (1 ≤ pair.second) × (pair.second ≤ 9999)) result.now }
-        ensures papers { map (λ pair. pair.second) result.now ≡ filter (λ paper. is_declared_in self.now.ties (Some user) paper) (numbers_from 1 self.now.ties.authors) }
-    {
-        self.conflicting.seconds(user.number() as u16)
+        self.conflicts.of_user(user)
     }
 
     /// Whether the caller may turn this user's conflict with this paper on or off, or the first broken
     /// rule. `by` is her standing at the paper, `maker` her number; `paper` is none where there is no
-    /// such paper, `target` none where there is no such user. One read by number at most.
+    /// such paper, `target` none where there is no such user. One binary search at most.
     ///
     /// First come `NoPaper` and `NoUser`. On, before the bidding: `NotAuthor`, `NotAMember`; from the
     /// bidding to the discussion, of herself: `NotMember`, of another: `NotChair`, `Conflict` where she
@@ -188,15 +194,14 @@ impl Ties {
         ensures keeps { self.old.room ≤ self.new.room }
     {
         self.authors.reserve(group.len())?;
-        self.conflicts.room(group.len())?;
-        self.declared.room(group.len())?;
         self.authored.room(group.len())?;
-        self.conflicting.room(group.len())
+        self.conflicts.room(group.len())?;
+        self.declared.room(group.len())
     }
 
-    /// One more entry, for which there is room; takes no memory. The number of a paper that it adds is
-    /// the next one, and a paper in a conflict is there. A submission costs one binary search, a
-    /// conflict three at most, and each a move of the pairs behind the place, of 4 bytes.
+    /// One more entry, for which there is room; takes no memory. The paper that it adds comes behind
+    /// all that have authors. A submission costs one binary search, a conflict four at most, and each
+    /// a move of the ties behind the place, of 4 bytes.
     pub fn apply(&mut self, stamped: &Stamped)
         requires room { 0 < self.old.room }
         requires fits { TiesFit self.old.ties stamped.now.entry }
@@ -205,20 +210,15 @@ impl Ties {
     {
         match &stamped.entry {
             Entry::Submitted { paper, .. } => {
-                self.authors.push_reserved(stamped.maker);
-                self.authored.insert(by_user(stamped.maker, *paper));
+                self.authors.push_reserved(bare(*paper, stamped.maker));
+                self.authored.insert(bare(*paper, stamped.maker));
             }
             Entry::Conflict { paper, user, on } => {
-                if self.is_author(stamped.maker, *paper) {
-                    self.declared.insert(by_paper(*paper, *user));
-                }
-                switch(&mut self.conflicts, by_paper(*paper, *user), *on);
-                switch(&mut self.conflicting, by_user(*user, *paper), *on);
+                let wrote = self.is_author(stamped.maker, *paper);
+                insert_where(&mut self.declared, wrote, bare(*paper, *user));
+                switch(&mut self.conflicts, *paper, *user, *on);
             }
-            Entry::Registered { .. }
-            | Entry::Named { .. }
-            | Entry::PhaseSet { .. }
-            | Entry::ModeSet { .. } => {}
+            _ => {}
         }
     }
 }

@@ -1,148 +1,187 @@
--- What a pair's place says of the list: whether the pair is there, and what the list is with it and without it.
-use Rattle.std.proofs.Common.{ℕ, Bool, true, false, cond, not, ◌||◌, ◌≡◌, List, [], ◌∷◌, Result, Ok, Err, is_ok, MatchResult, zero, suc, refl, sym, ap, subst, ◌∙◌, arith}
+-- What a pair's place says of the list: whether it is there, what is kept of it, and what the list is with it and without it.
+use Rattle.std.proofs.Common.{ℕ, Bool, true, false, cond, not, ◌||◌, ◌≡◌, List, [], ◌∷◌, get_or, set, Option, Some, None, Result, Ok, Err, is_ok, MatchResult, zero, suc, refl, sym, ap, subst, ◌∙◌, arith}
+use Rattle.std.specs.Prelude.{find}
 use Rattle.std.specs.List.{list_all, insert, remove}
-use Rattle.std.proofs.lemmas.Bool.{and_parts, or_parts, both_ways}
+use Rattle.std.specs.Option.{option_map}
+use Rattle.std.proofs.lemmas.Bool.{and_parts, or_parts}
 use Rattle.std.proofs.lemmas.Bool.Decides.{nat_tests}
+use Rattle.cr_base.specs.declared.pairs.Order.{Order}
+use Rattle.cr_base.specs.declared.pairs.Order.TheVariants.{ByPaper, ByUser}
 use Rattle.cr_base.specs.declared.pairs.Pair.{Pair}
-use Rattle.cr_base.specs.Pairs.{same_pair, comes_before, IsAscending, with_pair, without_pair, has_pair}
-use Rattle.cr_base.proofs.PairLaws.{same_pair-refl, same_pair-is, comes_before-not_same}
+use Rattle.cr_base.specs.declared.pairs.Tie.{Tie}
+use Rattle.cr_base.specs.Pairs.{same_pair, comes_before, is_tied, stands, IsAscending, with_tie, without_pair, has_pair, value_of}
+use Rattle.cr_base.proofs.PairLaws.{same_pair-refl, same_pair-is, comes_before-not_same, IsAscending-with_tie, IsAscending-without_pair}
 use Rattle.cr_pairs.specs.Places.{IsAt, IsGapFor}
-
--- ---- a list with the pair, and one without it
 
 either : (a b : Bool) → (a || b) ≡ true → a ≡ false → b ≡ true
 either a b h first = ap (λ x. x || b) (sym first) ∙ h
 
-not_before : (q p : Pair) → comes_before p q ≡ true → comes_before q p ≡ false
-not_before q p h = grind (arith, nat_tests)
+not_before : (order : Order) (q p : Pair) → comes_before order p q ≡ true → comes_before order q p ≡ false
+not_before ByPaper q p h = grind (arith, nat_tests)
+not_before ByUser q p h = grind (arith, nat_tests)
 
-not_same : (q p : Pair) → comes_before p q ≡ true → same_pair q p ≡ false
-not_same q p h = grind (arith, nat_tests)
+not_same : (order : Order) (q p : Pair) → comes_before order p q ≡ true → same_pair q p ≡ false
+not_same ByPaper q p h = grind (arith, nat_tests)
+not_same ByUser q p h = grind (arith, nat_tests)
 
--- what comes before each pair comes before one that is there
-before_there : (p q : Pair) (ps : List Pair) → list_all (comes_before p) ps ≡ true → has_pair q ps ≡ true → comes_before p q ≡ true
-before_there p q [] all there = absurd (cc)
-before_there p q (r ∷ ps) all there = by (same_pair q r) refl (before_there p q ps parts.1)
-  where
-    parts : (comes_before p r ≡ true) × (list_all (comes_before p) ps ≡ true)
-    parts = and_parts (comes_before p r) (list_all (comes_before p) ps) all
+module _ {V : Type 0} where
+  -- the list stays as it is without a pair that isn't there
+  without_pair-absent : (q : Pair) (ts : List (Tie V)) → has_pair q ts ≡ false → without_pair q ts ≡ ts
+  without_pair-absent q [] absent = refl
+  without_pair-absent q (t ∷ ts) absent =
+      let parts = or_parts (is_tied q t) (has_pair q ts) absent in
+      ap (λ b. cond (not b) (t ∷ without_pair q ts) (without_pair q ts)) parts.0 ∙ ap (λ (rest : List (Tie V)). t ∷ rest) (without_pair-absent q ts parts.1)
 
-    by : (same : Bool) → same_pair q r ≡ same → (has_pair q ps ≡ true → comes_before p q ≡ true) → comes_before p q ≡ true
-    by true is rest = subst (λ (x : Pair). comes_before p x ≡ true) (sym (same_pair-is q r is)) parts.0
-    by false is rest = rest (either (same_pair q r) (has_pair q ps) there is)
+  -- ---- the pair stands at a place
 
--- the list stays as it is with a pair that is there
-pub with_pair-there : (q : Pair) (ps : List Pair) → IsAscending ps → has_pair q ps ≡ true → with_pair q ps ≡ ps
-with_pair-there q [] up there = absurd (cc)
-with_pair-there q (p ∷ ps) up there = by (same_pair q p) (comes_before q p) refl refl (with_pair-there q ps up.1)
-  where
-    behind : same_pair q p ≡ false → has_pair q ps ≡ true
-    behind is = either (same_pair q p) (has_pair q ps) there is
+  at_tail : (q : Pair) (t : Tie V) (ts : List (Tie V)) (place : ℕ) → IsAt q (t ∷ ts) (suc place) → IsAt q ts place
+  at_tail q t ts place at = record { in_range = omega (arith, at.in_range); is = at.is }
 
-    by : (same before : Bool) → same_pair q p ≡ same → comes_before q p ≡ before → (has_pair q ps ≡ true → with_pair q ps ≡ ps) → cond same (p ∷ ps) (cond before (q ∷ p ∷ ps) (p ∷ with_pair q ps)) ≡ p ∷ ps
-    by true before is comes rest = refl
-    by false true is comes rest = absurd (both_ways (comes_before q p) (not_before q p (before_there p q ps up.0 (behind is))) comes)
-    by false false is comes rest = ap (λ (behind : List Pair). p ∷ behind) (rest (behind is))
+  at-has_pair : (q : Pair) (ts : List (Tie V)) (place : ℕ) → IsAt q ts place → has_pair q ts ≡ true
+  at-has_pair q [] place at = absurd (omega (arith, at.in_range))
+  at-has_pair q (t ∷ ts) zero at = ap (λ (x : Pair). same_pair q x || has_pair q ts) (at.is t) ∙ ap (λ b. b || has_pair q ts) (same_pair-refl q)
+  at-has_pair q (t ∷ ts) (suc place) at = ap (λ b. is_tied q t || b) (at-has_pair q ts place (at_tail q t ts place at)) ∙ always (is_tied q t)
+    where
+      always : (a : Bool) → (a || true) ≡ true
+      always true = refl
+      always false = refl
 
--- the list stays as it is without a pair that isn't there
-pub without_pair-absent : (q : Pair) (ps : List Pair) → has_pair q ps ≡ false → without_pair q ps ≡ ps
-without_pair-absent q [] absent = refl
-without_pair-absent q (p ∷ ps) absent =
-    let parts = or_parts (same_pair q p) (has_pair q ps) absent in
-    ap (λ b. cond (not b) (p ∷ without_pair q ps) (without_pair q ps)) parts.0 ∙ ap (λ (rest : List Pair). p ∷ rest) (without_pair-absent q ps parts.1)
+  -- what comes before each pair comes before one that is there
+  before_there : (order : Order) (p q : Pair) (ts : List (Tie V)) → list_all (stands (comes_before order) p) ts ≡ true → has_pair q ts ≡ true → comes_before order p q ≡ true
+  before_there order p q [] all there = absurd (cc)
+  before_there order p q (t ∷ ts) all there =
+      let parts = and_parts (comes_before order p t.pair) (list_all (stands (comes_before order) p) ts) all in
+      by (is_tied q t) refl parts.0 (before_there order p q ts parts.1)
+    where
+      by : (same : Bool) → is_tied q t ≡ same → comes_before order p t.pair ≡ true → (has_pair q ts ≡ true → comes_before order p q ≡ true) → comes_before order p q ≡ true
+      by true is here rest = subst (λ (x : Pair). comes_before order p x ≡ true) (sym (same_pair-is q t.pair is)) here
+      by false is here rest = rest (either (is_tied q t) (has_pair q ts) there is)
 
--- ---- the pair stands at a place
+  -- the pair of the first tie isn't the one that stands behind it
+  first_other : (order : Order) (q : Pair) (t : Tie V) (ts : List (Tie V)) (place : ℕ) → IsAscending order (t ∷ ts) → IsAt q (t ∷ ts) (suc place) → comes_before order t.pair q ≡ true
+  first_other order q t ts place up at = before_there order t.pair q ts up.0 (at-has_pair q ts place (at_tail q t ts place at))
 
-at_tail : (q p : Pair) (ps : List Pair) (place : ℕ) → IsAt q (p ∷ ps) (suc place) → IsAt q ps place
-at_tail q p ps place at = record { in_range = omega (arith, at.in_range); is = at.is }
+  -- a pair that comes before each of the list isn't there
+  absent_behind : (order : Order) (q : Pair) (ts : List (Tie V)) → list_all (stands (comes_before order) q) ts ≡ true → has_pair q ts ≡ false
+  absent_behind order q [] all = refl
+  absent_behind order q (t ∷ ts) all =
+      let parts = and_parts (comes_before order q t.pair) (list_all (stands (comes_before order) q) ts) all in
+      ap (λ b. b || has_pair q ts) (comes_before-not_same order q t.pair parts.0) ∙ absent_behind order q ts parts.1
 
-pub at-has_pair : (q : Pair) (ps : List Pair) (place : ℕ) → IsAt q ps place → has_pair q ps ≡ true
-at-has_pair q [] place at = absurd (omega (arith, at.in_range))
-at-has_pair q (p ∷ ps) zero at = ap (λ (x : Pair). same_pair q x || has_pair q ps) at.is ∙ ap (λ b. b || has_pair q ps) (same_pair-refl q)
-at-has_pair q (p ∷ ps) (suc place) at = ap (λ b. same_pair q p || b) (at-has_pair q ps place (at_tail q p ps place at)) ∙ always (same_pair q p)
-  where
-    always : (a : Bool) → (a || true) ≡ true
-    always true = refl
-    always false = refl
+  -- what is kept of it is what stands there
+  at-value : (order : Order) (q : Pair) (ts : List (Tie V)) (place : ℕ) (d : Tie V) → IsAscending order ts → IsAt q ts place → value_of q ts ≡ Some (get_or ts place d).value
+  at-value order q [] place d up at = absurd (omega (arith, at.in_range))
+  at-value order q (t ∷ ts) zero d up at =
+      ap (λ b. option_map (λ (x : Tie V). x.value) (cond b (Some t) (find (is_tied q) ts))) (ap (same_pair q) (at.is t) ∙ same_pair-refl q)
+  at-value order q (t ∷ ts) (suc place) d up at =
+      ap (λ b. option_map (λ (x : Tie V). x.value) (cond b (Some t) (find (is_tied q) ts))) (not_same order q t.pair (first_other order q t ts place up at))
+      ∙ at-value order q ts place d up.1 (at_tail q t ts place at)
 
--- a pair that comes before each of the list isn't there
-absent_behind : (q : Pair) (ps : List Pair) → list_all (comes_before q) ps ≡ true → has_pair q ps ≡ false
-absent_behind q [] all = refl
-absent_behind q (p ∷ ps) all =
-    let parts = and_parts (comes_before q p) (list_all (comes_before q) ps) all in
-    ap (λ b. b || has_pair q ps) (comes_before-not_same q p parts.0) ∙ absent_behind q ps parts.1
+  -- with a tie of the pair, that one stands there
+  at-with_tie : (order : Order) (s : Tie V) (ts : List (Tie V)) (place : ℕ) → IsAscending order ts → IsAt s.pair ts place → with_tie order s ts ≡ set ts place s
+  at-with_tie order s [] place up at = absurd (omega (arith, at.in_range))
+  at-with_tie order s (t ∷ ts) zero up at =
+      ap (λ b. cond b (s ∷ ts) (cond (comes_before order s.pair t.pair) (s ∷ t ∷ ts) (t ∷ with_tie order s ts))) (ap (same_pair s.pair) (at.is t) ∙ same_pair-refl s.pair)
+  at-with_tie order s (t ∷ ts) (suc place) up at =
+      let first = first_other order s.pair t ts place up at in
+      ap (λ b. cond b (s ∷ ts) (cond (comes_before order s.pair t.pair) (s ∷ t ∷ ts) (t ∷ with_tie order s ts))) (not_same order s.pair t.pair first)
+      ∙ ap (λ b. cond b (s ∷ t ∷ ts) (t ∷ with_tie order s ts)) (not_before order s.pair t.pair first)
+      ∙ ap (λ (rest : List (Tie V)). t ∷ rest) (at-with_tie order s ts place up.1 (at_tail s.pair t ts place at))
 
--- without the pair, the others close up
-pub at-without_pair : (q : Pair) (ps : List Pair) (place : ℕ) → IsAscending ps → IsAt q ps place → without_pair q ps ≡ remove ps place
-at-without_pair q [] place up at = absurd (omega (arith, at.in_range))
-at-without_pair q (p ∷ ps) zero up at =
-    ap (λ b. cond (not b) (p ∷ without_pair q ps) (without_pair q ps)) (ap (same_pair q) at.is ∙ same_pair-refl q)
-    ∙ without_pair-absent q ps (absent_behind q ps (subst (λ (x : Pair). list_all (comes_before x) ps ≡ true) at.is up.0))
-at-without_pair q (p ∷ ps) (suc place) up at =
-    let tail = at_tail q p ps place at in
-    let other : same_pair q p ≡ false = not_same q p (before_there p q ps up.0 (at-has_pair q ps place tail)) in
-    ap (λ b. cond (not b) (p ∷ without_pair q ps) (without_pair q ps)) other ∙ ap (λ (rest : List Pair). p ∷ rest) (at-without_pair q ps place up.1 tail)
+  -- without the pair, the others close up
+  at-without_pair : (order : Order) (q : Pair) (ts : List (Tie V)) (place : ℕ) → IsAscending order ts → IsAt q ts place → without_pair q ts ≡ remove ts place
+  at-without_pair order q [] place up at = absurd (omega (arith, at.in_range))
+  at-without_pair order q (t ∷ ts) zero up at =
+      ap (λ b. cond (not b) (t ∷ without_pair q ts) (without_pair q ts)) (ap (same_pair q) (at.is t) ∙ same_pair-refl q)
+      ∙ without_pair-absent q ts (absent_behind order q ts (subst (λ (x : Pair). list_all (stands (comes_before order) x) ts ≡ true) (at.is t) up.0))
+  at-without_pair order q (t ∷ ts) (suc place) up at =
+      ap (λ b. cond (not b) (t ∷ without_pair q ts) (without_pair q ts)) (not_same order q t.pair (first_other order q t ts place up at))
+      ∙ ap (λ (rest : List (Tie V)). t ∷ rest) (at-without_pair order q ts place up.1 (at_tail q t ts place at))
 
--- ---- the pair would stand at a place
+  -- ---- the pair would stand at a place
 
-gap_tail : (q p : Pair) (ps : List Pair) (place : ℕ) → IsGapFor q (p ∷ ps) (suc place) → IsGapFor q ps place
-gap_tail q p ps place gap =
-    record {
-      in_range = omega (arith, gap.in_range);
-      before = λ k h. gap.before (suc k) (omega arith);
-      behind = λ k low high. gap.behind (suc k) (omega arith) (omega arith);
-    }
+  module _ (order : Order) where
+    gap_tail : (q : Pair) (t : Tie V) (ts : List (Tie V)) (place : ℕ) → IsGapFor order q (t ∷ ts) (suc place) → IsGapFor order q ts place
+    gap_tail q t ts place gap =
+        record {
+          in_range = omega (arith, gap.in_range);
+          before = λ k d h. gap.before (suc k) d (omega arith);
+          behind = λ k d low high. gap.behind (suc k) d (omega arith) (omega arith);
+        }
 
-behind_tail : (q p : Pair) (ps : List Pair) → IsGapFor q (p ∷ ps) zero → IsGapFor q ps zero
-behind_tail q p ps gap =
-    record {
-      in_range = omega arith;
-      before = λ k h. absurd (omega arith);
-      behind = λ k low high. gap.behind (suc k) (omega arith) (omega arith);
-    }
+    behind_tail : (q : Pair) (t : Tie V) (ts : List (Tie V)) → IsGapFor order q (t ∷ ts) zero → IsGapFor order q ts zero
+    behind_tail q t ts gap =
+        record {
+          in_range = omega arith;
+          before = λ k d h. absurd (omega arith);
+          behind = λ k d low high. gap.behind (suc k) d (omega arith) (omega arith);
+        }
 
-pub gap-has_pair : (q : Pair) (ps : List Pair) (place : ℕ) → IsGapFor q ps place → has_pair q ps ≡ false
-gap-has_pair q [] place gap = refl
-gap-has_pair q (p ∷ ps) zero gap =
-    ap (λ b. b || has_pair q ps) (comes_before-not_same q p (gap.behind 0 (omega arith) (omega arith)))
-    ∙ gap-has_pair q ps zero (behind_tail q p ps gap)
-gap-has_pair q (p ∷ ps) (suc place) gap =
-    ap (λ b. b || has_pair q ps) (not_same q p (gap.before 0 (omega arith)))
-    ∙ gap-has_pair q ps place (gap_tail q p ps place gap)
+    gap-has_pair : (q : Pair) (ts : List (Tie V)) (place : ℕ) → IsGapFor order q ts place → has_pair q ts ≡ false
+    gap-has_pair q [] place gap = refl
+    gap-has_pair q (t ∷ ts) zero gap =
+        ap (λ b. b || has_pair q ts) (comes_before-not_same order q t.pair (gap.behind 0 t (omega arith) (omega arith)))
+        ∙ gap-has_pair q ts zero (behind_tail q t ts gap)
+    gap-has_pair q (t ∷ ts) (suc place) gap =
+        ap (λ b. b || has_pair q ts) (not_same order q t.pair (gap.before 0 t (omega arith)))
+        ∙ gap-has_pair q ts place (gap_tail q t ts place gap)
 
--- with the pair, the others make room for it
-pub gap-with_pair : (q : Pair) (ps : List Pair) (place : ℕ) → IsGapFor q ps place → with_pair q ps ≡ insert ps place q
-gap-with_pair q [] zero gap = refl
-gap-with_pair q [] (suc place) gap = absurd (omega (arith, gap.in_range))
-gap-with_pair q (p ∷ ps) zero gap =
-    let comes : comes_before q p ≡ true = gap.behind 0 (omega arith) (omega arith) in
-    ap (λ b. cond b (p ∷ ps) (cond (comes_before q p) (q ∷ p ∷ ps) (p ∷ with_pair q ps))) (comes_before-not_same q p comes)
-    ∙ ap (λ b. cond b (q ∷ p ∷ ps) (p ∷ with_pair q ps)) comes
-gap-with_pair q (p ∷ ps) (suc place) gap =
-    let comes : comes_before p q ≡ true = gap.before 0 (omega arith) in
-    ap (λ b. cond b (p ∷ ps) (cond (comes_before q p) (q ∷ p ∷ ps) (p ∷ with_pair q ps))) (not_same q p comes)
-    ∙ ap (λ b. cond b (q ∷ p ∷ ps) (p ∷ with_pair q ps)) (not_before q p comes)
-    ∙ ap (λ (rest : List Pair). p ∷ rest) (gap-with_pair q ps place (gap_tail q p ps place gap))
+    -- nothing is kept of it
+    gap-value : (q : Pair) (ts : List (Tie V)) → has_pair q ts ≡ false → value_of q ts ≡ None
+    gap-value q [] absent = refl
+    gap-value q (t ∷ ts) absent =
+        let parts = or_parts (is_tied q t) (has_pair q ts) absent in
+        ap (λ b. option_map (λ (x : Tie V). x.value) (cond b (Some t) (find (is_tied q) ts))) parts.0 ∙ gap-value q ts parts.1
 
--- ---- what a search answered
+    -- with a tie of it, the others make room
+    gap-with_tie : (s : Tie V) (ts : List (Tie V)) (place : ℕ) → IsGapFor order s.pair ts place → with_tie order s ts ≡ insert ts place s
+    gap-with_tie s [] zero gap = refl
+    gap-with_tie s [] (suc place) gap = absurd (omega (arith, gap.in_range))
+    gap-with_tie s (t ∷ ts) zero gap =
+        let comes : comes_before order s.pair t.pair ≡ true = gap.behind 0 t (omega arith) (omega arith) in
+        ap (λ b. cond b (s ∷ ts) (cond (comes_before order s.pair t.pair) (s ∷ t ∷ ts) (t ∷ with_tie order s ts))) (comes_before-not_same order s.pair t.pair comes)
+        ∙ ap (λ b. cond b (s ∷ t ∷ ts) (t ∷ with_tie order s ts)) comes
+    gap-with_tie s (t ∷ ts) (suc place) gap =
+        let comes : comes_before order t.pair s.pair ≡ true = gap.before 0 t (omega arith) in
+        ap (λ b. cond b (s ∷ ts) (cond (comes_before order s.pair t.pair) (s ∷ t ∷ ts) (t ∷ with_tie order s ts))) (not_same order s.pair t.pair comes)
+        ∙ ap (λ b. cond b (s ∷ t ∷ ts) (t ∷ with_tie order s ts)) (not_before order s.pair t.pair comes)
+        ∙ ap (λ (rest : List (Tie V)). t ∷ rest) (gap-with_tie s ts place (gap_tail s.pair t ts place gap))
 
--- the pair is there where the search found it
-pub found-has_pair : (q : Pair) (ps : List Pair) (found : Result ℕ ℕ) → MatchResult found (IsAt q ps) (IsGapFor q ps) → is_ok found ≡ has_pair q ps
-found-has_pair q ps (Ok place) at = sym (at-has_pair q ps place at)
-found-has_pair q ps (Err place) gap = sym (gap-has_pair q ps place gap)
+  -- ---- what a search answered
 
--- the list after the pair was put where it would stand
-pub inserted : (q : Pair) (ps old new : List Pair) (place : ℕ) → IsGapFor q ps place → old ≡ ps → new ≡ insert old place q → new ≡ with_pair q ps
-inserted q ps old new place gap same is = is ∙ ap (λ (xs : List Pair). insert xs place q) same ∙ sym (gap-with_pair q ps place gap)
+  -- the pair is there where the search found it
+  pub found-has_pair : (order : Order) (q : Pair) (ts : List (Tie V)) (found : Result ℕ ℕ) → MatchResult found (IsAt q ts) (IsGapFor order q ts) → is_ok found ≡ has_pair q ts
+  found-has_pair order q ts (Ok place) at = sym (at-has_pair q ts place at)
+  found-has_pair order q ts (Err place) gap = sym (gap-has_pair order q ts place gap)
 
--- the list as it stays, where the pair stands in it
-pub with_pair-at : (q : Pair) (ps : List Pair) (place : ℕ) → IsAscending ps → IsAt q ps place → ps ≡ with_pair q ps
-with_pair-at q ps place up at = sym (with_pair-there q ps up (at-has_pair q ps place at))
+  pub absent-value : (order : Order) (q : Pair) (ts : List (Tie V)) (place : ℕ) → IsGapFor order q ts place → None ≡ value_of q ts
+  absent-value order q ts place gap = sym (gap-value order q ts (gap-has_pair order q ts place gap))
 
--- the list after the pair was taken from where it stands
-pub removed : (q : Pair) (ps old new : List Pair) (place : ℕ) → IsAscending ps → IsAt q ps place → old ≡ ps → new ≡ remove old place → new ≡ without_pair q ps
-removed q ps old new place up at same is = is ∙ ap (λ (xs : List Pair). remove xs place) same ∙ sym (at-without_pair q ps place up at)
+  pub found-value : (order : Order) (q : Pair) (ts old : List (Tie V)) (place : ℕ) (d read : Tie V) → IsAscending order ts → IsAt q ts place → old ≡ ts → read ≡ get_or old place d → Some read.value ≡ value_of q ts
+  found-value order q ts old place d read up at same is =
+      ap (λ (t : Tie V). Some t.value) (is ∙ ap (λ (xs : List (Tie V)). get_or xs place d) same) ∙ sym (at-value order q ts place d up at)
 
--- the list as it stays, where the pair would stand in it
-pub without_pair-gap : (q : Pair) (ps : List Pair) (place : ℕ) → IsGapFor q ps place → ps ≡ without_pair q ps
-without_pair-gap q ps place gap = sym (without_pair-absent q ps (gap-has_pair q ps place gap))
+  -- the list after a tie was put where one of its pair stands, or would stand
+  pub replaced : (order : Order) (s : Tie V) (ts old new : List (Tie V)) (place : ℕ) → IsAscending order ts → IsAt s.pair ts place → old ≡ ts → new ≡ set old place s → new ≡ with_tie order s ts
+  replaced order s ts old new place up at same is = is ∙ ap (λ (xs : List (Tie V)). set xs place s) same ∙ sym (at-with_tie order s ts place up at)
+
+  pub inserted : (order : Order) (s : Tie V) (ts old new : List (Tie V)) (place : ℕ) → IsGapFor order s.pair ts place → old ≡ ts → new ≡ insert old place s → new ≡ with_tie order s ts
+  inserted order s ts old new place gap same is = is ∙ ap (λ (xs : List (Tie V)). insert xs place s) same ∙ sym (gap-with_tie order s ts place gap)
+
+  -- the list after the pair was taken from where it stands
+  pub removed : (order : Order) (q : Pair) (ts old new : List (Tie V)) (place : ℕ) → IsAscending order ts → IsAt q ts place → old ≡ ts → new ≡ remove old place → new ≡ without_pair q ts
+  removed order q ts old new place up at same is = is ∙ ap (λ (xs : List (Tie V)). remove xs place) same ∙ sym (at-without_pair order q ts place up at)
+
+  -- the list as it stays, where the pair would stand in it
+  pub without_pair-gap : (order : Order) (q : Pair) (ts : List (Tie V)) (place : ℕ) → IsGapFor order q ts place → ts ≡ without_pair q ts
+  without_pair-gap order q ts place gap = sym (without_pair-absent q ts (gap-has_pair order q ts place gap))
+
+  -- ---- the order stays
+
+  pub ascending-with : (order order' : Order) (s : Tie V) (ts new : List (Tie V)) → order' ≡ order → new ≡ with_tie order s ts → IsAscending order ts → IsAscending order' new
+  ascending-with order order' s ts new same is up =
+      subst (λ (o : Order). IsAscending o new) (sym same) (subst (λ (xs : List (Tie V)). IsAscending order xs) (sym is) (IsAscending-with_tie order s ts up))
+
+  pub ascending-without : (order order' : Order) (q : Pair) (ts new : List (Tie V)) → order' ≡ order → new ≡ without_pair q ts → IsAscending order ts → IsAscending order' new
+  ascending-without order order' q ts new same is up =
+      subst (λ (o : Order). IsAscending o new) (sym same) (subst (λ (xs : List (Tie V)). IsAscending order xs) (sym is) (IsAscending-without_pair order q ts up))

@@ -1,97 +1,73 @@
--- The pairs with one first number stand together, and where.
-use Rattle.std.proofs.Common.{ℕ, Bool, true, false, cond, ◌≡◌, ◌≤◌, ◌<◌, ◌+◌, ◌-◌, ◌⊎◌, inl, inr, List, [], ◌∷◌, length, take, drop, get_or, eqb, zero, suc, refl, sym, ap, subst, ◌∙◌, arith}
+-- The ties with one number stand together, and where.
+use Rattle.std.proofs.Common.{ℕ, Bool, true, false, cond, ◌≡◌, ◌≤◌, ◌<◌, ◌+◌, ◌-◌, ◌⊎◌, inl, inr, List, [], ◌∷◌, length, take, drop, get_or, eqb, zero, suc, refl, sym, ap, ◌∙◌, arith}
 use lib.Dec.{ltb, leb}
+use Rattle.std.specs.Prelude.{slice_range}
 use Rattle.std.specs.List.{filter}
-use Rattle.std.specs.List.Sorted.{IsPartitionPoint, IsNonDecreasingBy}
+use Rattle.std.specs.List.Sorted.{IsPartitionPoint}
 use Rattle.std.proofs.lemmas.Bool.Decides.{nat_tests, leb_tells}
-use Rattle.std.proofs.Math.Nat.{eq-or-lt_of_le}
-use Rattle.cr_base.specs.declared.pairs.Pair.{Pair}
-use Rattle.cr_base.specs.Pairs.{comes_before, IsAscending}
+use Rattle.cr_base.specs.declared.pairs.Order.{Order}
+use Rattle.cr_base.specs.declared.pairs.Tie.{Tie}
+use Rattle.cr_base.specs.Pairs.{leads, ties_of}
 use Rattle.cr_pairs.specs.Places.{IsRun}
-use Rattle.cr_pairs.proofs.Searches.{ascending-at}
 
-first_rises : (p q : Pair) → comes_before p q ≡ true → p.first ≤ q.first
-first_rises p q h = grind (arith, nat_tests)
+below : (n m : ℕ) → ltb m n ≡ true → eqb n m ≡ false
+below n m h = grind (arith, nat_tests)
 
-firsts_rise : (ps : List Pair) → IsAscending ps → IsNonDecreasingBy (λ p. p.first) ps
-firsts_rise ps up i j d le in_range = by (eq-or-lt_of_le le)
-  where
-    by : (i ≡ j) ⊎ (i < j) → (get_or ps i d).first ≤ (get_or ps j d).first
-    by (inl same) = subst (λ k. (get_or ps i d).first ≤ (get_or ps k d).first) same (omega arith)
-    by (inr lt) = first_rises (get_or ps i d) (get_or ps j d) (ascending-at ps up i j d lt in_range)
+equal : (n m : ℕ) → ltb m n ≡ false → leb m n ≡ true → eqb n m ≡ true
+equal n m low high = grind (arith, nat_tests)
 
--- the same of a list that is equal
-pub firsts_rise-along : (lent ps : List Pair) → lent ≡ ps → IsAscending ps → IsNonDecreasingBy (λ p. p.first) lent
-firsts_rise-along lent ps same up = firsts_rise lent (subst IsAscending (sym same) up)
+above : (n m : ℕ) → leb m n ≡ false → eqb n m ≡ false
+above n m h = grind (arith, nat_tests)
 
--- what passes a test is so many elements from a place on
-filter-run : (test : Pair → Bool) (ps : List Pair) (start count : ℕ) → start + count ≤ length ps
-    → ((k : ℕ) (d : Pair) → k < start → test (get_or ps k d) ≡ false)
-    → ((k : ℕ) (d : Pair) → start ≤ k → k < start + count → test (get_or ps k d) ≡ true)
-    → ((k : ℕ) (d : Pair) → start + count ≤ k → k < length ps → test (get_or ps k d) ≡ false)
-    → filter test ps ≡ take count (drop start ps)
-filter-run test [] zero zero within low mid high = refl
-filter-run test [] zero (suc count) within low mid high = absurd (omega arith)
-filter-run test [] (suc start) count within low mid high = absurd (omega arith)
-filter-run test (p ∷ ps) zero zero within low mid high =
-    ap (λ b. cond b (p ∷ filter test ps) (filter test ps)) (high 0 p (omega arith) (omega arith))
-    ∙ filter-run test ps zero zero (omega arith) (λ k d h. absurd (omega arith)) (λ k d h lt. absurd (omega arith)) (λ k d h lt. high (suc k) d (omega arith) (omega arith))
-filter-run test (p ∷ ps) zero (suc count) within low mid high =
-    ap (λ b. cond b (p ∷ filter test ps) (filter test ps)) (mid 0 p (omega arith) (omega arith))
-    ∙ ap (λ (rest : List Pair). p ∷ rest) (filter-run test ps zero count (omega arith) (λ k d h. absurd (omega arith)) (λ k d h lt. mid (suc k) d (omega arith) (omega arith)) (λ k d h lt. high (suc k) d (omega arith) (omega arith)))
-filter-run test (p ∷ ps) (suc start) count within low mid high =
-    ap (λ b. cond b (p ∷ filter test ps) (filter test ps)) (low 0 p (omega arith))
-    ∙ filter-run test ps start count (omega arith) (λ k d h. low (suc k) d (omega arith)) (λ k d h lt. mid (suc k) d (omega arith) (omega arith)) (λ k d h lt. high (suc k) d (omega arith) (omega arith))
+clash : (n m : ℕ) → ltb m n ≡ true → leb m n ≡ false → ⊥
+clash n m low high = grind (arith, nat_tests)
 
--- the place of the first pair whose first number isn't less
-abbrev pub IsStart : ℕ → List Pair → ℕ → Type 0
-IsStart first ps place = IsPartitionPoint (λ p. ltb p.first first ≡ true) (λ p. ltb p.first first ≡ false) ps place
+module _ {A : Type 0} (test : A → Bool) where
+  -- what passes a test is so many elements from a place on
+  filter-run : (xs : List A) (start count : ℕ) → start + count ≤ length xs
+      → ((k : ℕ) (d : A) → k < start → test (get_or xs k d) ≡ false)
+      → ((k : ℕ) (d : A) → start ≤ k → k < start + count → test (get_or xs k d) ≡ true)
+      → ((k : ℕ) (d : A) → start + count ≤ k → k < length xs → test (get_or xs k d) ≡ false)
+      → filter test xs ≡ take count (drop start xs)
+  filter-run [] zero zero within low mid high = refl
+  filter-run [] zero (suc count) within low mid high = absurd (omega arith)
+  filter-run [] (suc start) count within low mid high = absurd (omega arith)
+  filter-run (x ∷ xs) zero zero within low mid high =
+      ap (λ b. cond b (x ∷ filter test xs) (filter test xs)) (high 0 x (omega arith) (omega arith))
+      ∙ filter-run xs zero zero (omega arith) (λ k d h. absurd (omega arith)) (λ k d h lt. absurd (omega arith)) (λ k d h lt. high (suc k) d (omega arith) (omega arith))
+  filter-run (x ∷ xs) zero (suc count) within low mid high =
+      ap (λ b. cond b (x ∷ filter test xs) (filter test xs)) (mid 0 x (omega arith) (omega arith))
+      ∙ ap (λ (rest : List A). x ∷ rest) (filter-run xs zero count (omega arith) (λ k d h. absurd (omega arith)) (λ k d h lt. mid (suc k) d (omega arith) (omega arith)) (λ k d h lt. high (suc k) d (omega arith) (omega arith)))
+  filter-run (x ∷ xs) (suc start) count within low mid high =
+      ap (λ b. cond b (x ∷ filter test xs) (filter test xs)) (low 0 x (omega arith))
+      ∙ filter-run xs start count (omega arith) (λ k d h. low (suc k) d (omega arith)) (λ k d h lt. mid (suc k) d (omega arith) (omega arith)) (λ k d h lt. high (suc k) d (omega arith) (omega arith))
 
--- the place of the first pair whose first number is greater
-abbrev pub IsEnd : ℕ → List Pair → ℕ → Type 0
-IsEnd first ps place = IsPartitionPoint (λ p. leb p.first first ≡ true) (λ p. leb p.first first ≡ false) ps place
+module _ {V : Type 0} (order : Order) (n : ℕ) (ts : List (Tie V)) where
+  -- the place of the first tie whose number isn't less, and of the first whose number is greater
+  abbrev pub IsStart : ℕ → Type 0
+  IsStart place = IsPartitionPoint (λ (t : Tie V). ltb (leads order t.pair) n ≡ true) (λ (t : Tie V). ltb (leads order t.pair) n ≡ false) ts place
 
--- the start is no later than the end
-start-end : (ps : List Pair) (first start end : ℕ) → start ≤ length ps → IsStart first ps start → IsEnd first ps end → start ≤ end
-start-end ps first start end within low high = by (leb_tells start end)
-  where
-    clash : (n : ℕ) → ltb n first ≡ true → leb n first ≡ false → ⊥
-    clash n low high = grind (arith, nat_tests)
+  abbrev pub IsEnd : ℕ → Type 0
+  IsEnd place = IsPartitionPoint (λ (t : Tie V). leb (leads order t.pair) n ≡ true) (λ (t : Tie V). leb (leads order t.pair) n ≡ false) ts place
 
-    at : (d : Pair) → end < start → ⊥
-    at d h = clash (get_or ps end d).first (low.0 end d (omega arith) h) (high.1 end d (omega arith) (omega arith))
+  -- the start is no later than the end: else the tie at the end would stand before the start
+  start-end : (start end : ℕ) → start ≤ length ts → IsStart start → IsEnd end → start ≤ end
+  start-end start end within low high = by (leb_tells start end) ts refl
+    where
+      by : ((leb start end ≡ true) × (start ≤ end)) ⊎ ((leb start end ≡ false) × (end < start)) → (us : List (Tie V)) → us ≡ ts → start ≤ end
+      by (inl h) us same = h.1
+      by (inr h) [] same = let none = ap length same in absurd (omega (arith, h.1, none))
+      by (inr h) (d ∷ us) same = let m = leads order (get_or ts end d).pair in absurd (clash n m (low.0 end d (omega arith) h.1) (high.1 end d (omega arith) (omega (arith, h.1))))
 
-    by : ((leb start end ≡ true) × (start ≤ end)) ⊎ ((leb start end ≡ false) × (end < start)) → start ≤ end
-    by (inl h) = h.1
-    by (inr h) = absurd (at (record { first = 0; second = 0 }) h.1)
-
--- the pairs with a first number stand between the two places
-IsRun-from : (ps : List Pair) (first start end : ℕ) → start ≤ length ps → end ≤ length ps → IsStart first ps start → IsEnd first ps end → IsRun first ps start end
-IsRun-from ps first start end start_within end_within low high =
-    let rises = start-end ps first start end start_within low high in
-    record {
-      rises = rises;
-      within = end_within;
-      is = sym (filter-run (λ p. eqb first p.first) ps start (end - start) (omega arith)
-          (λ k d h. below (get_or ps k d).first (low.0 k d (omega arith) h))
-          (λ k d h lt. equal (get_or ps k d).first (low.1 k d h (omega arith)) (high.0 k d (omega arith) (omega arith)))
-          (λ k d h lt. above (get_or ps k d).first (high.1 k d (omega arith) lt)));
-    }
-  where
-    below : (n : ℕ) → ltb n first ≡ true → eqb first n ≡ false
-    below n h = grind (arith, nat_tests)
-
-    equal : (n : ℕ) → ltb n first ≡ false → leb n first ≡ true → eqb first n ≡ true
-    equal n low high = grind (arith, nat_tests)
-
-    above : (n : ℕ) → leb n first ≡ false → eqb first n ≡ false
-    above n h = grind (arith, nat_tests)
-
--- the same where the two places were found in lists that are equal
-pub run_along : (ps from to : List Pair) (first start end : ℕ) → from ≡ ps → to ≡ ps → start ≤ length from → end ≤ length to → IsStart first from start → IsEnd first to end → IsRun first ps start end
-run_along ps from to first start end same same' start_within end_within low high =
-    IsRun-from ps first start end
-    (subst (λ (xs : List Pair). start ≤ length xs) same start_within)
-    (subst (λ (xs : List Pair). end ≤ length xs) same' end_within)
-    (subst (λ (xs : List Pair). IsStart first xs start) same low)
-    (subst (λ (xs : List Pair). IsEnd first xs end) same' high)
+  -- the ties with a number stand between the two
+  pub is_run : (start end : ℕ) → start ≤ length ts → end ≤ length ts → IsStart start → IsEnd end → IsRun order n ts start end
+  is_run start end start_within end_within low high =
+      let rises = start-end start end start_within low high in
+      record {
+        rises = rises;
+        within = end_within;
+        is = sym (filter-run (λ (t : Tie V). eqb n (leads order t.pair)) ts start (end - start) (omega arith)
+            (λ k d h. below n (leads order (get_or ts k d).pair) (low.0 k d (omega arith) h))
+            (λ k d h lt. equal n (leads order (get_or ts k d).pair) (low.1 k d h (omega arith)) (high.0 k d (omega arith) (omega arith)))
+            (λ k d h lt. above n (leads order (get_or ts k d).pair) (high.1 k d (omega arith) lt)));
+      }

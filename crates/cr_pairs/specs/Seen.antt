@@ -1,8 +1,15 @@
--- What contracts see of a set of pairs.
+-- What contracts see of maps of pairs.
 use Rattle.std.specs.Prelude.{ℕ, List}
-use Rattle.cr_base.specs.declared.pairs.Pair.{Pair}
+use Rattle.cr_base.specs.declared.pairs.Order.{Order}
+use Rattle.cr_base.specs.declared.pairs.Tie.{Tie}
 
--- the pairs in ascending order, and for how many more there is room
-pub record SeenPairs : Type 0 where
-  pub pairs : List Pair
+-- the order, the ties in it, and for how many more there is room
+pub record SeenPairs (V : Type 0) : Type 0 where
+  pub order : Order
+  pub ties : List (Tie V)
+  pub room : ℕ
+
+-- the ties in the order of papers, and for how many more there is room
+pub record SeenIndexed (V : Type 0) : Type 0 where
+  pub ties : List (Tie V)
   pub room : ℕ

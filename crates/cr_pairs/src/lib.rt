@@ -1,9 +1,13 @@
-//! An ordered set of pairs of numbers: which numbers are tied to which. A pair, and the pairs with
-//! one first number, are found by binary search.
+//! An ordered map from a paper and a user to what is kept of the two. A pair, and the ties with one
+//! number, are found by binary search.
 #![tactic(auto)]
 
-mod pair_set;
+mod indexed_pairs;
+mod pair_map;
+mod run;
 #[cfg(test)]
 mod tests;
 
-pub use pair_set::PairSet;
+pub use indexed_pairs::IndexedPairs;
+pub use pair_map::PairMap;
+pub use run::run_of;

@@ -1,10 +1,10 @@
 -- Counts that are filled up with zeros, and the papers that are there.
-use Rattle.std.proofs.Common.{ℕ, Bool, true, false, cond, ◌≡◌, ◌≤◌, ◌+◌, ◌-◌, ◌&&◌, List, [], ◌∷◌, ◌++◌, length, eqb, get_or, take, replicate, refl, sym, ap, ◌∙◌, arith, zero, suc}
+use Rattle.std.proofs.Common.{ℕ, Bool, true, ◌≡◌, ◌≤◌, ◌+◌, ◌-◌, ◌&&◌, List, [], ◌∷◌, ◌++◌, length, eqb, get_or, set, replicate, append-nil, refl, sym, ap, ◌∙◌, arith, zero, suc}
 use Rattle.std.specs.Prelude.{nat_le}
 use Rattle.std.specs.List.{list_any}
 use Rattle.std.proofs.lemmas.Bool.Decides.{nat_tests}
-use Rattle.std.proofs.lemmas.List.{take_all}
 use Rattle.cr_base.specs.Lists.{numbers_from}
+use Rattle.cr_base.specs.Papers.{counted}
 use Rattle.cr_base.proofs.ListLaws.{list_any-numbers_from}
 
 -- ---- counts
@@ -14,16 +14,38 @@ zeros zero i = refl
 zeros (suc k) zero = refl
 zeros (suc k) (suc i) = zeros k i
 
+-- counts that are filled up read the same
 padded : (xs : List ℕ) (k i : ℕ) → get_or (xs ++ replicate k 0) i 0 ≡ get_or xs i 0
 padded [] k i = zeros k i
 padded (x ∷ xs) k zero = refl
 padded (x ∷ xs) k (suc i) = padded xs k i
 
--- a list that is filled up, or left as it is, reads the same
-pub filled-same : (filled : Bool) (n k : ℕ) (xs ys zs : List ℕ) → xs ≡ zs → length xs ≤ n → ys ≡ cond filled (take n xs ++ replicate k 0) xs → (i : ℕ) → get_or ys i 0 ≡ get_or zs i 0
-filled-same true n k xs ys zs same h is i =
-    ap (λ l. get_or l i 0) (is ∙ ap (λ l. l ++ replicate k 0) (take_all n xs h)) ∙ padded xs k i ∙ ap (λ l. get_or l i 0) same
-filled-same false n k xs ys zs same h is i = ap (λ l. get_or l i 0) (is ∙ same)
+-- one more in counts that are filled up to the place
+counted-by : (i : ℕ) (xs : List ℕ) (k : ℕ) → k ≡ i + 1 - length xs → set (xs ++ replicate k 0) i (get_or xs i 0 + 1) ≡ counted i xs
+counted-by zero [] k is = ap (λ k. set (replicate k 0) 0 1) is
+counted-by zero (n ∷ xs) k is =
+    let none : k ≡ 0 = omega (arith, is) in
+    ap (λ k. (n + 1) ∷ (xs ++ replicate k 0)) none ∙ ap (λ ys. (n + 1) ∷ ys) (append-nil xs)
+counted-by (suc i) [] zero is = absurd (omega (arith, is))
+counted-by (suc i) [] (suc k) is = ap (λ ys. 0 ∷ ys) (counted-by i [] k (omega (arith, is)))
+counted-by (suc i) (n ∷ xs) k is = ap (λ ys. n ∷ ys) (counted-by i xs k (omega (arith, is)))
+
+pub counted-filled : (i : ℕ) (old filled new : List ℕ) (n : ℕ) → filled ≡ old ++ replicate (i + 1 - length old) 0 → n ≡ get_or filled i 0 → new ≡ set filled i (n + 1) → new ≡ counted i old
+counted-filled i old filled new n is read put =
+    put
+    ∙ ap (λ m. set filled i (m + 1)) (read ∙ ap (λ (xs : List ℕ). get_or xs i 0) is ∙ padded old (i + 1 - length old) i)
+    ∙ ap (λ (xs : List ℕ). set xs i (get_or old i 0 + 1)) is
+    ∙ counted-by i old (i + 1 - length old) refl
+
+-- what stands at the place is no greater than it was
+pub filled-few : (i : ℕ) (old filled : List ℕ) → filled ≡ old ++ replicate (i + 1 - length old) 0 → get_or filled i 0 ≡ get_or old i 0
+filled-few i old filled is = ap (λ (xs : List ℕ). get_or xs i 0) is ∙ padded old (i + 1 - length old) i
+
+-- where one stands at the place, nothing is filled up
+pub filled-already : (i : ℕ) (old : List ℕ) → i + 1 ≤ length old → old ≡ old ++ replicate (i + 1 - length old) 0
+filled-already i old h =
+    let none : i + 1 - length old ≡ 0 = omega (arith, h) in
+    sym (ap (λ k. old ++ replicate k 0) none ∙ append-nil old)
 
 -- ---- papers
 

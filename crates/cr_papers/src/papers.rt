@@ -1,10 +1,9 @@
 //! The papers of a history, by number.
-ghost use Rattle.std.specs.Prelude.{◌≡◌, ◌≤◌, ◌<◌, ◌+◌, ◌-◌, ◌==◌, [], OnOk, IfOk, Some, length};
+ghost use Rattle.std.specs.Prelude.{◌≡◌, ◌≤◌, ◌<◌, ◌+◌, ◌==◌, OnOk, Some, length};
 ghost use Rattle.std.specs.List.{list_any};
-ghost use Rattle.std.specs.Option.{option_map, option_copied};
+ghost use Rattle.std.specs.Option.{option_copied};
 ghost use Rattle.cr_base.specs.Checks.{judged, submit_checks};
-ghost use Rattle.cr_base.specs.Papers.{papers_after, paper_numbers, paper_at, title_at, abstract_at, authors_at, is_author_at, own_count, PapersFit};
-ghost use Rattle.cr_base.specs.declared.paper.Paper.{Paper};
+ghost use Rattle.cr_base.specs.Papers.{no_papers, papers_after, paper_count, paper_numbers, title_at, abstract_at, own_count, PapersFit};
 
 use crate::counts::Counts;
 use cr_base::{Entry, LAST_NUMBER, Paper, PaperNo, Phase, Rule, Stamped, Standing, Text, UserNo};
@@ -14,10 +13,10 @@ use std::marker::Model;
 /// The most papers that one user may submit.
 pub const MOST_OWN_PAPERS: u64 = 20;
 
-/// What was submitted: at most 9,999 papers by their numbers, and how many each user submitted, at
-/// most 20.
+/// What was submitted: at most 9,999 papers by their numbers, each with its texts, and how many each
+/// user submitted, at most 20. Who a paper's authors are stands in the table of ties.
 ///
-/// Contracts see the papers by number, and for how many more entries there is room.
+/// Contracts see the papers by number and the counts, and for how many more entries there is room.
 #[derive(Drop)]
 pub struct Papers {
     papers: Vec<Paper>,
@@ -25,22 +24,21 @@ pub struct Papers {
 }
 
 impl Model for Papers {
-    ghost use Rattle.std.specs.Prelude.{ℕ, ◌-◌, nat_le, length, vec_len, vec_capacity, if◌then◌else◌};
+    ghost use Rattle.std.specs.Prelude.{ℕ, ◌≤◌, ◌-◌, nat_le, length, vec_len, vec_capacity, if◌then◌else◌};
     ghost use Rattle.cr_papers.specs.Seen.{SeenPapers};
-    ghost use Rattle.cr_papers.specs.Counted.{IsCounted};
 
     ghost Value = { SeenPapers };
 
-    ghost view = { λ t. record { papers = t.papers.items; room = if nat_le 9999 (length t.counts) then vec_capacity t.papers - vec_len t.papers else 0 } };
+    ghost view = { λ t. record { papers = record { papers = t.papers.items; submitted = t.counts.counts }; room = if nat_le 10000 t.counts.capacity then vec_capacity t.papers - vec_len t.papers else 0 } };
 
-    ghost invariant = { λ t. IsCounted t.papers.items t.counts };
+    ghost invariant = { λ t. length t.papers.items ≤ 9999 };
 }
 
 /// What is read.
 impl Papers {
     /// No papers; takes no memory.
     pub fn new(alloc: Global) -> Papers
-        ensures { result.papers ≡ [] }
+        ensures { result.papers ≡ no_papers }
     {
         Papers {
             papers: Vec::new(alloc),
@@ -50,7 +48,7 @@ impl Papers {
 
     /// How many papers were submitted, 0 to 9,999; reads no paper.
     pub fn count(&self) -> u64
-        ensures value { result ≡ length self.now.papers }
+        ensures value { result ≡ paper_count self.now.papers }
         ensures few { result ≤ 9999 }
     {
         self.papers.len() as u64
@@ -68,36 +66,6 @@ impl Papers {
         ensures { result ≡ list_any (λ p. p == paper) (paper_numbers self.now.papers) }
     {
         paper.number() <= self.count()
-    }
-
-    /// Who submitted a paper, and none where there is no such paper. One read by number.
-    pub fn submitter(&self, paper: PaperNo) -> Option<UserNo>
-        ensures { result ≡ option_map (λ (p : Paper). p.submitter) (paper_at self.now.papers paper) }
-    {
-        let paper = self.papers.get(paper.place())?;
-        Some(paper.submitter)
-    }
-
-    /// The authors of a paper, the submitter first, and none where there is no such paper; an error
-    /// only for want of memory. One read by number.
-    pub fn authors(&self, alloc: Global, paper: PaperNo) -> Result<Vec<UserNo>, AllocError>
-        ensures { IfOk result (λ authors. authors.items ≡ authors_at self.now.papers paper) }
-    {
-        match self.submitter(paper) {
-            Some(author) => Vec::from_slice(alloc, &[author]),
-            None => Ok(Vec::new(alloc)),
-        }
-    }
-
-    /// Whether the user is an author of the paper; false where there is no such paper. One read by
-    /// number; takes no memory.
-    pub fn is_author(&self, user: UserNo, paper: PaperNo) -> bool
-        ensures { result ≡ is_author_at self.now.papers (Some user) paper }
-    {
-        match self.submitter(paper) {
-            Some(author) => user.number() == author.number(),
-            None => false,
-        }
     }
 
     /// The last title that a paper was given, and none where there is no such paper. One read by
@@ -126,7 +94,7 @@ impl Papers {
     /// were submitted, else `QuotaPapers` where this maker has submitted 20. `by` is the maker's
     /// standing, where no paper is named. One read by number; takes no memory.
     pub fn judge_submit(&self, by: &Standing, maker: UserNo) -> Result<PaperNo, Rule>
-        ensures { result ≡ judged (submit_checks by.now (length self.now.papers) (own_count self.now.papers (Some maker))) (length self.now.papers + 1) }
+        ensures { result ≡ judged (submit_checks by.now (paper_count self.now.papers) (own_count self.now.papers (Some maker))) (paper_count self.now.papers + 1) }
     {
         if !by.phase.is(Phase::Submission) {
             return Err(Rule::WrongPhase);
@@ -140,7 +108,7 @@ impl Papers {
         Ok(PaperNo::new(self.count() + 1))
     }
 
-    /// Takes the memory that the entries of one command need, and the first time 9,999 bytes for the
+    /// Takes the memory that the entries of one command need, and the first time 10,000 bytes for the
     /// counts; an error only for want of memory, and the papers are the same either way.
     pub fn room(&mut self, group: &[Stamped]) -> Result<(), AllocError>
         ensures ok { OnOk result (length group.now ≤ self.new.room) }
@@ -167,17 +135,9 @@ impl Papers {
                 ..
             } => {
                 self.counts.add(maker);
-                self.papers.push_reserved(Paper {
-                    submitter: maker,
-                    title,
-                    abstract_,
-                });
+                self.papers.push_reserved(Paper { title, abstract_ });
             }
-            Entry::Registered { .. }
-            | Entry::Named { .. }
-            | Entry::PhaseSet { .. }
-            | Entry::ModeSet { .. }
-            | Entry::Conflict { .. } => {}
+            _ => {}
         }
     }
 }

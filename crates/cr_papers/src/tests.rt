@@ -52,7 +52,6 @@ fn papers_by_number(rt: HostRuntime) -> Result<(), Fail> {
     assert!(rt; papers.count() == 2 && papers.count_of_user(bob) == 1);
     assert!(rt; papers.has(second) && !papers.has(PaperNo::new(3)));
     assert!(rt; tells(&papers, first, "Proofs") && tells(&papers, second, "Views"));
-    assert!(rt; papers.is_author(carol, second) && !papers.is_author(carol, first));
-    assert!(rt; papers.authors(rt.alloc(), second)?.as_slice() == [carol].as_slice());
+    assert!(rt; papers.count_of_user(bob) == 1 && papers.count_of_user(UserNo::new(4)) == 0);
     Ok(())
 }

@@ -19,7 +19,8 @@ use Rattle.cr_base.specs.declared.words.Role.{Role}
 use Rattle.cr_base.specs.declared.words.Role.TheVariants.{Chair}
 use Rattle.cr_base.specs.declared.words.Role.TheVariants as role
 use Rattle.cr_base.specs.Accounts.{number_at, role_at, lines_of}
-use Rattle.cr_base.specs.Papers.{paper_numbers, authors_at, own_count, PapersFit}
+use Rattle.cr_base.specs.Papers.{paper_count, paper_numbers, own_count, PapersFit}
+use Rattle.cr_base.specs.Ties.{authors_in, AreWithin}
 use Rattle.cr_base.specs.Shapes.{InRange, users, papers, roles, unused}
 use Rattle.cr_base.specs.Texts.{IsName, IsTitle, IsAbstract}
 use Rattle.cr_base.specs.Words.{phase_number, mode_number, role_number, is_member}
@@ -34,6 +35,7 @@ use Rattle.cr_base.proofs.AccountLaws.{judge_by_role-register}
 use Rattle.cr_base.proofs.CheckLaws.{judged-Ok}
 use Rattle.cr_base.proofs.ListLaws.{length-numbers_from, role_among-lines_of}
 use Rattle.cr_base.proofs.TargetLaws.{target_within, paper_within}
+use Rattle.cr_base.proofs.TieLaws.{within-before}
 use Rattle.cr_policy.proofs.CallerLaws.{HasMaker}
 use Rattle.cr_policy.proofs.SizeTies.{IsSized}
 
@@ -132,21 +134,21 @@ module _ (t : Tables) (maker paper : ℕ) (title abstract : List ℕ) where
   bounded_submission : InRange users maker → InRange papers paper → IsTitle title → IsAbstract abstract → IsBoundedEntry submitted
   bounded_submission made numbered titled abstracted = record { maker = made; more = omega arith; n1 = numbered; n2 = zero_in; n3 = zero_in; n4 = zero_in; n5 = zero_in; b1 = titled; b2 = abstracted }
 
-  submission-good : InRange users maker → PapersFit t.papers maker submitted.entry → length t.ties.authors ≡ length t.papers → IsTitle title → IsAbstract abstract → IsGoodGroup t (submitted ∷ [])
+  submission-good : InRange users maker → PapersFit t.papers maker submitted.entry → AreWithin (paper_count t.papers) t.ties → IsTitle title → IsAbstract abstract → IsGoodGroup t (submitted ∷ [])
   submission-good made fits tied titled abstracted =
       let next = fits.0 in
       let few = fits.1 in
       record {
-        fits = (record { accounts = tt; papers = fits; ties = (omega (arith, next, tied), few) }, tt);
+        fits = (record { accounts = tt; papers = fits; ties = within-before (paper_count t.papers) paper next t.ties.authors tied.authors }, tt);
         bounded = All-from_recursion IsBoundedEntry (submitted ∷ []) (bounded_submission made (omega (arith, next), few) titled abstracted, tt);
         some = omega arith;
       }
 
-submit-good : (t : Tables) (user : ℕ) (title abstract : List ℕ) (drawn : Drawn) → IsTitle title → IsAbstract abstract → InRange users user → length t.ties.authors ≡ length t.papers → judge_by_role t (Some user) (Submit title abstract) ≡ Ok drawn → IsGoodGroup t drawn.group
+submit-good : (t : Tables) (user : ℕ) (title abstract : List ℕ) (drawn : Drawn) → IsTitle title → IsAbstract abstract → InRange users user → AreWithin (paper_count t.papers) t.ties → judge_by_role t (Some user) (Submit title abstract) ≡ Ok drawn → IsGoodGroup t drawn.group
 submit-good t user title abstract drawn titled abstracted made tied accepted =
     let n : ℕ = length (paper_numbers t.papers) in
     let k = judged-Ok (submit_checks (standing_at t (Some user) None) n (own_count t.papers (Some user))) (submission_drawn user (n + 1) title abstract) drawn accepted in
-    let same : n ≡ length t.papers = length-numbers_from 1 t.papers in
+    let same : n ≡ paper_count t.papers = length-numbers_from 1 t.papers.papers in
     let few : n < 9999 = leb-false 9999 n (k.0.1.0) in
     let own : own_count t.papers (Some user) < 20 = leb-false 20 (own_count t.papers (Some user)) (k.0.1.1.0) in
     subst (λ (d : Drawn). IsGoodGroup t d.group) k.1 (submission-good t user (n + 1) title abstract made (omega (arith, same), omega (arith, few), own) tied titled abstracted)
@@ -208,7 +210,7 @@ name-good t maker name to drawn made member few accepted =
 
 -- ---- conflicts
 
-module _ (t : Tables) (maker paper user : ℕ) (on : Bool) (made : InRange users maker) (sized : IsSized t) (there : (1 ≤ paper) × (paper ≤ length t.papers)) (registered : (1 ≤ user) × (user ≤ length t.accounts)) where
+module _ (t : Tables) (maker paper user : ℕ) (on : Bool) (made : InRange users maker) (sized : IsSized t) (there : (1 ≤ paper) × (paper ≤ paper_count t.papers)) (registered : (1 ≤ user) × (user ≤ length t.accounts)) where
   abbrev switch : Stamped
   switch = record { maker = maker; more = false; entry = Conflict paper user on }
 
@@ -227,10 +229,8 @@ module _ (t : Tables) (maker paper user : ℕ) (on : Bool) (made : InRange users
   -- so may the conflict of a user with an account with a paper that is there
   switch-good : IsGoodGroup t (switch ∷ [])
   switch-good =
-      let high = there.1 in
-      let same = sized.authors in
       record {
-        fits = (record { accounts = registered; papers = there; ties = (there.0, omega (arith, high, same)) }, tt);
+        fits = (record { accounts = registered; papers = there; ties = tt }, tt);
         bounded = All-from_recursion IsBoundedEntry (switch ∷ []) (bounded_switch, tt);
         some = omega arith;
       }
@@ -240,10 +240,10 @@ conflict-good t maker paper name on drawn made sized accepted =
     let facts : Facts = facts_of_tables t (Some maker) in
     let target : Option ℕ = user_among (lines_of t.accounts) name in
     let k = judged-Ok
-    (conflict_checks (standing_at t (Some maker) paper) (has_paper facts paper) (role_among (lines_of t.accounts) target) (is_number target maker) (at_some (λ p. list_any (is_number target) (authors_at t.papers p)) paper) on)
+    (conflict_checks (standing_at t (Some maker) paper) (has_paper facts paper) (role_among (lines_of t.accounts) target) (is_number target maker) (at_some (λ p. list_any (is_number target) (authors_in t.ties p)) paper) on)
     (conflict_drawn maker (unwrap_or paper 0) (unwrap_or target 0) on) drawn accepted in
     subst (λ (d : Drawn). IsGoodGroup t d.group) k.1
-    (switch-good t maker (unwrap_or paper 0) (unwrap_or target 0) on made sized (paper_within t.papers paper k.0.0) (target_within t.accounts target (with_role t.accounts target k.0.1.0)))
+    (switch-good t maker (unwrap_or paper 0) (unwrap_or target 0) on made sized (paper_within t.papers.papers paper k.0.0) (target_within t.accounts target (with_role t.accounts target k.0.1.0)))
 
 -- ---- all commands
 
@@ -256,7 +256,7 @@ accepted-good t (Some user) (SetPhase to) drawn bounded maker sized accepted =
     let k = judged-Ok (phase_checks by by.phase to) (phase_drawn user to) drawn accepted in
     subst (λ (d : Drawn). IsGoodGroup t d.group) k.1 (phase-good t user to maker)
 accepted-good t None (Submit title abstract) drawn bounded maker sized accepted = absurd maker
-accepted-good t (Some user) (Submit title abstract) drawn bounded maker sized accepted = submit-good t user title abstract drawn bounded.0 bounded.1 maker sized.authors accepted
+accepted-good t (Some user) (Submit title abstract) drawn bounded maker sized accepted = submit-good t user title abstract drawn bounded.0 bounded.1 maker sized.ties accepted
 accepted-good t None (Name name role) drawn bounded maker sized accepted = absurd maker
 accepted-good t (Some user) (Name name role) drawn bounded maker sized accepted = name-good t user name role drawn maker bounded sized.accounts accepted
 accepted-good t None (SetMode to) drawn bounded maker sized accepted = absurd maker

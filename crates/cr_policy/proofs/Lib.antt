@@ -18,7 +18,6 @@ pub mod NumberTies
 pub mod OrderTies
 pub mod PageTells
 pub mod PageTies
-pub mod PaperMade
 pub mod PaperTies
 pub mod RoleTies
 pub mod RuleLaws

@@ -4,7 +4,6 @@ use Rattle.std.specs.List.{flat_map}
 use Rattle.cr_base.specs.declared.entry.Entry.{Entry}
 use Rattle.cr_base.specs.declared.entry.Entry.TheVariants.{Submitted}
 use Rattle.cr_base.specs.declared.entry.Stamped.{Stamped}
-use Rattle.cr_base.specs.declared.paper.Paper.{Paper}
 use Rattle.cr_base.specs.declared.words.Phase.TheVariants.{Bidding}
 use Rattle.cr_base.specs.Lists.{given, is_nothing}
 use Rattle.cr_base.specs.History.{History, author_told, title_told, abstract_told}
@@ -14,10 +13,9 @@ use Rattle.cr_policy.specs.Part as part
 use Rattle.cr_policy.specs.Triggers.{reader, user_named, members, clear_members, clear_chairs, unless_anonymous, from, none_in}
 use Rattle.cr_policy.specs.View.{view}
 use Rattle.cr_policy.specs.ViewFacts.{author_seen, title_seen, abstract_seen, title_in_view, abstract_in_view, authors_in_view, is_declared_in_view}
-use Rattle.cr_policy.proofs.PaperMade.{author-made, title-made, abstract-made}
 use Rattle.cr_policy.proofs.StandingLaws.{declared-seen_where}
 use Rattle.cr_policy.proofs.Walk.{fold_last, fold_all}
-use Rattle.cr_policy.proofs.Tells.{passes, author_tells, title_tells, abstract_tells, made_value}
+use Rattle.cr_policy.proofs.Tells.{passes, author_tells, title_tells, abstract_tells, author_value, title_value, abstract_value}
 
 -- an author sees it, and so do others who may at the last entry that tells it; `own` is the maker's own row
 text_shown : (a n m f own : Bool) → n ≡ true → (a || (m && f)) ≡ true → (a || ((n && m && f) || (own || false))) ≡ true
@@ -28,7 +26,7 @@ text_shown a n m f own last told = grind arith
 pub title-seen : (u : Option ℕ) (p : ℕ) (H : History) → gets_title (standing_of u (Some p) H) ≡ true → title_in_view p (view u H) ≡ title_of p H
 title-seen u p H told =
     fold_last (reader u H) (title_seen p) (λ (e : Stamped). title_told p e.entry) (passes part.title (reader u H)) (title_tells (reader u H) p)
-    (λ at e last. made_value (λ (paper : Paper). paper.title) p (λ _ e. title_told p e) (title-made p) part.title (reader u H) at e (λ maker more title abstract. text_shown (is_author u p H) (none_in (title_told p) at.after) (members (reader u H)) (from (reader u H) Bidding) (user_named (reader u H) maker) last told)) [] H
+    (λ at e last. title_value (reader u H) at p (λ maker more title abstract. text_shown (is_author u p H) (none_in (title_told p) at.after) (members (reader u H)) (from (reader u H) Bidding) (user_named (reader u H) maker) last told) e) [] H
 
 -- ---- abstracts
 
@@ -57,7 +55,7 @@ same_nothing p (e ∷ H) =
 pub abstract-seen : (u : Option ℕ) (p : ℕ) (H : History) → gets_abstract (standing_of u (Some p) H) ≡ true → abstract_in_view p (view u H) ≡ abstract_of p H
 abstract-seen u p H told =
     fold_last (reader u H) (abstract_seen p) (λ (e : Stamped). abstract_told p e.entry) (passes part.abstract (reader u H)) (abstract_tells (reader u H) p)
-    (λ at e last. made_value (λ (paper : Paper). paper.abstract_) p (λ _ e. abstract_told p e) (abstract-made p) part.abstract (reader u H) at e (λ maker more title abstract. text_shown (is_author u p H) (none_in (title_told p) at.after) (clear_members (reader u H) p) (from (reader u H) Bidding) (user_named (reader u H) maker) (same_nothing p at.after ∙ last) told)) [] H
+    (λ at e last. abstract_value (reader u H) at p (λ maker more title abstract. text_shown (is_author u p H) (none_in (title_told p) at.after) (clear_members (reader u H) p) (from (reader u H) Bidding) (user_named (reader u H) maker) (same_nothing p at.after ∙ last) told) e) [] H
 
 -- ---- authors
 
@@ -67,7 +65,7 @@ authors_shown a c m f n told = grind arith
 pub authors-seen : (u : Option ℕ) (p : ℕ) (H : History) → shows_author (standing_of u (Some p) H) false ≡ true → authors_in_view p (view u H) ≡ authors_of p H
 authors-seen u p H told =
     fold_all (reader u H) (author_seen p) (λ (e : Stamped). author_told p e.maker e.entry) (passes part.by (reader u H)) (author_tells (reader u H) p)
-    (λ at e. made_value (λ (paper : Paper). paper.submitter) p (author_told p) (author-made p) part.by (reader u H) at e (λ maker more title abstract. authors_shown (is_author u p H) (clear_chairs (reader u H) p) (clear_members (reader u H) p) (from (reader u H) Bidding) (unless_anonymous (reader u H)) told)) [] H
+    (λ at e. author_value (reader u H) at p (λ maker more title abstract. authors_shown (is_author u p H) (clear_chairs (reader u H) p) (clear_members (reader u H) p) (from (reader u H) Bidding) (unless_anonymous (reader u H)) told) e) [] H
 
 -- ---- declared conflicts
 

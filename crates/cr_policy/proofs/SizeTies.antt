@@ -1,22 +1,24 @@
--- Where each entry fits in its turn, the tables hold no more accounts and papers than rows can number.
-use Rattle.std.proofs.Common.{ℕ, ◌≡◌, ◌≤◌, ◌-◌, List, [], ◌∷◌, length, arith, length-append}
+-- Where each entry fits in its turn, the tables hold no more accounts and papers than rows can number, and ties to no
+-- others.
+use Rattle.std.proofs.Common.{ℕ, ◌≡◌, ◌≤◌, ◌+◌, ◌-◌, List, [], ◌∷◌, length, refl, arith, length-append}
 use Rattle.cr_base.specs.declared.entry.Account.{Account}
 use Rattle.cr_base.specs.declared.entry.Entry.{Entry}
-use Rattle.cr_base.specs.declared.entry.Entry.TheVariants.{Registered, Named, PhaseSet, ModeSet, Submitted, Conflict}
+use Rattle.cr_base.specs.declared.entry.Entry.TheVariants.{Registered, Named, Submitted}
 use Rattle.cr_base.specs.declared.paper.Paper.{Paper}
 use Rattle.cr_base.specs.declared.words.Role.TheVariants as role
 use Rattle.cr_base.specs.Accounts.{accounts_after, AccountsFit}
-use Rattle.cr_base.specs.Papers.{papers_after, PapersFit}
+use Rattle.cr_base.specs.Papers.{PapersState, papers_after, paper_count, PapersFit}
+use Rattle.cr_base.specs.Ties.{AreWithin}
 use Rattle.cr_base.specs.History.{History}
 use Rattle.cr_base.specs.Tables.{Tables, no_tables, tables_after, tables_from, tables_of, FitInTurn}
 use Rattle.cr_base.proofs.AccountLaws.{length-with_role}
-use Rattle.cr_policy.proofs.PaperTies.{length-authors}
+use Rattle.cr_base.proofs.TieLaws.{within-after}
 
--- accounts and papers are few, and each paper has an author in the table of ties
+-- accounts and papers are few, and what users are tied to is one of the papers
 pub record IsSized (t : Tables) : Type 0 where
   pub accounts : length t.accounts ≤ 9999
-  pub papers : length t.papers ≤ 9999
-  pub authors : length t.ties.authors ≡ length t.papers
+  pub papers : paper_count t.papers ≤ 9999
+  pub ties : AreWithin (paper_count t.papers) t.ties
 
 accounts-few : (accounts : List Account) (e : Entry) → AccountsFit accounts e → length accounts ≤ 9999 → length (accounts_after accounts e) ≤ 9999
 accounts-few accounts (Registered user name digest) fits h =
@@ -26,30 +28,25 @@ accounts-few accounts (Registered user name digest) fits h =
     let few = fits.1 in
     omega (arith, n, next, few)
 accounts-few accounts (Named user role') fits h = let n = length-with_role accounts (user - 1) role' in omega (arith, n, h)
-accounts-few accounts (PhaseSet phase) fits h = h
-accounts-few accounts (ModeSet mode) fits h = h
-accounts-few accounts (Submitted paper title abstract) fits h = h
-accounts-few accounts (Conflict paper user on) fits h = h
+accounts-few accounts e fits h = h
 
-papers-few : (papers : List Paper) (maker : ℕ) (e : Entry) → PapersFit papers maker e → length papers ≤ 9999 → length (papers_after papers maker e) ≤ 9999
-papers-few papers maker (Registered user name digest) fits h = h
-papers-few papers maker (Named user role') fits h = h
-papers-few papers maker (PhaseSet phase) fits h = h
-papers-few papers maker (ModeSet mode) fits h = h
-papers-few papers maker (Submitted paper title abstract) fits h =
-    let made : Paper = record { submitter = maker; title = title; abstract_ = abstract } in
-    let n = length-append papers (made ∷ []) in
+papers-few : (state : PapersState) (maker : ℕ) (e : Entry) → PapersFit state maker e → paper_count state ≤ 9999 → paper_count (papers_after state maker e) ≤ 9999
+papers-few state maker (Submitted paper title abstract) fits h =
+    let made : Paper = record { title = title; abstract_ = abstract } in
+    let n = length-append state.papers (made ∷ []) in
     let next = fits.0 in
     let few = fits.1 in
     omega (arith, n, next, few)
-papers-few papers maker (Conflict paper user on) fits h = h
+papers-few state maker e fits h = h
 
-few-from : (t : Tables) (H : History) → FitInTurn t H → length t.accounts ≤ 9999 → length t.papers ≤ 9999 → (length (tables_from t H).accounts ≤ 9999) × (length (tables_from t H).papers ≤ 9999)
-few-from t [] fits accounts papers = (accounts, papers)
-few-from t (s ∷ H) fits accounts papers =
-    few-from (tables_after t s) H fits.1 (accounts-few t.accounts s.entry fits.0.accounts accounts) (papers-few t.papers s.maker s.entry fits.0.papers papers)
+sized-from : (t : Tables) (H : History) → FitInTurn t H → IsSized t → IsSized (tables_from t H)
+sized-from t [] fits sized = sized
+sized-from t (s ∷ H) fits sized =
+    sized-from (tables_after t s) H fits.1 (record {
+      accounts = accounts-few t.accounts s.entry fits.0.accounts sized.accounts;
+      papers = papers-few t.papers s.maker s.entry fits.0.papers sized.papers;
+      ties = within-after t.papers t.ties s.maker s.entry fits.0.papers sized.ties;
+    })
 
 pub sized-tables : (H : History) → FitInTurn no_tables H → IsSized (tables_of H)
-sized-tables H fits =
-    let few = few-from no_tables H fits (omega arith) (omega arith) in
-    record { accounts = few.0; papers = few.1; authors = length-authors H }
+sized-tables H fits = sized-from no_tables H fits (record { accounts = omega arith; papers = omega arith; ties = record { authors = refl; conflicts = refl } })

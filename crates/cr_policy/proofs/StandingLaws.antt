@@ -8,7 +8,6 @@ use Rattle.cr_base.specs.declared.words.Phase.TheVariants.{Setup}
 use Rattle.cr_base.specs.declared.words.Mode.TheVariants.{Blind}
 use Rattle.cr_base.specs.declared.words.Role.{Role}
 use Rattle.cr_base.specs.declared.words.Role.TheVariants.{Account}
-use Rattle.cr_base.specs.declared.paper.Paper.{Paper}
 use Rattle.cr_base.specs.declared.reply.AccountLine.{AccountLine}
 use Rattle.cr_base.specs.Lists.{last, last_or, is_number, at_some}
 use Rattle.cr_base.specs.History.{History, Registration, all_told, phase_told, mode_told, paper_told, own_paper_told, author_told, conflict_told, registration_told, role_told, number_told}
@@ -18,9 +17,8 @@ use Rattle.cr_policy.specs.Triggers.{reader, Place}
 use Rattle.cr_policy.specs.View.{view}
 use Rattle.cr_policy.specs.ViewFacts.{phase_seen, mode_seen, paper_seen, own_paper_seen, author_seen, conflict_seen, registration_seen, role_seen, number_seen, phase_in_view, mode_in_view, role_in_view, papers_in_view, own_papers_in_view, accounts_in_view, number_in_view, authors_in_view, is_author_in_view, is_declared_in_view, is_conflicted_in_view}
 use Rattle.cr_policy.specs.Laws.{StandingFromView, PublicFactsFromView}
-use Rattle.cr_policy.proofs.PaperMade.{author-made}
 use Rattle.cr_policy.proofs.Walk.{sights-all, sights-kept, fold_all, list_any-kept}
-use Rattle.cr_policy.proofs.Tells.{stamp, passes, phase_tells, mode_tells, paper_tells, own_paper_tells, author_tells, made_value, conflict_tells, conflict_value, registration_tells, role_tells, number_tells}
+use Rattle.cr_policy.proofs.Tells.{stamp, passes, phase_tells, mode_tells, paper_tells, own_paper_tells, author_tells, author_value, conflict_tells, conflict_value, registration_tells, role_tells, number_tells}
 
 -- ---- the conference
 
@@ -61,7 +59,7 @@ first_of a rest h = ap (λ b. b || rest) h
 authors-seen_by_author : (u : Option ℕ) (p : ℕ) (H : History) → is_author u p H ≡ true → authors_in_view p (view u H) ≡ authors_of p H
 authors-seen_by_author u p H h =
     fold_all (reader u H) (author_seen p) (λ (e : Stamped). author_told p e.maker e.entry) (passes part.by (reader u H)) (author_tells (reader u H) p)
-    (λ at e. made_value (λ (paper : Paper). paper.submitter) p (author_told p) (author-made p) part.by (reader u H) at e (λ maker more title abstract. first_of (is_author u p H) _ h)) [] H
+    (λ at e. author_value (reader u H) at p (λ maker more title abstract. first_of (is_author u p H) _ h) e) [] H
 
 -- the reader is told exactly where she is an author
 author-seen : (u : Option ℕ) (p : ℕ) (H : History) → is_author_in_view u p (view u H) ≡ is_author u p H

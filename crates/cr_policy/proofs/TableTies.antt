@@ -7,7 +7,7 @@ use Rattle.cr_base.specs.Lists.{at_some}
 use Rattle.cr_base.specs.History.{History}
 use Rattle.cr_base.specs.Facts.{standing_of}
 use Rattle.cr_base.specs.Page.{shows_author}
-use Rattle.cr_base.specs.Papers.{authors_at}
+use Rattle.cr_base.specs.Ties.{authors_in}
 use Rattle.cr_base.specs.Rows.{row_of, rows_of}
 use Rattle.cr_base.specs.Tables.{Tables, no_tables, tables_after, tables_from, tables_of, FitInTurn}
 use Rattle.cr_base.specs.Judging.{standing_at, facts_of_tables}
@@ -41,8 +41,8 @@ FitInTurn-append t (s ∷ H) g first then = (first.0, FitInTurn-append (tables_a
 -- how a user stands by a history is how she stands by its tables
 pub standing_of-tables : (u paper : Option ℕ) (H : History) → FitInTurn no_tables H → standing_of u paper H ≡ standing_at (tables_of H) u paper
 standing_of-tables u paper H fits =
-    let author = ap (λ (says : ℕ → Bool). at_some says paper) (λ i p. is_author-tables u p H fits i) in
-    let conflicted = ap (λ (says : ℕ → Bool). at_some says paper) (λ i p. is_conflicted-tables u p H fits i) in
+    let author = ap (λ (says : ℕ → Bool). at_some says paper) (λ i p. is_author-tables u p H i) in
+    let conflicted = ap (λ (says : ℕ → Bool). at_some says paper) (λ i p. is_conflicted-tables u p H i) in
     λ i. record { phase = phase_of-tables H i; mode = mode_of-tables H i; role = role_of-tables u H fits i; author = author i; conflicted = conflicted i }
 
 -- the facts of any user's view are those of the tables
@@ -54,5 +54,5 @@ facts_in_view-tables u H fits =
     λ i. record { standing = λ paper. (standing_from_view u paper H ∙ standing_of-tables u paper H fits) i; accounts = accounts i; papers = papers i; own_papers = own i }
 
 -- who wrote a paper, as the view of one who is told shows it
-pub authors-tables : (u : Option ℕ) (H : History) (p : ℕ) → FitInTurn no_tables H → shows_author (standing_at (tables_of H) u (Some p)) false ≡ true → authors_in_view p (view u H) ≡ authors_at (tables_of H).papers p
-authors-tables u H p fits told = authors-seen u p H (ap (λ (by : Standing). shows_author by false) (standing_of-tables u (Some p) H fits) ∙ told) ∙ authors_of-tables p H fits
+pub authors-tables : (u : Option ℕ) (H : History) (p : ℕ) → FitInTurn no_tables H → shows_author (standing_at (tables_of H) u (Some p)) false ≡ true → authors_in_view p (view u H) ≡ authors_in (tables_of H).ties p
+authors-tables u H p fits told = authors-seen u p H (ap (λ (by : Standing). shows_author by false) (standing_of-tables u (Some p) H fits) ∙ told) ∙ authors_of-tables p H

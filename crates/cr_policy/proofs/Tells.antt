@@ -6,7 +6,6 @@ use Rattle.std.proofs.lemmas.Bool.{eqb-true, or_parts, and_parts}
 use Rattle.cr_base.specs.declared.entry.Entry.{Entry}
 use Rattle.cr_base.specs.declared.entry.Entry.TheVariants.{Registered, Named, PhaseSet, ModeSet, Submitted, Conflict}
 use Rattle.cr_base.specs.declared.entry.Stamped.{Stamped}
-use Rattle.cr_base.specs.declared.paper.Paper.{Paper}
 use Rattle.cr_base.specs.Lists.{given, listed, is_number}
 use Rattle.cr_base.specs.History.{phase_told, mode_told, paper_told, own_paper_told, author_told, conflict_told, title_told, abstract_told, registration_told, role_told, number_told}
 use Rattle.cr_policy.specs.Part as part
@@ -15,7 +14,6 @@ use Rattle.cr_policy.specs.Sighting.{Sighting, where_shown}
 use Rattle.cr_policy.specs.Triggers.{Reader, Place, TriggerRow, applies_any, shows}
 use Rattle.cr_policy.specs.View.{sight, is_seen, joined, rows_at}
 use Rattle.cr_policy.specs.ViewFacts.{only, is_user, phase_seen, mode_seen, paper_seen, own_paper_seen, author_seen, conflict_seen, title_seen, abstract_seen, registration_seen, role_seen, number_seen}
-use Rattle.cr_policy.proofs.PaperMade.{paper_made, made_told, TellsPart}
 use Rattle.cr_policy.proofs.Walk.{only-true, only-false, flat_map-given, Tells, TellsAll}
 
 abbrev pub stamp : ℕ → Bool → Entry → Stamped
@@ -163,15 +161,33 @@ shown_value c false x h = refl
 abbrev pub Shows : Part → Reader → Place → ℕ → Type 0
 Shows which r at p = (maker : ℕ) (more : Bool) (title abstract : List ℕ) → passes which r at (stamp maker more (Submitted p title abstract)) ≡ true
 
-made_at : {A : Type 0} (part : Paper → A) (which : Part) (r : Reader) (at : Place) (p : ℕ) → Shows which r at p → (maker : ℕ) (more : Bool) (e : Entry) → only (passes which r at (stamp maker more e)) (made_told part p maker e) ≡ made_told part p maker e
-made_at part which r at p shown maker more (Submitted paper title abstract) =
-    shown_value _ (eqb paper p) (part (paper_made maker title abstract)) (λ same. ap (λ n. passes which r at (stamp maker more (Submitted n title abstract))) (eqb-true paper p same) ∙ shown maker more title abstract)
-made_at part which r at p shown maker more e = refl
+-- so what it tells of the paper is kept
+submission_value : {A : Type 0} (which : Part) (r : Reader) (at : Place) (p : ℕ) → Shows which r at p → (maker : ℕ) (more : Bool) (paper : ℕ) (title abstract : List ℕ) (x : A) → only (passes which r at (stamp maker more (Submitted paper title abstract))) (given (eqb paper p) x) ≡ given (eqb paper p) x
+submission_value which r at p shown maker more paper title abstract x =
+    shown_value _ (eqb paper p) x (λ same. ap (λ n. passes which r at (stamp maker more (Submitted n title abstract))) (eqb-true paper p same) ∙ shown maker more title abstract)
 
--- where the submissions of paper p show a part, what is told of it is kept
-pub made_value : {A : Type 0} (part : Paper → A) (p : ℕ) (told : ℕ → Entry → List A) → TellsPart part p told → (which : Part) (r : Reader) (at : Place) (e : Stamped) → Shows which r at p → only (passes which r at e) (told e.maker e.entry) ≡ told e.maker e.entry
-made_value {A} part p told same which r at e shown =
-    subst (λ (xs : List A). only (passes which r at e) xs ≡ xs) (sym (same e.maker e.entry)) (made_at part which r at p shown e.maker e.more e.entry)
+module _ (r : Reader) (at : Place) (p : ℕ) where
+  author_kept : Shows part.by r at p → (maker : ℕ) (more : Bool) (e : Entry) → only (passes part.by r at (stamp maker more e)) (author_told p maker e) ≡ author_told p maker e
+  author_kept shown maker more (Submitted paper title abstract) = submission_value part.by r at p shown maker more paper title abstract maker
+  author_kept shown maker more e = refl
+
+  title_kept : Shows part.title r at p → (maker : ℕ) (more : Bool) (e : Entry) → only (passes part.title r at (stamp maker more e)) (title_told p e) ≡ title_told p e
+  title_kept shown maker more (Submitted paper title abstract) = submission_value part.title r at p shown maker more paper title abstract title
+  title_kept shown maker more e = refl
+
+  abstract_kept : Shows part.abstract r at p → (maker : ℕ) (more : Bool) (e : Entry) → only (passes part.abstract r at (stamp maker more e)) (abstract_told p e) ≡ abstract_told p e
+  abstract_kept shown maker more (Submitted paper title abstract) = submission_value part.abstract r at p shown maker more paper title abstract abstract
+  abstract_kept shown maker more e = refl
+
+  -- where the submissions of paper p show a part, what is told of it is kept
+  pub author_value : Shows part.by r at p → (e : Stamped) → only (passes part.by r at e) (author_told p e.maker e.entry) ≡ author_told p e.maker e.entry
+  author_value shown e = author_kept shown e.maker e.more e.entry
+
+  pub title_value : Shows part.title r at p → (e : Stamped) → only (passes part.title r at e) (title_told p e.entry) ≡ title_told p e.entry
+  title_value shown e = title_kept shown e.maker e.more e.entry
+
+  pub abstract_value : Shows part.abstract r at p → (e : Stamped) → only (passes part.abstract r at e) (abstract_told p e.entry) ≡ abstract_told p e.entry
+  abstract_value shown e = abstract_kept shown e.maker e.more e.entry
 
 -- ---- who is shown a conflict
 

@@ -5,7 +5,7 @@ use Rattle.std.specs.Prelude.{map}
 use Rattle.std.proofs.lemmas.List.{at_drop_more}
 use Rattle.cr_base.specs.declared.entry.Account.{Account}
 use Rattle.cr_base.specs.declared.page.Page.{Page}
-use Rattle.cr_base.specs.declared.pairs.Pair.{Pair}
+use Rattle.cr_base.specs.declared.pairs.Tie.{Tie}
 use Rattle.cr_base.specs.declared.command.Query.{Query}
 use Rattle.cr_base.specs.declared.command.Query.TheVariants as queries
 use Rattle.cr_base.specs.declared.reply.Conference.{Conference}
@@ -15,7 +15,9 @@ use Rattle.cr_base.specs.Accounts.{account_at, lines_of}
 use Rattle.cr_base.specs.Checks.{Check, judged}
 use Rattle.cr_base.specs.Judging.{names_in, reply_or_rule, answer_by_role}
 use Rattle.cr_base.specs.Lists.{listed}
+use Rattle.cr_base.specs.Papers.{paper_count}
 use Rattle.cr_base.specs.Tables.{Tables}
+use Rattle.cr_base.specs.Ties.{BareTies}
 use Rattle.cr_base.proofs.CheckLaws.{judged-Ok, judged-none, judged-Err}
 use Rattle.cr_base.proofs.ListLaws.{length-numbers_from, name_in-lines_of}
 use Rattle.cr_view.specs.Replies.{page_reply}
@@ -41,24 +43,14 @@ walk-step {A} {B} made piece xs i other before after wanted within begins pushed
 name_first : (accounts : List Account) (user : ℕ) (found : Option (List ℕ)) (rest : List ℕ) → found ≡ option_map (λ (a : Account). a.name) (account_at accounts user) → names_in (lines_of accounts) (user ∷ rest) ≡ listed found ++ names_in (lines_of accounts) rest
 name_first accounts user found rest is = ap (λ (o : Option (List ℕ)). listed o ++ names_in (lines_of accounts) rest) (name_in-lines_of accounts user ∙ sym is)
 
--- one more name of those that are told
-pub names-step : (accounts : List Account) (users : List ℕ) (i user : ℕ) (before after wanted : List (List ℕ)) (found : Option (List ℕ))
-    → i < length users → user ≡ get_or users i user → found ≡ option_map (λ (a : Account). a.name) (account_at accounts user) → after ≡ before ++ listed found
-    → before ++ names_in (lines_of accounts) (drop i users) ≡ wanted
-    → after ++ names_in (lines_of accounts) (drop (i + 1) users) ≡ wanted
-names-step accounts users i user before after wanted found within at is pushed told =
-    let lines = lines_of accounts in
-    walk-step (λ us. names_in lines us) (listed found) users i user before after wanted within
-    (λ rest. name_first accounts (get_or users i user) found rest (is ∙ ap (λ (u : ℕ). option_map (λ (a : Account). a.name) (account_at accounts u)) at)) pushed told
-
--- the same of those who stand second in pairs
-pub seconds-step : (accounts : List Account) (pairs : List Pair) (i : ℕ) (other : Pair) (before after wanted : List (List ℕ)) (found : Option (List ℕ))
-    → i < length pairs → found ≡ option_map (λ (a : Account). a.name) (account_at accounts (get_or pairs i other).second) → after ≡ before ++ listed found
-    → before ++ names_in (lines_of accounts) (map (λ (p : Pair). p.second) (drop i pairs)) ≡ wanted
-    → after ++ names_in (lines_of accounts) (map (λ (p : Pair). p.second) (drop (i + 1) pairs)) ≡ wanted
-seconds-step accounts pairs i other before after wanted found within is pushed told =
-    walk-step (λ (ps : List Pair). names_in (lines_of accounts) (map (λ (p : Pair). p.second) ps)) (listed found) pairs i other before after wanted within
-    (λ rest. name_first accounts (get_or pairs i other).second found (map (λ (p : Pair). p.second) rest) is) pushed told
+-- one more name of the users of ties
+pub names-step : (accounts : List Account) (ties : BareTies) (i : ℕ) (other : Tie (Unit {0})) (before after wanted : List (List ℕ)) (found : Option (List ℕ))
+    → i < length ties → found ≡ option_map (λ (a : Account). a.name) (account_at accounts (get_or ties i other).pair.user) → after ≡ before ++ listed found
+    → before ++ names_in (lines_of accounts) (map (λ (t : Tie (Unit {0})). t.pair.user) (drop i ties)) ≡ wanted
+    → after ++ names_in (lines_of accounts) (map (λ (t : Tie (Unit {0})). t.pair.user) (drop (i + 1) ties)) ≡ wanted
+names-step accounts ties i other before after wanted found within is pushed told =
+    walk-step (λ (ts : BareTies). names_in (lines_of accounts) (map (λ (t : Tie (Unit {0})). t.pair.user) ts)) (listed found) ties i other before after wanted within
+    (λ rest. name_first accounts (get_or ties i other).pair.user found (map (λ (t : Tie (Unit {0})). t.pair.user) rest) is) pushed told
 
 -- ---- pages
 
@@ -88,8 +80,8 @@ rule_of (Err other) rule h = let e : other ≡ rule = cc in ap (λ (r : Rule). E
 
 -- ---- the conference
 
-pub conference-told : (t : Tables) (caller : Option ℕ) (query : Query) (conference : Conference) → conference ≡ record { mode = t.stage.mode; papers = length t.papers; phase = t.stage.phase } → query ≡ queries.Phase → replies.Conference conference ≡ answer_by_role t caller query
+pub conference-told : (t : Tables) (caller : Option ℕ) (query : Query) (conference : Conference) → conference ≡ record { mode = t.stage.mode; papers = paper_count t.papers; phase = t.stage.phase } → query ≡ queries.Phase → replies.Conference conference ≡ answer_by_role t caller query
 conference-told t caller query conference is asked =
     ap (λ (c : Conference). replies.Conference c) is
-    ∙ ap (λ n. replies.Conference (record { mode = t.stage.mode; papers = n; phase = t.stage.phase })) (sym (length-numbers_from 1 t.papers))
+    ∙ ap (λ n. replies.Conference (record { mode = t.stage.mode; papers = n; phase = t.stage.phase })) (sym (length-numbers_from 1 t.papers.papers))
     ∙ sym (ap (answer_by_role t caller) asked)

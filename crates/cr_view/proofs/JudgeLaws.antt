@@ -1,7 +1,4 @@
 -- What a command is answered, and what it draws, by reads of the tables.
-use Rattle.std.proofs.lemmas.List.{length-map}
-use Rattle.std.specs.Prelude.{map}
-use Rattle.cr_base.specs.declared.paper.Paper.{Paper as PaperKept}
 use Rattle.std.proofs.Common.{ℕ, Bool, true, false, cond, ◌≡◌, ◌≤◌, ◌<◌, ◌+◌, ◌==◌, List, [], ◌∷◌, length, length-append, refl, sym, ap, subst, ◌∙◌, arith, Option, Some, None, is_some, Result, Ok, Err}
 use Rattle.std.proofs.lemmas.Bool.{leb-false}
 use Rattle.cr_base.specs.declared.command.Command.{Command}
@@ -17,18 +14,14 @@ use Rattle.cr_base.specs.Accounts.{number_at}
 use Rattle.cr_base.specs.Checks.{Check, judged, register_checks, phase_checks, submit_checks}
 use Rattle.cr_base.specs.History.{History}
 use Rattle.cr_base.specs.Judging.{Drawn, grouped, registration, registration_drawn, phase_drawn, submission_drawn, maker_of, standing_at, judge_by_role}
-use Rattle.cr_base.specs.Papers.{own_count}
+use Rattle.cr_base.specs.Papers.{paper_count, own_count}
+use Rattle.cr_base.specs.Ties.{AreWithin}
 use Rattle.cr_base.specs.Tables.{Tables, FitInTurn}
 use Rattle.cr_base.proofs.AccountLaws.{judge_by_role-register, registration-fits}
 use Rattle.cr_base.proofs.CheckLaws.{NoneBroken, judged-Ok, judged-none}
 use Rattle.cr_base.proofs.ListLaws.{length-numbers_from}
+use Rattle.cr_base.proofs.TieLaws.{within-before}
 use Rattle.cr_view.specs.Judged.{receipt_or_rule}
-
--- ---- tables
-
--- each paper has its author among the ties
-pub as_many : (t : Tables) → t.ties.authors ≡ map (λ (p : PaperKept). p.submitter) t.papers → length t.ties.authors ≡ length t.papers
-as_many t tied = ap length tied ∙ length-map t.papers (λ (p : PaperKept). p.submitter)
 
 -- ---- receipts
 
@@ -61,12 +54,12 @@ abbrev of_phase : Tables → Option ℕ → PhaseWord → List Check
 of_phase t caller to = phase_checks (standing_at t caller None) t.stage.phase to
 
 abbrev of_submission : Tables → Option ℕ → List Check
-of_submission t caller = submit_checks (standing_at t caller None) (length t.papers) (own_count t.papers caller)
+of_submission t caller = submit_checks (standing_at t caller None) (paper_count t.papers) (own_count t.papers caller)
 
-judge-submit : (t : Tables) (caller : Option ℕ) (title abstract : List ℕ) (maker : ℕ) → caller ≡ Some maker → judge_by_role t caller (Submit title abstract) ≡ judged (of_submission t (Some maker)) (submission_drawn maker (length t.papers + 1) title abstract)
+judge-submit : (t : Tables) (caller : Option ℕ) (title abstract : List ℕ) (maker : ℕ) → caller ≡ Some maker → judge_by_role t caller (Submit title abstract) ≡ judged (of_submission t (Some maker)) (submission_drawn maker (paper_count t.papers + 1) title abstract)
 judge-submit t caller title abstract maker is =
     let by : Option ℕ → ℕ → Result Drawn Rule = λ u n. judged (submit_checks (standing_at t u None) n (own_count t.papers u)) (submission_drawn (maker_of u) (n + 1) title abstract) in
-    ap (by caller) (length-numbers_from 1 t.papers) ∙ ap (λ u. by u (length t.papers)) is
+    ap (by caller) (length-numbers_from 1 t.papers.papers) ∙ ap (λ u. by u (paper_count t.papers)) is
 
 -- ---- answers
 
@@ -76,8 +69,8 @@ answered-register t caller command name digest answer is h = answered t caller c
 pub answered-phase : (t : Tables) (caller : Option ℕ) (command : Command) (to : PhaseWord) (answer : Result Receipt Rule) → command ≡ SetPhase to → answer ≡ judged (of_phase t caller to) (Phase to) → answer ≡ receipt_or_rule (judge_by_role t caller command)
 answered-phase t caller command to answer is h = answered t caller command (of_phase t caller to) (phase_drawn (maker_of caller) to) answer (ap (judge_by_role t caller) is) h
 
-pub answered-submit : (t : Tables) (caller : Option ℕ) (command : Command) (title abstract : List ℕ) (maker : ℕ) (answer : Result Receipt Rule) → command ≡ Submit title abstract → caller ≡ Some maker → answer ≡ judged (of_submission t (Some maker)) (Paper (length t.papers + 1)) → answer ≡ receipt_or_rule (judge_by_role t caller command)
-answered-submit t caller command title abstract maker answer is who h = answered t caller command (of_submission t (Some maker)) (submission_drawn maker (length t.papers + 1) title abstract) answer (along t caller command (Submit title abstract) _ is (judge-submit t caller title abstract maker who)) h
+pub answered-submit : (t : Tables) (caller : Option ℕ) (command : Command) (title abstract : List ℕ) (maker : ℕ) (answer : Result Receipt Rule) → command ≡ Submit title abstract → caller ≡ Some maker → answer ≡ judged (of_submission t (Some maker)) (Paper (paper_count t.papers + 1)) → answer ≡ receipt_or_rule (judge_by_role t caller command)
+answered-submit t caller command title abstract maker answer is who h = answered t caller command (of_submission t (Some maker)) (submission_drawn maker (paper_count t.papers + 1) title abstract) answer (along t caller command (Submit title abstract) _ is (judge-submit t caller title abstract maker who)) h
 
 -- ---- groups
 
@@ -101,15 +94,15 @@ fits-register t caller command name digest user receipt items is told h group =
     let passes : ◌≡◌ {A = Result ℕ Rule} (Ok user) (judged (of_registration t name) (n + 1)) = sym (judged-none (of_registration t name) (n + 1) k.0 ∙ ap (λ m. Ok m) next) in
     subst (λ (g : History). FitInTurn t g) (sym group) (registration-fits-in_turn t user name digest (registration-fits t.accounts name digest user passes))
 
-pub fits-submit : (t : Tables) (caller : Option ℕ) (command : Command) (title abstract : List ℕ) (maker paper : ℕ) (receipt : Receipt) (items : History) → command ≡ Submit title abstract → caller ≡ Some maker → receipt ≡ Paper paper → t.ties.authors ≡ map (λ (p : PaperKept). p.submitter) t.papers → receipt_or_rule (judge_by_role t caller command) ≡ Ok receipt → items ≡ grouped maker (Submitted paper title abstract ∷ []) → FitInTurn t items
-fits-submit t caller command title abstract maker paper receipt items is who told tied h group =
-    let n : ℕ = length t.papers in
+pub fits-submit : (t : Tables) (caller : Option ℕ) (command : Command) (title abstract : List ℕ) (maker paper : ℕ) (receipt : Receipt) (items : History) → command ≡ Submit title abstract → caller ≡ Some maker → receipt ≡ Paper paper → AreWithin (paper_count t.papers) t.ties → receipt_or_rule (judge_by_role t caller command) ≡ Ok receipt → items ≡ grouped maker (Submitted paper title abstract ∷ []) → FitInTurn t items
+fits-submit t caller command title abstract maker paper receipt items is who told within h group =
+    let n : ℕ = paper_count t.papers in
     let k = accepted t caller command (of_submission t (Some maker)) (submission_drawn maker (n + 1) title abstract) receipt (along t caller command (Submit title abstract) _ is (judge-submit t caller title abstract maker who)) h in
     let papers : Paper (n + 1) ≡ Paper paper = k.1 ∙ told in
     let next : n + 1 ≡ paper = cc (papers) in
     let few : n < 9999 = leb-false 9999 n k.0.1.0 in
     let own : own_count t.papers (Some maker) < 20 = leb-false 20 (own_count t.papers (Some maker)) k.0.1.1.0 in
-    subst (λ (g : History). FitInTurn t g) (sym group) (record { accounts = tt; papers = (sym next, omega (arith, next, few), own); ties = (sym next ∙ ap (λ m. m + 1) (sym (as_many t tied)), omega (arith, next, few)) }, tt)
+    subst (λ (g : History). FitInTurn t g) (sym group) (record { accounts = tt; papers = (sym next, omega (arith, next, few), own); ties = within-before n paper (sym next) t.ties.authors within.authors }, tt)
 
 -- what was accepted is drawn with its receipt
 pub drawn-accepted : (t : Tables) (caller : Option ℕ) (command : Command) (checks : List Check) (drawn : Drawn) (receipt : Receipt) (items : History) → judge_by_role t caller command ≡ judged checks drawn → receipt_or_rule (judge_by_role t caller command) ≡ Ok receipt → items ≡ drawn.group → ◌≡◌ {A = Result Drawn Rule} (judge_by_role t caller command) (Ok (record { group = items; receipt = receipt }))

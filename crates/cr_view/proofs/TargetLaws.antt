@@ -1,5 +1,5 @@
 -- Namings, modes and conflicts: what they are answered, and what they draw, by reads of the tables.
-use Rattle.std.proofs.Common.{ℕ, Bool, true, false, ◌≡◌, ◌≤◌, List, [], ◌∷◌, length, refl, sym, ap, subst, ◌∙◌, cond, Option, Some, None, Result, Ok, Err}
+use Rattle.std.proofs.Common.{ℕ, Bool, true, false, ◌≡◌, ◌≤◌, List, [], ◌∷◌, length, refl, sym, ap, subst, ◌∙◌, ◌||◌, cond, Option, Some, None, Result, Ok, Err}
 use Rattle.std.specs.Prelude.{is_some, is_none, map, unwrap_or, IsSome}
 use Rattle.std.specs.List.{list_any}
 use Rattle.std.specs.Option.{option_and_then}
@@ -8,35 +8,42 @@ use Rattle.cr_base.specs.declared.command.Command.{Command}
 use Rattle.cr_base.specs.declared.command.Command.TheVariants.{Name, SetMode, SetConflict}
 use Rattle.cr_base.specs.declared.entry.Account.{Account}
 use Rattle.cr_base.specs.declared.entry.Entry.TheVariants.{Named as NamedEntry, Conflict}
-use Rattle.cr_base.specs.declared.paper.Paper.{Paper}
 use Rattle.cr_base.specs.declared.reply.Receipt.{Receipt}
-use Rattle.cr_base.specs.declared.reply.Receipt.TheVariants.{Named, Mode, Noted}
+use Rattle.cr_base.specs.declared.reply.Receipt.TheVariants.{Phase, Named, Mode, Noted}
 use Rattle.cr_base.specs.declared.reply.Rule.{Rule}
 use Rattle.cr_base.specs.declared.standing.Standing.{Standing}
 use Rattle.cr_base.specs.declared.words.Mode.{Mode as ModeWord}
+use Rattle.cr_base.specs.declared.words.Phase.{Phase as PhaseWord}
 use Rattle.cr_base.specs.declared.words.Role.{Role}
 use Rattle.cr_base.specs.Accounts.{number_at, role_at, lines_of}
-use Rattle.cr_base.specs.Checks.{Check, judged, name_checks, mode_checks, conflict_checks}
+use Rattle.cr_base.specs.Checks.{Check, judged, phase_checks, name_checks, mode_checks, conflict_checks}
 use Rattle.cr_base.specs.History.{History}
 use Rattle.cr_base.specs.Judging.{Drawn, grouped, naming_drawn, mode_drawn, conflict_drawn, name_judged, conflict_judged, user_among, has_paper, maker_of, standing_at, facts_of_tables, shown_in_tables, judge_by_role}
-use Rattle.cr_base.specs.Lists.{at_some, is_number, listed, numbered}
-use Rattle.cr_base.specs.Papers.{is_author_at}
+use Rattle.cr_base.specs.Lists.{at_some, is_number}
+use Rattle.cr_base.specs.Papers.{paper_count}
 use Rattle.cr_base.specs.Tables.{Tables, FitInTurn}
-use Rattle.cr_base.specs.Ties.{is_author_in}
+use Rattle.cr_base.specs.Ties.{TiesState, authors_in, is_author_in, is_conflicted_in}
 use Rattle.cr_base.proofs.AccountLaws.{number_in-lines_of}
-use Rattle.cr_base.proofs.ListLaws.{numbered-map, role_among-lines_of}
+use Rattle.cr_base.proofs.ListLaws.{role_among-lines_of}
 use Rattle.cr_base.proofs.TargetLaws.{target_within, paper_within}
 use Rattle.cr_view.specs.Judged.{receipt_or_rule, receipted, TellsNote}
 use Rattle.cr_view.specs.Targets.{target_at}
-use Rattle.cr_view.proofs.JudgeLaws.{as_many, along, answered, accepted, drawn-accepted}
+use Rattle.cr_view.proofs.JudgeLaws.{along, answered, accepted, drawn-accepted}
 
--- ---- authors
+-- ---- nobody
 
--- an author among the ties is one among the papers
-pub author-same : (t : Tables) → t.ties.authors ≡ map (λ (p : Paper). p.submitter) t.papers → (u : Option ℕ) (p : ℕ) → is_author_in t.ties u p ≡ is_author_at t.papers u p
-author-same t tied u p =
-    ap (λ (authors : List ℕ). list_any (is_number u) (listed (numbered authors p))) tied
-    ∙ ap (λ (o : Option ℕ). list_any (is_number u) (listed o)) (numbered-map (λ (x : Paper). x.submitter) t.papers p)
+nobody : (users : List ℕ) → list_any (is_number None) users ≡ false
+nobody [] = refl
+nobody (v ∷ users) = nobody users
+
+-- nobody is an author, nor in conflict
+pub nobody-author : (ties : TiesState) (user paper : Option ℕ) → user ≡ None → false ≡ at_some (is_author_in ties user) paper
+nobody-author ties user None is = refl
+nobody-author ties user (Some p) is = sym (ap (λ (u : Option ℕ). is_author_in ties u p) is ∙ nobody (authors_in ties p))
+
+pub nobody-conflicted : (ties : TiesState) (user paper : Option ℕ) → user ≡ None → false ≡ at_some (is_conflicted_in ties user) paper
+nobody-conflicted ties user None is = refl
+nobody-conflicted ties user (Some p) is = sym (ap (λ (u : Option ℕ). is_conflicted_in ties u p) is ∙ ap (λ b. b || false) (nobody (authors_in ties p)))
 
 -- ---- the user named
 
@@ -73,16 +80,15 @@ of_conflict t maker paper name on =
 abbrev switching : Tables → ℕ → Option ℕ → Option (List ℕ) → Bool → Drawn
 switching t maker paper name on = conflict_drawn maker (unwrap_or paper 0) (unwrap_or (target_at t.accounts name) 0) on
 
-judge-conflict : (t : Tables) (caller : Option ℕ) (paper : Option ℕ) (name : Option (List ℕ)) (on : Bool) (maker : ℕ) → t.ties.authors ≡ map (λ (p : Paper). p.submitter) t.papers → caller ≡ Some maker → judge_by_role t caller (SetConflict paper name on) ≡ judged (of_conflict t maker paper name on) (switching t maker paper name on)
-judge-conflict t caller paper name on maker tied who =
+judge-conflict : (t : Tables) (caller : Option ℕ) (paper : Option ℕ) (name : Option (List ℕ)) (on : Bool) (maker : ℕ) → caller ≡ Some maker → judge_by_role t caller (SetConflict paper name on) ≡ judged (of_conflict t maker paper name on) (switching t maker paper name on)
+judge-conflict t caller paper name on maker who =
     let target = target_at t.accounts name in
     let found : Bool = has_paper (facts_of_tables t None) paper in
     let drawn : Drawn = switching t maker paper name on in
-    let judged_by : Option Role → (ℕ → Bool) → Result Drawn Rule = λ role author. judged (conflict_checks (standing_at t (Some maker) paper) found role (is_number target maker) (at_some author paper) on) drawn in
+    let judged_by : Option Role → Result Drawn Rule = λ role. judged (conflict_checks (standing_at t (Some maker) paper) found role (is_number target maker) (at_some (is_author_in t.ties target) paper) on) drawn in
     ap (λ (u : Option ℕ). conflict_judged (facts_of_tables t u) (shown_in_tables t) u paper (user_among (lines_of t.accounts) name) on) who
     ∙ ap (λ (v : Option ℕ). conflict_judged (facts_of_tables t (Some maker)) (shown_in_tables t) (Some maker) paper v on) (target-among t.accounts name)
-    ∙ ap (λ (role : Option Role). judged_by role (is_author_at t.papers target)) (role_among-lines_of t.accounts target)
-    ∙ ap (judged_by (option_and_then (role_at t.accounts) target)) (λ i p. sym (author-same t tied target p) i)
+    ∙ ap judged_by (role_among-lines_of t.accounts target)
 
 -- ---- answers
 
@@ -92,8 +98,8 @@ answered-name t caller command name role answer is h = answered t caller command
 pub answered-mode : (t : Tables) (caller : Option ℕ) (command : Command) (to : ModeWord) (answer : Result Receipt Rule) → command ≡ SetMode to → answer ≡ judged (of_mode t caller) (Mode to) → answer ≡ receipt_or_rule (judge_by_role t caller command)
 answered-mode t caller command to answer is h = answered t caller command (of_mode t caller) (mode_drawn (maker_of caller) to) answer (ap (judge_by_role t caller) is) h
 
-pub answered-conflict : (t : Tables) (caller : Option ℕ) (command : Command) (paper : Option ℕ) (name : Option (List ℕ)) (on : Bool) (maker : ℕ) (answer : Result Receipt Rule) → command ≡ SetConflict paper name on → caller ≡ Some maker → t.ties.authors ≡ map (λ (p : Paper). p.submitter) t.papers → answer ≡ judged (of_conflict t maker paper name on) (Noted (unwrap_or paper 0)) → answer ≡ receipt_or_rule (judge_by_role t caller command)
-answered-conflict t caller command paper name on maker answer is who tied h = answered t caller command (of_conflict t maker paper name on) (switching t maker paper name on) answer (along t caller command (SetConflict paper name on) _ is (judge-conflict t caller paper name on maker tied who)) h
+pub answered-conflict : (t : Tables) (caller : Option ℕ) (command : Command) (paper : Option ℕ) (name : Option (List ℕ)) (on : Bool) (maker : ℕ) (answer : Result Receipt Rule) → command ≡ SetConflict paper name on → caller ≡ Some maker → answer ≡ judged (of_conflict t maker paper name on) (Noted (unwrap_or paper 0)) → answer ≡ receipt_or_rule (judge_by_role t caller command)
+answered-conflict t caller command paper name on maker answer is who h = answered t caller command (of_conflict t maker paper name on) (switching t maker paper name on) answer (along t caller command (SetConflict paper name on) _ is (judge-conflict t caller paper name on maker who)) h
 
 -- ---- the answers of their parts
 
@@ -105,6 +111,16 @@ receipted-judged (check ∷ checks) receipt = by check.broken (receipted-judged 
     by : (b : Bool) → receipted receipt (judged checks tt) ≡ judged checks receipt → receipted receipt (cond b (Err check.rule) (judged checks tt)) ≡ cond b (Err check.rule) (judged checks receipt)
     by true h = refl
     by false h = h
+
+-- a change of the phase's
+pub phase-told : (t : Tables) (caller : Option ℕ) (to : PhaseWord) (by : Standing) (kept : Result (Unit {0}) Rule) (answer : Result Receipt Rule)
+    → by ≡ standing_at t caller None → kept ≡ judged (phase_checks by t.stage.phase to) tt → answer ≡ receipted (Phase to) kept
+    → answer ≡ judged (phase_checks (standing_at t caller None) t.stage.phase to) (Phase to)
+phase-told t caller to by kept answer stands judges told =
+    told
+    ∙ ap (receipted (Phase to)) judges
+    ∙ receipted-judged (phase_checks by t.stage.phase to) (Phase to)
+    ∙ ap (λ (s : Standing). judged (phase_checks s t.stage.phase to) (Phase to)) stands
 
 -- a naming's, where there is a name
 pub named-told : (t : Tables) (caller : Option ℕ) (name : Option (List ℕ)) (given_name : List ℕ) (role : Role) (by : Standing) (target : Option ℕ) (kept : Result (Unit {0}) Rule) (answer : Result Receipt Rule)
@@ -160,9 +176,9 @@ module _ (t : Tables) (caller : Option ℕ) (command : Command) (name : Option (
       let same : unwrap_or (target_at t.accounts name) 0 ≡ user = ap (λ (v : Option ℕ). unwrap_or v 0) known in
       subst (λ (g : History). FitInTurn t g) (sym group) (record { accounts = subst (λ (n : ℕ). (1 ≤ n) × (n ≤ length t.accounts)) same there; papers = tt; ties = tt }, tt)
 
-module _ (t : Tables) (caller : Option ℕ) (command : Command) (paper : Option ℕ) (name : Option (List ℕ)) (on : Bool) (maker : ℕ) (receipt : Receipt) (is : command ≡ SetConflict paper name on) (who : caller ≡ Some maker) (tied : t.ties.authors ≡ map (λ (p : Paper). p.submitter) t.papers) (h : receipt_or_rule (judge_by_role t caller command) ≡ Ok receipt) where
+module _ (t : Tables) (caller : Option ℕ) (command : Command) (paper : Option ℕ) (name : Option (List ℕ)) (on : Bool) (maker : ℕ) (receipt : Receipt) (is : command ≡ SetConflict paper name on) (who : caller ≡ Some maker) (h : receipt_or_rule (judge_by_role t caller command) ≡ Ok receipt) where
   judged_conflict : judge_by_role t caller command ≡ judged (of_conflict t maker paper name on) (switching t maker paper name on)
-  judged_conflict = along t caller command (SetConflict paper name on) _ is (judge-conflict t caller paper name on maker tied who)
+  judged_conflict = along t caller command (SetConflict paper name on) _ is (judge-conflict t caller paper name on maker who)
 
   pub known-conflict : IsSome (target_at t.accounts name)
   known-conflict = target_known t.accounts (target_at t.accounts name) (accepted t caller command (of_conflict t maker paper name on) (switching t maker paper name on) receipt judged_conflict h).0.1.0
@@ -189,6 +205,5 @@ module _ (t : Tables) (caller : Option ℕ) (command : Command) (paper : Option 
     fits-conflict =
         let k = accepted t caller command (of_conflict t maker paper name on) (switching t maker paper name on) receipt judged_conflict h in
         let someone : (1 ≤ user) × (user ≤ length t.accounts) = subst (λ (n : ℕ). (1 ≤ n) × (n ≤ length t.accounts)) same_user (target_within t.accounts (target_at t.accounts name) k.0.1.0) in
-        let there : (1 ≤ number) × (number ≤ length t.papers) = subst (λ (n : ℕ). (1 ≤ n) × (n ≤ length t.papers)) same_paper (paper_within t.papers paper k.0.0) in
-        let tied_there : (1 ≤ number) × (number ≤ length t.ties.authors) = subst (λ (n : ℕ). (1 ≤ number) × (number ≤ n)) (sym (as_many t tied)) there in
-        subst (λ (g : History). FitInTurn t g) (sym group) (record { accounts = someone; papers = there; ties = tied_there }, tt)
+        let there : (1 ≤ number) × (number ≤ paper_count t.papers) = subst (λ (n : ℕ). (1 ≤ n) × (n ≤ paper_count t.papers)) same_paper (paper_within t.papers.papers paper k.0.0) in
+        subst (λ (g : History). FitInTurn t g) (sym group) (record { accounts = someone; papers = there; ties = tt }, tt)

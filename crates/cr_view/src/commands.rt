@@ -5,7 +5,7 @@ ghost use Rattle.cr_base.specs.Accounts.{number_at, role_at};
 ghost use Rattle.cr_base.specs.Checks.{judged, register_checks, phase_checks, submit_checks, name_checks, mode_checks, conflict_checks};
 ghost use Rattle.cr_base.specs.Judging.{judge_by_role, standing_at, facts_of_tables, has_paper};
 ghost use Rattle.cr_base.specs.Lists.{at_some, is_number};
-ghost use Rattle.cr_base.specs.Papers.{own_count};
+ghost use Rattle.cr_base.specs.Papers.{paper_count, own_count};
 ghost use Rattle.cr_base.specs.Tables.{FitInTurn};
 ghost use Rattle.cr_base.specs.Ties.{is_author_in};
 ghost use Rattle.cr_base.specs.declared.reply.Receipt.TheVariants as receipts;
@@ -34,7 +34,6 @@ impl Live {
             Command::Name { user, role } => self.judge_naming(caller, user, *role),
             Command::SetMode { mode } => self.judge_mode(caller, *mode),
             Command::SetConflict { paper, user, on } => {
-                self.law_authors();
                 self.judge_conflict(maker(caller), paper, user, *on)
             }
         }
@@ -51,12 +50,12 @@ impl Live {
         ensures { result ≡ judged (phase_checks (standing_at self.now.tables caller.now None) self.now.tables.stage.phase to) (receipts.Phase to) }
     {
         let by = self.standing(caller, &None);
-        self.stage.judge_phase(&by, to)?;
-        Ok(Receipt::Phase { phase: to })
+        let kept = self.stage.judge_phase(&by, to);
+        receipted(Receipt::Phase { phase: to }, kept)
     }
 
     fn judge_submission(&self, maker: UserNo) -> Result<Receipt, Rule>
-        ensures { result ≡ judged (submit_checks (standing_at self.now.tables (Some maker) None) (length self.now.tables.papers) (own_count self.now.tables.papers (Some maker))) (receipts.Paper (length self.now.tables.papers + 1)) }
+        ensures { result ≡ judged (submit_checks (standing_at self.now.tables (Some maker) None) (paper_count self.now.tables.papers) (own_count self.now.tables.papers (Some maker))) (receipts.Paper (paper_count self.now.tables.papers + 1)) }
     {
         let by = self.standing(&Some(maker), &None);
         let paper = self.papers.judge_submit(&by, maker)?;
@@ -158,7 +157,7 @@ impl Live {
                 single(alloc, maker(caller), Entry::PhaseSet { phase: *phase })
             }
             Command::Submit { title, abstract_ } => {
-                self.law_authors();
+                self.law_within();
                 submission(alloc, maker(caller), paper_told(receipt), title, abstract_)
             }
             Command::Name { user, role } => {
@@ -172,7 +171,6 @@ impl Live {
                 single(alloc, maker(caller), Entry::ModeSet { mode: *mode })
             }
             Command::SetConflict { user, on, .. } => {
-                self.law_authors();
                 let by = maker(caller);
                 let entry = Entry::Conflict {
                     paper: paper_noted(receipt),

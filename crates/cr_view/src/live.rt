@@ -1,11 +1,11 @@
 //! The tables of a history, and what a user is by them.
-ghost use Rattle.std.specs.Prelude.{◌≡◌, ◌≤◌, ◌<◌, ◌+◌, OnOk, length, map};
+ghost use Rattle.std.specs.Prelude.{◌≡◌, ◌≤◌, ◌<◌, ◌+◌, OnOk, length};
 ghost use Rattle.cr_base.specs.Accounts.{number_at, caller_at};
 ghost use Rattle.cr_base.specs.Judging.{standing_at};
 ghost use Rattle.cr_base.specs.Lists.{at_some};
-ghost use Rattle.cr_base.specs.Papers.{is_author_at};
+ghost use Rattle.cr_base.specs.Papers.{paper_count};
 ghost use Rattle.cr_base.specs.Tables.{no_tables, tables_after, tables_from, Fits, FitInTurn};
-ghost use Rattle.cr_base.specs.Ties.{is_conflicted_in};
+ghost use Rattle.cr_base.specs.Ties.{is_author_in, is_conflicted_in, AreWithin};
 
 use cr_accounts::Accounts;
 use cr_base::{Digest, PaperNo, Short, Stamped, Standing, UserNo};
@@ -27,15 +27,17 @@ pub struct Live {
 }
 
 impl Model for Live {
-    ghost use Rattle.std.specs.Prelude.{◌≡◌, min, map};
+    ghost use Rattle.std.specs.Prelude.{min};
+    ghost use Rattle.cr_base.specs.Papers.{paper_count};
+    ghost use Rattle.cr_base.specs.Ties.{AreWithin};
     ghost use Rattle.cr_view.specs.Seen.{SeenTables};
 
     ghost Value = { SeenTables };
 
     ghost view = { λ t. record { tables = record { stage = t.stage; accounts = t.accounts.accounts; papers = t.papers.papers; ties = t.ties.ties }; room = min t.accounts.room (min t.papers.room t.ties.room) } };
 
-    // The author of each paper among the ties is its submitter.
-    ghost invariant = { λ t. t.ties.ties.authors ≡ map (λ paper. paper.submitter) t.papers.papers };
+    // The papers that have ties are there.
+    ghost invariant = { λ t. AreWithin (paper_count t.papers.papers) t.ties.ties };
 }
 
 /// The tables and their entries.
@@ -109,8 +111,8 @@ impl Live {
     }
 
     /// What a user, or nobody, is to the conference and to a paper, where one is named. A
-    /// caller who is nobody is an `Account` without ties. Takes no memory; a few reads by number, and a binary search
-    /// of the ties.
+    /// caller who is nobody is an `Account` without ties. Takes no memory; a few reads by number, and
+    /// three binary searches of the ties.
     pub fn standing(&self, user: &Option<UserNo>, paper: &Option<PaperNo>) -> Standing
         ensures { result ≡ standing_at self.now.tables user.now paper.now }
     {
@@ -125,11 +127,14 @@ impl Live {
 
     /// Whether the user is an author of the paper; false for nobody, and where no paper is named.
     fn is_author(&self, user: &Option<UserNo>, paper: &Option<PaperNo>) -> bool
-        ensures { result ≡ at_some (is_author_at self.now.tables.papers user.now) paper.now }
+        ensures { result ≡ at_some (is_author_in self.now.tables.ties user.now) paper.now }
     {
-        match (user, paper) {
-            (Some(user), Some(paper)) => self.papers.is_author(*user, *paper),
-            (None, _) | (_, None) => false,
+        let Some(user) = user else {
+            return false;
+        };
+        match paper {
+            Some(paper) => self.ties.is_author(*user, *paper),
+            None => false,
         }
     }
 
@@ -137,15 +142,18 @@ impl Live {
     fn is_conflicted(&self, user: &Option<UserNo>, paper: &Option<PaperNo>) -> bool
         ensures { result ≡ at_some (is_conflicted_in self.now.tables.ties user.now) paper.now }
     {
-        match (user, paper) {
-            (Some(user), Some(paper)) => self.ties.is_conflicted(*user, *paper),
-            (None, _) | (_, None) => false,
+        let Some(user) = user else {
+            return false;
+        };
+        match paper {
+            Some(paper) => self.ties.is_conflicted(*user, *paper),
+            None => false,
         }
     }
 
-    /// Nothing to run: a law, that the author of each paper among the ties is its submitter.
-    pub(crate) fn law_authors(&self)
-        ensures { self.now.tables.ties.authors ≡ map (λ paper. paper.submitter) self.now.tables.papers }
+    /// Nothing to run: a law, that the papers which have ties are there.
+    pub(crate) fn law_within(&self)
+        ensures { AreWithin (paper_count self.now.tables.papers) self.now.tables.ties }
     {
         let _papers = &self.papers;
     }

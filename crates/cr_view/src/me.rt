@@ -1,13 +1,13 @@
 //! What a user is told of herself.
-ghost use Rattle.std.specs.Prelude.{◌≡◌, ◌≤◌, ◌++◌, [], IfOk, OnOk, All, Some, filter, map, not, unwrap_or};
+ghost use Rattle.std.specs.Prelude.{◌≡◌, ◌++◌, [], IfOk, OnOk, Some, filter, map, not, unwrap_or};
 ghost use Rattle.std.specs.Option.{option_map};
 ghost use Rattle.cr_base.specs.Accounts.{account_at};
 ghost use Rattle.cr_base.specs.Judging.{facts_of_tables, me_by};
 ghost use Rattle.cr_base.specs.Lists.{given};
-ghost use Rattle.cr_base.specs.Papers.{is_author_at};
+ghost use Rattle.cr_base.specs.Ties.{is_author_in};
 
 use crate::live::Live;
-use cr_base::{Me, Pair, PaperNo, PaperNos, Short, UserNo};
+use cr_base::{Me, PaperNo, PaperNos, Short, Tie, UserNo};
 use std::alloc::{AllocError, Global};
 
 impl Live {
@@ -16,7 +16,7 @@ impl Live {
     pub fn me(&self, alloc: Global, user: UserNo) -> Result<Me, AllocError>
         ensures { IfOk result (λ me. me ≡ me_by (facts_of_tables self.now.tables (Some user)) user) }
     {
-        self.law_authors();
+        self.law_within();
         let papers = papers_of(alloc, self.ties.authored(user))?;
         let conflicts = self.others(alloc, user, self.ties.conflicting(user))?;
         Ok(Me {
@@ -38,16 +38,14 @@ impl Live {
         }
     }
 
-    /// The papers that stand second, without those whose author the user is.
-    fn others(&self, alloc: Global, user: UserNo, pairs: &[Pair]) -> Result<PaperNos, AllocError>
-        requires { All (λ pair. (1 ≤ pair.second) × (pair.second ≤ 9999)) pairs.now }
-        ensures { IfOk result (λ papers. papers ≡ filter (λ paper. not (is_author_at self.now.tables.papers (Some user) paper)) (map (λ pair. pair.second) pairs.now)) }
+    /// The papers of these ties, without those whose author the user is.
+    fn others(&self, alloc: Global, user: UserNo, ties: &[Tie<()>]) -> Result<PaperNos, AllocError>
+        ensures { IfOk result (λ papers. papers ≡ filter (λ paper. not (is_author_in self.now.tables.ties (Some user) paper)) (map (λ tie. tie.pair.paper) ties.now)) }
     {
-        let mut papers = Vec::with_capacity(alloc, pairs.len())?;
-        for pair in pairs {
-            let paper = PaperNo::new(u64::from(pair.second));
-            let other = !self.papers.is_author(user, paper);
-            push_where(&mut papers, other, paper)?;
+        let mut papers = Vec::with_capacity(alloc, ties.len())?;
+        for tie in ties {
+            let other = !self.ties.is_author(user, tie.pair.paper);
+            push_where(&mut papers, other, tie.pair.paper)?;
         }
         Ok(PaperNos::from_vec(papers))
     }
@@ -63,14 +61,13 @@ fn push_where(papers: &mut Vec<PaperNo>, told: bool, paper: PaperNo) -> Result<(
     Ok(())
 }
 
-/// The papers that stand second; an error only for want of memory.
-fn papers_of(alloc: Global, pairs: &[Pair]) -> Result<PaperNos, AllocError>
-    requires { All (λ pair. (1 ≤ pair.second) × (pair.second ≤ 9999)) pairs.now }
-    ensures { IfOk result (λ papers. papers ≡ map (λ pair. pair.second) pairs.now) }
+/// The papers of these ties; an error only for want of memory.
+fn papers_of(alloc: Global, ties: &[Tie<()>]) -> Result<PaperNos, AllocError>
+    ensures { IfOk result (λ papers. papers ≡ map (λ tie. tie.pair.paper) ties.now) }
 {
-    let mut papers = Vec::with_capacity(alloc, pairs.len())?;
-    for pair in pairs {
-        papers.push(PaperNo::new(u64::from(pair.second)))?;
+    let mut papers = Vec::with_capacity(alloc, ties.len())?;
+    for tie in ties {
+        papers.push(tie.pair.paper)?;
     }
     Ok(PaperNos::from_vec(papers))
 }

@@ -1,10 +1,10 @@
 //! What queries are answered by the tables.
-ghost use Rattle.std.specs.Prelude.{◌≡◌, ◌≢◌, ◌++◌, IfOk, OnOk, OnErr, Ok, Err, Some, length, map, unwrap_or};
+ghost use Rattle.std.specs.Prelude.{◌≡◌, ◌≢◌, ◌++◌, IfOk, OnOk, OnErr, Ok, Err, Some, map, unwrap_or};
 ghost use Rattle.cr_base.specs.Accounts.{lines_of};
 ghost use Rattle.cr_base.specs.Checks.{judged, page_checks};
 ghost use Rattle.cr_base.specs.Judging.{answer_by_role, facts_of_tables, shown_in_tables, query_checks, has_paper, names_in, page_by, standing_at};
 ghost use Rattle.cr_base.specs.Lists.{listed};
-ghost use Rattle.cr_base.specs.Papers.{authors_at};
+ghost use Rattle.cr_base.specs.Papers.{paper_count};
 ghost use Rattle.cr_base.specs.Page.{where_told};
 ghost use Rattle.cr_base.specs.declared.command.Query.TheVariants as queries;
 ghost use Rattle.cr_base.specs.declared.reply.Conference.{Conference};
@@ -20,7 +20,7 @@ use crate::page::{
 };
 use cr_anonymity::shows_author;
 use cr_base::{
-    AccountLines, Conference, Names, Page, Pair, PaperNo, Query, Reply, Rule, Short, Standing,
+    AccountLines, Conference, Names, Page, PaperNo, Query, Reply, Rule, Short, Standing, Tie,
     UserNo,
 };
 use std::alloc::{AllocError, Global};
@@ -116,7 +116,7 @@ impl Live {
 
     /// The phase, the mode and the number of papers. Takes no memory and reads no account.
     pub fn conference(&self) -> Conference
-        ensures { ◌≡◌ {A = Conference} result (record { mode = self.now.tables.stage.mode; papers = length self.now.tables.papers; phase = self.now.tables.stage.phase }) }
+        ensures { ◌≡◌ {A = Conference} result (record { mode = self.now.tables.stage.mode; papers = paper_count self.now.tables.papers; phase = self.now.tables.stage.phase }) }
     {
         Conference {
             mode: self.stage.mode(),
@@ -153,7 +153,7 @@ impl Live {
     {
         let title = copy_where(alloc, gets_title(by), self.papers.last_title(paper))?;
         let abstract_ = copy_where(alloc, gets_abstract(by), self.papers.last_abstract(paper))?;
-        let authors = self.authors_where(alloc, shows_author(by, false), paper)?;
+        let authors = self.names_where(alloc, shows_author(by, false), self.ties.authors(paper))?;
         let conflicts = self.names_where(alloc, gets_conflicts(by), self.ties.conflicts(paper))?;
         let declared = self.names_where(alloc, gets_declared(by), self.ties.declared(paper))?;
         Ok(Page {
@@ -167,59 +167,32 @@ impl Live {
             bare: bare_keys(by),
         })
     }
-
-    /// The names of a paper's authors, where they are told.
-    fn authors_where(
-        &self,
-        alloc: Global,
-        told: bool,
-        paper: PaperNo,
-    ) -> Result<Option<Names>, AllocError>
-        ensures { IfOk result (λ names. names ≡ where_told told (Some (names_in (lines_of self.now.tables.accounts) (authors_at self.now.tables.papers paper)))) }
-    {
-        if !told {
-            return Ok(None);
-        }
-        let authors = self.papers.authors(alloc, paper)?;
-        Ok(Some(self.names(alloc, &authors)?))
-    }
-
-    /// The names of these users, without those whom nobody knows.
-    fn names(&self, alloc: Global, users: &[UserNo]) -> Result<Names, AllocError>
-        ensures { IfOk result (λ names. names ≡ names_in (lines_of self.now.tables.accounts) users.now) }
-    {
-        let mut names = Vec::with_capacity(alloc, users.len())?;
-        for user in users {
-            push_name(&mut names, self.accounts.name_of(*user))?;
-        }
-        Ok(Names::from_vec(names))
-    }
 }
 
 /// The names of those who are tied to a paper.
 impl Live {
-    /// The names of the users who stand second, where they are told.
+    /// The names of the users of these ties, where they are told.
     fn names_where(
         &self,
         alloc: Global,
         told: bool,
-        pairs: &[Pair],
+        ties: &[Tie<()>],
     ) -> Result<Option<Names>, AllocError>
-        ensures { IfOk result (λ names. names ≡ where_told told (Some (names_in (lines_of self.now.tables.accounts) (map (λ pair. pair.second) pairs.now)))) }
+        ensures { IfOk result (λ names. names ≡ where_told told (Some (names_in (lines_of self.now.tables.accounts) (map (λ tie. tie.pair.user) ties.now)))) }
     {
         if !told {
             return Ok(None);
         }
-        Ok(Some(self.names_of_seconds(alloc, pairs)?))
+        Ok(Some(self.names(alloc, ties)?))
     }
 
-    /// The names of the users who stand second, without those whom nobody knows.
-    fn names_of_seconds(&self, alloc: Global, pairs: &[Pair]) -> Result<Names, AllocError>
-        ensures { IfOk result (λ names. names ≡ names_in (lines_of self.now.tables.accounts) (map (λ pair. pair.second) pairs.now)) }
+    /// The names of the users of these ties, without those whom nobody knows.
+    fn names(&self, alloc: Global, ties: &[Tie<()>]) -> Result<Names, AllocError>
+        ensures { IfOk result (λ names. names ≡ names_in (lines_of self.now.tables.accounts) (map (λ tie. tie.pair.user) ties.now)) }
     {
-        let mut names = Vec::with_capacity(alloc, pairs.len())?;
-        for pair in pairs {
-            push_name(&mut names, self.accounts.name_at(pair.second))?;
+        let mut names = Vec::with_capacity(alloc, ties.len())?;
+        for tie in ties {
+            push_name(&mut names, self.accounts.name_of(tie.pair.user))?;
         }
         Ok(Names::from_vec(names))
     }

@@ -1,7 +1,7 @@
 use Rattle.std.proofs.Common.{◌≡◌, ◌++◌, drop}
 use Rattle.std.specs.Prelude.{map}
-use Rattle.cr_base.specs.declared.pairs.Pair.{Pair}
+use Rattle.cr_base.specs.declared.pairs.Tie.{Tie}
 use Rattle.cr_view.proofs.me.papers_of.Given as goal
 
-abbrev pub invariant-loop-pair : goal.invariant-loop-pair
-invariant-loop-pair l = l.papers.items ++ map (λ (pair : Pair). pair.second) (drop l.pair-index l.pairs) ≡ map (λ (pair : Pair). pair.second) l.pairs
+abbrev pub invariant-loop-tie : goal.invariant-loop-tie
+invariant-loop-tie l = l.papers.items ++ map (λ (tie : Tie (Unit {0})). tie.pair.paper) (drop l.tie-index l.ties) ≡ map (λ (tie : Tie (Unit {0})). tie.pair.paper) l.ties

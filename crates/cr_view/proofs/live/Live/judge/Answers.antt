@@ -18,4 +18,4 @@ pub returns-in-SetMode : goal.returns-in-SetMode
 returns-in-SetMode c = answered-mode c.args.self.now.tables c.args.caller.now c.args.command.now c.in-SetMode.mode c.judge_mode.result c.in-SetMode.is c.judge_mode.ensures
 
 pub returns-in-SetConflict : goal.returns-in-SetConflict
-returns-in-SetConflict c = answered-conflict c.args.self.now.tables c.args.caller.now c.args.command.now c.in-SetConflict.paper c.in-SetConflict.user c.in-SetConflict.on c.maker-in-SetConflict.result c.judge_conflict.result c.in-SetConflict.is c.maker-in-SetConflict.ensures c.law_authors.ensures c.judge_conflict.ensures
+returns-in-SetConflict c = answered-conflict c.args.self.now.tables c.args.caller.now c.args.command.now c.in-SetConflict.paper c.in-SetConflict.user c.in-SetConflict.on c.maker-in-SetConflict.result c.judge_conflict.result c.in-SetConflict.is c.maker-in-SetConflict.ensures c.judge_conflict.ensures

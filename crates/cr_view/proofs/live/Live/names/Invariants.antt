@@ -1,7 +1,9 @@
 use Rattle.std.proofs.Common.{◌≡◌, ◌++◌, drop}
+use Rattle.std.specs.Prelude.{map}
+use Rattle.cr_base.specs.declared.pairs.Tie.{Tie}
 use Rattle.cr_base.specs.Accounts.{lines_of}
 use Rattle.cr_base.specs.Judging.{names_in}
 use Rattle.cr_view.proofs.live.Live.names.Given as goal
 
-abbrev pub invariant-loop-user : goal.invariant-loop-user
-invariant-loop-user l = l.names.items ++ names_in (lines_of l.self.tables.accounts) (drop l.user-index l.users) ≡ names_in (lines_of l.self.tables.accounts) l.users
+abbrev pub invariant-loop-tie : goal.invariant-loop-tie
+invariant-loop-tie l = l.names.items ++ names_in (lines_of l.self.tables.accounts) (map (λ (tie : Tie (Unit {0})). tie.pair.user) (drop l.tie-index l.ties)) ≡ names_in (lines_of l.self.tables.accounts) (map (λ (tie : Tie (Unit {0})). tie.pair.user) l.ties)

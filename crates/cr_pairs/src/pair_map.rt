@@ -1,0 +1,140 @@
+//! Ties of papers and users, each pair at most once, in ascending order.
+ghost use Rattle.std.specs.Prelude.{◌≡◌, ◌≤◌, ◌<◌, ◌+◌, [], OnOk, MatchResult};
+ghost use Rattle.cr_base.specs.Pairs.{IsAscending, has_pair, value_of, with_tie, without_pair, ties_of};
+ghost use Rattle.cr_base.specs.declared.pairs.Order.TheVariants.{ByPaper, ByUser};
+ghost use Rattle.cr_pairs.specs.Places.{IsAt, IsGapFor, pair_order};
+
+use crate::run::run_of;
+use cr_base::{Order, Pair, PaperNo, Tie, UserNo};
+use std::alloc::{AllocError, Global};
+use std::cmp::Ordering;
+use std::marker::Model;
+
+/// A map from pairs of a paper and a user to a small value, in ascending order: by paper, then user,
+/// or by user, then paper. With the value `()` it is a set of pairs.
+///
+/// Contracts see the order, the ties in it, and for how many more there is room.
+#[derive(Drop)]
+pub struct PairMap<V> {
+    order: Order,
+    ties: Vec<Tie<V>>,
+}
+
+impl<V> Model for PairMap<V> {
+    ghost use Rattle.std.specs.Prelude.{◌-◌, vec_len, vec_capacity};
+    ghost use Rattle.cr_base.specs.Pairs.{IsAscending};
+    ghost use Rattle.cr_pairs.specs.Seen.{SeenPairs};
+
+    ghost Value = { SeenPairs V };
+
+    ghost view = { λ s. record { order = s.order; ties = s.ties.items; room = vec_capacity s.ties - vec_len s.ties } };
+
+    ghost invariant = { λ s. IsAscending s.order s.ties.items };
+}
+
+/// How the first pair stands to the second in this order.
+fn compare(order: Order, first: &Pair, second: &Pair) -> Ordering
+    ensures { result ≡ pair_order order first.now second.now }
+{
+    let leads = first.leads(order).cmp(&second.leads(order));
+    leads.then(first.follows(order).cmp(&second.follows(order)))
+}
+
+impl<V: Copy + Drop> PairMap<V> {
+    /// No ties; takes no memory.
+    pub fn new(alloc: Global, order: Order) -> PairMap<V>
+        ensures order { result.order ≡ order }
+        ensures ties { result.ties ≡ [] }
+    {
+        PairMap {
+            order,
+            ties: Vec::new(alloc),
+        }
+    }
+
+    /// Whether the pair is there. One binary search.
+    pub fn contains(&self, pair: &Pair) -> bool
+        ensures { result ≡ has_pair pair.now self.now.ties }
+    {
+        self.place_of(pair).is_ok()
+    }
+
+    /// What is kept of the pair, and none where it isn't there. One binary search.
+    pub fn value(&self, pair: &Pair) -> Option<V>
+        ensures { result ≡ value_of pair.now self.now.ties }
+    {
+        match self.place_of(pair) {
+            Ok(place) => Some(self.ties[place].value),
+            Err(_) => None,
+        }
+    }
+
+    /// The ties of a paper, in the order of their users' numbers, where the map is in the order of
+    /// papers. Two binary searches; takes no memory.
+    pub fn of_paper(&self, paper: PaperNo) -> &[Tie<V>]
+        requires { self.now.order ≡ ByPaper }
+        ensures ties { result.now ≡ ties_of ByPaper paper self.now.ties }
+        ensures order { IsAscending self.now.order self.now.ties }
+    {
+        run_of(&self.ties, self.order, paper.number())
+    }
+
+    /// The ties of a user, in the order of their papers' numbers, where the map is in the order of
+    /// users. Two binary searches; takes no memory.
+    pub fn of_user(&self, user: UserNo) -> &[Tie<V>]
+        requires { self.now.order ≡ ByUser }
+        ensures ties { result.now ≡ ties_of ByUser user self.now.ties }
+        ensures order { IsAscending self.now.order self.now.ties }
+    {
+        run_of(&self.ties, self.order, user.number())
+    }
+
+    /// Takes the memory for so many more ties; an error only for want of memory, and the ties are the
+    /// same either way.
+    pub fn room(&mut self, count: usize) -> Result<(), AllocError>
+        ensures ok { OnOk result (count ≤ self.new.room) }
+        ensures order { self.new.order ≡ self.old.order }
+        ensures same { self.new.ties ≡ self.old.ties }
+        ensures keeps { self.old.room ≤ self.new.room }
+    {
+        self.ties.reserve(count)
+    }
+
+    /// Puts the tie in, for which there is room, in the place of the one of its pair where that is
+    /// there. One binary search, and a move of the ties behind a new one; takes no memory.
+    pub fn insert(&mut self, tie: Tie<V>)
+        requires { 0 < self.old.room }
+        ensures order { self.new.order ≡ self.old.order }
+        ensures ties { self.new.ties ≡ with_tie self.old.order tie self.old.ties }
+        ensures room { self.old.room ≤ self.new.room + 1 }
+    {
+        match self.place_of(&tie.pair) {
+            Ok(place) => self.ties[place] = tie,
+            Err(place) => match self.ties.insert(place, tie) {
+                Ok(()) => {}
+                Err(_) => unreachable!(),
+            },
+        }
+    }
+
+    /// Takes the pair out; nothing changes where it wasn't there. One binary search, and a move of
+    /// the ties behind it; its room is kept.
+    pub fn remove(&mut self, pair: &Pair)
+        ensures order { self.new.order ≡ self.old.order }
+        ensures ties { self.new.ties ≡ without_pair pair.now self.old.ties }
+        ensures room { self.old.room ≤ self.new.room }
+    {
+        if let Ok(place) = self.place_of(pair) {
+            self.ties.remove(place);
+        }
+    }
+
+    /// Where the pair stands, or else where it would stand.
+    fn place_of(&self, pair: &Pair) -> Result<usize, usize>
+        ensures { MatchResult result (IsAt pair.now self.now.ties) (IsGapFor self.now.order pair.now self.now.ties) }
+    {
+        let order = self.order;
+        self.ties
+            .binary_search_by(|tie| compare(order, &tie.pair, pair))
+    }
+}
