@@ -5,7 +5,7 @@ ghost use Rattle.cr_base.specs.Rows.{kind_of};
 use crate::numbers::{PaperNo, UserNo};
 use crate::texts::{Short, Text};
 use crate::words::{Mode, Phase, Role};
-use std::alloc::{AllocError, Global};
+use std::alloc::AllocError;
 
 /// The SHA-256 digest of a secret (FIPS 180-4): 32 bytes.
 pub type Digest = [u8; 32];
@@ -113,8 +113,8 @@ impl Entry {
         }
     }
 
-    /// An equal one; an error only for want of memory.
-    pub fn copy(&self, alloc: Global) -> Result<Entry, AllocError>
+    /// An equal one, which shares its texts; an error only for want of memory.
+    pub fn copy(&self) -> Result<Entry, AllocError>
         ensures { IfOk result (λ entry. entry ≡ self.now) }
     {
         match self {
@@ -140,22 +140,22 @@ impl Entry {
                 abstract_,
             } => Ok(Entry::Submitted {
                 paper: *paper,
-                title: title.copy(alloc)?,
-                abstract_: abstract_.copy(alloc)?,
+                title: title.copy()?,
+                abstract_: abstract_.copy()?,
             }),
         }
     }
 }
 
 impl Stamped {
-    /// An equal one; an error only for want of memory.
-    pub fn copy(&self, alloc: Global) -> Result<Stamped, AllocError>
+    /// An equal one, which shares its texts; an error only for want of memory.
+    pub fn copy(&self) -> Result<Stamped, AllocError>
         ensures { IfOk result (λ stamped. stamped ≡ self.now) }
     {
         Ok(Stamped {
             maker: self.maker,
             more: self.more,
-            entry: self.entry.copy(alloc)?,
+            entry: self.entry.copy()?,
         })
     }
 }

@@ -2,7 +2,7 @@
 ghost use Rattle.std.specs.Prelude.{◌≡◌, IfOk};
 
 use crate::texts::Blob;
-use std::alloc::{AllocError, Global};
+use std::alloc::AllocError;
 
 /// What a keeper keeps of one entry. Any numbers and bytes may stand in it: `Stamped::from_row`
 /// tells which rows are an entry's.
@@ -31,8 +31,8 @@ pub struct Row {
 }
 
 impl Row {
-    /// An equal one; an error only for want of memory.
-    pub fn copy(&self, alloc: Global) -> Result<Row, AllocError>
+    /// An equal one, which shares its bytes; an error only for want of memory.
+    pub fn copy(&self) -> Result<Row, AllocError>
         ensures { IfOk result (λ row. row ≡ self.now) }
     {
         Ok(Row {
@@ -44,8 +44,8 @@ impl Row {
             n3: self.n3,
             n4: self.n4,
             n5: self.n5,
-            b1: self.b1.copy(alloc)?,
-            b2: self.b2.copy(alloc)?,
+            b1: self.b1.copy()?,
+            b2: self.b2.copy()?,
         })
     }
 }

@@ -17,7 +17,7 @@ impl Entry {
     pub fn to_row(&self, alloc: Global, maker: UserNo, more: bool) -> Result<Row, AllocError>
         ensures { IfOk result (λ made. made ≡ row_of (record { maker = maker; more = more; entry = self.now })) }
     {
-        let mut row = Row::unused(alloc, self.kind(), maker, more);
+        let mut row = Row::unused(self.kind(), maker, more);
         match self {
             Entry::Registered { user, name, digest } => {
                 row.n1 = user.number();
@@ -41,8 +41,8 @@ impl Entry {
                 abstract_,
             } => {
                 row.n1 = paper.number();
-                row.b1 = Blob::from_slice(alloc, title.as_str().as_bytes())?;
-                row.b2 = Blob::from_slice(alloc, abstract_.as_str().as_bytes())?;
+                row.b1 = title.to_blob()?;
+                row.b2 = abstract_.to_blob()?;
             }
         }
         Ok(row)
@@ -51,7 +51,7 @@ impl Entry {
 
 impl Row {
     /// A row of this kind, maker and mark, whose other fields are unused; takes no memory.
-    fn unused(alloc: Global, kind: EntryKind, maker: UserNo, more: bool) -> Row
+    fn unused(kind: EntryKind, maker: UserNo, more: bool) -> Row
         ensures { result ≡ record { kind = kind_number kind; maker = maker; more = bit_number more; n1 = 0; n2 = 0; n3 = 0; n4 = 0; n5 = 0; b1 = []; b2 = [] } }
     {
         Row {
@@ -63,8 +63,8 @@ impl Row {
             n3: 0,
             n4: 0,
             n5: 0,
-            b1: Blob::empty(alloc),
-            b2: Blob::empty(alloc),
+            b1: Blob::empty(),
+            b2: Blob::empty(),
         }
     }
 }
@@ -80,7 +80,7 @@ fn digest_of(bytes: &Blob) -> Digest
 }
 
 /// The entry of a kind that the fields of a row spell.
-fn entry_from(alloc: Global, kind: EntryKind, row: &Row) -> Result<Entry, AllocError>
+fn entry_from(kind: EntryKind, row: &Row) -> Result<Entry, AllocError>
     requires { FitsShape (shape_of kind) row.now }
     ensures { IfOk result (λ entry. entry ≡ built kind row.now) }
 {
@@ -107,8 +107,8 @@ fn entry_from(alloc: Global, kind: EntryKind, row: &Row) -> Result<Entry, AllocE
         }),
         EntryKind::Submitted => Ok(Entry::Submitted {
             paper: PaperNo::new(row.n1),
-            title: Text::from_utf8(alloc, row.b1.as_slice())?,
-            abstract_: Text::from_utf8(alloc, row.b2.as_slice())?,
+            title: Text::from_blob(&row.b1)?,
+            abstract_: Text::from_blob(&row.b2)?,
         }),
     }
 }
@@ -117,7 +117,7 @@ impl Stamped {
     /// The entry of a row, with its maker and its mark, and none exactly where the row is no
     /// entry's: another kind, a number out of its range, bytes out of their grammar, or an unused
     /// field that isn't empty. An error only for want of memory.
-    pub fn from_row(alloc: Global, row: &Row) -> Result<Option<Stamped>, AllocError>
+    pub fn from_row(row: &Row) -> Result<Option<Stamped>, AllocError>
         ensures spells { IfOk result (λ found. IfSome found (λ s. IsBoundedEntry s × (row_of s ≡ row.now))) }
         ensures every { IfOk result (λ found. (s : Stamped) → IsBoundedEntry s → row_of s ≡ row.now → found ≡ Some s) }
     {
@@ -127,7 +127,7 @@ impl Stamped {
         if !kind.shape().fits(row) {
             return Ok(None);
         }
-        let entry = entry_from(alloc, kind, row)?;
+        let entry = entry_from(kind, row)?;
         Ok(Some(Stamped {
             maker: UserNo::new(row.maker),
             more: row.more == 1,

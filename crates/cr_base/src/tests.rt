@@ -132,15 +132,15 @@ fn rows_of_entries(rt: HostRuntime) -> Result<(), Fail> {
     ];
     let entries = entries(alloc)?;
     for i in 0..6 {
-        let copied = entries[i].copy(alloc)?;
-        let row = row_of(alloc, &copied)?.copy(alloc)?;
+        let copied = entries[i].copy()?;
+        let row = row_of(alloc, &copied)?.copy()?;
         let numbers = [
             row.kind, row.maker, row.more, row.n1, row.n2, row.n3, row.n4, row.n5,
         ];
         assert_eq!(rt; numbers, wanted[i].0, "row {i}");
         let bytes_are_right = row.b1.as_slice() == wanted[i].1 && row.b2.as_slice() == wanted[i].2;
         assert!(rt; bytes_are_right, "bytes of row {i}");
-        let read = Stamped::from_row(alloc, &row)?;
+        let read = Stamped::from_row(&row)?;
         assert!(rt; is_stamped(&read, &entries[i]), "row {i} is this entry's");
     }
     Ok(())
@@ -170,7 +170,7 @@ fn rows_of_no_entry(rt: HostRuntime) -> Result<(), Fail> {
             }
             _ => row.kind = 6,
         }
-        assert!(rt; Stamped::from_row(alloc, &row)?.is_none(), "case {broken}");
+        assert!(rt; Stamped::from_row(&row)?.is_none(), "case {broken}");
     }
     Ok(())
 }
@@ -180,7 +180,7 @@ fn is_submission(alloc: Global, title: &[u8], abstract_: &[u8]) -> Result<bool, 
     let mut row = row_of(alloc, &entries(alloc)?[4])?;
     row.b1 = Blob::from_slice(alloc, title)?;
     row.b2 = Blob::from_slice(alloc, abstract_)?;
-    Ok(Stamped::from_row(alloc, &row)?.is_some())
+    Ok(Stamped::from_row(&row)?.is_some())
 }
 
 #[test]
@@ -211,10 +211,10 @@ fn bounds_of_texts(rt: HostRuntime) -> Result<(), Fail> {
 #[test]
 fn texts_are_copied(rt: HostRuntime) -> Result<(), Fail> {
     let alloc = rt.alloc();
-    let text = Text::from_str(alloc, "Schr\u{f6}dinger")?.copy(alloc)?;
+    let text = Text::from_str(alloc, "Schr\u{f6}dinger")?.copy()?;
     assert_eq!(rt; text.as_str(), "Schr\u{f6}dinger");
-    let bytes = Blob::from_slice(alloc, text.as_str().as_bytes())?.copy(alloc)?;
+    let bytes = Blob::from_slice(alloc, text.as_str().as_bytes())?.copy()?;
     assert!(rt; bytes.as_slice() == b"Schr\xc3\xb6dinger".as_slice());
-    assert!(rt; Blob::empty(alloc).as_slice().is_empty());
+    assert!(rt; Blob::empty().as_slice().is_empty());
     Ok(())
 }

@@ -4,38 +4,39 @@ ghost use Rattle.std.specs.List.{list_all};
 ghost use Rattle.std.specs.Str.{is_utf8};
 ghost use Rattle.cr_base.specs.Texts.{IsName, IsTitle, IsAbstract, is_name as is_name_text, is_name_byte, is_title as is_title_text, is_title_byte, is_abstract as is_abstract_text};
 
+use bytes::{ByteStr, Bytes};
 use std::alloc::{AllocError, Global};
 use std::hash::{Hash, Hasher};
 use std::marker::Model;
 
-/// Bytes of any length, on the heap. Contracts see the list of its bytes.
+/// Bytes of any length, held once: a copy shares them. Contracts see the list of its bytes.
 #[derive(Drop, Debug)]
 pub struct Blob {
-    bytes: Vec<u8>,
+    bytes: Bytes,
 }
 
 impl Model for Blob {
     ghost Value = { List ℕ };
 
-    ghost view = { λ b. b.bytes.items };
+    ghost view = { λ b. b.bytes };
 }
 
 impl Blob {
     /// No bytes; takes no memory.
-    pub fn empty(alloc: Global) -> Blob
+    pub fn empty() -> Blob
         ensures { result ≡ [] }
     {
         Blob {
-            bytes: Vec::new(alloc),
+            bytes: Bytes::new(),
         }
     }
 
-    /// A copy of these bytes; an error only for want of memory.
+    /// A copy of these bytes, in a block of their own; an error only for want of memory.
     pub fn from_slice(alloc: Global, bytes: &[u8]) -> Result<Blob, AllocError>
         ensures { IfOk result (λ b. b ≡ bytes.now) }
     {
         Ok(Blob {
-            bytes: Vec::from_slice(alloc, bytes)?,
+            bytes: Bytes::copy_from_slice(alloc, bytes)?,
         })
     }
 
@@ -46,47 +47,50 @@ impl Blob {
         self.bytes.as_slice()
     }
 
-    /// An equal one; an error only for want of memory.
-    pub fn copy(&self, alloc: Global) -> Result<Blob, AllocError>
+    /// An equal one, which shares the bytes: its cost is the same whatever their number. An error only for
+    /// want of memory, of which a few bytes are taken for the count of those who share them.
+    pub fn copy(&self) -> Result<Blob, AllocError>
         ensures { IfOk result (λ b. b ≡ self.now) }
     {
-        Blob::from_slice(alloc, self.as_slice())
+        Ok(Blob {
+            bytes: self.bytes.clone()?,
+        })
     }
 }
 
-/// UTF-8 text of any length, on the heap. Contracts see the list of its bytes.
+/// UTF-8 text of any length, held once: a copy shares it. Contracts see the list of its bytes.
 #[derive(Drop, Debug)]
 pub struct Text {
-    text: String,
+    text: ByteStr,
 }
 
 impl Model for Text {
-    ghost use Rattle.std.specs.Prelude.{List, ℕ, string_bytes};
+    ghost use Rattle.std.specs.Prelude.{List, ℕ};
 
     ghost Value = { List ℕ };
 
-    ghost view = { λ t. string_bytes t.text };
+    ghost view = { λ t. t.text };
 }
 
 impl Text {
-    /// A copy of a text; an error only for want of memory.
+    /// A copy of a text, in a block of its own; an error only for want of memory.
     pub fn from_str(alloc: Global, text: &str) -> Result<Text, AllocError>
         ensures { IfOk result (λ t. t ≡ text.now) }
     {
         Ok(Text {
-            text: String::from_str(alloc, text)?,
+            text: ByteStr::copy_from_str(alloc, text)?,
         })
     }
 
-    /// A copy of bytes that are UTF-8; an error only for want of memory.
-    pub fn from_utf8(alloc: Global, bytes: &[u8]) -> Result<Text, AllocError>
+    /// A text that is made of these bytes, which are UTF-8, and shares them; an error only for want of memory.
+    pub fn from_blob(bytes: &Blob) -> Result<Text, AllocError>
         requires { IsTrue (is_utf8 bytes.now) }
         ensures { IfOk result (λ t. t ≡ bytes.now) }
     {
-        match str::from_utf8(bytes) {
-            Ok(text) => Text::from_str(alloc, text),
-            Err(_) => unreachable!(),
-        }
+        let shared = bytes.bytes.clone()?;
+        Ok(Text {
+            text: ByteStr::from_known_utf8(shared),
+        })
     }
 
     /// The text, lent.
@@ -96,11 +100,23 @@ impl Text {
         self.text.as_str()
     }
 
-    /// An equal one; an error only for want of memory.
-    pub fn copy(&self, alloc: Global) -> Result<Text, AllocError>
+    /// Its bytes, which it shares; an error only for want of memory.
+    pub fn to_blob(&self) -> Result<Blob, AllocError>
+        ensures { IfOk result (λ b. b ≡ self.now) }
+    {
+        Ok(Blob {
+            bytes: self.text.as_bytes().clone()?,
+        })
+    }
+
+    /// An equal one, which shares the text: its cost is the same whatever its length. An error only for want of
+    /// memory.
+    pub fn copy(&self) -> Result<Text, AllocError>
         ensures { IfOk result (λ t. t ≡ self.now) }
     {
-        Text::from_str(alloc, self.as_str())
+        Ok(Text {
+            text: self.text.clone()?,
+        })
     }
 }
 

@@ -22,7 +22,7 @@ pub(crate) fn copies_of(alloc: Global, group: &[Stamped]) -> Result<Vec<Stamped>
 {
     let mut copies = Vec::with_capacity(alloc, group.len())?;
     for stamped in group {
-        copies.push(stamped.copy(alloc)?)?;
+        copies.push(stamped.copy()?)?;
     }
     Ok(copies)
 }

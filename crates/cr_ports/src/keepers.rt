@@ -73,7 +73,7 @@ fn add_copies(alloc: Global, rows: &mut Vec<Row>, added: &[Row]) -> Result<(), A
 {
     let mut copies = Vec::with_capacity(alloc, added.len())?;
     for row in added {
-        copies.push(row.copy(alloc)?)?;
+        copies.push(row.copy()?)?;
     }
     rows.append(&mut copies)?;
     Ok(())
@@ -93,12 +93,12 @@ fn keep_copies(alloc: Global, rows: &mut Vec<Row>, added: &[Row]) -> Result<(), 
 }
 
 /// A copy of row number `at`. The one error is want of memory.
-fn copy_at(alloc: Global, rows: &[Row], at: u64) -> Result<Row, KeeperError>
+fn copy_at(rows: &[Row], at: u64) -> Result<Row, KeeperError>
     requires { at < length rows.now }
     ensures ok { IfOk result (λ row. slice_get rows.now at ≡ Some row) }
     ensures memory { result ≢ Err KeeperError.Failed }
 {
-    match rows[at as usize].copy(alloc) {
+    match rows[at as usize].copy() {
         Ok(row) => Ok(row),
         Err(_) => Err(KeeperError::OutOfMemory),
     }
@@ -155,7 +155,7 @@ impl Keeper for MemKeeper {
         ensures appends { self.new.appends ≡ self.old.appends }
     {
         self.begin_read()?;
-        copy_at(self.alloc, &self.rows, at)
+        copy_at(&self.rows, at)
     }
 }
 
@@ -219,6 +219,6 @@ impl Keeper for PlainKeeper {
 
         ensures memory { result ≢ Err KeeperError.Failed }
     {
-        copy_at(self.alloc, &self.rows, at)
+        copy_at(&self.rows, at)
     }
 }

@@ -149,8 +149,8 @@ fn row_of(alloc: Global, kind: u64) -> Row {
         n3: 0,
         n4: 0,
         n5: 0,
-        b1: Blob::empty(alloc),
-        b2: Blob::empty(alloc),
+        b1: Blob::empty(),
+        b2: Blob::empty(),
     }
 }
 

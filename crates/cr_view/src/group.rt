@@ -123,7 +123,7 @@ pub(crate) fn registration(
     Ok(group)
 }
 
-/// The group of a submission, with copies of the texts. An error only for want of memory.
+/// The group of a submission, which shares the texts. An error only for want of memory.
 pub(crate) fn submission(
     alloc: Global,
     maker: UserNo,
@@ -135,8 +135,8 @@ pub(crate) fn submission(
 {
     let entry = Entry::Submitted {
         paper,
-        title: title.copy(alloc)?,
-        abstract_: abstract_.copy(alloc)?,
+        title: title.copy()?,
+        abstract_: abstract_.copy()?,
     };
     single(alloc, maker, entry)
 }

@@ -4,7 +4,7 @@ ghost use Rattle.std.specs.Option.{option_copied};
 ghost use Rattle.cr_base.specs.Page.{gets_title, gets_abstract, gets_conflict, gets_conflicts, gets_declared, bare_keys, where_told};
 
 use cr_base::{BareKeys, Phase, Standing, Text};
-use std::alloc::{AllocError, Global};
+use std::alloc::AllocError;
 
 /// Whether she is told the title: authors; members from bidding on.
 pub(crate) fn gets_title(by: &Standing) -> bool
@@ -83,19 +83,15 @@ pub(crate) fn bare_keys(by: &Standing) -> BareKeys
     }
 }
 
-/// A copy of a text, where it is told; an error only for want of memory.
-pub(crate) fn copy_where(
-    alloc: Global,
-    told: bool,
-    text: Option<&Text>,
-) -> Result<Option<Text>, AllocError>
+/// The text, shared, where it is told; an error only for want of memory.
+pub(crate) fn copy_where(told: bool, text: Option<&Text>) -> Result<Option<Text>, AllocError>
     ensures { IfOk result (λ copied. copied ≡ where_told told (option_copied text.entry)) }
 {
     if !told {
         return Ok(None);
     }
     match text {
-        Some(text) => Ok(Some(text.copy(alloc)?)),
+        Some(text) => Ok(Some(text.copy()?)),
         None => Ok(None),
     }
 }

@@ -151,8 +151,8 @@ impl Live {
     fn page(&self, alloc: Global, by: &Standing, paper: PaperNo) -> Result<Page, AllocError>
         ensures { IfOk result (λ page. page ≡ page_at self.now.tables by.now paper) }
     {
-        let title = copy_where(alloc, gets_title(by), self.papers.last_title(paper))?;
-        let abstract_ = copy_where(alloc, gets_abstract(by), self.papers.last_abstract(paper))?;
+        let title = copy_where(gets_title(by), self.papers.last_title(paper))?;
+        let abstract_ = copy_where(gets_abstract(by), self.papers.last_abstract(paper))?;
         let authors = self.names_where(alloc, shows_author(by, false), self.ties.authors(paper))?;
         let conflicts = self.names_where(alloc, gets_conflicts(by), self.ties.conflicts(paper))?;
         let declared = self.names_where(alloc, gets_declared(by), self.ties.declared(paper))?;
