@@ -68,8 +68,8 @@ oversees u p H = handles u p H && leads_committee (role_of u H)
 
 -- ---- which entries she is told of
 
--- all but conflicts; of these the ones that name her, that she made, that an author made where she is one, and all that
--- are with a paper which she oversees
+-- all but conflicts; of these the ones that name her, the ones that she made, those that an author made where she is one,
+-- and all where she oversees the paper
 abbrev pub is_told : Option ℕ → History → ℕ → Entry → Bool
 is_told u H maker (Registered user name digest) = true
 is_told u H maker (Named user role) = true
@@ -84,7 +84,7 @@ is_told u H maker (Conflict paper user on) =
 
 -- ---- the parts of an entry that she is told of
 
--- a part of the entries for a user at the end of a history: of one with these entries behind it, this maker, and this text
+-- what a part is for a user at the end of a history: of an entry with these later ones behind it, by this maker
 abbrev pub PartFor : Type 0 → Type 0
 PartFor A = Option ℕ → History → History → ℕ → Entry → A
 
@@ -170,7 +170,7 @@ switch_for u H later maker _ = None
 
 -- ---- all entries
 
--- the part of each entry that she is told of; H is the whole history
+-- the part of each entry that she is told of, in order; H is the whole history
 abbrev pub each_told : {A : Type 0} → Option ℕ → History → (History → ℕ → Entry → A) → History → List A
 each_told u H part [] = []
 each_told u H part (e ∷ later) = given (is_told u H e.maker e.entry) (part later e.maker e.entry) ++ each_told u H part later
