@@ -1,6 +1,6 @@
 use Rattle.std.proofs.Common.{◌≡◌, ◌∙◌, ℕ, List, [], ◌++◌, Option, Some, None, refl, sym, ap, subst, inl, inr, append_assoc, append-nil}
 use Rattle.cr_ports.specs.Stream.{and_left}
-use Rattle.cr_http.specs.Filling.{Moves, LastRead, ReadsWhile}
+use Rattle.cr_http.specs.Filling.{Moves, ReadsWhile}
 
 pub and_left-nil : (left : Option (List ℕ)) → and_left [] left ≡ left
 and_left-nil None = refl

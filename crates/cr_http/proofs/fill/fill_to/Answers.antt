@@ -1,4 +1,4 @@
-use Rattle.std.proofs.Common.{rules, ◌≡◌, ◌∙◌, ◌<◌, length, arith}
+use Rattle.std.proofs.Common.{◌∙◌, ◌<◌, length, arith}
 use Rattle.cr_http.specs.Buffer.{text_of}
 use Rattle.cr_http.proofs.Moving.{moves_on, reads_once}
 use Rattle.cr_http.proofs.fill.fill_to.Goals as goal

@@ -1,4 +1,4 @@
-use Rattle.std.proofs.Common.{rules, ◌≡◌, subst, sym}
+use Rattle.std.proofs.Common.{rules, ◌≡◌, subst}
 use Rattle.cr_http.specs.Buffer.{text_of}
 use Rattle.cr_http.specs.Reading.{IsSettled}
 use Rattle.cr_http.proofs.Answering.{reads_lying}

@@ -1,8 +1,7 @@
-use Rattle.std.proofs.Common.{rules, arith, ◌≡◌, ◌≤◌, ◌∙◌, sym, ap, Some, length, take, drop}
+use Rattle.std.proofs.Common.{arith, ◌≡◌, ◌≤◌, ◌∙◌, ap, Some, length, take}
 use Rattle.std.proofs.lemmas.List.{length-take-le, take_rest}
 use Rattle.std.proofs.lemmas.Grind.{common_steps}
 use Rattle.cr_ports.specs.Memory.{plain_step, given_len}
-use Rattle.cr_ports.specs.declared.source.ReadStep.{ReadStep}
 use Rattle.cr_ports.specs.declared.source.ReadStep.TheVariants as reads
 use Rattle.cr_ports.proofs.Fronts.{piece_and_rest}
 use Rattle.cr_ports.proofs.sources.PlainSourceSource.read.Goals as goal
