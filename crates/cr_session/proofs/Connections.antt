@@ -1,8 +1,7 @@
 -- What a connection did goes on behind what it did before.
-use Rattle.std.proofs.Common.{◌≡◌, ◌∙◌, ◌⊎◌, ◌≤◌, ℕ, ◌+◌, List, [], ◌∷◌, ◌++◌, length, Option, Some, None, Bool, refl, sym, ap, subst, append_assoc, append-nil, arith, inl, inr, length-append}
+use Rattle.std.proofs.Common.{◌≡◌, ◌∙◌, ◌⊎◌, ℕ, ◌+◌, List, [], ◌∷◌, ◌++◌, length, Option, Some, None, Bool, refl, sym, ap, subst, append_assoc, arith, inl, inr, length-append}
 use Rattle.cr_base.specs.Lists.{listed}
 use Rattle.cr_base.specs.History.{History}
-use Rattle.cr_ports.specs.Count.{Rises}
 use Rattle.cr_ports.specs.Stream.{and_left}
 use Rattle.cr_http.specs.Requests.{ended_clean, ended_cut, asked, closed}
 use Rattle.cr_http.proofs.Moving.{and_left-nil, and_left-append}
@@ -10,8 +9,8 @@ use Rattle.cr_print.specs.Answers.{closing_text, no_memory_text}
 use Rattle.cr_session.specs.declared.serve.Ending.{Ending}
 use Rattle.cr_session.specs.declared.serve.Ending.TheVariants as endings
 use Rattle.cr_session.specs.declared.serve.Why.TheVariants as whys
-use Rattle.cr_session.specs.Replay.{Judged, Ledger, Replays, answers, answer_to, wishes_of}
-use Rattle.cr_session.specs.Serving.{World, EndsAs, EndsSource, CountsReads, Connection, GoesOn, Notes, ReadsNoFurther}
+use Rattle.cr_session.specs.Replay.{Judged, Replays, answers, answer_to, wishes_of}
+use Rattle.cr_session.specs.Serving.{World, EndsAs, CountsReads, Connection, GoesOn, Notes, ReadsNoFurther}
 use Rattle.cr_session.specs.Wishes.{Spells, Begins, Reaches}
 use Rattle.cr_session.specs.Writing.{Outlet, Writes, BreaksOff}
 use Rattle.cr_session.proofs.NoFurther.{no_further-append, no_further-still}
@@ -50,8 +49,7 @@ ends_on : (ending : Ending) (n : ℕ) (text rest : List ℕ) (js ks : List Judge
     → Reaches n text (wishes_of js) rest → Writes (answers n js) s t
     → EndsAs ending (n + length js) rest rest ks failed H t u → EndsAs ending n text text (js ++ ks) failed H s u
 ends_on ending n text rest js ks (Some j) H s t u reach first e =
-    let number : n + length js + length ks ≡ n + length (js ++ ks) = let l = length-append js ks in omega (arith, l) in
-    (
+    let number : n + length js + length ks ≡ n + length (js ++ ks) = let l = length-append js ks in omega (arith, l) in (
       e.0,
       subst (λ (all : List Judged). Begins n text (wishes_of all)) (sym (append_assoc js ks (j ∷ []))) (begins_on n text rest js (ks ++ j ∷ []) reach e.1),
       broke_off n js ks (answer_to (n + length (js ++ ks)) j) s t u first (subst (λ (k : ℕ). BreaksOff (answers (n + length js) ks) (answer_to k j) t u) number e.2),

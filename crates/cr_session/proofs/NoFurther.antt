@@ -1,8 +1,8 @@
 -- Reads that are made only where more is wanted, by the wishes before.
-use Rattle.std.proofs.Common.{◌≡◌, ◌∙◌, ◌⊎◌, ℕ, ◌+◌, List, [], ◌∷◌, ◌++◌, length, map, Option, refl, sym, ap, subst, append_assoc, append-nil, inl, inr}
-use Rattle.std.proofs.lemmas.List.{append_cancel_left, length-map}
+use Rattle.std.proofs.Common.{◌≡◌, ◌∙◌, ℕ, ◌+◌, List, [], ◌++◌, length, Option, refl, sym, ap, subst, append_assoc, append-nil, inl, inr}
+use Rattle.std.proofs.lemmas.List.{append_cancel_left}
 use Rattle.cr_ports.specs.Stream.{and_left}
-use Rattle.cr_http.specs.Filling.{Moves, ReadsWhile}
+use Rattle.cr_http.specs.Filling.{ReadsWhile}
 use Rattle.cr_http.specs.Reading.{IsUnsettled}
 use Rattle.cr_http.proofs.Moving.{reads_on, reads_for}
 use Rattle.cr_wire.specs.declared.what.Wish.{Wish}
@@ -54,7 +54,7 @@ module _ {S : Type 0} (left : S → Option (List ℕ)) (gives : S → S → List
       inl (still.0, ap (λ (g : List ℕ). u ++ g) none ∙ append-nil u)
   reads_behind V W p q t u got f (inr last) =
       let parts : got ≡ last.before.got ++ last.piece =
-          append_cancel_left t got (last.before.got ++ last.piece) (last.kept ∙ ap (λ (x : List ℕ). x ++ last.piece) last.before.kept ∙ append_assoc t last.before.got last.piece) in
+      append_cancel_left t got (last.before.got ++ last.piece) (last.kept ∙ ap (λ (x : List ℕ). x ++ last.piece) last.before.kept ∙ append_assoc t last.before.got last.piece) in
       inr (record {
         at = last.at;
         text = u ++ last.before.got;
@@ -82,9 +82,9 @@ module _ {S : Type 0} (left : S → Option (List ℕ)) (gives : S → S → List
   no_further-append n js ks p q r a b got more given reach x y =
       subst (λ (t : List ℕ). ReadsNoFurther left gives n (js ++ ks) p r a t) (append_assoc a got more)
       (
-        reads_on left gives (WantsBehind n (wishes_of (js ++ ks))) p q r a (a ++ got) ((a ++ got) ++ more)
-        (record { got = got; given = given; kept = refl })
-        (reads_for left gives (WantsBehind n (wishes_of js)) (WantsBehind n (wishes_of (js ++ ks))) p q a (a ++ got) (λ text left' moves. wants-wider n js ks text) x)
-        (reads_behind (WantsBehind (n + length js) (wishes_of ks)) (WantsBehind n (wishes_of (js ++ ks))) q r b (a ++ got) more
-        (λ m wants. wants-later n js ks ((a ++ got) ++ m) (b ++ m) (Reaches-more n (a ++ got) m (wishes_of js) b reach) wants) y)
+      reads_on left gives (WantsBehind n (wishes_of (js ++ ks))) p q r a (a ++ got) ((a ++ got) ++ more)
+      (record { got = got; given = given; kept = refl })
+      (reads_for left gives (WantsBehind n (wishes_of js)) (WantsBehind n (wishes_of (js ++ ks))) p q a (a ++ got) (λ text left' moves. wants-wider n js ks text) x)
+      (reads_behind (WantsBehind (n + length js) (wishes_of ks)) (WantsBehind n (wishes_of (js ++ ks))) q r b (a ++ got) more
+      (λ m wants. wants-later n js ks ((a ++ got) ++ m) (b ++ m) (Reaches-more n (a ++ got) m (wishes_of js) b reach) wants) y)
       )

@@ -1,21 +1,18 @@
 -- From what one read of a request says to what its wish says.
-use Rattle.std.proofs.Common.{◌≡◌, ◌⊎◌, ℕ, List, ◌++◌, Bool, Option, Some, None, refl, sym, subst, inl, inr}
+use Rattle.std.proofs.Common.{◌≡◌, ℕ, List, ◌++◌, Bool, Option, Some, None, refl, sym, subst, inl, inr}
 use Rattle.std.specs.Prelude.{IsSomeAnd}
 use Rattle.cr_http.specs.Extent.{InboxText}
 use Rattle.cr_http.specs.Filling.{ReadsWhile}
 use Rattle.cr_http.specs.Found.{whole}
 use Rattle.cr_http.specs.Reading.{Reads, StandsWhole, IsUnsettled}
 use Rattle.cr_http.specs.Requests.{RequestText}
-use Rattle.cr_http.specs.ToHead.{IsToHead}
 use Rattle.cr_http.proofs.HeadsRead.{to_head_of}
 use Rattle.cr_http.specs.declared.read.RequestRead.{RequestRead}
 use Rattle.cr_http.specs.declared.read.RequestRead.TheVariants as requests
 use Rattle.cr_session.specs.declared.reading.WishRead.{WishRead}
 use Rattle.cr_session.specs.declared.reading.WishRead.TheVariants as reads
-use Rattle.cr_session.specs.Reading.{ReadsWish, Says, StandsWish, MayWantToRead, AtEndIfEnded, IsAtHand}
-use Rattle.cr_wire.specs.declared.what.Wish.{Wish}
+use Rattle.cr_session.specs.Reading.{ReadsWish, Says, AtEndIfEnded, IsAtHand}
 use Rattle.cr_wire.specs.Wish.{wish_text}
-use Rattle.cr_wire.specs.Asked.{LooksAtBody}
 
 module _ {S : Type 0} (left : S → Option (List ℕ)) (gives : S → S → List ℕ → Type 0) where
   -- the answer says so of the text, and no more was read than it needs
@@ -64,9 +61,3 @@ module _ {S : Type 0} (left : S → Option (List ℕ)) (gives : S → S → List
   read_whole source source' old inbox inbox' answer same x at_hand =
       read_as source source' old inbox'.rest inbox inbox' requests.Whole answer same x
       (says answer (inbox.rest ++ x.got) inbox'.rest inbox'.request x.answers at_hand) (ended answer (left source') inbox'.request at_hand)
-
-  -- the other answers are the reading's own
-  pub read_other : (source source' : S) (old kept : List ℕ) (inbox inbox' : InboxText) (read : RequestRead) (answer : WishRead) → old ≡ inbox.rest
-      → (x : Reads left gives source source' inbox inbox' read) → Says answer (inbox.rest ++ x.got) kept → AtEndIfEnded answer (left source')
-      → ReadsWish left gives source source' old kept answer
-  read_other = read_as

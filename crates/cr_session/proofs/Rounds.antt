@@ -1,28 +1,23 @@
 -- From what one request did to one round of the loop.
 use Rattle.std.proofs.Common.{◌≡◌, ◌∙◌, ◌⊎◌, ℕ, ◌+◌, List, [], ◌∷◌, ◌++◌, length, map, Option, Some, None, Bool, true, false, refl, sym, ap, subst, append-nil, arith, inl, inr}
 use Rattle.std.specs.Prelude.{MatchBool, ◌||◌, ◌==◌}
-use Rattle.cr_base.specs.History.{History}
 use Rattle.cr_http.specs.declared.refusal.Refusal.{Refusal}
-use Rattle.cr_http.specs.Filling.{ReadsWhile}
 use Rattle.cr_http.specs.Found.{whole, refused, clean, cut, StandsAt}
-use Rattle.cr_http.specs.Reading.{IsUnsettled}
 use Rattle.cr_http.specs.Requests.{RequestText, End, SpellsFrom, ReachesFrom, ended_clean, ended_cut, asked, closed}
-use Rattle.cr_ports.specs.Count.{Rises}
 use Rattle.cr_ports.specs.Stream.{and_left}
-use Rattle.cr_print.specs.Answers.{closing_text, no_memory_text}
+use Rattle.cr_print.specs.Answers.{closing_text}
 use Rattle.cr_wire.specs.declared.what.Wish.{Wish}
 use Rattle.cr_wire.specs.Wish.{wish_text}
-use Rattle.cr_session.specs.declared.reading.WishRead.{WishRead}
 use Rattle.cr_session.specs.declared.reading.WishRead.TheVariants as reads
 use Rattle.cr_session.specs.declared.serve.Ending.{Ending}
 use Rattle.cr_session.specs.declared.serve.Ending.TheVariants as endings
 use Rattle.cr_session.specs.declared.serve.Served.TheVariants as served
 use Rattle.cr_session.specs.declared.serve.Why.TheVariants as whys
-use Rattle.cr_session.specs.Reading.{ReadsWish, StandsWish, MayWantToRead}
-use Rattle.cr_session.specs.Replay.{Judged, Ledger, Replays, answer_to, wishes_of}
-use Rattle.cr_session.specs.Serving.{World, Connection, GoesOn, Refuses, Notes, MayLackMemory, EndsAs, EndsSource, CountsReads, ReadsNoFurther}
-use Rattle.cr_session.specs.Turning.{Serves, Judges}
-use Rattle.cr_session.specs.Wishes.{Spells, Begins}
+use Rattle.cr_session.specs.Reading.{ReadsWish, StandsWish}
+use Rattle.cr_session.specs.Replay.{Judged, Ledger, answer_to, wishes_of}
+use Rattle.cr_session.specs.Serving.{World, Connection, GoesOn, Refuses, Notes, MayLackMemory, CountsReads, ReadsNoFurther}
+use Rattle.cr_session.specs.Turning.{Serves}
+use Rattle.cr_session.specs.Wishes.{Spells}
 use Rattle.cr_session.specs.Writing.{Outlet, Writes, BreaksOff}
 use Rattle.cr_wire.specs.Wishes.{closes, closes_behind}
 use Rattle.cr_http.proofs.Moving.{and_left-nil}

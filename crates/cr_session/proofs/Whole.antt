@@ -1,5 +1,5 @@
 -- What was judged of the bytes that came is what the whole text spells.
-use Rattle.std.proofs.Common.{◌≡◌, ◌∙◌, ◌⊎◌, ℕ, List, [], ◌∷◌, ◌++◌, Option, Some, None, refl, sym, ap, subst, append-nil, inl, inr}
+use Rattle.std.proofs.Common.{◌≡◌, ◌∙◌, ◌⊎◌, ℕ, List, [], ◌∷◌, ◌++◌, Option, Some, None, sym, ap, subst, append-nil, inl, inr}
 use Rattle.cr_base.specs.Lists.{listed}
 use Rattle.cr_base.specs.History.{History}
 use Rattle.cr_ports.specs.Count.{Rises}

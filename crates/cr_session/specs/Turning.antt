@@ -1,5 +1,5 @@
 -- What one turn and one request do.
-use Rattle.std.specs.Prelude.{◌≡◌, ◌≢◌, ◌≤◌, ℕ, List, [], Bool, true, false, Option, IsSome, Err, IsOk}
+use Rattle.std.specs.Prelude.{◌≡◌, ◌≢◌, ℕ, List, [], Bool, true, false, Option, IsSome, Err, IsOk}
 use Rattle.cr_base.specs.declared.command.Command.{Command}
 use Rattle.cr_base.specs.declared.command.Query.{Query}
 use Rattle.cr_base.specs.declared.reply.Reply.TheVariants as replies
@@ -8,7 +8,6 @@ use Rattle.cr_book.specs.Sound.{Accepts}
 use Rattle.cr_policy.specs.Judge.{judge, answer}
 use Rattle.cr_policy.specs.View.{View, view}
 use Rattle.cr_base.specs.History.{History}
-use Rattle.cr_ports.specs.Count.{Rises}
 use Rattle.cr_print.specs.declared.form.Form.{Form}
 use Rattle.cr_print.specs.declared.refused.Refused.TheVariants as refused
 use Rattle.cr_print.specs.Answers.{IsBrief, refusal_text, receipt_text, reply_text}

@@ -1,6 +1,6 @@
 use Rattle.std.proofs.Common.{refl, sym, arith, subst, []}
 use Rattle.cr_session.specs.declared.serve.Ending.{Ending}
-use Rattle.cr_session.specs.Serving.{World, world_of, Connection, GoesOn}
+use Rattle.cr_session.specs.Serving.{world_of, Connection, GoesOn}
 use Rattle.cr_session.proofs.Connections.{started, ends_after, goes_after}
 use Rattle.cr_session.proofs.Rounds.{round_unbegun, not_last}
 use Rattle.cr_session.proofs.Whole.{whole_text, read_rises, write_rises}

@@ -1,4 +1,4 @@
-use Rattle.std.proofs.Common.{refl, arith}
+use Rattle.std.proofs.Common.{refl}
 use Rattle.cr_session.proofs.Requests.{serves_sent, stays_unprinted}
 use Rattle.cr_session.proofs.serve.serve_request.Goals as goal
 

@@ -1,6 +1,6 @@
 use Rattle.std.proofs.Common.{arith, drop, length, ◌-◌, ◌∙◌, length-take, length-drop, refl}
 use Rattle.std.proofs.lemmas.List.{take_rest}
-use Rattle.cr_session.specs.Writing.{Outlet, outlet_of}
+use Rattle.cr_session.specs.Writing.{outlet_of}
 use Rattle.cr_session.proofs.WritingLaws.{wrote_on, wrote_part, wrote_whole}
 use Rattle.cr_session.proofs.writing.write_reply.Goals as goal
 
@@ -18,7 +18,6 @@ writing-preserved g c = record {
 
 pub returns-in-Failed-clause-failed : goal.returns-in-Failed-clause-failed
 returns-in-Failed-clause-failed g c =
-
     wrote_part _ (outlet_of g.O.Sink.taken g.O.Sink.faults c.writing.sink) _ c.args.bytes.now c.writing.at c.writing-test.true c.writing.invariant.taken c.writing.invariant.steady
     c.in-Failed.ensures.bytes c.in-Failed.ensures.count (c.in-Failed.ensures.failed refl)
 
