@@ -8,8 +8,8 @@ use crate::head::{HEAD_ROOM, Head, print_head};
 use crate::put::put;
 use arrayvec::ArrayVec;
 
-/// Bytes that suffice for any brief content: 288. The longest may have 268: it tells of a user's role,
-/// with a name of 34 bytes that are all written as six.
+/// Bytes that suffice for any brief content: 288. The longest has 232: it tells of a user's role, with a
+/// name of 34 bytes that are all written as six.
 const CONTENT_ROOM: usize = 288;
 
 /// Bytes that suffice for the answer of any refusal, any receipt and the conference: 512, which are 224

@@ -151,46 +151,66 @@ fn page(alloc: Global, title: &str, abstract_: &str) -> Result<Reply, Fail> {
 }
 
 #[test]
-fn prints_replies(rt: HostRuntime) -> Result<(), Fail> {
-    let alloc = rt.alloc();
+fn prints_the_conference(rt: HostRuntime) -> Result<(), Fail> {
     let conference = Reply::Conference(Conference {
         mode: Mode::Blind,
         papers: 0,
         phase: Phase::Setup,
     });
-    for (reply, head, content) in [
-        (
-            conference,
+    assert!(rt;
+        replies(
+            rt.alloc(),
+            &conference,
             "HTTP/1.1 200 OK\r\nContent-Type: application/json\r\nContent-Length: 43\r\n\r\n",
-            "{\"mode\":\"blind\",\"papers\":0,\"phase\":\"setup\"}",
-        ),
-        (
-            Reply::Accounts(AccountLines::from_vec(Vec::new(alloc))),
-            "HTTP/1.1 200 OK\r\nContent-Type: application/json\r\nContent-Length: 15\r\n\r\n",
-            "{\"accounts\":[]}",
-        ),
-        (
-            two_accounts(alloc)?,
+            "{\"mode\":\"blind\",\"papers\":0,\"phase\":\"setup\"}"
+        )?
+    );
+    Ok(())
+}
+
+#[test]
+fn prints_accounts(rt: HostRuntime) -> Result<(), Fail> {
+    let accounts = two_accounts(rt.alloc())?;
+    assert!(rt;
+        replies(
+            rt.alloc(),
+            &accounts,
             "HTTP/1.1 200 OK\r\nContent-Type: application/json\r\nContent-Length: 106\r\n\r\n",
-            "{\"accounts\":[{\"name\":\"alice\",\"role\":\"chair\",\"user\":1},{\"name\":\"b\\\"\\\\\\n\\u0001\",\"role\":\"account\",\"user\":2}]}",
-        ),
-        (
-            alice(alloc)?,
+            "{\"accounts\":[{\"name\":\"alice\",\"role\":\"chair\",\"user\":1},{\"name\":\"b\\\"\\\\\\n\\u0001\",\"role\":\"account\",\"user\":2}]}"
+        )?
+    );
+    Ok(())
+}
+
+#[test]
+fn prints_oneself(rt: HostRuntime) -> Result<(), Fail> {
+    let me = alice(rt.alloc())?;
+    assert!(rt;
+        replies(
+            rt.alloc(),
+            &me,
             "HTTP/1.1 200 OK\r\nContent-Type: application/json\r\nContent-Length: 110\r\n\r\n",
-            "{\"assigned\":[],\"bytes\":0,\"comments\":0,\"conflicts\":[2,9999],\"name\":\"alice\",\"papers\":[],\"role\":\"chair\",\"user\":1}",
-        ),
-        // Runs: none before the first escape, none between two, one of more than a block, none behind the last.
-        (
-            page(
-                alloc,
-                "no escape, in a title of forty-one bytes.",
-                "\"\\ of more than thirty-two bytes, ö among them\n",
-            )?,
+            "{\"assigned\":[],\"bytes\":0,\"comments\":0,\"conflicts\":[2,9999],\"name\":\"alice\",\"papers\":[],\"role\":\"chair\",\"user\":1}"
+        )?
+    );
+    Ok(())
+}
+
+// Runs: none before the first escape, none between two, one of more than a block, none behind the last.
+#[test]
+fn prints_a_page(rt: HostRuntime) -> Result<(), Fail> {
+    let page = page(
+        rt.alloc(),
+        "no escape, in a title of forty-one bytes.",
+        "\"\\ of more than thirty-two bytes, ö among them\n",
+    )?;
+    assert!(rt;
+        replies(
+            rt.alloc(),
+            &page,
             "HTTP/1.1 200 OK\r\nContent-Type: application/json\r\nContent-Length: 209\r\n\r\n",
-            "{\"abstract\":\"\\\"\\\\ of more than thirty-two bytes, ö among them\\n\",\"authors\":[\"erin\"],\"conflict\":true,\"decision\":\"none\",\"declared\":[],\"paper\":1,\"title\":\"no escape, in a title of forty-one bytes.\",\"versions\":[]}",
-        ),
-    ] {
-        assert!(rt; replies(alloc, &reply, head, content)?);
-    }
+            "{\"abstract\":\"\\\"\\\\ of more than thirty-two bytes, ö among them\\n\",\"authors\":[\"erin\"],\"conflict\":true,\"decision\":\"none\",\"declared\":[],\"paper\":1,\"title\":\"no escape, in a title of forty-one bytes.\",\"versions\":[]}"
+        )?
+    );
     Ok(())
 }
