@@ -50,15 +50,15 @@ module _ (H : History) (fits : FitInTurn no_tables H) where
       ∙ any-lines user 1 (tables_of H).accounts
       ∙ within user (tables_of H).accounts low high
 
-  submitted-within : (paper : ℕ) → 1 ≤ paper → paper ≤ length (tables_of H).papers → IsSubmitted H paper
-  submitted-within paper low high = ap (list_any (λ q. eqb q paper)) (papers_of-tables H fits) ∙ within paper (tables_of H).papers low high
+  submitted-within : (paper : ℕ) → 1 ≤ paper → paper ≤ length (tables_of H).papers.papers → IsSubmitted H paper
+  submitted-within paper low high = ap (list_any (λ q. eqb q paper)) (papers_of-tables H fits) ∙ within paper (tables_of H).papers.papers low high
 
   accounts-counted : length (tables_of H).accounts ≡ length (accounts_of H)
   accounts-counted = sym (ap length (accounts_of-tables H fits) ∙ length-lines_of (tables_of H).accounts)
 
   fits-number : (maker : ℕ) (more : Bool) (e : Entry) → Fits (tables_of H) (record { maker = maker; more = more; entry = e }) → HasNextNumber H e
   fits-number maker more (Registered user name digest) fit = fit.accounts.0 ∙ ap (λ n. n + 1) accounts-counted
-  fits-number maker more (Submitted paper title abstract) fit = fit.papers.0 ∙ ap (λ n. n + 1) (sym (ap length (papers_of-tables H fits) ∙ length-numbers_from 1 (tables_of H).papers))
+  fits-number maker more (Submitted paper title abstract) fit = fit.papers.0 ∙ ap (λ n. n + 1) (sym (ap length (papers_of-tables H fits) ∙ length-numbers_from 1 (tables_of H).papers.papers))
   fits-number maker more e fit = tt
 
   fits-name : (maker : ℕ) (more : Bool) (e : Entry) → Fits (tables_of H) (record { maker = maker; more = more; entry = e }) → HasNewName H e
