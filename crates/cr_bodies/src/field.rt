@@ -51,11 +51,7 @@ fn text<'a>(body: &'a Value, key: &str) -> Result<&'a str, BodyError>
 }
 
 /// The text under a key, where it is of a grammar.
-pub(crate) fn tested<'a>(
-    body: &'a Value,
-    key: &str,
-    grammar: Grammar,
-) -> Result<&'a str, BodyError>
+pub(crate) fn tested<'a>(body: &'a Value, key: &str, grammar: Grammar) -> Result<&'a str, BodyError>
     ensures told { TellsSeen (λ t. t.now) result (tested_at grammar key.now (view body.now)) }
     ensures valid { IfOk result (λ t. IsOf grammar t.now) }
 {

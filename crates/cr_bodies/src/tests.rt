@@ -37,13 +37,7 @@ fn is_told(command: &Command) -> bool {
 /// What a body of paper 7 is read as.
 fn read(alloc: Global, ask: Ask, body: &str) -> &'static str {
     match read_command(alloc, ask, Some(PaperNo::new(7)), body.as_bytes()) {
-        Ok(command) => {
-            if is_told(&command) {
-                "told"
-            } else {
-                "other"
-            }
-        }
+        Ok(command) => { if is_told(&command) { "told" } else { "other" } }
         Err(BodyError::Bad) => "bad",
         Err(BodyError::OutOfMemory) => "",
     }
@@ -62,11 +56,23 @@ fn reads_bodies(rt: HostRuntime) -> Result<(), Fail> {
             "{\"name\":\"alice\",\"secret\":\"0123456789abcde\"}",
             "bad",
         ),
-        (Ask::SetPhase, "{\"phase\":1,\"phase\":\"submission\"}", "told"),
-        (Ask::SetPhase, "{\"phase\":\"submission\",\"phase\":1}", "bad"),
+        (
+            Ask::SetPhase,
+            "{\"phase\":1,\"phase\":\"submission\"}",
+            "told",
+        ),
+        (
+            Ask::SetPhase,
+            "{\"phase\":\"submission\",\"phase\":1}",
+            "bad",
+        ),
         (Ask::SetMode, "{\"x\":[],\"mode\":\"anonymous\"}", "told"),
         (Ask::SetMode, "{\"x\":1e999,\"mode\":\"anonymous\"}", "bad"),
-        (Ask::Name, "{\"name\":\"b\\u006fb\",\"role\":\"chair\"}", "told"),
+        (
+            Ask::Name,
+            "{\"name\":\"b\\u006fb\",\"role\":\"chair\"}",
+            "told",
+        ),
         (Ask::Name, "{\"name\":\"bob\",\"role\":\"account\"}", "bad"),
         (
             Ask::Submit,

@@ -32,8 +32,7 @@ fn declare(
     paper: PaperNo,
     user: UserNo,
     on: bool,
-) -> Result<(), Fail>
-{
+) -> Result<(), Fail> {
     let group = [Stamped {
         maker,
         more: false,

@@ -49,8 +49,20 @@ fn ties_come_and_go(rt: HostRuntime) -> Result<(), Fail> {
         (Change::Insert(-20), low, last, &[(9_999, -20)], &[7]),
         (Change::Insert(3), low, first, &[(2, 3), (9_999, -20)], &[7]),
         (Change::Insert(5), high, first, &[(2, 5)], &[7, 9_999]),
-        (Change::Insert(4), low, first, &[(2, 4), (9_999, -20)], &[7, 9_999]),
-        (Change::Insert(1), high, last, &[(2, 5), (9_999, 1)], &[7, 9_999]),
+        (
+            Change::Insert(4),
+            low,
+            first,
+            &[(2, 4), (9_999, -20)],
+            &[7, 9_999],
+        ),
+        (
+            Change::Insert(1),
+            high,
+            last,
+            &[(2, 5), (9_999, 1)],
+            &[7, 9_999],
+        ),
         (Change::Remove, low, last, &[(2, 4)], &[9_999]),
         (Change::Remove, low, last, &[(2, 4)], &[9_999]),
     ];

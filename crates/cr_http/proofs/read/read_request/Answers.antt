@@ -18,4 +18,4 @@ returns-clause-still g c =
     let rest : c.args.inbox.now.rest ≡ text_of c.match-inbox.inbox-inside.buffer =
     elim c.match-inbox.branch [ in-Some w ↦ search rules | in_default w ↦ search rules ] in
     λ settled. (settled_is_still g.S.Source.left g.S.Source.read_gives c.args.source.now c.read_into.new.source (text_of c.match-inbox.inbox-inside.buffer) (text_of c.read_into.new.buffer)
-      c.read_into.ensures.needed (subst IsSettled rest settled)).0
+    c.read_into.ensures.needed (subst IsSettled rest settled)).0

@@ -42,6 +42,6 @@ returns-clause-memory g c =
     let q = c.args.query.now in
     let same = ap (λ (v : SeenBook g.row.K.Denot). v.log) c.self.view_is in
     unrefused c.answer.result (answer u (view u c.args.self.now.log) q) (λ rule refused. c.answer.ensures.rule rule
-      (answered-by_view g.K.Keeper.rows c.self.inside.log.items c.self.inside.live.tables c.self.inside.keeper u q c.self.invariant
-        ∙ ap (λ (h : History). answer u (view u h) q) same
-        ∙ refused))
+    (answered-by_view g.K.Keeper.rows c.self.inside.log.items c.self.inside.live.tables c.self.inside.keeper u q c.self.invariant
+    ∙ ap (λ (h : History). answer u (view u h) q) same
+    ∙ refused))

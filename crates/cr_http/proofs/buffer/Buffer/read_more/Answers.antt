@@ -35,9 +35,9 @@ returns-in-End-clause-once g c =
     let len : length block ≡ b.block.len = (let l = c.deref_mut.ensures.len in let k = c.read_behind.auto.block in omega (arith, l, k)) in
     one_read g.S.Source.left g.S.Source.read_gives c.args.source.now c.read_behind.new.source (text_of c.args.self.now) _ [] c.in-End.ensures.gives
     (ap (λ t. drop b.start (take b.end t)) (with_items_is b.block block len)
-      ∙ ap (drop b.start) c.in-End.ensures.front
-      ∙ ap (λ t. drop b.start (take b.end t)) c.deref_mut.ensures.value
-      ∙ c.make_room.ensures.text ∙ sym (append-nil (text_of c.args.self.now)))
+    ∙ ap (drop b.start) c.in-End.ensures.front
+    ∙ ap (λ t. drop b.start (take b.end t)) c.deref_mut.ensures.value
+    ∙ c.make_room.ensures.text ∙ sym (append-nil (text_of c.args.self.now)))
 
 pub returns-in-Failed-clause-once : goal.returns-in-Failed-clause-once
 returns-in-Failed-clause-once g c =
@@ -46,6 +46,6 @@ returns-in-Failed-clause-once g c =
     let len : length block ≡ b.block.len = (let l = c.deref_mut.ensures.len in let k = c.read_behind.auto.block in omega (arith, l, k)) in
     one_read g.S.Source.left g.S.Source.read_gives c.args.source.now c.read_behind.new.source (text_of c.args.self.now) _ [] c.in-Failed.ensures.gives
     (ap (λ t. drop b.start (take b.end t)) (with_items_is b.block block len)
-      ∙ ap (drop b.start) c.in-Failed.ensures.front
-      ∙ ap (λ t. drop b.start (take b.end t)) c.deref_mut.ensures.value
-      ∙ c.make_room.ensures.text ∙ sym (append-nil (text_of c.args.self.now)))
+    ∙ ap (drop b.start) c.in-Failed.ensures.front
+    ∙ ap (λ t. drop b.start (take b.end t)) c.deref_mut.ensures.value
+    ∙ c.make_room.ensures.text ∙ sym (append-nil (text_of c.args.self.now)))
