@@ -1,5 +1,5 @@
 -- Where nothing fails, everything that the bytes spell is answered.
-use Rattle.std.proofs.Common.{◌≡◌, ◌∙◌, ◌⊎◌, ◌+◌, ◌≤◌, ℕ, List, [], ◌∷◌, ◌++◌, Bool, true, false, cond, Some, None, refl, sym, ap, subst, inl, inr, append-nil, arith}
+use Rattle.std.proofs.Common.{◌≡◌, ◌∙◌, ◌⊎◌, ◌+◌, ℕ, List, [], ◌∷◌, ◌++◌, Bool, true, false, cond, Some, None, refl, sym, ap, subst, inl, inr, append-nil, arith}
 use Rattle.std.specs.Prelude.{◌<◌, ◌-◌, ◌^◌, Option, nat_lt}
 use Rattle.cr_base.specs.Lists.{listed}
 use Rattle.cr_base.specs.declared.row.Row.{Row}
@@ -13,17 +13,17 @@ use Rattle.cr_session.specs.declared.serve.Ending.{Ending}
 use Rattle.cr_session.specs.declared.serve.Ending.TheVariants as endings
 use Rattle.cr_session.specs.declared.serve.Why.TheVariants as whys
 use Rattle.cr_session.specs.Told.{told, step}
-use Rattle.cr_session.specs.Replay.{Judged, Ledger, Turned, CountsLoss, Replays, wishes_of, answers, answer_to, history_after, lost_count}
+use Rattle.cr_session.specs.Replay.{Judged, Ledger, Turned, Replays, wishes_of, answers, answer_to, history_after, lost_count}
 use Rattle.cr_session.specs.Wishes.{Spells}
 use Rattle.cr_session.specs.Writing.{Outlet, Writes}
 use Rattle.cr_wire.specs.Wishes.{closes}
-use Rattle.cr_session.specs.Serving.{EndsAs, CountsReads, Connection}
+use Rattle.cr_session.specs.Serving.{EndsAs, CountsReads}
 use Rattle.cr_session.proofs.Turns.{counted}
 use Rattle.cr_top.specs.declared.exit.Exit.{Exit}
 use Rattle.cr_top.specs.declared.exit.Exit.TheVariants as exits
 use Rattle.cr_top.specs.Exits.{exit_of}
 use Rattle.cr_top.specs.Replayed.{told_along, steps_along, last_words, exit_at}
-use Rattle.cr_top.specs.Runs.{Outside, world, Pipes, IsFaultless, AnswersAll}
+use Rattle.cr_top.specs.Runs.{Outside, Pipes, IsFaultless, AnswersAll}
 
 -- ---- nothing lost: Replay is Told along Step
 

@@ -1,5 +1,5 @@
 -- A connection over a keeper that counts no fault loses nothing.
-use Rattle.std.proofs.Common.{◌≡◌, ◌≤◌, ◌+◌, ◌++◌, ℕ, List, [], Option, refl, arith}
+use Rattle.std.proofs.Common.{◌≡◌, ◌++◌, ℕ, List, [], Option, refl, arith}
 use Rattle.cr_base.specs.Lists.{listed}
 use Rattle.cr_base.specs.declared.row.Row.{Row}
 use Rattle.cr_session.specs.declared.serve.Ending.{Ending}
