@@ -1,3 +1,7 @@
+pub mod BoundsLeft
+pub mod BoundsParts
+pub mod BoundsTexts
+pub mod BoundsWalk
 pub mod CallerLaws
 pub mod ConferenceProofs
 pub mod ConflictTies

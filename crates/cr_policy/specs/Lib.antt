@@ -6,8 +6,10 @@ pub mod Judge
 pub mod Laws
 pub mod Legal
 pub mod Part
+pub mod ShownTo
 pub mod Sighting
 pub mod Triggers
 pub mod View
+pub mod ViewBounds
 pub mod ViewFacts
 pub mod Witness

@@ -10,6 +10,7 @@ ghost use Rattle.std.specs.Prelude.{ℕ, Option};
 ghost use Rattle.cr_base.specs.History.{History};
 ghost use Rattle.cr_policy.specs.ConferenceLaws.{ConferenceLegal, ViewsBeforeBidding, ViewsInBidding};
 ghost use Rattle.cr_policy.specs.Laws.{StandingFromView, PublicFactsFromView, ViewSuffices, DeclaredFromView, LegalKeeps, DigestsAreOwn, TwoRegistrations, DigestsHidden, OneSubmission, OneConflict};
+ghost use Rattle.cr_policy.specs.ViewBounds.{EntriesShown, MarksShown, PapersShown, UsersShown, NamesShown, DigestsShown, RolesShown, PhasesShown, ModesShown, MakersShown, TitlesShown, AbstractsShown, SwitchesShown, OneTitle, OneAbstract, OutsidersShown, StrangersShown, NobodyShown};
 
 /// How a user stands can be read off what she sees: phase, mode, role and her ties to any paper, of
 /// every history and for every user, nobody among them. An author sees all authors of her paper, and
@@ -68,4 +69,32 @@ pub fn law_views()
     ensures legal { ConferenceLegal }
     ensures before { ViewsBeforeBidding }
     ensures bidding { ViewsInBidding }
+{}
+
+/// What a view shows, neither more nor less, of every history, legal or not, for every user and for
+/// nobody. The first clauses go part by part: a view has one sighting of each entry that the user is
+/// told of, and of each part exactly what she may know, by who wrote the paper, who is on the
+/// committee, who is declared in conflict, phase and mode. The last say what that leaves: of a paper's
+/// titles and abstracts the last one, for all but its authors; little of a paper for outsiders, who
+/// neither wrote nor handle it, so in conflict, or on no committee, or before the bidding; for strangers
+/// what is public and their own entries; and for nobody what is public.
+pub fn law_bounds()
+    ensures entries { EntriesShown }
+    ensures marks { MarksShown }
+    ensures papers { PapersShown }
+    ensures users { UsersShown }
+    ensures names { NamesShown }
+    ensures digests { DigestsShown }
+    ensures roles { RolesShown }
+    ensures phases { PhasesShown }
+    ensures modes { ModesShown }
+    ensures makers { MakersShown }
+    ensures titles { TitlesShown }
+    ensures abstracts { AbstractsShown }
+    ensures switches { SwitchesShown }
+    ensures one_title { OneTitle }
+    ensures one_abstract { OneAbstract }
+    ensures outsiders { OutsidersShown }
+    ensures strangers { StrangersShown }
+    ensures nobody { NobodyShown }
 {}
