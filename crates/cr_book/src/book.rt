@@ -3,20 +3,21 @@ ghost use Rattle.std.specs.Prelude.{◌≡◌, ◌≤◌, ◌++◌, ℕ, [], len
 ghost use Rattle.cr_base.specs.declared.reply.Rule.{Rule};
 ghost use Rattle.cr_base.specs.Facts.{number_of, caller_of};
 ghost use Rattle.cr_base.specs.Logins.{query_wants_login};
+ghost use Rattle.cr_base.specs.Tables.{tables_of, FitInTurn};
 ghost use Rattle.cr_policy.specs.Judge.{judge, answer};
 ghost use Rattle.cr_policy.specs.View.{view};
 ghost use Rattle.cr_base.specs.declared.command.Query.TheVariants as queries;
-ghost use Rattle.cr_base.specs.declared.reply.Reply.TheVariants as replies;
 ghost use Rattle.cr_policy.specs.Legal.{Legal, IsAllowed, MayAsk};
 ghost use Rattle.cr_ports.specs.Count.{Rises};
-ghost use Rattle.cr_view.specs.Judged.{receipt_or_rule};
+ghost use Rattle.cr_view.specs.Draws.{drawn_by};
+ghost use Rattle.cr_view.specs.Replies.{Answers};
 ghost use Rattle.cr_book.specs.Sound.{IsKept, Accepts};
 
 use crate::rows::{copies_of, rows_of};
 use cr_base::{Command, Digest, Query, Receipt, Reply, Rule, Short, Stamped, UserNo};
 use cr_ports::{Keeper, KeeperError};
-use cr_view::Live;
-use std::alloc::{AllocError, Global};
+use cr_view::{AnswerError, Draw, Live};
+use std::alloc::Global;
 use std::marker::Model;
 
 /// A history, the tables that it comes to, and the keeper of its rows.
@@ -93,20 +94,20 @@ impl<K: Keeper> Book<K> {
     pub fn command(
         &mut self,
         caller: &Option<UserNo>,
-        command: &Command,
+        command: Command,
     ) -> Result<Receipt, BookError>
-        requires { IsAllowed self.old.log (record { caller = caller.now; command = command.now }) }
+        requires { IsAllowed self.old.log (record { caller = caller.now; command = command }) }
 
-        ensures accepted { IfOk result (λ receipt. Accepts self.old.log self.new.log caller.now command.now receipt) }
+        ensures accepted { IfOk result (λ receipt. Accepts self.old.log self.new.log caller.now command receipt) }
 
         // A rule is told exactly where Judge gives it, and then nothing changes.
-        ensures rule { (rule : Rule) → judge caller.now (view caller.now self.old.log) command.now ≡ Err rule → result ≡ Err (BookError.Rule rule) }
-        ensures only_rule { (rule : Rule) → result ≡ Err (BookError.Rule rule) → judge caller.now (view caller.now self.old.log) command.now ≡ Err rule }
+        ensures rule { (rule : Rule) → judge caller.now (view caller.now self.old.log) command ≡ Err rule → result ≡ Err (BookError.Rule rule) }
+        ensures only_rule { (rule : Rule) → result ≡ Err (BookError.Rule rule) → judge caller.now (view caller.now self.old.log) command ≡ Err rule }
         ensures rule_stays { (rule : Rule) → result ≡ Err (BookError.Rule rule) → self.new ≡ self.old }
 
         // The other errors come only where Judge accepts the command.
-        ensures memory { result ≡ Err BookError.OutOfMemory → IsOk (judge caller.now (view caller.now self.old.log) command.now) }
-        ensures lost { result ≡ Err BookError.KeeperFault → IsOk (judge caller.now (view caller.now self.old.log) command.now) }
+        ensures memory { result ≡ Err BookError.OutOfMemory → IsOk (judge caller.now (view caller.now self.old.log) command) }
+        ensures lost { result ≡ Err BookError.KeeperFault → IsOk (judge caller.now (view caller.now self.old.log) command) }
 
         ensures log_stays { OnErr result (self.new.log ≡ self.old.log) }
         ensures rows_stay { OnErr result (K.rows self.new.keeper ≡ K.rows self.old.keeper) }
@@ -116,23 +117,18 @@ impl<K: Keeper> Book<K> {
         ensures legal { Legal self.new.log }
     {
         match self.live.judge(caller, command) {
-            Ok(receipt) => self.keep(caller, command, receipt),
+            Ok(draw) => self.keep(draw),
             Err(rule) => Err(BookError::Rule(rule)),
         }
     }
 
-    /// Takes the room for what an accepted command adds, keeps it and applies it: after the keeper has
-    /// kept it nothing can fail. The texts of what is added are copied three times: into the entries,
-    /// which the tables keep, into the rows, and for the history.
-    fn keep(
-        &mut self,
-        caller: &Option<UserNo>,
-        command: &Command,
-        receipt: Receipt,
-    ) -> Result<Receipt, BookError>
-        requires allowed { IsAllowed self.old.log (record { caller = caller.now; command = command.now }) }
-        requires judged { receipt_or_rule (judge caller.now (view caller.now self.old.log) command.now) ≡ Ok receipt }
-        ensures accepted { IfOk result (λ receipt. Accepts self.old.log self.new.log caller.now command.now receipt) }
+    /// Takes the room for what was drawn, keeps it and applies it: after the keeper has kept it nothing
+    /// can fail. The texts go into the entries, which the tables keep, and are copied into the rows and
+    /// for the history.
+    fn keep(&mut self, draw: Draw) -> Result<Receipt, BookError>
+        requires legal { Legal (self.old.log ++ (drawn_by draw).group) }
+        requires fits { FitInTurn (tables_of self.old.log) (drawn_by draw).group }
+        ensures kept { IfOk result (λ receipt. (receipt ≡ (drawn_by draw).receipt) × (self.new.log ≡ self.old.log ++ (drawn_by draw).group)) }
         ensures no_rule { (rule : Rule) → result ≢ Err (BookError.Rule rule) }
         ensures log_stays { OnErr result (self.new.log ≡ self.old.log) }
         ensures rows_stay { OnErr result (K.rows self.new.keeper ≡ K.rows self.old.keeper) }
@@ -141,7 +137,8 @@ impl<K: Keeper> Book<K> {
         ensures count { K.faults self.old.keeper ≤ K.faults self.new.keeper }
         ensures legal { Legal self.new.log }
     {
-        let Ok(group) = self.live.group(self.alloc, caller, command, &receipt) else {
+        let receipt = draw.receipt();
+        let Ok(group) = draw.group(self.alloc) else {
             return Err(BookError::OutOfMemory);
         };
         let Ok(rows) = rows_of(self.alloc, &group) else {
@@ -168,16 +165,15 @@ impl<K: Keeper> Book<K> {
         }
     }
 
-    /// The answer to a query of this caller: a registered user, or nobody where the query wants no
-    /// login. An error only for want of memory, and none where a rule is broken or the state of the
-    /// conference is asked for: these are told whatever memory there is. The keeper isn't asked. `Query::Accounts` costs a walk over all accounts, `Query::Page` a few look-ups,
+    /// The answer to a query of this caller, a registered user, or nobody where the query wants no
+    /// login; or the first broken rule, which is told whatever memory there is. `AnswerError::OutOfMemory`
+    /// comes for want of memory alone, and never where the state of the conference is asked for. The
+    /// keeper isn't asked. `Query::Accounts` costs a walk over all accounts, `Query::Page` a few look-ups,
     /// one more for each name that is told, and a copy of the texts that are told, `Query::Me` a walk
     /// over her own papers and conflicts, `Query::Phase` nothing that grows.
-    pub fn answer(&self, caller: &Option<UserNo>, query: &Query) -> Result<Reply, AllocError>
+    pub fn answer(&self, caller: &Option<UserNo>, query: &Query) -> Result<Reply, AnswerError>
         requires { MayAsk self.now.log (query_wants_login query.now) caller.now }
-        ensures reply { IfOk result (λ reply. reply ≡ answer caller.now (view caller.now self.now.log) query.now) }
-        ensures rule { (rule : Rule) → answer caller.now (view caller.now self.now.log) query.now ≡ replies.Refused rule → result ≡ Ok (replies.Refused rule) }
-        ensures memory { OnErr result ((rule : Rule) → answer caller.now (view caller.now self.now.log) query.now ≢ replies.Refused rule) }
+        ensures answered { Answers result (answer caller.now (view caller.now self.now.log) query.now) }
         ensures sure { OnErr result (query.now ≢ queries.Phase) }
     {
         self.live.answer(self.alloc, caller, query)

@@ -7,4 +7,5 @@ mod laws;
 mod rows;
 
 pub use book::{Book, BookError};
+pub use cr_view::AnswerError;
 pub use laws::law_standing_by_tables;

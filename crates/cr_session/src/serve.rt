@@ -72,16 +72,16 @@ fn serve_request<K: Keeper, O: Sink>(
     book: &mut Book<K>,
     sink: &mut O,
     reply: &mut Vec<u8>,
-    wish: &Wish,
+    wish: Wish,
     number: usize,
 ) -> Served
-    requires bounded { IsBoundedWhat wish.now.what }
+    requires bounded { IsBoundedWhat wish.what }
     requires room { 512 ≤ vec_capacity reply.old }
-    ensures serves { Serves result number wish.now (ledger_of K.faults book.old) (ledger_of K.faults book.new)
+    ensures serves { Serves result number wish (ledger_of K.faults book.old) (ledger_of K.faults book.new)
         (outlet_of O.taken O.faults sink.old) (outlet_of O.taken O.faults sink.new) }
     ensures room { 512 ≤ vec_capacity reply.new }
 {
-    let close = closes(wish, number);
+    let close = closes(&wish, number);
     let form = Form {
         is_head: wish.is_head,
         closes: close,
@@ -151,12 +151,15 @@ fn serve_next<K: Keeper, S: Source, O: Sink>(
     ensures room { 512 ≤ vec_capacity reply.new }
 {
     match read_wish(alloc, source, inbox) {
-        WishRead::Wish(wish) => match serve_request(book, sink, reply, &wish, number) {
-            Served::Goes => None,
-            Served::Closes => Some(Ending::Closed(Why::Asked)),
-            Served::WriteFault => Some(Ending::WriteFault),
-            Served::OutOfMemory => Some(note_no_memory(sink, wish.is_head)),
-        },
+        WishRead::Wish(wish) => {
+            let is_head = wish.is_head;
+            match serve_request(book, sink, reply, wish, number) {
+                Served::Goes => None,
+                Served::Closes => Some(Ending::Closed(Why::Asked)),
+                Served::WriteFault => Some(Ending::WriteFault),
+                Served::OutOfMemory => Some(note_no_memory(sink, is_head)),
+            }
+        }
         WishRead::Malformed { why, to_head } => Some(refuse(sink, reply, why, to_head)),
         WishRead::Clean => Some(Ending::Clean),
         WishRead::Cut => Some(Ending::Cut),

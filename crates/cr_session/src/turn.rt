@@ -10,7 +10,7 @@ ghost use Rattle.cr_session.specs.Told.{is_unauthorized};
 ghost use Rattle.cr_session.specs.Turning.{Turns, JudgesCommand, AnswersQuery, turn_text, MayWantToPrint};
 
 use cr_base::{Command, Query, Receipt, Reply, UserNo};
-use cr_book::{Book, BookError};
+use cr_book::{AnswerError, Book, BookError};
 use cr_ports::Keeper;
 use cr_print::{Form, Refused, print_receipt, print_refusal, print_reply};
 use cr_wire::{What, Wish};
@@ -34,20 +34,21 @@ pub(crate) enum Turn {
 /// Judges or answers a wish. Takes no memory on a refusal: `Turn::OutOfMemory` comes only for a command
 /// that is accepted and for a query that isn't refused, and then nothing changed. Who calls is asked first, by one look-up
 /// by name; whoever can't be told from nobody is refused alike where a login is wanted.
-pub(crate) fn take_turn<K: Keeper>(book: &mut Book<K>, wish: &Wish) -> Turn
-    requires { IsBoundedWhat wish.now.what }
-    ensures { Turns result wish.now (ledger_of K.faults book.old) (ledger_of K.faults book.new) }
+pub(crate) fn take_turn<K: Keeper>(book: &mut Book<K>, wish: Wish) -> Turn
+    requires { IsBoundedWhat wish.what }
+    ensures { Turns result wish (ledger_of K.faults book.old) (ledger_of K.faults book.new) }
 {
-    let caller = caller_of(book, wish);
+    let caller = caller_of(book, &wish);
     if is_unauthorized(book, &caller, &wish.what) {
         return Turn::Refused(Refused::Unauthorized);
     }
-    match &wish.what {
+    let what = wish.what;
+    match what {
         What::NoRoute => Turn::Refused(Refused::NoRoute),
-        What::WrongMethod(place) => Turn::Refused(Refused::WrongMethod(*place)),
+        What::WrongMethod(place) => Turn::Refused(Refused::WrongMethod(place)),
         What::BadBody(_) => Turn::Refused(Refused::BadBody),
         What::Command(command) => judge(book, &caller, command),
-        What::Query(query) => answer(book, &caller, query),
+        What::Query(query) => answer(book, &caller, &query),
     }
 }
 
@@ -74,9 +75,9 @@ fn caller_of<K: Keeper>(book: &Book<K>, wish: &Wish) -> Option<UserNo>
 }
 
 /// Judges a command.
-fn judge<K: Keeper>(book: &mut Book<K>, caller: &Option<UserNo>, command: &Command) -> Turn
-    requires { IsAllowed book.old.log (record { caller = caller.now; command = command.now }) }
-    ensures { JudgesCommand result caller.now command.now (ledger_of K.faults book.old) (ledger_of K.faults book.new) }
+fn judge<K: Keeper>(book: &mut Book<K>, caller: &Option<UserNo>, command: Command) -> Turn
+    requires { IsAllowed book.old.log (record { caller = caller.now; command = command }) }
+    ensures { JudgesCommand result caller.now command (ledger_of K.faults book.old) (ledger_of K.faults book.new) }
 {
     match book.command(caller, command) {
         Ok(receipt) => Turn::Accepted(receipt),
@@ -93,7 +94,8 @@ fn answer<K: Keeper>(book: &Book<K>, caller: &Option<UserNo>, query: &Query) -> 
 {
     match book.answer(caller, query) {
         Ok(reply) => Turn::Answered(reply),
-        Err(_) => Turn::OutOfMemory,
+        Err(AnswerError::Rule(rule)) => Turn::Answered(Reply::Refused(rule)),
+        Err(AnswerError::OutOfMemory) => Turn::OutOfMemory,
     }
 }
 

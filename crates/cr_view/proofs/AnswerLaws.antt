@@ -1,7 +1,7 @@
 -- What a query is answered by reads of the tables.
-use Rattle.std.proofs.Common.{ℕ, Bool, true, false, cond, ◌≡◌, ◌<◌, ◌+◌, List, [], ◌∷◌, ◌++◌, length, drop, get_or, append_assoc, refl, sym, ap, ◌∙◌, Option, Result, Ok, Err}
+use Rattle.std.proofs.Common.{ℕ, ◌≡◌, ◌<◌, ◌+◌, List, ◌∷◌, ◌++◌, length, drop, get_or, append_assoc, refl, sym, ap, ◌∙◌, Option, Result, Ok, Err}
 use Rattle.std.specs.Option.{option_map}
-use Rattle.std.specs.Prelude.{map}
+use Rattle.std.specs.Prelude.{map, unwrap_or, IsOk}
 use Rattle.std.proofs.lemmas.List.{at_drop_more}
 use Rattle.cr_base.specs.declared.entry.Account.{Account}
 use Rattle.cr_base.specs.declared.page.Page.{Page}
@@ -9,18 +9,22 @@ use Rattle.cr_base.specs.declared.pairs.Tie.{Tie}
 use Rattle.cr_base.specs.declared.command.Query.{Query}
 use Rattle.cr_base.specs.declared.command.Query.TheVariants as queries
 use Rattle.cr_base.specs.declared.reply.Conference.{Conference}
+use Rattle.cr_base.specs.declared.reply.Reply.{Reply}
 use Rattle.cr_base.specs.declared.reply.Reply.TheVariants as replies
 use Rattle.cr_base.specs.declared.reply.Rule.{Rule}
 use Rattle.cr_base.specs.Accounts.{account_at, lines_of}
 use Rattle.cr_base.specs.Checks.{Check, judged}
-use Rattle.cr_base.specs.Judging.{names_in, reply_or_rule, answer_by_role}
+use Rattle.cr_base.specs.Judging.{names_in, query_checks, page_by, reply_or_rule, facts_of_tables, shown_in_tables, answer_by_role}
 use Rattle.cr_base.specs.Lists.{listed}
 use Rattle.cr_base.specs.Papers.{paper_count}
 use Rattle.cr_base.specs.Tables.{Tables}
 use Rattle.cr_base.specs.Ties.{BareTies}
-use Rattle.cr_base.proofs.CheckLaws.{judged-Ok, judged-none, judged-Err}
+use Rattle.cr_base.proofs.CheckLaws.{judged-Ok}
 use Rattle.cr_base.proofs.ListLaws.{length-numbers_from, name_in-lines_of}
-use Rattle.cr_view.specs.Replies.{page_reply}
+use Rattle.cr_view.specs.declared.queries.AnswerError.{AnswerError}
+use Rattle.cr_view.specs.declared.queries.AnswerError.TheVariants as errors
+use Rattle.cr_view.specs.Replies.{IsServed, Answers, Shows}
+use Rattle.cr_view.proofs.JudgeLaws.{refused, passed}
 
 -- ---- walks
 
@@ -54,29 +58,37 @@ names-step accounts ties i other before after wanted found within is pushed told
 
 -- ---- pages
 
--- a broken rule is told in place of what would be
-pub refused : {A B : Type 0} (checks : List Check) (x : A) (y : B) (rule : Rule) → ◌≡◌ {A = Result A Rule} (Err rule) (judged checks x) → ◌≡◌ {A = Result B Rule} (Err rule) (judged checks y)
-refused checks x y rule h = sym (judged-Err checks x y rule (sym h))
-
--- where none is broken, what would be is told, and the reader stands as she does
-pub shown : {A B : Type 0} (checks : List Check) (x given : A) (y : B) → ◌≡◌ {A = Result A Rule} (Ok given) (judged checks x) → ◌≡◌ {A = Result B Rule} (Ok y) (judged checks y)
-shown checks x given y h = let k = judged-Ok checks x given (sym h) in sym (judged-none checks y k.0)
-
+-- where none is broken, the reader stands as she does
 pub reader-is : {A : Type 0} (checks : List Check) (x given : A) → ◌≡◌ {A = Result A Rule} (Ok given) (judged checks x) → given ≡ x
 reader-is checks x given h = sym (judged-Ok checks x given (sym h)).1
 
--- the page or the broken rule is the answer
-pub page_reply-judged : (checks : List Check) (page : Page) → page_reply (judged checks page) ≡ reply_or_rule (judged checks (replies.Page page))
-page_reply-judged [] page = refl
-page_reply-judged (check ∷ checks) page = by check.broken (page_reply-judged checks page)
-  where
-    by : (b : Bool) → page_reply (judged checks page) ≡ reply_or_rule (judged checks (replies.Page page)) → page_reply (cond b (Err check.rule) (judged checks page)) ≡ reply_or_rule (cond b (Err check.rule) (judged checks (replies.Page page)))
-    by true h = refl
-    by false h = h
+-- a page that is shown, or isn't, as the answer
+abbrev pub page_answer : Result Page AnswerError → Result Reply AnswerError
+page_answer (Ok page) = Ok (replies.Page page)
+page_answer (Err error) = Err error
 
-rule_of : (told : Result Page Rule) (rule : Rule) → page_reply told ≡ replies.Refused rule → told ≡ Err rule
-rule_of (Ok page) rule h = cc
-rule_of (Err other) rule h = let e : other ≡ rule = cc in ap (λ (r : Rule). Err r) e
+module _ (t : Tables) (caller paper : Option ℕ) where
+  abbrev checks : List Check
+  checks = query_checks (facts_of_tables t caller) (queries.Page paper)
+
+  abbrev page : Page
+  page = page_by (facts_of_tables t caller) (shown_in_tables t) (unwrap_or paper 0)
+
+  abbrev due : Reply
+  due = answer_by_role t caller (queries.Page paper)
+
+  page-due : (given : Page) → judged checks page ≡ Ok given → due ≡ replies.Page given
+  page-due given h = ap reply_or_rule (sym (passed checks (λ (p : Page). replies.Page p) page given (sym h)))
+
+  page-served : (judgement : Result Page Rule) → judged checks page ≡ judgement → IsOk judgement → IsServed due
+  page-served (Ok given) h ok = λ rule e. let same : replies.Page given ≡ replies.Refused rule = sym (page-due given h) ∙ e in cc
+  page-served (Err rule) h ok = cc
+
+  -- what is shown of a page is what is answered
+  pub page-answered : (r : Result Page AnswerError) → Shows r (judged checks page) → Answers (page_answer r) due
+  page-answered (Ok given) h = (sym (page-due given h), page-served (Ok given) h refl)
+  page-answered (Err (errors.Rule rule)) h = ap reply_or_rule (sym (refused checks page (replies.Page page) rule (sym h)))
+  page-answered (Err errors.OutOfMemory) h = page-served (judged checks page) refl h
 
 -- ---- the conference
 

@@ -1,5 +1,5 @@
 pub mod Callers
-pub mod Judged
+pub mod Draws
 pub mod Replies
 pub mod Seen
 pub mod Targets

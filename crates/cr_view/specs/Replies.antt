@@ -1,5 +1,5 @@
--- What a caller is told of a page.
-use Rattle.std.specs.Prelude.{ℕ, [], Option, Result, Ok, Err}
+-- What a caller is told of a query.
+use Rattle.std.specs.Prelude.{ℕ, ◌≡◌, ◌≢◌, [], Option, Result, Ok, Err, IsOk}
 use Rattle.cr_base.specs.declared.page.Page.{Page}
 use Rattle.cr_base.specs.declared.reply.Reply.{Reply}
 use Rattle.cr_base.specs.declared.reply.Reply.TheVariants as replies
@@ -8,11 +8,25 @@ use Rattle.cr_base.specs.declared.standing.Standing.{Standing}
 use Rattle.cr_base.specs.Accounts.{lines_of}
 use Rattle.cr_base.specs.Judging.{page_by, shown_in_tables}
 use Rattle.cr_base.specs.Tables.{Tables}
+use Rattle.cr_view.specs.declared.queries.AnswerError.{AnswerError}
+use Rattle.cr_view.specs.declared.queries.AnswerError.TheVariants as errors
 
--- the page, or the broken rule
-abbrev pub page_reply : Result Page Rule → Reply
-page_reply (Ok page) = replies.Page page
-page_reply (Err rule) = replies.Refused rule
+-- the reply is no refusal
+abbrev pub IsServed : Reply → Type 0
+IsServed reply = (rule : Rule) → reply ≢ replies.Refused rule
+
+-- A query to which this reply is due was answered so: by that reply, or by the rule that it tells; memory is wanting only
+-- where it tells none.
+abbrev pub Answers : Result Reply AnswerError → Reply → Type 0
+Answers (Ok reply) due = (reply ≡ due) × IsServed due
+Answers (Err (errors.Rule rule)) due = due ≡ replies.Refused rule
+Answers (Err errors.OutOfMemory) due = IsServed due
+
+-- the same of a page, which is due or stands behind a rule
+abbrev pub Shows : Result Page AnswerError → Result Page Rule → Type 0
+Shows (Ok page) due = due ≡ Ok page
+Shows (Err (errors.Rule rule)) due = due ≡ Err rule
+Shows (Err errors.OutOfMemory) due = IsOk due
 
 -- the page of a paper by the tables, for a reader who stands so to it
 abbrev pub page_at : Tables → Standing → ℕ → Page

@@ -1,69 +1,10 @@
 //! The entries of one command.
-ghost use Rattle.std.specs.Prelude.{◌≡◌, ◌≤◌, ◌-◌, ℕ, List, [], ◌∷◌, ◌++◌, OnOk, IfOk, IsSome, Some, false, vec_len, vec_capacity};
+ghost use Rattle.std.specs.Prelude.{◌≡◌, ◌≤◌, ◌-◌, ℕ, List, [], ◌∷◌, ◌++◌, OnOk, IfOk, false, vec_len, vec_capacity};
 ghost use Rattle.cr_base.specs.declared.entry.Entry.{Entry};
 ghost use Rattle.cr_base.specs.Judging.{grouped, registration};
-ghost use Rattle.cr_base.specs.declared.entry.Entry.TheVariants.{Submitted};
-ghost use Rattle.cr_base.specs.declared.reply.Receipt.TheVariants as receipts;
-ghost use Rattle.cr_view.specs.Judged.{TellsUser, TellsPaper, TellsNote};
 
-use cr_base::{Digest, Entry, PaperNo, Receipt, Role, Short, Stamped, Text, UserNo};
+use cr_base::{Digest, Entry, Role, Short, Stamped, UserNo};
 use std::alloc::{AllocError, Global};
-
-/// The caller of a command that is a user's, who makes its entries.
-pub(crate) fn maker(caller: &Option<UserNo>) -> UserNo
-    requires { IsSome caller.now }
-    ensures { caller.now ≡ Some result }
-{
-    match caller {
-        Some(user) => *user,
-        None => unreachable!(),
-    }
-}
-
-/// The user that a registration's receipt tells.
-pub(crate) fn user_told(receipt: &Receipt) -> UserNo
-    requires { TellsUser receipt.now }
-    ensures { receipt.now ≡ receipts.User result }
-{
-    match receipt {
-        Receipt::User { user } => *user,
-        Receipt::Phase { .. }
-        | Receipt::Paper { .. }
-        | Receipt::Named { .. }
-        | Receipt::Mode { .. }
-        | Receipt::Noted { .. } => unreachable!(),
-    }
-}
-
-/// The paper that a submission's receipt tells.
-pub(crate) fn paper_told(receipt: &Receipt) -> PaperNo
-    requires { TellsPaper receipt.now }
-    ensures { receipt.now ≡ receipts.Paper result }
-{
-    match receipt {
-        Receipt::Paper { paper } => *paper,
-        Receipt::User { .. }
-        | Receipt::Phase { .. }
-        | Receipt::Named { .. }
-        | Receipt::Mode { .. }
-        | Receipt::Noted { .. } => unreachable!(),
-    }
-}
-
-/// The paper with which a conflict was turned on or off, as its receipt tells it.
-pub(crate) fn paper_noted(receipt: &Receipt) -> PaperNo
-    requires { TellsNote receipt.now }
-    ensures { receipt.now ≡ receipts.Noted result }
-{
-    match receipt {
-        Receipt::Noted { paper } => *paper,
-        Receipt::User { .. }
-        | Receipt::Phase { .. }
-        | Receipt::Paper { .. }
-        | Receipt::Named { .. }
-        | Receipt::Mode { .. } => unreachable!(),
-    }
-}
 
 /// Marks the last entry as one that another of the same command follows.
 fn mark_last(group: &mut Vec<Stamped>)
@@ -121,22 +62,4 @@ pub(crate) fn registration(
     };
     push_entry(&mut group, user, named)?;
     Ok(group)
-}
-
-/// The group of a submission, which shares the texts. An error only for want of memory.
-pub(crate) fn submission(
-    alloc: Global,
-    maker: UserNo,
-    paper: PaperNo,
-    title: &Text,
-    abstract_: &Text,
-) -> Result<Vec<Stamped>, AllocError>
-    ensures { IfOk result (λ group. group.items ≡ grouped maker (Submitted paper title.now abstract_.now ∷ [])) }
-{
-    let entry = Entry::Submitted {
-        paper,
-        title: title.copy()?,
-        abstract_: abstract_.copy()?,
-    };
-    single(alloc, maker, entry)
 }

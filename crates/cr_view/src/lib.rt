@@ -3,6 +3,7 @@
 #![tactic(auto)]
 
 mod commands;
+mod draw;
 mod group;
 mod live;
 mod me;
@@ -11,4 +12,6 @@ mod queries;
 #[cfg(test)]
 mod tests;
 
+pub use draw::Draw;
 pub use live::Live;
+pub use queries::AnswerError;

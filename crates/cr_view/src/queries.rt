@@ -11,9 +11,9 @@ ghost use Rattle.cr_base.specs.declared.reply.Conference.{Conference};
 ghost use Rattle.cr_base.specs.declared.reply.Reply.TheVariants as replies;
 ghost use Rattle.cr_base.specs.declared.reply.Rule.{Rule};
 ghost use Rattle.cr_view.specs.Callers.{HasAsker};
-ghost use Rattle.cr_view.specs.Replies.{page_at, page_reply};
+ghost use Rattle.cr_view.specs.Replies.{Answers, Shows, page_at};
 
-use crate::group::maker;
+use crate::commands::maker;
 use crate::live::Live;
 use crate::page::{
     bare_keys, conflict_told, copy_where, gets_abstract, gets_conflicts, gets_declared, gets_title,
@@ -67,10 +67,30 @@ impl Live {
     }
 }
 
+/// Why a query is not answered.
+#[derive(Clone, Copy, Debug, PartialEq, Eq)]
+pub enum AnswerError {
+    /// The query breaks this rule.
+    Rule(Rule),
+    /// Memory is wanting.
+    OutOfMemory,
+}
+
+impl From<AllocError> for AnswerError {
+    ghost use Rattle.std.specs.Prelude.{◌≡◌};
+    ghost use Rattle.cr_view.specs.declared.queries.AnswerError.TheVariants.{OutOfMemory};
+
+    ghost from_gives = { λ _ e. e ≡ OutOfMemory };
+
+    fn from(_: AllocError) -> AnswerError {
+        AnswerError::OutOfMemory
+    }
+}
+
 /// What is answered.
 impl Live {
-    /// What the caller's query is answered; an error only for want of memory, and none where a rule
-    /// is broken or the state of the conference is asked for: these are told whatever memory there is.
+    /// What the caller's query is answered, or the first broken rule of its kind; an error for want of
+    /// memory only where no rule is broken, and never where the state of the conference is asked for.
     /// There is a caller where the query is about herself. All accounts cost a walk over them; a page a few look-ups, one more for each name that
     /// is told, and a copy of what is told; what she is told of herself a walk over her own papers and
     /// conflicts.
@@ -79,31 +99,20 @@ impl Live {
         alloc: Global,
         caller: &Option<UserNo>,
         query: &Query,
-    ) -> Result<Reply, AllocError>
+    ) -> Result<Reply, AnswerError>
         requires caller { HasAsker caller.now query.now }
-        ensures reply { IfOk result (λ reply. reply ≡ answer_by_role self.now.tables caller.now query.now) }
-        ensures rule { (rule : Rule) → answer_by_role self.now.tables caller.now query.now ≡ replies.Refused rule → result ≡ Ok (replies.Refused rule) }
+        ensures answered { Answers result (answer_by_role self.now.tables caller.now query.now) }
         ensures sure { OnErr result (query.now ≢ queries.Phase) }
     {
         match query {
             Query::Me => Ok(Reply::Me(self.me(alloc, maker(caller))?)),
             Query::Accounts => Ok(Reply::Accounts(self.accounts(alloc)?)),
             Query::Phase => Ok(Reply::Conference(self.conference())),
-            Query::Page { paper } => self.answer_page(alloc, caller, paper),
+            Query::Page { paper } => match self.show(alloc, caller, paper) {
+                Ok(page) => Ok(Reply::Page(page)),
+                Err(error) => Err(error),
+            },
         }
-    }
-
-    fn answer_page(
-        &self,
-        alloc: Global,
-        caller: &Option<UserNo>,
-        paper: &Option<PaperNo>,
-    ) -> Result<Reply, AllocError>
-        ensures reply { IfOk result (λ reply. reply ≡ answer_by_role self.now.tables caller.now (queries.Page paper.now)) }
-        ensures rule { (rule : Rule) → answer_by_role self.now.tables caller.now (queries.Page paper.now) ≡ replies.Refused rule → result ≡ Ok (replies.Refused rule) }
-    {
-        let shown = self.show(alloc, caller, paper)?;
-        Ok(page_reply(shown))
     }
 
     /// Every account, by user number; an error only for want of memory. Reads and copies each
@@ -126,23 +135,22 @@ impl Live {
     }
 
     /// The page of a paper as a user, or nobody, may see it, or the first broken rule, as `may` tells
-    /// it; an error only for want of memory, and none where a rule is broken. Copies the texts that
-    /// are told, and no others.
+    /// it; an error for want of memory only where no rule is broken. Copies the texts that are told, and
+    /// no others.
     pub fn show(
         &self,
         alloc: Global,
         user: &Option<UserNo>,
         paper: &Option<PaperNo>,
-    ) -> Result<Result<Page, Rule>, AllocError>
-        ensures page { IfOk result (λ shown. shown ≡ judged (query_checks (facts_of_tables self.now.tables user.now) (queries.Page paper.now)) (page_by (facts_of_tables self.now.tables user.now) (shown_in_tables self.now.tables) (unwrap_or paper.now 0))) }
-        ensures rule { (rule : Rule) → judged (query_checks (facts_of_tables self.now.tables user.now) (queries.Page paper.now)) (page_by (facts_of_tables self.now.tables user.now) (shown_in_tables self.now.tables) (unwrap_or paper.now 0)) ≡ Err rule → result ≡ Ok (Err rule) }
+    ) -> Result<Page, AnswerError>
+        ensures { Shows result (judged (query_checks (facts_of_tables self.now.tables user.now) (queries.Page paper.now)) (page_by (facts_of_tables self.now.tables user.now) (shown_in_tables self.now.tables) (unwrap_or paper.now 0))) }
     {
         let by = match self.reader(user, paper) {
             Ok(by) => by,
-            Err(rule) => return Ok(Err(rule)),
+            Err(rule) => return Err(AnswerError::Rule(rule)),
         };
         match paper {
-            Some(paper) => Ok(Ok(self.page(alloc, &by, *paper)?)),
+            Some(paper) => Ok(self.page(alloc, &by, *paper)?),
             None => unreachable!(),
         }
     }
@@ -206,14 +214,4 @@ fn push_name(names: &mut Vec<Short>, name: Option<Short>) -> Result<(), AllocErr
         names.push(name)?;
     }
     Ok(())
-}
-
-/// The page, or the broken rule, as a reply.
-fn page_reply(shown: Result<Page, Rule>) -> Reply
-    ensures { result ≡ page_reply shown }
-{
-    match shown {
-        Ok(page) => Reply::Page(page),
-        Err(rule) => Reply::Refused(rule),
-    }
 }

@@ -1,6 +1,6 @@
 ghost use Rattle.cr_view.specs.Callers.{HasCaller};
 
-use crate::Live;
+use crate::{AnswerError, Live};
 use cr_base::{
     Command, Mode, Names, PaperNo, Phase, Query, Receipt, Reply, Role, Rule, Short, Stamped, Text,
     UserNo,
@@ -37,13 +37,12 @@ impl Played {
         &mut self,
         alloc: Global,
         caller: &Option<UserNo>,
-        command: &Command,
+        command: Command,
     ) -> Result<(), Fail>
-        requires { HasCaller caller.now command.now }
+        requires { HasCaller caller.now command }
     {
         let Played { live, added } = self;
-        let receipt = live.judge(caller, command)?;
-        let group = live.group(alloc, caller, command, &receipt)?;
+        let group = live.judge(caller, command)?.group(alloc)?;
         add_lines(alloc, added, &group)?;
         live.room(&group)?;
         live.apply_all(group);
@@ -56,19 +55,19 @@ impl Played {
             name: Short::from_slice(name),
             digest: [7; 32],
         };
-        self.accept(alloc, &None, &command)
+        self.accept(alloc, &None, command)
     }
 
     /// Alice, a chair, sets the phase.
     fn set_phase(&mut self, alloc: Global, phase: Phase) -> Result<(), Fail> {
         let chair = Some(UserNo::new(1));
-        self.accept(alloc, &chair, &Command::SetPhase { phase })
+        self.accept(alloc, &chair, Command::SetPhase { phase })
     }
 
     /// Alice sets the mode.
     fn set_mode(&mut self, alloc: Global, mode: Mode) -> Result<(), Fail> {
         let chair = Some(UserNo::new(1));
-        self.accept(alloc, &chair, &Command::SetMode { mode })
+        self.accept(alloc, &chair, Command::SetMode { mode })
     }
 
     fn submit(&mut self, alloc: Global, user: UserNo) -> Result<(), Fail> {
@@ -76,7 +75,7 @@ impl Played {
             title: Text::from_str(alloc, "Proofs")?,
             abstract_: Text::from_str(alloc, "short")?,
         };
-        self.accept(alloc, &Some(user), &command)
+        self.accept(alloc, &Some(user), command)
     }
 
     /// Alice names somebody a member.
@@ -85,7 +84,7 @@ impl Played {
             user: Some(Short::from_slice(name)),
             role: Role::Member,
         };
-        self.accept(alloc, &Some(UserNo::new(1)), &command)
+        self.accept(alloc, &Some(UserNo::new(1)), command)
     }
 
     /// Bobby declares somebody in conflict with the first paper.
@@ -95,7 +94,7 @@ impl Played {
             user: Some(Short::from_slice(name)),
             on: true,
         };
-        self.accept(alloc, &Some(UserNo::new(2)), &command)
+        self.accept(alloc, &Some(UserNo::new(2)), command)
     }
 }
 
@@ -158,6 +157,12 @@ fn groups_of_members(rt: HostRuntime) -> Result<(), Fail> {
     Ok(())
 }
 
+/// What a user who sets the phase is answered.
+fn set_by(live: &Live, user: UserNo, phase: Phase) -> Result<Receipt, Rule> {
+    let draw = live.judge(&Some(user), Command::SetPhase { phase })?;
+    Ok(draw.receipt())
+}
+
 #[test]
 fn rules(rt: HostRuntime) -> Result<(), Fail> {
     let Played { live, added: _ } = conference(rt.alloc())?;
@@ -173,7 +178,7 @@ fn rules(rt: HostRuntime) -> Result<(), Fail> {
         ),
     ];
     for (user, phase, wanted) in cases {
-        assert!(rt; live.judge(&Some(user), &Command::SetPhase { phase }) == wanted);
+        assert!(rt; set_by(&live, user, phase) == wanted);
     }
     Ok(())
 }
@@ -185,14 +190,15 @@ fn told(
     user: &Option<UserNo>,
     paper: &Option<PaperNo>,
 ) -> Result<Result<[bool; 4], Rule>, Fail> {
-    match live.show(alloc, user, paper)? {
+    match live.show(alloc, user, paper) {
         Ok(page) => Ok(Ok([
             page.title.is_some(),
             page.abstract_.is_some(),
             page.authors.is_some(),
             page.conflict.is_some(),
         ])),
-        Err(rule) => Ok(Err(rule)),
+        Err(AnswerError::Rule(rule)) => Ok(Err(rule)),
+        Err(error) => Err(error)?,
     }
 }
 
@@ -235,7 +241,7 @@ fn are_carol(names: &Option<Names>) -> bool {
 /// Whether a user is told that Carol is in conflict with the first paper, that its author declared
 /// her, who wrote it, and that she is in conflict with it herself.
 fn tied(alloc: Global, live: &Live, user: UserNo) -> Result<[bool; 4], Fail> {
-    match live.show(alloc, &Some(user), &Some(PaperNo::new(1)))? {
+    match live.show(alloc, &Some(user), &Some(PaperNo::new(1))) {
         Ok(page) => Ok([
             are_carol(&page.conflicts),
             are_carol(&page.declared),

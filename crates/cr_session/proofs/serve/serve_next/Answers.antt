@@ -24,8 +24,8 @@ returns-in-WriteFault-clause-round g c =
     let w' = world_of g.K.Keeper.faults g.S.Source.faults g.O.Sink.taken g.O.Sink.faults c.serve_request.new.book c.read_wish.new.source c.serve_request.new.sink in
     round_write_fault g.S.Source.left g.S.Source.read_gives c.args.number c.in-Wish.wish c.args.inbox.now c.read_wish.new.inbox w w' c.in-Wish.ensures.reads c.in-WriteFault.ensures.serves (c.in-Wish.ensures.steady (λ is. cc))
 
-pub returns-in-Wish-clause-round : goal.returns-in-Wish-clause-round
-returns-in-Wish-clause-round g c =
+pub returns-in-OutOfMemory-serve_request-clause-round : goal.returns-in-OutOfMemory-serve_request-clause-round
+returns-in-OutOfMemory-serve_request-clause-round g c =
     let w = world_of g.K.Keeper.faults g.S.Source.faults g.O.Sink.taken g.O.Sink.faults c.args.book.now c.args.source.now c.args.sink.now in
     let w' = world_of g.K.Keeper.faults g.S.Source.faults g.O.Sink.taken g.O.Sink.faults c.serve_request.new.book c.read_wish.new.source c.note_no_memory.new.sink in
     let b = ledger_of g.K.Keeper.faults c.serve_request.new.book in
@@ -60,8 +60,8 @@ returns-in-ReadFault-clause-round g c =
     round_read_fault g.S.Source.left g.S.Source.read_gives c.args.number c.args.inbox.now c.read_wish.new.inbox w w' c.in-ReadFault.ensures.reads
     (c.read_wish.ensures.count, c.in-ReadFault.ensures.fault refl) refl refl
 
-pub returns-clause-round : goal.returns-clause-round
-returns-clause-round g c =
+pub returns-in-OutOfMemory-clause-round : goal.returns-in-OutOfMemory-clause-round
+returns-in-OutOfMemory-clause-round g c =
     let w = world_of g.K.Keeper.faults g.S.Source.faults g.O.Sink.taken g.O.Sink.faults c.args.book.now c.args.source.now c.args.sink.now in
     let w' = world_of g.K.Keeper.faults g.S.Source.faults g.O.Sink.taken g.O.Sink.faults c.args.book.now c.read_wish.new.source c.note_no_memory-in-OutOfMemory.new.sink in
     subst (λ (e : Ending). Connection g.S.Source.left g.S.Source.read_gives e c.args.number c.args.inbox.now w w') (sym c.note_no_memory-in-OutOfMemory.ensures.ending)

@@ -1,5 +1,24 @@
-use Rattle.cr_view.proofs.AnswerLaws.{conference-told}
+use Rattle.std.proofs.Common.{◌≡◌, ◌∙◌, Ok, Err, sym, subst}
+use Rattle.cr_base.specs.declared.command.Query.{Query}
+use Rattle.cr_base.specs.declared.reply.Reply.TheVariants as replies
+use Rattle.cr_base.specs.Judging.{answer_by_role}
+use Rattle.cr_view.specs.Replies.{Answers}
+use Rattle.cr_view.proofs.AnswerLaws.{conference-told, page-answered}
 use Rattle.cr_view.proofs.live.Live.answer.Goals as goal
 
-pub returns-in-Phase-clause-reply : goal.returns-in-Phase-clause-reply
-returns-in-Phase-clause-reply c = conference-told c.args.self.now.tables c.args.caller.now c.args.query.now c.conference.result c.conference.ensures c.in-Phase.is
+pub returns-in-Phase-clause-answered : goal.returns-in-Phase-clause-answered
+returns-in-Phase-clause-answered c =
+    let told = conference-told c.args.self.now.tables c.args.caller.now c.args.query.now c.conference.result c.conference.ensures c.in-Phase.is in
+    (told, λ rule broken. let e : replies.Conference c.conference.result ≡ replies.Refused rule = told ∙ broken in cc)
+
+pub returns-in-Ok-clause-answered : goal.returns-in-Ok-clause-answered
+returns-in-Ok-clause-answered c =
+    let t = c.args.self.now.tables in
+    let u = c.args.caller.now in
+    subst (λ (q : Query). Answers (Ok (replies.Page c.in-Ok.page)) (answer_by_role t u q)) (sym c.in-Page.is) (page-answered t u c.in-Page.paper (Ok c.in-Ok.page) c.in-Ok.ensures)
+
+pub returns-in-Err-clause-answered : goal.returns-in-Err-clause-answered
+returns-in-Err-clause-answered c =
+    let t = c.args.self.now.tables in
+    let u = c.args.caller.now in
+    subst (λ (q : Query). Answers (Err c.in-Err.error) (answer_by_role t u q)) (sym c.in-Page.is) (page-answered t u c.in-Page.paper (Err c.in-Err.error) c.in-Err.ensures)

@@ -1,21 +1,48 @@
-use Rattle.cr_view.proofs.JudgeLaws.{answered-register, answered-phase, answered-submit}
-use Rattle.cr_view.proofs.TargetLaws.{answered-name, answered-mode, answered-conflict}
+use Rattle.std.proofs.Common.{◌∙◌, sym, ap, Some}
+use Rattle.cr_base.specs.declared.command.Command.TheVariants as commands
+use Rattle.cr_base.specs.Judging.{judge_by_role}
+use Rattle.cr_base.proofs.AccountLaws.{judge_by_role-register}
+use Rattle.cr_view.proofs.FitLaws.{draw-fits}
+use Rattle.cr_view.proofs.JudgeLaws.{along, judge-submit}
+use Rattle.cr_view.proofs.TargetLaws.{judge-name, judge-conflict}
 use Rattle.cr_view.proofs.live.Live.judge.Goals as goal
 
-pub returns-in-Register : goal.returns-in-Register
-returns-in-Register c = answered-register c.args.self.now.tables c.args.caller.now c.args.command.now c.in-Register.name c.in-Register.digest c.judge_registration.result c.in-Register.is c.judge_registration.ensures
+pub returns-in-Register-clause-drawn : goal.returns-in-Register-clause-drawn
+returns-in-Register-clause-drawn c =
+    let t = c.args.self.now.tables in
+    c.judge_registration.ensures ∙ sym (judge_by_role-register t c.args.caller.now c.in-Register.name c.in-Register.digest) ∙ sym (ap (judge_by_role t c.args.caller.now) c.in-Register.is)
 
-pub returns-in-SetPhase : goal.returns-in-SetPhase
-returns-in-SetPhase c = answered-phase c.args.self.now.tables c.args.caller.now c.args.command.now c.in-SetPhase.phase c.judge_phase.result c.in-SetPhase.is c.judge_phase.ensures
+pub returns-in-Register-clause-fits : goal.returns-in-Register-clause-fits
+returns-in-Register-clause-fits c =
+    let t = c.args.self.now.tables in
+    draw-fits t c.law_within.ensures 0 (commands.Register c.in-Register.name c.in-Register.digest) c.judge_registration.result (c.judge_registration.ensures ∙ sym (judge_by_role-register t (Some 0) c.in-Register.name c.in-Register.digest))
 
-pub returns-in-Submit : goal.returns-in-Submit
-returns-in-Submit c = answered-submit c.args.self.now.tables c.args.caller.now c.args.command.now c.in-Submit.title c.in-Submit.abstract_ c.maker.result c.judge_submission.result c.in-Submit.is c.maker.ensures c.judge_submission.ensures
+pub returns-in-SetPhase-clause-drawn : goal.returns-in-SetPhase-clause-drawn
+returns-in-SetPhase-clause-drawn c = along c.args.self.now.tables c.args.caller.now (Some c.maker.result) c.args.command (commands.SetPhase c.in-SetPhase.phase) _ c.maker.ensures c.in-SetPhase.is c.judge_phase.ensures
 
-pub returns-in-Name : goal.returns-in-Name
-returns-in-Name c = answered-name c.args.self.now.tables c.args.caller.now c.args.command.now c.in-Name.user c.in-Name.role c.judge_naming.result c.in-Name.is c.judge_naming.ensures
+pub returns-in-SetPhase-clause-fits : goal.returns-in-SetPhase-clause-fits
+returns-in-SetPhase-clause-fits c = draw-fits c.args.self.now.tables c.law_within.ensures c.maker.result (commands.SetPhase c.in-SetPhase.phase) c.judge_phase.result c.judge_phase.ensures
 
-pub returns-in-SetMode : goal.returns-in-SetMode
-returns-in-SetMode c = answered-mode c.args.self.now.tables c.args.caller.now c.args.command.now c.in-SetMode.mode c.judge_mode.result c.in-SetMode.is c.judge_mode.ensures
+pub returns-in-Submit-clause-drawn : goal.returns-in-Submit-clause-drawn
+returns-in-Submit-clause-drawn c = along c.args.self.now.tables c.args.caller.now (Some c.maker-in-Submit.result) c.args.command (commands.Submit c.in-Submit.title c.in-Submit.abstract_) _ c.maker-in-Submit.ensures c.in-Submit.is (c.judge_submission.ensures ∙ sym (judge-submit c.args.self.now.tables c.maker-in-Submit.result c.in-Submit.title c.in-Submit.abstract_))
 
-pub returns-in-SetConflict : goal.returns-in-SetConflict
-returns-in-SetConflict c = answered-conflict c.args.self.now.tables c.args.caller.now c.args.command.now c.in-SetConflict.paper c.in-SetConflict.user c.in-SetConflict.on c.maker-in-SetConflict.result c.judge_conflict.result c.in-SetConflict.is c.maker-in-SetConflict.ensures c.judge_conflict.ensures
+pub returns-in-Submit-clause-fits : goal.returns-in-Submit-clause-fits
+returns-in-Submit-clause-fits c = draw-fits c.args.self.now.tables c.law_within.ensures c.maker-in-Submit.result (commands.Submit c.in-Submit.title c.in-Submit.abstract_) c.judge_submission.result (c.judge_submission.ensures ∙ sym (judge-submit c.args.self.now.tables c.maker-in-Submit.result c.in-Submit.title c.in-Submit.abstract_))
+
+pub returns-in-Name-clause-drawn : goal.returns-in-Name-clause-drawn
+returns-in-Name-clause-drawn c = along c.args.self.now.tables c.args.caller.now (Some c.maker-in-Name.result) c.args.command (commands.Name c.in-Name.user c.in-Name.role) _ c.maker-in-Name.ensures c.in-Name.is (c.judge_naming.ensures ∙ sym (judge-name c.args.self.now.tables c.maker-in-Name.result c.in-Name.user c.in-Name.role))
+
+pub returns-in-Name-clause-fits : goal.returns-in-Name-clause-fits
+returns-in-Name-clause-fits c = draw-fits c.args.self.now.tables c.law_within.ensures c.maker-in-Name.result (commands.Name c.in-Name.user c.in-Name.role) c.judge_naming.result (c.judge_naming.ensures ∙ sym (judge-name c.args.self.now.tables c.maker-in-Name.result c.in-Name.user c.in-Name.role))
+
+pub returns-in-SetMode-clause-drawn : goal.returns-in-SetMode-clause-drawn
+returns-in-SetMode-clause-drawn c = along c.args.self.now.tables c.args.caller.now (Some c.maker-in-SetMode.result) c.args.command (commands.SetMode c.in-SetMode.mode) _ c.maker-in-SetMode.ensures c.in-SetMode.is c.judge_mode.ensures
+
+pub returns-in-SetMode-clause-fits : goal.returns-in-SetMode-clause-fits
+returns-in-SetMode-clause-fits c = draw-fits c.args.self.now.tables c.law_within.ensures c.maker-in-SetMode.result (commands.SetMode c.in-SetMode.mode) c.judge_mode.result c.judge_mode.ensures
+
+pub returns-in-SetConflict-clause-drawn : goal.returns-in-SetConflict-clause-drawn
+returns-in-SetConflict-clause-drawn c = along c.args.self.now.tables c.args.caller.now (Some c.maker-in-SetConflict.result) c.args.command (commands.SetConflict c.in-SetConflict.paper c.in-SetConflict.user c.in-SetConflict.on) _ c.maker-in-SetConflict.ensures c.in-SetConflict.is (c.judge_conflict.ensures ∙ sym (judge-conflict c.args.self.now.tables c.maker-in-SetConflict.result c.in-SetConflict.paper c.in-SetConflict.user c.in-SetConflict.on))
+
+pub returns-in-SetConflict-clause-fits : goal.returns-in-SetConflict-clause-fits
+returns-in-SetConflict-clause-fits c = draw-fits c.args.self.now.tables c.law_within.ensures c.maker-in-SetConflict.result (commands.SetConflict c.in-SetConflict.paper c.in-SetConflict.user c.in-SetConflict.on) c.judge_conflict.result (c.judge_conflict.ensures ∙ sym (judge-conflict c.args.self.now.tables c.maker-in-SetConflict.result c.in-SetConflict.paper c.in-SetConflict.user c.in-SetConflict.on))

@@ -6,7 +6,7 @@ use Rattle.cr_base.specs.Checks.{judged, conflict_checks}
 use Rattle.cr_base.specs.Lists.{at_some, is_number}
 use Rattle.cr_base.specs.Ties.{is_author_in}
 use Rattle.cr_view.specs.Seen.{SeenTables}
-use Rattle.cr_view.proofs.TargetLaws.{noted-told}
+use Rattle.cr_view.proofs.TargetLaws.{conflict-drawn}
 use Rattle.cr_view.proofs.live.Live.judge_conflict.Goals as goal
 
 pub returns : goal.returns
@@ -16,4 +16,5 @@ returns c =
     let target : Option ℕ = option_map (λ t. t.0) c.target-target.result in
     let role : Option Role = option_map (λ t. t.1) c.target-target.result in
     let kept = c.judge_conflict-kept.ensures ∙ ap (λ (v : SeenTables). judged (conflict_checks by (is_some paper) role (is_number target c.args.maker) (at_some (is_author_in v.tables.ties target) paper) c.args.on) tt) c.self.view_is in
-    noted-told c.args.self.now.tables c.args.maker paper c.in-Some.number c.args.name.now c.args.on c.has_paper.result by target role c.judge_conflict-kept.result c.receipted.result c.in-Some.is c.has_paper.ensures c.if-not-has_paper.false c.standing-by.ensures c.target-target.ensures.user c.target-target.ensures.role kept c.receipted.ensures
+    let known = ap (option_map (λ t. t.0)) c.in-Some-target.is in
+    conflict-drawn c.args.self.now.tables c.args.maker paper c.in-Some.number c.args.name.now c.args.on c.has_paper.result by target c.in-Some-target.user role c.judge_conflict-kept.result c.and.result c.in-Some.is c.has_paper.ensures c.if-not-has_paper.false c.standing-by.ensures known c.target-target.ensures.user c.target-target.ensures.role kept c.and.ensures

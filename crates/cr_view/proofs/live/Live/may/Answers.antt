@@ -3,7 +3,7 @@ use Rattle.cr_base.specs.declared.command.Query.{Query}
 use Rattle.cr_base.specs.declared.command.Query.TheVariants as queries
 use Rattle.cr_base.specs.Checks.{judged}
 use Rattle.cr_base.specs.Judging.{facts_of_tables, query_checks, standing_at}
-use Rattle.cr_view.proofs.AnswerLaws.{refused}
+use Rattle.cr_view.proofs.JudgeLaws.{refused}
 use Rattle.cr_view.proofs.live.Live.may.Goals as goal
 
 pub returns-in-Err : goal.returns-in-Err
