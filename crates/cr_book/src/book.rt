@@ -123,8 +123,7 @@ impl<K: Keeper> Book<K> {
     }
 
     /// Takes the room for what was drawn, keeps it and applies it: after the keeper has kept it nothing
-    /// can fail. The texts go into the entries, which the tables keep, and are copied into the rows and
-    /// for the history.
+    /// can fail. The texts go into the entries, which the tables keep; rows and history share them.
     fn keep(&mut self, draw: Draw) -> Result<Receipt, BookError>
         requires legal { Legal (self.old.log ++ (drawn_by draw).group) }
         requires fits { FitInTurn (tables_of self.old.log) (drawn_by draw).group }
@@ -169,7 +168,7 @@ impl<K: Keeper> Book<K> {
     /// login; or the first broken rule, which is told whatever memory there is. `AnswerError::OutOfMemory`
     /// comes for want of memory alone, and never where the state of the conference is asked for. The
     /// keeper isn't asked. `Query::Accounts` costs a walk over all accounts, `Query::Page` a few look-ups,
-    /// one more for each name that is told, and a copy of the texts that are told, `Query::Me` a walk
+    /// one more for each name that is told, whatever the length of the texts, `Query::Me` a walk
     /// over her own papers and conflicts, `Query::Phase` nothing that grows.
     pub fn answer(&self, caller: &Option<UserNo>, query: &Query) -> Result<Reply, AnswerError>
         requires { MayAsk self.now.log (query_wants_login query.now) caller.now }

@@ -16,7 +16,7 @@ pub(crate) fn rows_of(alloc: Global, group: &[Stamped]) -> Result<Vec<Row>, Allo
     Ok(rows)
 }
 
-/// An equal entry for each, in order; an error only for want of memory.
+/// An equal entry for each, in order, which shares its texts; an error only for want of memory.
 pub(crate) fn copies_of(alloc: Global, group: &[Stamped]) -> Result<Vec<Stamped>, AllocError>
     ensures { IfOk result (λ copies. copies.items ≡ group.now) }
 {

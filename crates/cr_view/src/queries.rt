@@ -135,7 +135,7 @@ impl Live {
     }
 
     /// The page of a paper as a user, or nobody, may see it, or the first broken rule, as `may` tells
-    /// it; an error for want of memory only where no rule is broken. Copies the texts that are told, and
+    /// it; an error for want of memory only where no rule is broken. Shares the texts that are told, and
     /// no others.
     pub fn show(
         &self,
