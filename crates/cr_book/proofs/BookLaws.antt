@@ -1,8 +1,11 @@
 -- What stays true of a book when its history grows.
-use Rattle.std.proofs.Common.{ℕ, ◌≡◌, List, ◌++◌, refl, sym, ap, subst, ◌∙◌, Option, Some, None, Result, Ok, Err, IfSome, IsSome}
+use Rattle.std.proofs.Common.{ℕ, ◌≡◌, ◌≢◌, OnErr, List, ◌++◌, refl, sym, ap, subst, ◌∙◌, Option, Some, None, Result, Ok, Err, IfSome, IsSome, IsOk}
 use Rattle.cr_base.specs.declared.command.Command.{Command}
 use Rattle.cr_base.specs.declared.command.Command.TheVariants.{Register, SetPhase, Submit, Name, SetMode, SetConflict}
 use Rattle.cr_base.specs.declared.reply.Receipt.{Receipt}
+use Rattle.std.specs.declared.alloc.AllocError.{AllocError}
+use Rattle.cr_base.specs.declared.reply.Reply.{Reply}
+use Rattle.cr_base.specs.declared.reply.Reply.TheVariants as replies
 use Rattle.cr_base.specs.declared.reply.Rule.{Rule}
 use Rattle.cr_base.specs.declared.row.Row.{Row}
 use Rattle.cr_base.specs.History.{History}
@@ -54,6 +57,11 @@ pub rule-told : (r : Result Drawn Rule) (rule : Rule) → ◌≡◌ {A = Result 
 rule-told (Ok drawn) rule h = cc
 rule-told (Err other) rule h = cc
 
+-- a receipt is told only of what was accepted
+receipt-accepted : (r : Result Drawn Rule) (receipt : Receipt) → ◌≡◌ {A = Result Receipt Rule} (receipt_or_rule r) (Ok receipt) → IsOk r
+receipt-accepted (Ok drawn) receipt h = refl
+receipt-accepted (Err rule) receipt h = cc
+
 -- by the tables is by the view
 pub judged-by_view : {K : Type 0} (rows : K → Option (List Row)) (h : History) (t : Tables) (keeper : K) (caller : Option ℕ) (command : Command)
     → IsSound rows h t keeper → judge caller (view caller h) command ≡ judge_by_role t caller command
@@ -64,6 +72,13 @@ judged-by_view rows h t keeper caller command sound =
 pub told-by_view : {K : Type 0} (rows : K → Option (List Row)) (h : History) (t : Tables) (keeper : K) (caller : Option ℕ) (command : Command)
     → IsSound rows h t keeper → receipt_or_rule (judge caller (view caller h) command) ≡ receipt_or_rule (judge_by_role t caller command)
 told-by_view rows h t keeper caller command sound = ap receipt_or_rule (judged-by_view rows h t keeper caller command sound)
+
+-- where the tables tell a receipt, Judge accepts
+pub accepted-by_view : {K : Type 0} (rows : K → Option (List Row)) (h : History) (t : Tables) (keeper : K) (caller : Option ℕ) (command : Command) (receipt : Receipt)
+    → IsSound rows h t keeper → ◌≡◌ {A = Result Receipt Rule} (Ok receipt) (receipt_or_rule (judge_by_role t caller command))
+    → IsOk (judge caller (view caller h) command)
+accepted-by_view rows h t keeper caller command receipt sound told =
+    receipt-accepted (judge caller (view caller h) command) receipt (told-by_view rows h t keeper caller command sound ∙ sym told)
 
 -- a rule that the tables tell is Judge's
 pub rule-judged : {K : Type 0} (rows : K → Option (List Row)) (h : History) (t : Tables) (keeper : K) (caller : Option ℕ) (command : Command) (rule : Rule)
@@ -122,3 +137,9 @@ pub caller-by_view : {K : Type 0} (rows : K → Option (List Row)) (h : History)
     → IsSound rows h t keeper → caller_at t.accounts name digest ≡ caller_of name digest h
 caller-by_view rows h t keeper name digest sound =
     ap (λ (x : Tables). caller_at x.accounts name digest) sound.same ∙ sym (Legal-caller_of name digest h sound.legal)
+
+-- where each refusal is told whatever memory there is, want of memory is told of no refusal
+pub unrefused : (r : Result Reply AllocError) (answer : Reply) → ((rule : Rule) → answer ≡ replies.Refused rule → r ≡ Ok (replies.Refused rule))
+    → OnErr r ((rule : Rule) → answer ≢ replies.Refused rule)
+unrefused (Ok reply) answer told = tt
+unrefused (Err e) answer told = λ rule is. let gone : ◌≡◌ {A = Result Reply AllocError} (Err e) (Ok (replies.Refused rule)) = told rule is in cc

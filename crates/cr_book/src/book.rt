@@ -1,10 +1,11 @@
 //! The book: one history, its tables and its keeper.
-ghost use Rattle.std.specs.Prelude.{◌≡◌, ◌≤◌, ◌++◌, ℕ, [], length, IfOk, OnOk, OnErr, IfSome, Ok, Err, ◌≢◌};
+ghost use Rattle.std.specs.Prelude.{◌≡◌, ◌≤◌, ◌++◌, ℕ, [], length, IfOk, IsOk, OnOk, OnErr, IfSome, Ok, Err, ◌≢◌};
 ghost use Rattle.cr_base.specs.declared.reply.Rule.{Rule};
 ghost use Rattle.cr_base.specs.Facts.{number_of, caller_of};
 ghost use Rattle.cr_base.specs.Logins.{query_wants_login};
 ghost use Rattle.cr_policy.specs.Judge.{judge, answer};
 ghost use Rattle.cr_policy.specs.View.{view};
+ghost use Rattle.cr_base.specs.declared.command.Query.TheVariants as queries;
 ghost use Rattle.cr_base.specs.declared.reply.Reply.TheVariants as replies;
 ghost use Rattle.cr_policy.specs.Legal.{Legal, IsAllowed, MayAsk};
 ghost use Rattle.cr_ports.specs.Count.{Rises};
@@ -86,8 +87,9 @@ impl<K: Keeper> Book<K> {
     ///
     /// The caller is nobody on a registration, and the command is within the bounds on its parts. On
     /// each error the history and the keeper's rows stay as they were. A broken rule is told whatever
-    /// memory there is. `KeeperFault` comes only where the keeper's count of faults rose, or stands at
-    /// its last value; `OutOfMemory` for want of memory alone, and then the count is as it was.
+    /// memory there is, so both other errors come only for a command that is accepted. `KeeperFault`
+    /// comes only where the keeper's count of faults rose, or stands at its last value; with all else
+    /// the count is as it was, and `OutOfMemory` comes for want of memory alone.
     pub fn command(
         &mut self,
         caller: &Option<UserNo>,
@@ -102,10 +104,14 @@ impl<K: Keeper> Book<K> {
         ensures only_rule { (rule : Rule) → result ≡ Err (BookError.Rule rule) → judge caller.now (view caller.now self.old.log) command.now ≡ Err rule }
         ensures rule_stays { (rule : Rule) → result ≡ Err (BookError.Rule rule) → self.new ≡ self.old }
 
+        // The other errors come only where Judge accepts the command.
+        ensures memory { result ≡ Err BookError.OutOfMemory → IsOk (judge caller.now (view caller.now self.old.log) command.now) }
+        ensures lost { result ≡ Err BookError.KeeperFault → IsOk (judge caller.now (view caller.now self.old.log) command.now) }
+
         ensures log_stays { OnErr result (self.new.log ≡ self.old.log) }
         ensures rows_stay { OnErr result (K.rows self.new.keeper ≡ K.rows self.old.keeper) }
         ensures fault { result ≡ Err BookError.KeeperFault → Rises (K.faults self.old.keeper) (K.faults self.new.keeper) }
-        ensures memory { result ≡ Err BookError.OutOfMemory → K.faults self.new.keeper ≡ K.faults self.old.keeper }
+        ensures steady { result ≢ Err BookError.KeeperFault → K.faults self.new.keeper ≡ K.faults self.old.keeper }
         ensures count { K.faults self.old.keeper ≤ K.faults self.new.keeper }
         ensures legal { Legal self.new.log }
     {
@@ -131,7 +137,7 @@ impl<K: Keeper> Book<K> {
         ensures log_stays { OnErr result (self.new.log ≡ self.old.log) }
         ensures rows_stay { OnErr result (K.rows self.new.keeper ≡ K.rows self.old.keeper) }
         ensures fault { result ≡ Err BookError.KeeperFault → Rises (K.faults self.old.keeper) (K.faults self.new.keeper) }
-        ensures memory { result ≡ Err BookError.OutOfMemory → K.faults self.new.keeper ≡ K.faults self.old.keeper }
+        ensures steady { result ≢ Err BookError.KeeperFault → K.faults self.new.keeper ≡ K.faults self.old.keeper }
         ensures count { K.faults self.old.keeper ≤ K.faults self.new.keeper }
         ensures legal { Legal self.new.log }
     {
@@ -163,14 +169,16 @@ impl<K: Keeper> Book<K> {
     }
 
     /// The answer to a query of this caller: a registered user, or nobody where the query wants no
-    /// login. An error only for want of memory, and none where a rule is broken: that is told whatever
-    /// memory there is. `Query::Accounts` costs a walk over all accounts, `Query::Page` a few look-ups,
+    /// login. An error only for want of memory, and none where a rule is broken or the state of the
+    /// conference is asked for: these are told whatever memory there is. The keeper isn't asked. `Query::Accounts` costs a walk over all accounts, `Query::Page` a few look-ups,
     /// one more for each name that is told, and a copy of the texts that are told, `Query::Me` a walk
     /// over her own papers and conflicts, `Query::Phase` nothing that grows.
     pub fn answer(&self, caller: &Option<UserNo>, query: &Query) -> Result<Reply, AllocError>
         requires { MayAsk self.now.log (query_wants_login query.now) caller.now }
         ensures reply { IfOk result (λ reply. reply ≡ answer caller.now (view caller.now self.now.log) query.now) }
         ensures rule { (rule : Rule) → answer caller.now (view caller.now self.now.log) query.now ≡ replies.Refused rule → result ≡ Ok (replies.Refused rule) }
+        ensures memory { OnErr result ((rule : Rule) → answer caller.now (view caller.now self.now.log) query.now ≢ replies.Refused rule) }
+        ensures sure { OnErr result (query.now ≢ queries.Phase) }
     {
         self.live.answer(self.alloc, caller, query)
     }

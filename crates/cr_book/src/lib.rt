@@ -3,6 +3,8 @@
 #![tactic(auto)]
 
 mod book;
+mod laws;
 mod rows;
 
 pub use book::{Book, BookError};
+pub use laws::law_standing_by_tables;

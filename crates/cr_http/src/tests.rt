@@ -185,6 +185,49 @@ fn failing_reads(rt: HostRuntime) -> Result<(), Fail> {
     Ok(())
 }
 
+/// What is read of the text in pieces of one byte, and how many bytes the source has left behind it.
+fn read_by_one(alloc: Global, text: &[u8]) -> Result<(RequestRead, usize), Fail> {
+    let mut pieces = Vec::new(alloc);
+    for _ in 0..text.len() {
+        pieces.push(1)?;
+    }
+    let mut source = MemSource::new(text.to_vec(alloc)?, pieces, Vec::new(alloc));
+    let mut inbox = Inbox::new(alloc);
+    let read = read_request(&mut source, &mut inbox);
+    Ok((read, source.unread().len()))
+}
+
+#[test]
+fn left_unread(rt: HostRuntime) -> Result<(), Fail> {
+    for (text, read, left) in [
+        (GET, WHOLE, 0),
+        (
+            "PUT / HTTP/1.1\r\nHost: c\r\nContent-Length: 3\r\n\r\nabcGET",
+            WHOLE,
+            3,
+        ),
+        (
+            "PUT / HTTP/1.1\r\nHost: c\r\nContent-Length: 4194305\r\n\r\nabcd",
+            RequestRead::Refused {
+                why: Refusal::TooLarge,
+                to_head: false,
+            },
+            4,
+        ),
+        (
+            "GET /\r\n\r\nab",
+            RequestRead::Refused {
+                why: Refusal::BadHttp,
+                to_head: false,
+            },
+            2,
+        ),
+    ] {
+        assert_eq!(rt; read_by_one(rt.alloc(), text.as_bytes())?, (read, left));
+    }
+    Ok(())
+}
+
 #[test]
 fn lent(rt: HostRuntime) -> Result<(), Fail> {
     let alloc = rt.alloc();

@@ -1,5 +1,8 @@
+//! Each public call once, with ample memory. Who may submit, and how often, is shown by the cases of the program
+//! `conformance`.
+
 use crate::Papers;
-use cr_base::{Entry, Mode, PaperNo, Phase, Role, Rule, Stamped, Standing, Text, UserNo};
+use cr_base::{Entry, Mode, PaperNo, Phase, Role, Stamped, Standing, Text, UserNo};
 use std::alloc::Global;
 use std::slice;
 use std::test::Fail;
@@ -32,27 +35,6 @@ fn submit(alloc: Global, papers: &mut Papers, maker: UserNo, title: &str) -> Res
     Ok(paper)
 }
 
-#[test]
-fn twenty_papers_each(rt: HostRuntime) -> Result<(), Fail> {
-    let mut papers = Papers::new(rt.alloc());
-    let (bob, carol) = (UserNo::new(2), UserNo::new(9_999));
-    for _ in 0..20 {
-        submit(rt.alloc(), &mut papers, bob, "Proofs")?;
-    }
-    submit(rt.alloc(), &mut papers, carol, "Views")?;
-    assert!(rt; papers.count() == 21);
-    let cases = [
-        (bob, Phase::Submission, Err(Rule::QuotaPapers)),
-        (bob, Phase::Setup, Err(Rule::WrongPhase)),
-        (carol, Phase::Submission, Ok(PaperNo::new(22))),
-        (carol, Phase::Bidding, Err(Rule::WrongPhase)),
-    ];
-    for (maker, phase, wanted) in cases {
-        assert!(rt; papers.judge_submit(&standing(phase), maker) == wanted);
-    }
-    Ok(())
-}
-
 /// Whether the paper has this title, and the abstract of every paper here.
 fn tells(papers: &Papers, paper: PaperNo, wanted: &str) -> bool {
     let (Some(title), Some(text)) = (papers.last_title(paper), papers.last_abstract(paper)) else {
@@ -67,6 +49,7 @@ fn papers_by_number(rt: HostRuntime) -> Result<(), Fail> {
     let (bob, carol) = (UserNo::new(2), UserNo::new(3));
     let first = submit(rt.alloc(), &mut papers, bob, "Proofs")?;
     let second = submit(rt.alloc(), &mut papers, carol, "Views")?;
+    assert!(rt; papers.count() == 2 && papers.count_of_user(bob) == 1);
     assert!(rt; papers.has(second) && !papers.has(PaperNo::new(3)));
     assert!(rt; tells(&papers, first, "Proofs") && tells(&papers, second, "Views"));
     assert!(rt; papers.is_author(carol, second) && !papers.is_author(carol, first));

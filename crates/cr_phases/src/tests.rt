@@ -1,6 +1,8 @@
+//! Each public call once, with ample memory. Each rule of a phase and a mode is shown by the cases of the program
+//! `conformance`.
+
 use crate::Stage;
 use cr_base::{Entry, Mode, Phase, Role, Rule, Stamped, Standing, UserNo};
-use std::test::Fail;
 
 fn standing(role: Role, phase: Phase) -> Standing {
     Standing {
@@ -24,67 +26,11 @@ fn stage_in(phase: Phase) -> Stage {
 }
 
 #[test]
-fn one_phase_forward(rt: HostRuntime) -> Result<(), Fail> {
-    let cases = [
-        (Phase::Setup, Role::Chair, Phase::Submission, Ok(())),
-        (Phase::Notification, Role::Chair, Phase::Closed, Ok(())),
-        (
-            Phase::Setup,
-            Role::Chair,
-            Phase::Bidding,
-            Err(Rule::WrongPhase),
-        ),
-        (
-            Phase::Bidding,
-            Role::Chair,
-            Phase::Bidding,
-            Err(Rule::WrongPhase),
-        ),
-        (
-            Phase::Reviewing,
-            Role::Chair,
-            Phase::Bidding,
-            Err(Rule::WrongPhase),
-        ),
-        (
-            Phase::Closed,
-            Role::Chair,
-            Phase::Setup,
-            Err(Rule::WrongPhase),
-        ),
-        (
-            Phase::Setup,
-            Role::Member,
-            Phase::Submission,
-            Err(Rule::NotChair),
-        ),
-        (
-            Phase::Setup,
-            Role::Account,
-            Phase::Closed,
-            Err(Rule::NotChair),
-        ),
-    ];
-    for (now, role, to, wanted) in cases {
-        let told = stage_in(now).judge_phase(&standing(role, now), to);
-        assert!(rt; told == wanted);
-    }
-    Ok(())
-}
-
-#[test]
-fn a_mode_in_setup(rt: HostRuntime) -> Result<(), Fail> {
-    let cases = [
-        (Phase::Setup, Role::Chair, Ok(())),
-        (Phase::Submission, Role::Chair, Err(Rule::WrongPhase)),
-        (Phase::Closed, Role::Chair, Err(Rule::WrongPhase)),
-        (Phase::Setup, Role::Member, Err(Rule::NotChair)),
-        (Phase::Submission, Role::Account, Err(Rule::NotChair)),
-    ];
-    for (now, role, wanted) in cases {
-        let told = stage_in(now).judge_mode(&standing(role, now));
-        assert!(rt; told == wanted);
-    }
+fn a_phase_and_a_mode(rt: HostRuntime) {
+    let setup = standing(Role::Chair, Phase::Setup);
+    assert!(rt; Stage::new().judge_phase(&setup, Phase::Submission) == Ok(()));
+    assert!(rt; Stage::new().judge_phase(&setup, Phase::Bidding) == Err(Rule::WrongPhase));
+    assert!(rt; Stage::new().judge_mode(&setup) == Ok(()));
     let mut stage = stage_in(Phase::Bidding);
     stage.apply(&Stamped {
         maker: UserNo::new(1),
@@ -95,5 +41,4 @@ fn a_mode_in_setup(rt: HostRuntime) -> Result<(), Fail> {
     });
     assert!(rt; stage.mode() == Mode::Anonymous);
     assert!(rt; stage.phase() == Phase::Bidding);
-    Ok(())
 }

@@ -1,7 +1,7 @@
 -- Folds over the part of a view before the entry at which a test first passes, and over the part after it.
 use Rattle.std.proofs.Common.{◌≡◌, ◌||◌, Bool, true, false, cond, List, [], ◌∷◌, ◌++◌, refl, sym, ap, ◌∙◌, append_assoc}
 use Rattle.std.specs.Prelude.{if◌then◌else◌}
-use Rattle.std.specs.List.{flat_map, list_any}
+use Rattle.std.specs.List.{AllByRecursion, flat_map, list_any}
 use Rattle.std.proofs.lemmas.Bool.{or_parts, false≢true}
 use Rattle.std.proofs.lemmas.List.Concat.{flat_map-append}
 use Rattle.cr_base.specs.declared.entry.Stamped.{Stamped}
@@ -117,23 +117,19 @@ module _ {A : Type 0} (r : Reader) (cut : Stamped → Bool) (cut_seen : Sighting
 
 -- ---- facts of each entry
 
-abbrev pub Each : {A : Type 0} → (A → Type 0) → List A → Type 0
-Each P [] = Unit {0}
-Each P (x ∷ xs) = P x × Each P xs
+pub AllByRecursion-append : {A : Type 0} (P : A → Type 0) (xs ys : List A) → AllByRecursion P xs → AllByRecursion P ys → AllByRecursion P (xs ++ ys)
+AllByRecursion-append P [] ys hx hy = hy
+AllByRecursion-append P (x ∷ xs) ys hx hy = (hx.0, AllByRecursion-append P xs ys hx.1 hy)
 
-pub Each-append : {A : Type 0} (P : A → Type 0) (xs ys : List A) → Each P xs → Each P ys → Each P (xs ++ ys)
-Each-append P [] ys hx hy = hy
-Each-append P (x ∷ xs) ys hx hy = (hx.0, Each-append P xs ys hx.1 hy)
+pub AllByRecursion-map : {A : Type 0} (P Q : A → Type 0) → ((x : A) → P x → Q x) → (xs : List A) → AllByRecursion P xs → AllByRecursion Q xs
+AllByRecursion-map P Q f [] h = tt
+AllByRecursion-map P Q f (x ∷ xs) h = (f x h.0, AllByRecursion-map P Q f xs h.1)
 
-pub Each-map : {A : Type 0} (P Q : A → Type 0) → ((x : A) → P x → Q x) → (xs : List A) → Each P xs → Each Q xs
-Each-map P Q f [] h = tt
-Each-map P Q f (x ∷ xs) h = (f x h.0, Each-map P Q f xs h.1)
-
-pub Each-until : {A : Type 0} (P : A → Type 0) (test : A → Bool) (xs : List A) → Each P xs → Each P (until test xs)
-Each-until P test [] h = tt
-Each-until P test (x ∷ xs) h = by (test x) (Each-until P test xs h.1)
+pub AllByRecursion-until : {A : Type 0} (P : A → Type 0) (test : A → Bool) (xs : List A) → AllByRecursion P xs → AllByRecursion P (until test xs)
+AllByRecursion-until P test [] h = tt
+AllByRecursion-until P test (x ∷ xs) h = by (test x) (AllByRecursion-until P test xs h.1)
   where
-    by : (b : Bool) → Each P (until test xs) → Each P (cond b [] (x ∷ until test xs))
+    by : (b : Bool) → AllByRecursion P (until test xs) → AllByRecursion P (cond b [] (x ∷ until test xs))
     by true k = tt
     by false k = (h.0, k)
 
@@ -142,28 +138,28 @@ abbrev KeepsAs : {A : Type 0} → (Place → Stamped → Bool) → (Stamped → 
 KeepsAs passes told told' P = (at : Place) (e : Stamped) → P e → only (passes at e) (told e) ≡ told' e
 
 module _ {A : Type 0} (cut : Stamped → Bool) (passes : Place → Stamped → Bool) (told told' : Stamped → List A) (P : Stamped → Type 0) (same : KeepsAs passes told told' P) where
-  kept-each : (before H : History) → Each P H → kept passes told before H ≡ flat_map told' H
+  kept-each : (before H : History) → AllByRecursion P H → kept passes told before H ≡ flat_map told' H
   kept-each before [] h = refl
   kept-each before (e ∷ after) h =
       ap (λ xs. xs ++ kept passes told (before ++ e ∷ []) after) (same (record { before = before; after = after }) e h.0)
       ∙ ap (λ ys. told' e ++ ys) (kept-each (before ++ e ∷ []) after h.1)
 
-  pub kept_until-each : (before H : History) → Each P (until cut H) → kept_until cut passes told before H ≡ flat_map told' (until cut H)
+  pub kept_until-each : (before H : History) → AllByRecursion P (until cut H) → kept_until cut passes told before H ≡ flat_map told' (until cut H)
   kept_until-each before [] h = refl
   kept_until-each before (e ∷ after) h = by (cut e) h (kept_until-each (before ++ e ∷ []) after)
     where
-      by : (b : Bool) → Each P (cond b [] (e ∷ until cut after)) → (Each P (until cut after) → kept_until cut passes told (before ++ e ∷ []) after ≡ flat_map told' (until cut after))
+      by : (b : Bool) → AllByRecursion P (cond b [] (e ∷ until cut after)) → (AllByRecursion P (until cut after) → kept_until cut passes told (before ++ e ∷ []) after ≡ flat_map told' (until cut after))
           → cond b [] (only (passes (record { before = before; after = after }) e) (told e) ++ kept_until cut passes told (before ++ e ∷ []) after) ≡ flat_map told' (cond b [] (e ∷ until cut after))
       by true h later = refl
       by false h later =
           ap (λ xs. xs ++ kept_until cut passes told (before ++ e ∷ []) after) (same (record { before = before; after = after }) e h.0)
           ∙ ap (λ ys. told' e ++ ys) (later h.1)
 
-  pub kept_since-each : (before H : History) → Each P (since cut H) → kept_since cut passes told before H ≡ flat_map told' (since cut H)
+  pub kept_since-each : (before H : History) → AllByRecursion P (since cut H) → kept_since cut passes told before H ≡ flat_map told' (since cut H)
   kept_since-each before [] h = refl
   kept_since-each before (e ∷ after) h = by (cut e) h (kept_since-each (before ++ e ∷ []) after)
     where
-      by : (b : Bool) → Each P (cond b after (since cut after)) → (Each P (since cut after) → kept_since cut passes told (before ++ e ∷ []) after ≡ flat_map told' (since cut after))
+      by : (b : Bool) → AllByRecursion P (cond b after (since cut after)) → (AllByRecursion P (since cut after) → kept_since cut passes told (before ++ e ∷ []) after ≡ flat_map told' (since cut after))
           → cond b (kept passes told (before ++ e ∷ []) after) (kept_since cut passes told (before ++ e ∷ []) after) ≡ flat_map told' (cond b after (since cut after))
       by true h later = kept-each (before ++ e ∷ []) after h
       by false h later = later h

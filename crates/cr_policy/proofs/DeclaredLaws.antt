@@ -11,15 +11,15 @@ use Rattle.cr_base.specs.Lists.{given, listed, is_number, until, since}
 use Rattle.cr_base.specs.History.{History, declared_told}
 use Rattle.cr_base.specs.Facts.{authors_of, is_author, is_declared, declared_by_authors}
 use Rattle.cr_base.specs.Words.{is_chair}
+use Rattle.cr_policy.specs.Invariants.{opens, is_opening, ByAuthor, ByHerselfOrOther, Early, Late, DeclaresInTime}
 use Rattle.cr_policy.specs.Part as part
 use Rattle.cr_policy.specs.Sighting.{Sighting, where_shown}
 use Rattle.cr_policy.specs.Triggers.{Reader, reader, Place, user_named, clear_chairs, from}
 use Rattle.cr_policy.specs.View.{view, sight, is_seen, joined}
 use Rattle.cr_policy.specs.ViewFacts.{only, is_user, conflict_user_seen, own_or_other_seen, bidding_seen, declared_in_view}
 use Rattle.cr_policy.proofs.Cuts.{CutsAt, sights-until, sights-since, kept_until-each, kept_since-each, flat_map-cut}
-use Rattle.cr_policy.proofs.InTime.{opens, is_opening, ByAuthor, ByHerselfOrOther, Early, Late, DeclaresInTime}
 use Rattle.cr_policy.proofs.Tells.{stamp, passes, silent, told_where, paper_value}
-use Rattle.cr_policy.proofs.Walk.{only-false, Tells}
+use Rattle.cr_policy.proofs.Walk.{only-false, list_any-nobody, Tells}
 
 -- ---- everyone sees the bidding opened
 
@@ -162,11 +162,7 @@ module _ (u p : ℕ) (H : History) (author : is_author (Some u) p H ≡ true) wh
       ∙ ap (λ ys. flat_map made_told (until is_opening H) ++ ys) second
       ∙ flat_map-cut is_opening made_told (λ e h. opening-silent (is_author (Some e.maker) p H) e.entry h) H
 
-nobody_author : (xs : List ℕ) → list_any (is_number None) xs ≡ false
-nobody_author [] = refl
-nobody_author (x ∷ xs) = nobody_author xs
-
 -- DeclaredOf on an author's view gives whom the paper's authors declared
 pub declared-seen_by_author : (u : Option ℕ) (p : ℕ) (H : History) → DeclaresInTime H → is_author u p H ≡ true → declared_in_view u p (view u H) ≡ declared_by_authors p H
-declared-seen_by_author None p H in_time author = absurd (true≢false (sym author ∙ nobody_author (authors_of p H)))
+declared-seen_by_author None p H in_time author = absurd (true≢false (sym author ∙ list_any-nobody (authors_of p H)))
 declared-seen_by_author (Some u) p H in_time author = declared-seen_by u p H author in_time

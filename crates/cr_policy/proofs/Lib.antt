@@ -1,8 +1,15 @@
+pub mod BoundsLeft
+pub mod BoundsParts
+pub mod BoundsTexts
+pub mod BoundsWalk
 pub mod CallerLaws
+pub mod ConferenceProofs
 pub mod ConflictTies
 pub mod Cuts
 pub mod DeclaredLaws
+pub mod DigestLaws
 pub mod GroupLaws
+pub mod InOrder
 pub mod InTime
 pub mod JudgeTies
 pub mod LegalLaws
@@ -14,6 +21,7 @@ pub mod PageTies
 pub mod PaperMade
 pub mod PaperTies
 pub mod RoleTies
+pub mod RuleLaws
 pub mod SizeTies
 pub mod StageTies
 pub mod StandingLaws

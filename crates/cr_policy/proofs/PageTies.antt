@@ -20,7 +20,7 @@ use Rattle.cr_policy.specs.ViewFacts.{is_declared_in_view, declared_in_view, use
 use Rattle.cr_policy.specs.Judge.{answer}
 use Rattle.cr_policy.proofs.ConflictTies.{is_among, is_declared-tables, declared_by_authors-tables}
 use Rattle.cr_policy.proofs.DeclaredLaws.{declared-seen_by_author}
-use Rattle.cr_policy.proofs.InTime.{DeclaresInTime}
+use Rattle.cr_policy.specs.Invariants.{DeclaresInTime}
 use Rattle.cr_policy.proofs.OrderTies.{has_order-tables, users-seconds_of}
 use Rattle.cr_policy.proofs.StandingLaws.{accounts-seen}
 use Rattle.cr_policy.proofs.PageTells.{title-seen, abstract-seen, conflicts-seen}

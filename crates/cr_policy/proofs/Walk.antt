@@ -1,10 +1,10 @@
 -- From what each entry shows to a fold over the view.
-use Rattle.std.proofs.Common.{◌≡◌, Bool, true, false, List, [], ◌∷◌, ◌++◌, refl, sym, ap, ◌∙◌, append-nil, ◌||◌, Option, Some, None}
+use Rattle.std.proofs.Common.{◌≡◌, ℕ, Bool, true, false, List, [], ◌∷◌, ◌++◌, refl, sym, ap, ◌∙◌, append-nil, ◌||◌, Option, Some, None}
 use Rattle.std.specs.List.{flat_map, list_any}
 use Rattle.std.proofs.lemmas.Bool.{or_parts, true≢false}
 use Rattle.std.proofs.lemmas.List.Concat.{flat_map-append}
 use Rattle.cr_base.specs.declared.entry.Stamped.{Stamped}
-use Rattle.cr_base.specs.Lists.{given, last, last_from, is_nothing}
+use Rattle.cr_base.specs.Lists.{given, is_number, last, last_from, is_nothing}
 use Rattle.cr_base.specs.History.{History}
 use Rattle.cr_policy.specs.Sighting.{Sighting}
 use Rattle.cr_policy.specs.Triggers.{Reader, Place}
@@ -57,6 +57,11 @@ sights-kept r seen told passes tells before (e ∷ after) =
     flat_map-append seen (sight r at e) (sights r (before ++ e ∷ []) after)
     ∙ (ap (λ xs. xs ++ flat_map seen (sights r (before ++ e ∷ []) after)) (tells at e)
     ∙ ap (λ ys. only (passes at e) (told e) ++ ys) (sights-kept r seen told passes tells (before ++ e ∷ []) after))
+
+-- nobody is none of any users
+pub list_any-nobody : (xs : List ℕ) → list_any (is_number None) xs ≡ false
+list_any-nobody [] = refl
+list_any-nobody (x ∷ xs) = list_any-nobody xs
 
 or_step : (b x y z : Bool) → x ≡ (y || z) → (b || x) ≡ ((b || y) || z)
 or_step true x y z h = refl

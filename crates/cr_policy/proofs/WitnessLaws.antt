@@ -17,7 +17,7 @@ use Rattle.cr_policy.specs.Witness.{two_registrations, made_anonymous, submissio
 use Rattle.cr_policy.specs.Laws.{TwoRegistrations, DigestsHidden, OneSubmission, OneConflict}
 use Rattle.cr_policy.proofs.LegalLaws.{Legal-step}
 
-abbrev register : List ℕ → List ℕ → Call
+abbrev pub register : List ℕ → List ℕ → Call
 register name digest = record { caller = None; command = Register name digest }
 
 two_calls : (alice bob : List ℕ) → length alice ≡ 32 → length bob ≡ 32 → Legal (two_registrations alice bob)
@@ -53,12 +53,8 @@ ascii (b ∷ bytes) h zero = let few = (and_parts (nat_le b 127) (list_all (λ b
     low b h = grind (arith, nat_tests)
 ascii (b ∷ bytes) h (suc i) = ascii bytes (and_parts (nat_le b 127) (list_all (λ b. nat_le b 127) bytes) h).1 i
 
--- the two texts are UTF-8
-title-utf8 : is_utf8 (codes "Proofs") ≡ true
-title-utf8 = is_utf8-from_IsUtf8 (codes "Proofs") (IsUtf8-from_ascii (codes "Proofs") (ascii (codes "Proofs") refl))
-
-abstract-utf8 : is_utf8 (codes "We prove.") ≡ true
-abstract-utf8 = is_utf8-from_IsUtf8 (codes "We prove.") (IsUtf8-from_ascii (codes "We prove.") (ascii (codes "We prove.") refl))
+pub ascii-utf8 : (bytes : List ℕ) → list_all (λ b. nat_le b 127) bytes ≡ true → is_utf8 bytes ≡ true
+ascii-utf8 bytes h = is_utf8-from_IsUtf8 bytes (IsUtf8-from_ascii bytes (ascii bytes h))
 
 hides : (alice bob : List ℕ) → Legal (two_registrations alice bob) → Legal (made_anonymous alice bob)
 hides alice bob legal =
@@ -73,7 +69,7 @@ opens alice bob legal =
 submits : (alice bob : List ℕ) → Legal (submission_opened alice bob) → Legal (one_submission alice bob)
 submits alice bob legal =
     called (submission_opened alice bob) (one_submission alice bob) (record { caller = Some 2; command = Submit (codes "Proofs") (codes "We prove.") }) legal
-    (record { caller = refl; bounded = (record { some = omega arith; few = omega arith; bytes = refl; utf8 = title-utf8 }, record { few = omega arith; utf8 = abstract-utf8 }) }) refl
+    (record { caller = refl; bounded = (record { some = omega arith; few = omega arith; bytes = refl; utf8 = ascii-utf8 (codes "Proofs") refl }, record { few = omega arith; utf8 = ascii-utf8 (codes "We prove.") refl }) }) refl
 
 one_submission-follows : (alice bob : List ℕ) → length alice ≡ 32 → length bob ≡ 32 → Legal (one_submission alice bob)
 one_submission-follows alice bob ha hb = submits alice bob (opens alice bob (hides alice bob (two_calls alice bob ha hb)))

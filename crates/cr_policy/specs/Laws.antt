@@ -1,5 +1,6 @@
 -- The laws of views.
 use Rattle.std.specs.Prelude.{ℕ, ◌≡◌, List, [], ◌∷◌, length, Option, Some, None, IsTrue, codes}
+use Rattle.std.specs.List.{AllByRecursion}
 use Rattle.cr_base.specs.declared.command.Command.{Command}
 use Rattle.cr_base.specs.declared.command.Query.{Query}
 use Rattle.cr_base.specs.declared.words.Role.TheVariants.{Chair}
@@ -8,6 +9,7 @@ use Rattle.cr_base.specs.Facts.{standing_of, role_of, is_author, is_conflicted, 
 use Rattle.cr_base.specs.Tables.{tables_of}
 use Rattle.cr_base.specs.Judging.{judge_by_role, answer_by_role}
 use Rattle.cr_base.specs.Logins.{command_wants_login, query_wants_login}
+use Rattle.cr_policy.specs.Invariants.{Invariants, IsOwnDigest}
 use Rattle.cr_policy.specs.View.{view}
 use Rattle.cr_policy.specs.ViewFacts.{standing_in_view, accounts_in_view, papers_in_view, own_papers_in_view, number_in_view, declared_in_view, authors_in_view, title_in_view, abstract_in_view}
 use Rattle.cr_policy.specs.Judge.{judge, answer}
@@ -36,6 +38,14 @@ pub record ViewSuffices : Type 0 where
 -- of it sees
 abbrev pub DeclaredFromView : Type 0
 DeclaredFromView = (u : Option ℕ) (p : ℕ) (H : History) → Legal H → IsTrue (is_author u p H) → declared_in_view u p (view u H) ≡ declared_by_authors p H
+
+-- a legal history keeps the invariants
+abbrev pub LegalKeeps : Type 0
+LegalKeeps = (H : History) → Legal H → Invariants H
+
+-- so a digest is its user's alone: of the digests in a legal history a user is shown her own, and nobody is shown any
+abbrev pub DigestsAreOwn : Type 0
+DigestsAreOwn = (u : Option ℕ) (H : History) → Legal H → AllByRecursion (IsOwnDigest u) (view u H)
 
 -- a history of two users is legal
 pub record IsLegalWitness (H : History) : Type 0 where

@@ -1,9 +1,15 @@
+pub mod Conference
+pub mod ConferenceLaws
+pub mod ConferenceViews
+pub mod Invariants
 pub mod Judge
 pub mod Laws
 pub mod Legal
 pub mod Part
+pub mod ShownTo
 pub mod Sighting
 pub mod Triggers
 pub mod View
+pub mod ViewBounds
 pub mod ViewFacts
 pub mod Witness

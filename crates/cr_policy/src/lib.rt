@@ -1,13 +1,16 @@
 //! Which parts of the history a user sees, and the laws of what follows from them.
 //!
 //! The definitions stand in this crate's specs: the trigger table, the view that it selects, the
-//! facts of a view, judgement and answer by a view alone, and legal histories. The functions here
-//! do nothing: each has a law as its contract.
+//! facts of a view, judgement and answer by a view alone, legal histories and what these keep, and a
+//! small conference with the whole view of each reader. The functions here do nothing: each has a law
+//! as its contract.
 #![tactic(auto)]
 
 ghost use Rattle.std.specs.Prelude.{ℕ, Option};
 ghost use Rattle.cr_base.specs.History.{History};
-ghost use Rattle.cr_policy.specs.Laws.{StandingFromView, PublicFactsFromView, ViewSuffices, DeclaredFromView, TwoRegistrations, DigestsHidden, OneSubmission, OneConflict};
+ghost use Rattle.cr_policy.specs.ConferenceLaws.{ConferenceLegal, ViewsBeforeBidding, ViewsInBidding};
+ghost use Rattle.cr_policy.specs.Laws.{StandingFromView, PublicFactsFromView, ViewSuffices, DeclaredFromView, LegalKeeps, DigestsAreOwn, TwoRegistrations, DigestsHidden, OneSubmission, OneConflict};
+ghost use Rattle.cr_policy.specs.ViewBounds.{EntriesShown, MarksShown, PapersShown, UsersShown, NamesShown, DigestsShown, RolesShown, PhasesShown, ModesShown, MakersShown, TitlesShown, AbstractsShown, SwitchesShown, OneTitle, OneAbstract, OutsidersShown, StrangersShown, NobodyShown};
 
 /// How a user stands can be read off what she sees: phase, mode, role and her ties to any paper, of
 /// every history and for every user, nobody among them. An author sees all authors of her paper, and
@@ -36,6 +39,17 @@ pub fn law_declared()
     ensures { DeclaredFromView }
 {}
 
+/// What every legal history keeps. Each entry is within its bounds, so that its row spells it; each
+/// fits the tables of what stands before it; each is in order there: who registers makes the entry
+/// herself and every other maker has registered before, users and papers are numbered as they come,
+/// names are new, phases go on by one, and what is set, submitted, named or declared is so in its
+/// phase, by whom may. No command's entries are cut off, and authors declare conflicts before the
+/// bidding. So a digest is its user's alone: no view shows it to anybody else.
+pub fn law_legal()
+    ensures invariants { LegalKeeps }
+    ensures own_digests { DigestsAreOwn }
+{}
+
 /// There are legal histories: two registrations, of which nobody sees a digest, and the first user
 /// no other than her own. One that goes on with a submission: before the bidding a chair sees of it
 /// the paper's number alone, not who made it, title or abstract; its author sees all of it. And one
@@ -46,4 +60,41 @@ pub fn law_witness()
     ensures hidden { DigestsHidden }
     ensures submitted { OneSubmission }
     ensures conflict { OneConflict }
+{}
+
+/// What each kind of reader sees of a small conference, entry by entry and all of it: nobody, an
+/// account, an author, a member and a chair in no conflict, and a member and a chair in conflict, of
+/// two papers with every kind of entry, in each mode, before the bidding and in it.
+pub fn law_views()
+    ensures legal { ConferenceLegal }
+    ensures before { ViewsBeforeBidding }
+    ensures bidding { ViewsInBidding }
+{}
+
+/// What a view shows, neither more nor less, of every history, legal or not, for every user and for
+/// nobody. The first clauses go part by part: a view has one sighting of each entry that the user is
+/// told of, and of each part exactly what she may know, by who wrote the paper, who is on the
+/// committee, who is declared in conflict, phase and mode. The last say what that leaves: of a paper's
+/// titles and abstracts the last one, for all but its authors; little of a paper for outsiders, who
+/// neither wrote nor handle it, so in conflict, or on no committee, or before the bidding; for strangers
+/// what is public and their own entries; and for nobody what is public.
+pub fn law_bounds()
+    ensures entries { EntriesShown }
+    ensures marks { MarksShown }
+    ensures papers { PapersShown }
+    ensures users { UsersShown }
+    ensures names { NamesShown }
+    ensures digests { DigestsShown }
+    ensures roles { RolesShown }
+    ensures phases { PhasesShown }
+    ensures modes { ModesShown }
+    ensures makers { MakersShown }
+    ensures titles { TitlesShown }
+    ensures abstracts { AbstractsShown }
+    ensures switches { SwitchesShown }
+    ensures one_title { OneTitle }
+    ensures one_abstract { OneAbstract }
+    ensures outsiders { OutsidersShown }
+    ensures strangers { StrangersShown }
+    ensures nobody { NobodyShown }
 {}

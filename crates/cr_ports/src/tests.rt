@@ -6,7 +6,7 @@ use crate::{
 };
 use cr_base::{Blob, Row};
 use std::alloc::Global;
-use std::io::Cursor;
+use std::io::{self, Cursor, Read, Write};
 use std::process::Abort;
 use std::test::Fail;
 
@@ -21,31 +21,86 @@ fn write<S: Sink>(sink: &mut S, piece: &[u8]) -> WriteStep {
     sink.write(piece)
 }
 
+/// Gives one byte a call, and fails at its second call.
+#[derive(Drop)]
+struct FailingReader {
+    calls: u64,
+}
+
+impl Read for FailingReader {
+    fn read(&mut self, buf: &mut [u8]) -> io::Result<usize> {
+        self.calls = self.calls.saturating_add(1);
+        if self.calls == 2 {
+            return Err(io::Error::from(io::ErrorKind::Other));
+        }
+        if buf.is_empty() {
+            return Ok(0);
+        }
+        buf[0] = b'a';
+        Ok(1)
+    }
+}
+
+/// Takes two bytes a call, and fails at its second flush.
+#[derive(Drop)]
+struct FailingFlush {
+    flushes: u64,
+}
+
+impl Write for FailingFlush {
+    fn write(&mut self, buf: &[u8]) -> io::Result<usize> {
+        Ok(buf.len().min(2))
+    }
+
+    fn flush(&mut self) -> io::Result<()> {
+        self.flushes = self.flushes.saturating_add(1);
+        if self.flushes == 2 {
+            return Err(io::Error::from(io::ErrorKind::Other));
+        }
+        Ok(())
+    }
+}
+
 #[test]
 fn sources(rt: HostRuntime) -> Result<(), Fail> {
     let alloc = rt.alloc();
-    let text = b"0123456".as_slice();
     let pieces = vec![in alloc; 1, 0, 9]?;
     let failing = vec![in alloc; 1, 3]?;
-    let mut source = MemSource::new(text.to_vec(alloc)?, pieces, failing);
-    assert_eq!(rt; read(&mut source), ReadStep::Got(1));
-    assert_eq!(rt; read(&mut source), ReadStep::Failed);
-    assert_eq!(rt; read(&mut source), ReadStep::Got(4));
-    assert_eq!(rt; read(&mut source), ReadStep::Failed);
-    assert_eq!(rt; source.unread(), b"56".as_slice());
-    assert_eq!(rt; read(&mut source), ReadStep::Got(2));
-    assert_eq!(rt; read(&mut source), ReadStep::End);
-
-    let mut plain = PlainSource::new(text.to_vec(alloc)?);
-    assert_eq!(rt; read(&mut plain), ReadStep::Got(4));
-    assert_eq!(rt; read(&mut plain), ReadStep::Got(3));
-    assert_eq!(rt; read(&mut plain), ReadStep::End);
-
-    let mut reader = ReadSource::new(Cursor::new(text));
-    assert_eq!(rt; read(&mut reader), ReadStep::Got(4));
-    assert_eq!(rt; read(&mut reader), ReadStep::Got(3));
-    assert_eq!(rt; read(&mut reader), ReadStep::End);
+    let mut source = MemSource::new(b"0123456".as_slice().to_vec(alloc)?, pieces, failing);
+    for want in [
+        ReadStep::Got(1),
+        ReadStep::Failed,
+        ReadStep::Got(4),
+        ReadStep::Failed,
+        ReadStep::Got(2),
+        ReadStep::End,
+    ] {
+        assert_eq!(rt; read(&mut source), want);
+    }
     Ok(())
+}
+
+#[test]
+fn plain_sources(rt: HostRuntime) -> Result<(), Fail> {
+    let mut source = PlainSource::new(b"0123456".as_slice().to_vec(rt.alloc())?);
+    for want in [ReadStep::Got(4), ReadStep::Got(3), ReadStep::End] {
+        assert_eq!(rt; read(&mut source), want);
+    }
+    Ok(())
+}
+
+#[test]
+fn readers(rt: HostRuntime) {
+    let mut whole = ReadSource::new(Cursor::new(b"0123456".as_slice()));
+    let mut failing = ReadSource::new(FailingReader { calls: 0 });
+    for (want, want_failing) in [
+        (ReadStep::Got(4), ReadStep::Got(1)),
+        (ReadStep::Got(3), ReadStep::Failed),
+        (ReadStep::End, ReadStep::Got(1)),
+    ] {
+        assert_eq!(rt; read(&mut whole), want);
+        assert_eq!(rt; read(&mut failing), want_failing);
+    }
 }
 
 #[test]
@@ -54,17 +109,33 @@ fn sinks(rt: HostRuntime) -> Result<(), Fail> {
     let pieces = vec![in alloc; 1, 0, 3]?;
     let failing = vec![in alloc; 1]?;
     let mut sink = MemSink::new(alloc, 6, pieces, failing)?;
-    assert_eq!(rt; write(&mut sink, b"0123"), WriteStep::Took(1));
-    assert_eq!(rt; write(&mut sink, b"1234"), WriteStep::Failed);
-    assert_eq!(rt; write(&mut sink, b"1234"), WriteStep::Took(3));
-    assert_eq!(rt; write(&mut sink, b"4567"), WriteStep::Took(2));
-    assert_eq!(rt; write(&mut sink, b"67"), WriteStep::Failed);
-    assert_eq!(rt; write(&mut sink, b""), WriteStep::Took(0));
+    for (piece, want) in [
+        (b"0123".as_slice(), WriteStep::Took(1)),
+        (b"1234".as_slice(), WriteStep::Failed),
+        (b"1234".as_slice(), WriteStep::Took(3)),
+        (b"4567".as_slice(), WriteStep::Took(2)),
+        (b"67".as_slice(), WriteStep::Failed),
+        (b"".as_slice(), WriteStep::Took(0)),
+    ] {
+        assert_eq!(rt; write(&mut sink, piece), want);
+    }
     assert_eq!(rt; sink.taken(), b"012345".as_slice());
-
-    let mut out = WriteSink::new(Vec::new(alloc));
-    assert_eq!(rt; write(&mut out, b"0123"), WriteStep::Took(4));
     Ok(())
+}
+
+#[test]
+fn writers(rt: HostRuntime) {
+    let mut short = [0; 6];
+    let mut full = WriteSink::new(short.as_mut_slice());
+    let mut failing = WriteSink::new(FailingFlush { flushes: 0 });
+    for (want, want_failing) in [
+        (WriteStep::Took(4), WriteStep::Took(2)),
+        (WriteStep::Took(2), WriteStep::Failed),
+        (WriteStep::Failed, WriteStep::Took(2)),
+    ] {
+        assert_eq!(rt; write(&mut full, b"0123"), want);
+        assert_eq!(rt; write(&mut failing, b"0123"), want_failing);
+    }
 }
 
 /// A row of this kind and nothing else.

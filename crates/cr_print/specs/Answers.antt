@@ -70,3 +70,12 @@ reply_text (replies.Me me) is_head closes = me_text me is_head closes
 -- want of memory, which ends the connection
 abbrev pub no_memory_text : Bool → List ℕ
 no_memory_text is_head = refusal_text NoMemory is_head true
+
+-- the answer is of bounded length
+abbrev pub IsBrief : Reply → Type 0
+IsBrief (replies.Accepted receipt) = Unit {0}
+IsBrief (replies.Refused rule) = Unit {0}
+IsBrief (replies.Accounts accounts) = ⊥
+IsBrief (replies.Conference conference) = Unit {0}
+IsBrief (replies.Page page) = ⊥
+IsBrief (replies.Me me) = ⊥

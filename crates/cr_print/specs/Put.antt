@@ -19,7 +19,8 @@ pub record Puts (old new : Bytes) (text : List ℕ) (n : ℕ) : Type 0 where
 abbrev pub Appends : {E : Type 0} → Result (Unit {0}) E → Bytes → Bytes → List ℕ → Type 0
 Appends r old new text = OnOk r (new.items ≡ old.items ++ text)
 
--- the text was appended whole, or memory ran out and nothing was
+-- the text was appended whole, or memory ran out and nothing was; the room never shrinks
 pub record Prints {E : Type 0} (r : Result (Unit {0}) E) (old new : Bytes) (text : List ℕ) : Type 0 where
   pub ok : OnOk r (new.items ≡ old.items ++ text)
   pub err : OnErr r (new.items ≡ old.items)
+  pub capacity : vec_capacity old ≤ vec_capacity new

@@ -1,11 +1,11 @@
 //! Receipts and replies.
-ghost use Rattle.std.specs.Prelude.{◌≡◌, ◌≤◌, ◌++◌, codes, decimal, length};
+ghost use Rattle.std.specs.Prelude.{◌≡◌, ◌≤◌, ◌++◌, codes, decimal, length, OnErr};
 ghost use Rattle.json.specs.Print.{quoted};
 ghost use Rattle.cr_base.specs.Words.{role_name};
 ghost use Rattle.cr_print.specs.Put.{HasRoom, Prints, Puts};
 ghost use Rattle.cr_print.specs.Receipt.{receipt_status, receipt_content};
 ghost use Rattle.cr_print.specs.Conference.{conference_content};
-ghost use Rattle.cr_print.specs.Answers.{answer_text, receipt_text, conference_text, accounts_text, page_text, me_text, reply_text};
+ghost use Rattle.cr_print.specs.Answers.{answer_text, receipt_text, conference_text, accounts_text, page_text, me_text, reply_text, IsBrief};
 
 use crate::accounts::accounts_content;
 use crate::head::{Extra, HEAD_ROOM, print_head};
@@ -194,7 +194,8 @@ pub fn print_reply(
     is_head: bool,
     closes: bool,
 ) -> Result<(), AllocError>
-    ensures { Prints result into.old into.new (reply_text reply.now is_head closes) }
+    ensures prints { Prints result into.old into.new (reply_text reply.now is_head closes) }
+    ensures sure { OnErr result (IsBrief reply.now → HasRoom into.old 512 → ⊥) }
 {
     match reply {
         Reply::Accepted(receipt) => {

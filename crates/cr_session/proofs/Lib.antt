@@ -1,9 +1,11 @@
+pub mod TwoRunsLaws
 pub mod Runs
 pub mod WishRuns
-pub mod Taking
+pub mod WritingLaws
 pub mod Turns
 pub mod TurnLaws
 pub mod Requests
+pub mod NoFurther
 pub mod Rounds
 pub mod ReadLaws
 pub mod Connections

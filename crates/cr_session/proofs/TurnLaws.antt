@@ -10,7 +10,7 @@ use Rattle.cr_base.specs.declared.reply.Rule.{Rule}
 use Rattle.cr_base.specs.History.{History}
 use Rattle.cr_base.specs.Judging.{Drawn}
 use Rattle.cr_base.specs.Logins.{query_wants_login}
-use Rattle.cr_policy.specs.Judge.{judge}
+use Rattle.cr_policy.specs.Judge.{judge, answer}
 use Rattle.cr_policy.specs.View.{view}
 use Rattle.cr_policy.proofs.LegalLaws.{Legal-caller_registered}
 use Rattle.cr_bodies.specs.declared.credentials.Credentials.{Credentials}
@@ -24,53 +24,65 @@ use Rattle.cr_wire.specs.Caller.{caller, reads_credentials, user_told, wants_log
 use Rattle.cr_session.specs.declared.turn.Turn.{Turn}
 use Rattle.cr_session.specs.declared.turn.Turn.TheVariants as turns
 use Rattle.cr_session.specs.Told.{told, told_to, served_to, is_unauthorized, reply_of, drawn, drawn_for, drawn_of, accepted, and_drawn, step}
-use Rattle.cr_session.specs.Turning.{Turns, Answers, JudgesCommand, AnswersQuery}
+use Rattle.cr_session.specs.Replay.{Ledger}
+use Rattle.cr_session.specs.Turning.{Turns, Answers, JudgesCommand, AnswersQuery, WantsRoom, MayWantFor, MayWantMemory}
+use Rattle.cr_print.specs.Answers.{IsBrief}
+use Rattle.cr_base.specs.declared.reply.Reply.{Reply}
+use Rattle.cr_base.specs.declared.reply.Reply.TheVariants as replies
 
 -- what a wish is told, by what it is and who gives it, where she may
-told-by : (H : History) (w : Wish) (u : Option ℕ) (what : What) (close : Bool) → w.what ≡ what → u ≡ caller H w → is_unauthorized u what ≡ false → told H w close ≡ served_to u H w.is_head close what
+told-by : (H : History) (w : Wish) (u : Option ℕ) (what : What) (close : Bool) → w.what ≡ what → u ≡ caller H w → is_unauthorized u what ≡ false → told H w close ≡ served_to u (view u H) w.is_head close what
 unfolding told
 told-by H w u what close is by may =
-    ap (told_to (caller H w) H w.is_head close) is
-    ∙ ap (λ v. told_to v H w.is_head close what) (sym by)
-    ∙ ap (λ b. cond b (refusal_text refused.Unauthorized w.is_head close) (served_to u H w.is_head close what)) may
+    ap (told_to (caller H w) (view (caller H w) H) w.is_head close) is
+    ∙ ap (λ v. told_to v (view v H) w.is_head close what) (sym by)
+    ∙ ap (λ b. cond b (refusal_text refused.Unauthorized w.is_head close) (served_to u (view u H) w.is_head close what)) may
 
-drawn-by : (H : History) (w : Wish) (u : Option ℕ) (what : What) → w.what ≡ what → u ≡ caller H w → is_unauthorized u what ≡ false → drawn H w ≡ drawn_of u H what
+drawn-by : (H : History) (w : Wish) (u : Option ℕ) (what : What) → w.what ≡ what → u ≡ caller H w → is_unauthorized u what ≡ false → drawn H w ≡ drawn_of u (view u H) what
 unfolding drawn
 drawn-by H w u what is by may =
-    ap (drawn_for (caller H w) H) is
-    ∙ ap (λ v. drawn_for v H what) (sym by)
-    ∙ ap (λ b. cond b None (drawn_of u H what)) may
+    ap (drawn_for (caller H w) (view (caller H w) H)) is
+    ∙ ap (λ v. drawn_for v (view v H) what) (sym by)
+    ∙ ap (λ b. cond b None (drawn_of u (view u H) what)) may
+
+-- who wishes it may, and it wants room
+may-want : (H : History) (w : Wish) (u : Option ℕ) (what : What) → w.what ≡ what → u ≡ caller H w → is_unauthorized u what ≡ false → WantsRoom u (view u H) what → MayWantMemory H w
+may-want H w u what is by may wants =
+    subst (λ (v : Option ℕ). MayWantFor v (view v H) w.what) by (subst (λ (x : What). MayWantFor u (view u H) x) (sym is) (may, wants))
 
 -- ---- nobody, where a login is wanted
 
-pub unauthorized : (w : Wish) (old : History) (u : Option ℕ) → u ≡ caller old w → is_unauthorized u w.what ≡ true → Answers (turns.Refused refused.Unauthorized) w old old
+pub unauthorized : (w : Wish) (b : Ledger) (u : Option ℕ) → u ≡ caller b.history w → is_unauthorized u w.what ≡ true → Answers (turns.Refused refused.Unauthorized) w b b
 unfolding told drawn
-unauthorized w old u by is =
+unauthorized w b u by is =
+    let old : History = b.history in
     let now : is_unauthorized (caller old w) w.what ≡ true = ap (λ v. is_unauthorized v w.what) (sym by) ∙ is in
     record {
-      told_is = λ close. sym (ap (λ b. cond b (refusal_text refused.Unauthorized w.is_head close) (served_to (caller old w) old w.is_head close w.what)) now);
-      stepped = sym (ap (λ b. and_drawn old (cond b None (drawn_of (caller old w) old w.what))) now);
+      told_is = λ close. sym (ap (λ t. cond t (refusal_text refused.Unauthorized w.is_head close) (served_to (caller old w) (view (caller old w) old) w.is_head close w.what)) now);
+      stepped = sym (ap (λ t. and_drawn old (cond t None (drawn_of (caller old w) (view (caller old w) old) w.what))) now);
+      steady = refl;
     }
 
 -- ---- what is no command and no query
 
 -- a wish that is told a refusal, and adds nothing
-refused-turn : (r : Refused) (w : Wish) (u : Option ℕ) (what : What) (old : History) → w.what ≡ what → u ≡ caller old w → is_unauthorized u what ≡ false
-    → ((close : Bool) → refusal_text r w.is_head close ≡ served_to u old w.is_head close what) → drawn_of u old what ≡ None
-    → Answers (turns.Refused r) w old old
-refused-turn r w u what old is by may text none = record {
-  told_is = λ close. text close ∙ sym (told-by old w u what close is by may);
-  stepped = sym (ap (and_drawn old) (drawn-by old w u what is by may ∙ none));
+refused-turn : (r : Refused) (w : Wish) (u : Option ℕ) (what : What) (b : Ledger) → w.what ≡ what → u ≡ caller b.history w → is_unauthorized u what ≡ false
+    → ((close : Bool) → refusal_text r w.is_head close ≡ served_to u (view u b.history) w.is_head close what) → drawn_of u (view u b.history) what ≡ None
+    → Answers (turns.Refused r) w b b
+refused-turn r w u what b is by may text none = record {
+  told_is = λ close. text close ∙ sym (told-by b.history w u what close is by may);
+  stepped = sym (ap (and_drawn b.history) (drawn-by b.history w u what is by may ∙ none));
+  steady = refl;
 }
 
-pub no_route : (w : Wish) (u : Option ℕ) (old : History) → w.what ≡ whats.NoRoute → u ≡ caller old w → is_unauthorized u whats.NoRoute ≡ false → Answers (turns.Refused refused.NoRoute) w old old
-no_route w u old is by may = refused-turn refused.NoRoute w u whats.NoRoute old is by may (λ close. refl) refl
+pub no_route : (w : Wish) (u : Option ℕ) (b : Ledger) → w.what ≡ whats.NoRoute → u ≡ caller b.history w → is_unauthorized u whats.NoRoute ≡ false → Answers (turns.Refused refused.NoRoute) w b b
+no_route w u b is by may = refused-turn refused.NoRoute w u whats.NoRoute b is by may (λ close. refl) refl
 
-pub wrong_method : (w : Wish) (u : Option ℕ) (old : History) (place : Place) → w.what ≡ whats.WrongMethod place → u ≡ caller old w → is_unauthorized u (whats.WrongMethod place) ≡ false → Answers (turns.Refused (refused.WrongMethod place)) w old old
-wrong_method w u old place is by may = refused-turn (refused.WrongMethod place) w u (whats.WrongMethod place) old is by may (λ close. refl) refl
+pub wrong_method : (w : Wish) (u : Option ℕ) (b : Ledger) (place : Place) → w.what ≡ whats.WrongMethod place → u ≡ caller b.history w → is_unauthorized u (whats.WrongMethod place) ≡ false → Answers (turns.Refused (refused.WrongMethod place)) w b b
+wrong_method w u b place is by may = refused-turn (refused.WrongMethod place) w u (whats.WrongMethod place) b is by may (λ close. refl) refl
 
-pub bad_body : (w : Wish) (u : Option ℕ) (old : History) (ask : Ask) → w.what ≡ whats.BadBody ask → u ≡ caller old w → is_unauthorized u (whats.BadBody ask) ≡ false → Answers (turns.Refused refused.BadBody) w old old
-bad_body w u old ask is by may = refused-turn refused.BadBody w u (whats.BadBody ask) old is by may (λ close. refl) refl
+pub bad_body : (w : Wish) (u : Option ℕ) (b : Ledger) (ask : Ask) → w.what ≡ whats.BadBody ask → u ≡ caller b.history w → is_unauthorized u (whats.BadBody ask) ≡ false → Answers (turns.Refused refused.BadBody) w b b
+bad_body w u b ask is by may = refused-turn refused.BadBody w u (whats.BadBody ask) b is by may (λ close. refl) refl
 
 -- ---- commands
 
@@ -87,44 +99,54 @@ is_ok-accepted : (r : Result Drawn Rule) → IsOk r → IsSome (accepted r)
 is_ok-accepted (Ok d) h = refl
 is_ok-accepted (Err rule) h = h
 
-pub command-turn : (turn : Turn) (w : Wish) (u : Option ℕ) (command : Command) (old new : History) (f g : ℕ) → w.what ≡ whats.Command command → u ≡ caller old w → is_unauthorized u (whats.Command command) ≡ false
-    → JudgesCommand turn u command old new f g → Turns turn w old new f g
-command-turn (turns.Refused (refused.Rule rule)) w u command old new f g is by may j = record {
-  told_is = λ close. told-command old w u command (Err rule) close is by may j.0;
-  stepped = j.1 ∙ sym (stepped-command old w u command (Err rule) is by may j.0);
+pub command-turn : (turn : Turn) (w : Wish) (u : Option ℕ) (command : Command) (b b' : Ledger) → w.what ≡ whats.Command command → u ≡ caller b.history w → is_unauthorized u (whats.Command command) ≡ false
+    → JudgesCommand turn u command b b' → Turns turn w b b'
+command-turn (turns.Refused (refused.Rule rule)) w u command b b' is by may j = record {
+  told_is = λ close. told-command b.history w u command (Err rule) close is by may j.0;
+  stepped = ap (λ (x : Ledger). x.history) j.1 ∙ sym (stepped-command b.history w u command (Err rule) is by may j.0);
+  steady = ap (λ (x : Ledger). x.faults) j.1;
 }
-command-turn (turns.Refused (refused.Closing why)) w u command old new f g is by may j = absurd j
-command-turn (turns.Refused refused.NoRoute) w u command old new f g is by may j = absurd j
-command-turn (turns.Refused (refused.WrongMethod place)) w u command old new f g is by may j = absurd j
-command-turn (turns.Refused refused.Unauthorized) w u command old new f g is by may j = absurd j
-command-turn (turns.Refused refused.BadBody) w u command old new f g is by may j = absurd j
-command-turn (turns.Refused refused.KeeperFault) w u command old new f g is by may j = absurd j
-command-turn (turns.Refused refused.NoMemory) w u command old new f g is by may j = absurd j
-command-turn (turns.Accepted receipt) w u command old new f g is by may j = record {
-  told_is = λ close. ap (λ x. receipt_text x w.is_head close) j.receipt_is ∙ told-command old w u command (Ok j.drawn) close is by may j.judged;
-  stepped = j.added ∙ sym (stepped-command old w u command (Ok j.drawn) is by may j.judged);
+command-turn (turns.Refused (refused.Closing why)) w u command b b' is by may j = absurd j
+command-turn (turns.Refused refused.NoRoute) w u command b b' is by may j = absurd j
+command-turn (turns.Refused (refused.WrongMethod place)) w u command b b' is by may j = absurd j
+command-turn (turns.Refused refused.Unauthorized) w u command b b' is by may j = absurd j
+command-turn (turns.Refused refused.BadBody) w u command b b' is by may j = absurd j
+command-turn (turns.Refused refused.KeeperFault) w u command b b' is by may j = absurd j
+command-turn (turns.Refused refused.NoMemory) w u command b b' is by may j = absurd j
+command-turn (turns.Accepted receipt) w u command b b' is by may j = record {
+  told_is = λ close. ap (λ x. receipt_text x w.is_head close) j.0.receipt_is ∙ told-command b.history w u command (Ok j.0.drawn) close is by may j.0.judged;
+  stepped = j.0.added ∙ sym (stepped-command b.history w u command (Ok j.0.drawn) is by may j.0.judged);
+  steady = j.1;
 }
-command-turn (turns.Answered reply) w u command old new f g is by may j = absurd j
-command-turn turns.Lost w u command old new f g is by may j =
-    (subst (λ (o : Option Drawn). IsSome o) (sym (drawn-by old w u (whats.Command command) is by may)) (is_ok-accepted (judge u (view u old) command) j.0), j.1, j.2)
-command-turn turns.OutOfMemory w u command old new f g is by may j = j
+command-turn (turns.Answered reply) w u command b b' is by may j = absurd j
+command-turn turns.Lost w u command b b' is by may j = (
+  subst (λ (o : Option Drawn). IsSome o) (sym (drawn-by b.history w u (whats.Command command) is by may)) (is_ok-accepted (judge u (view u b.history) command) j.0),
+  j.1,
+  j.2,
+)
+command-turn turns.OutOfMemory w u command b b' is by may j = (j.0, may-want b.history w u (whats.Command command) is by may j.1)
 
 -- ---- queries
 
-pub query-turn : (turn : Turn) (w : Wish) (u : Option ℕ) (query : Query) (old : History) (f : ℕ) → w.what ≡ whats.Query query → u ≡ caller old w → is_unauthorized u (whats.Query query) ≡ false
-    → AnswersQuery turn u query old → Turns turn w old old f f
-query-turn (turns.Refused r) w u query old f is by may j = absurd j
-query-turn (turns.Accepted receipt) w u query old f is by may j = absurd j
-query-turn (turns.Answered reply) w u query old f is by may j = (
+-- an answer that is no brief one is no refusal
+not_refused : (reply told : Reply) (rule : Rule) → (IsBrief reply → ⊥) → reply ≡ told → told ≡ replies.Refused rule → ⊥
+not_refused reply told rule long is e = long (subst IsBrief (sym (is ∙ e)) tt)
+
+pub query-turn : (turn : Turn) (w : Wish) (u : Option ℕ) (query : Query) (b : Ledger) → w.what ≡ whats.Query query → u ≡ caller b.history w → is_unauthorized u (whats.Query query) ≡ false
+    → AnswersQuery turn u query b.history → Turns turn w b b
+query-turn (turns.Refused r) w u query b is by may j = absurd j
+query-turn (turns.Accepted receipt) w u query b is by may j = absurd j
+query-turn (turns.Answered reply) w u query b is by may j = (
   record {
-    told_is = λ close. ap (λ x. reply_text x w.is_head close) j ∙ sym (told-by old w u (whats.Query query) close is by may);
-    stepped = sym (ap (and_drawn old) (drawn-by old w u (whats.Query query) is by may));
+    told_is = λ close. ap (λ x. reply_text x w.is_head close) j ∙ sym (told-by b.history w u (whats.Query query) close is by may);
+    stepped = sym (ap (and_drawn b.history) (drawn-by b.history w u (whats.Query query) is by may));
+    steady = refl;
   },
   refl,
-  refl,
+  λ long. may-want b.history w u (whats.Query query) is by may (λ rule e. not_refused reply (answer u (view u b.history) query) rule long j e),
 )
-query-turn turns.Lost w u query old f is by may j = absurd j
-query-turn turns.OutOfMemory w u query old f is by may j = (refl, refl)
+query-turn turns.Lost w u query b is by may j = absurd j
+query-turn turns.OutOfMemory w u query b is by may j = (refl, may-want b.history w u (whats.Query query) is by may j)
 
 -- ---- who calls
 

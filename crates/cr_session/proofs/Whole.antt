@@ -1,5 +1,8 @@
 -- What was judged of the bytes that came is what the whole text spells.
-use Rattle.std.proofs.Common.{◌≡◌, ◌∙◌, ◌⊎◌, ℕ, List, [], ◌++◌, Option, Some, None, sym, ap, subst, append-nil, inl, inr}
+use Rattle.std.proofs.Common.{◌≡◌, ◌∙◌, ◌⊎◌, ℕ, List, [], ◌∷◌, ◌++◌, Option, Some, None, refl, sym, ap, subst, append-nil, inl, inr}
+use Rattle.cr_base.specs.Lists.{listed}
+use Rattle.cr_base.specs.History.{History}
+use Rattle.cr_ports.specs.Count.{Rises}
 use Rattle.cr_ports.specs.Stream.{and_left}
 use Rattle.cr_http.specs.Filling.{IsAtEnd}
 use Rattle.cr_http.specs.Requests.{End, ended_clean, ended_cut, asked, closed}
@@ -7,70 +10,87 @@ use Rattle.cr_session.specs.declared.serve.Ending.{Ending}
 use Rattle.cr_session.specs.declared.serve.Ending.TheVariants as endings
 use Rattle.cr_session.specs.declared.serve.Why.TheVariants as whys
 use Rattle.cr_session.specs.Replay.{Judged, wishes_of}
-use Rattle.cr_session.specs.Serving.{World, EndsAs, EndsOn, Connection, WholeText}
+use Rattle.cr_session.specs.Serving.{World, EndsAs, EndsSource, CountsReads, Connection, WholeText}
+use Rattle.cr_session.specs.Writing.{Outlet}
 use Rattle.cr_wire.specs.declared.what.Wish.{Wish}
-use Rattle.cr_wire.specs.Wishes.{Wishes}
 use Rattle.cr_session.specs.Wishes.{Spells, Begins}
+use Rattle.cr_session.proofs.Runs.{IsClosing}
 use Rattle.cr_session.proofs.WishRuns.{Spells-more, Begins-more, Spells-begins, Reaches-begins}
 
 told_rest : (left' : Option (List ℕ)) (got b : List ℕ) → Some b ≡ and_left got left' → (rest : List ℕ) × (left' ≡ Some rest) × (b ≡ got ++ rest)
 told_rest None got b e = absurd (cc)
 told_rest (Some rest) got b e = (rest, cc, cc)
 
-at_end : (left' : Option (List ℕ)) (rest : List ℕ) → left' ≡ Some rest → IsAtEnd left' → rest ≡ []
-at_end left' rest e end = subst IsAtEnd e end
+-- what came spells what the whole text spells: at the end of the stream it is the whole text
+spells_all : (came b rest : List ℕ) (left' : Option (List ℕ)) (ws : List Wish) (end : End) → left' ≡ Some rest → b ≡ came ++ rest → IsAtEnd left'
+    → Spells 0 came ws end → Spells 0 b ws end
+spells_all came b rest left' ws end told is at_end s =
+    let none : rest ≡ [] = subst IsAtEnd told at_end in
+    subst (λ (t : List ℕ). Spells 0 t ws end) (sym (is ∙ ap (λ (r : List ℕ). came ++ r) none ∙ append-nil came)) s
 
--- where the source is at its end, the bytes that came are the whole text
-all_came : (got b rest : List ℕ) (left' : Option (List ℕ)) → left' ≡ Some rest → b ≡ got ++ rest → IsAtEnd left' → got ≡ b
-all_came got b rest left' e is end = sym (append-nil got) ∙ ap (λ r. got ++ r) (sym (at_end left' rest e end)) ∙ sym is
+-- and behind what closes it doesn't matter what follows
+spells_closed : (came b rest : List ℕ) (ws : List Wish) (end : End) → b ≡ came ++ rest → IsClosing end → Spells 0 came ws end → Spells 0 b ws end
+spells_closed came b rest ws end is closing s = subst (λ (t : List ℕ). Spells 0 t ws end) (sym is) (Spells-more 0 came rest ws end closing s)
 
--- what a text spells from its first request on
-wishes : (b : List ℕ) (ws : List Wish) (end : End) → Spells 0 b ws end → Wishes b ws end
-wishes b ws end s = record { requests = s.requests; spells = s.spells; wished = s.wish }
+begins_all : (came b rest : List ℕ) (ws : List Wish) → b ≡ came ++ rest → Begins 0 came ws → Begins 0 b ws
+begins_all came b rest ws is s = subst (λ (t : List ℕ). Begins 0 t ws) (sym is) (Begins-more 0 came rest ws s)
 
-begins : (got b rest : List ℕ) (judged : List Judged) → b ≡ got ++ rest → Begins 0 got (wishes_of judged) → Begins 0 b (wishes_of judged)
-begins got b rest judged is s = subst (λ (t : List ℕ). Begins 0 t (wishes_of judged)) (sym is) (Begins-more 0 got rest (wishes_of judged) s)
+ends_whole : (ending : Ending) (came b rest : List ℕ) (left' : Option (List ℕ)) (answered : List Judged) (failed : Option Judged) (H : History) (s s' : Outlet)
+    → left' ≡ Some rest → b ≡ came ++ rest → EndsSource ending left' → EndsAs ending 0 came came answered failed H s s' → EndsAs ending 0 came b answered failed H s s'
+ends_whole ending came b rest left' answered (Some j) H s s' told is end e = (e.0, begins_all came b rest (wishes_of (answered ++ j ∷ [])) is e.1, e.2)
+ends_whole endings.Clean came b rest left' answered None H s s' told is end e = (spells_all came b rest left' (wishes_of answered) ended_clean told is end e.0, e.1)
+ends_whole endings.Cut came b rest left' answered None H s s' told is end e = (spells_all came b rest left' (wishes_of answered) ended_cut told is end e.0, e.1)
+ends_whole (endings.Closed whys.Asked) came b rest left' answered None H s s' told is end e = (spells_closed came b rest (wishes_of answered) asked is tt e.0, e.1)
+ends_whole (endings.Closed (whys.Refused why)) came b rest left' answered None H s s' told is end e =
+    (e.0, spells_closed came b rest (wishes_of answered) (closed why e.0) is tt e.1, e.2)
+ends_whole endings.ReadFault came b rest left' answered None H s s' told is end e = e
+ends_whole endings.WriteFault came b rest left' answered None H s s' told is end e =
+    (e.0, e.1, spells_closed came b rest (wishes_of answered) (closed e.0 e.1) is tt e.2, e.3)
+ends_whole endings.OutOfMemory came b rest left' answered None H s s' told is end e = e
 
-ends_whole : (ending : Ending) (got b rest : List ℕ) (judged : List Judged) (w w' : World)
-    → w'.left ≡ Some rest → b ≡ got ++ rest → EndsAs ending 0 got judged w w' → EndsOn ending b judged w w'
-ends_whole endings.Clean got b rest judged w w' e is ends =
-    (wishes b (wishes_of judged) ended_clean (subst (λ (t : List ℕ). Spells 0 t (wishes_of judged) ended_clean) (all_came got b rest w'.left e is ends.1) ends.0), ends.2)
-ends_whole endings.Cut got b rest judged w w' e is ends =
-    (wishes b (wishes_of judged) ended_cut (subst (λ (t : List ℕ). Spells 0 t (wishes_of judged) ended_cut) (all_came got b rest w'.left e is ends.1) ends.0), ends.2)
-ends_whole (endings.Closed whys.Asked) got b rest judged w w' e is ends =
-    (wishes b (wishes_of judged) asked (subst (λ (t : List ℕ). Spells 0 t (wishes_of judged) asked) (sym is) (Spells-more 0 got rest (wishes_of judged) asked tt ends.0)), ends.1)
-ends_whole (endings.Closed (whys.Refused why)) got b rest judged w w' e is ends =
-    (ends.0, wishes b (wishes_of judged) (closed why ends.0) (subst (λ (t : List ℕ). Spells 0 t (wishes_of judged) (closed why ends.0)) (sym is) (Spells-more 0 got rest (wishes_of judged) (closed why ends.0) tt ends.1)), ends.2)
-ends_whole endings.ReadFault got b rest judged w w' e is ends = (begins got b rest judged is (first ends.0), got, (rest, is), wished ends.0, ends.1, ends.2)
+begins_judged : (ending : Ending) (came : List ℕ) (answered : List Judged) (failed : Option Judged) (H : History) (s s' : Outlet)
+    → EndsAs ending 0 came came answered failed H s s' → Begins 0 came (wishes_of (answered ++ listed failed))
+begins_judged ending came answered (Some j) H s s' e = e.1
+begins_judged ending came answered None H s s' e =
+    subst (λ (all : List Judged). Begins 0 came (wishes_of all)) (sym (append-nil answered)) (by ending e)
   where
-    wished : Spells 0 got (wishes_of judged) ended_clean ⊎ Spells 0 got (wishes_of judged) ended_cut → Wishes got (wishes_of judged) ended_clean ⊎ Wishes got (wishes_of judged) ended_cut
-    wished (inl s) = inl (wishes got (wishes_of judged) ended_clean s)
-    wished (inr s) = inr (wishes got (wishes_of judged) ended_cut s)
+    either : Spells 0 came (wishes_of answered) ended_clean ⊎ Spells 0 came (wishes_of answered) ended_cut → Begins 0 came (wishes_of answered)
+    either (inl is) = Spells-begins 0 came (wishes_of answered) ended_clean is
+    either (inr is) = Spells-begins 0 came (wishes_of answered) ended_cut is
 
-    first : Spells 0 got (wishes_of judged) ended_clean ⊎ Spells 0 got (wishes_of judged) ended_cut → Begins 0 got (wishes_of judged)
-    first (inl s) = Spells-begins 0 got (wishes_of judged) ended_clean s
-    first (inr s) = Spells-begins 0 got (wishes_of judged) ended_cut s
-ends_whole endings.WriteFault got b rest judged w w' e is (inl x, rises) = (inl (begins got b rest judged is x.0, x.1), rises)
-ends_whole endings.WriteFault got b rest judged w w' e is (inr x, rises) =
-    (inr (x.0, x.1, wishes b (wishes_of judged) (closed x.0 x.1) (subst (λ (t : List ℕ). Spells 0 t (wishes_of judged) (closed x.0 x.1)) (sym is) (Spells-more 0 got rest (wishes_of judged) (closed x.0 x.1) tt x.2)), x.3), rises)
-ends_whole endings.OutOfMemory got b rest judged w w' e is ends = (
-  begins got b rest judged is (Reaches-begins 0 got (wishes_of judged) ends.0 ends.1),
-  got,
-  (rest, is),
-  ends.0,
-  ends.1,
-  ends.2,
-  ends.3,
-  ends.4,
-  ends.5,
-  ends.6,
-)
+    by : (x : Ending) → EndsAs x 0 came came answered None H s s' → Begins 0 came (wishes_of answered)
+    by endings.Clean x = Spells-begins 0 came (wishes_of answered) ended_clean x.0
+    by endings.Cut x = Spells-begins 0 came (wishes_of answered) ended_cut x.0
+    by (endings.Closed whys.Asked) x = Spells-begins 0 came (wishes_of answered) asked x.0
+    by (endings.Closed (whys.Refused why)) x = Spells-begins 0 came (wishes_of answered) (closed why x.0) x.1
+    by endings.ReadFault x = either x.0
+    by endings.WriteFault x = Spells-begins 0 came (wishes_of answered) (closed x.0 x.1) x.2
+    by endings.OutOfMemory x = Reaches-begins 0 came (wishes_of answered) x.0 x.1
 
-pub whole_text : (ending : Ending) (b : List ℕ) (w w' : World) → Connection ending 0 [] w w' → w.left ≡ Some b → WholeText ending b w w'
-whole_text ending b w w' c told =
-    let rest = told_rest w'.left c.got b (sym told ∙ c.given) in
-    record {
-      judged = c.judged;
-      replays = c.replays;
-      ends = ends_whole ending c.got b rest.0 c.judged w w' rest.1 rest.2 c.ends;
-    }
+module _ {S : Type 0} (left : S → Option (List ℕ)) (gives : S → S → List ℕ → Type 0) where
+  pub whole_text : (ending : Ending) (b : List ℕ) (w w' : World S) → Connection left gives ending 0 [] w w' → left w.source ≡ Some b → WholeText left ending b w w'
+  whole_text ending b w w' c told =
+      let rest = told_rest (left w'.source) c.got b (sym told ∙ c.given) in
+      record {
+        came = c.got;
+        rest = rest.0;
+        parts = rest.2;
+        left_is = rest.1;
+        answered = c.answered;
+        failed = c.failed;
+        replays = c.replays;
+        begins = begins_all c.got b rest.0 (wishes_of (c.answered ++ listed c.failed)) rest.2 (begins_judged ending c.got c.answered c.failed w'.ledger.history w.sink w'.sink c.ends);
+        ends = ends_whole ending c.got b rest.0 (left w'.source) c.answered c.failed w'.ledger.history w.sink w'.sink rest.1 rest.2 c.ended c.ends;
+      }
+
+  -- the causes of faults
+  pub read_rises : (ending : Ending) (n : ℕ) (i : List ℕ) (w w' : World S) → Connection left gives ending n i w w' → ending ≡ endings.ReadFault → Rises w.read_faults w'.read_faults
+  read_rises ending n i w w' c is = (subst (λ (e : Ending). CountsReads e w.read_faults w'.read_faults) is c.counts).1
+
+  pub write_rises : (ending : Ending) (n : ℕ) (i : List ℕ) (w w' : World S) → Connection left gives ending n i w w' → ending ≡ endings.WriteFault → Rises w.sink.faults w'.sink.faults
+  write_rises ending n i w w' c is =
+      by c.failed (subst (λ (e : Ending). EndsAs e n (i ++ c.got) (i ++ c.got) c.answered c.failed w'.ledger.history w.sink w'.sink) is c.ends)
+    where
+      by : (failed : Option Judged) → EndsAs endings.WriteFault n (i ++ c.got) (i ++ c.got) c.answered failed w'.ledger.history w.sink w'.sink → Rises w.sink.faults w'.sink.faults
+      by (Some j) e = e.2.rises
+      by None e = e.3.rises

@@ -36,7 +36,7 @@ begins_wishes n text ws rest vs a b = record {
       (subst (λ (k : ℕ). BeginsFrom closes_behind k rest b.requests) (as_many n ws a.requests a.wish) b.begins);
 }
 
-reaches_wishes : (n : ℕ) (text : List ℕ) (ws : List Wish) (rest : List ℕ) (vs : List Wish) (rest' : List ℕ)
+pub reaches_wishes : (n : ℕ) (text : List ℕ) (ws : List Wish) (rest : List ℕ) (vs : List Wish) (rest' : List ℕ)
     → Reaches n text ws rest → Reaches (n + length ws) rest vs rest' → Reaches n text (ws ++ vs) rest'
 reaches_wishes n text ws rest vs rest' a b = record {
   requests = a.requests ++ b.requests;
@@ -47,29 +47,29 @@ reaches_wishes n text ws rest vs rest' a b = record {
 
 -- ---- the same of what was judged
 
-counted : (n : ℕ) (js : List Judged) → n + length js ≡ n + length (wishes_of js)
-counted n js = ap (λ k. n + k) (sym (length-map js (λ (j : Judged). j.wish)))
+pub counted_wishes : (n : ℕ) (js : List Judged) → n + length js ≡ n + length (wishes_of js)
+counted_wishes n js = ap (λ k. n + k) (sym (length-map js (λ (j : Judged). j.wish)))
 
-wishes_of-append : (js ks : List Judged) → wishes_of js ++ wishes_of ks ≡ wishes_of (js ++ ks)
+pub wishes_of-append : (js ks : List Judged) → wishes_of js ++ wishes_of ks ≡ wishes_of (js ++ ks)
 wishes_of-append js ks = sym (map-append (λ (j : Judged). j.wish) js ks)
 
 pub spells_on : (n : ℕ) (text rest : List ℕ) (js ks : List Judged) (end : End) → Reaches n text (wishes_of js) rest
     → Spells (n + length js) rest (wishes_of ks) end → Spells n text (wishes_of (js ++ ks)) end
 spells_on n text rest js ks end reach spells =
     subst (λ (ws : List Wish). Spells n text ws end) (wishes_of-append js ks)
-    (spells_wishes n text (wishes_of js) rest end (wishes_of ks) reach (subst (λ (k : ℕ). Spells k rest (wishes_of ks) end) (counted n js) spells))
+    (spells_wishes n text (wishes_of js) rest end (wishes_of ks) reach (subst (λ (k : ℕ). Spells k rest (wishes_of ks) end) (counted_wishes n js) spells))
 
 pub begins_on : (n : ℕ) (text rest : List ℕ) (js ks : List Judged) → Reaches n text (wishes_of js) rest
     → Begins (n + length js) rest (wishes_of ks) → Begins n text (wishes_of (js ++ ks))
 begins_on n text rest js ks reach begins =
     subst (λ (ws : List Wish). Begins n text ws) (wishes_of-append js ks)
-    (begins_wishes n text (wishes_of js) rest (wishes_of ks) reach (subst (λ (k : ℕ). Begins k rest (wishes_of ks)) (counted n js) begins))
+    (begins_wishes n text (wishes_of js) rest (wishes_of ks) reach (subst (λ (k : ℕ). Begins k rest (wishes_of ks)) (counted_wishes n js) begins))
 
 pub reaches_on : (n : ℕ) (text rest rest' : List ℕ) (js ks : List Judged) → Reaches n text (wishes_of js) rest
     → Reaches (n + length js) rest (wishes_of ks) rest' → Reaches n text (wishes_of (js ++ ks)) rest'
 reaches_on n text rest rest' js ks reach reaches =
     subst (λ (ws : List Wish). Reaches n text ws rest') (wishes_of-append js ks)
-    (reaches_wishes n text (wishes_of js) rest (wishes_of ks) rest' reach (subst (λ (k : ℕ). Reaches k rest (wishes_of ks) rest') (counted n js) reaches))
+    (reaches_wishes n text (wishes_of js) rest (wishes_of ks) rest' reach (subst (λ (k : ℕ). Reaches k rest (wishes_of ks) rest') (counted_wishes n js) reaches))
 
 -- ---- bytes behind the text
 

@@ -1,6 +1,8 @@
 pub mod Told
+pub mod TwoRuns
 pub mod Replay
 pub mod Wishes
-pub mod Serving
-pub mod Turning
 pub mod Reading
+pub mod Writing
+pub mod Turning
+pub mod Serving

@@ -1,12 +1,14 @@
 -- What one call of `read_wish` says.
 use Rattle.std.specs.Prelude.{◌≡◌, ◌⊎◌, ℕ, List, ◌++◌, Option, IfSome}
 use Rattle.cr_ports.specs.Stream.{and_left}
-use Rattle.cr_http.specs.Filling.{IsAtEnd}
+use Rattle.cr_http.specs.Filling.{IsAtEnd, ReadsWhile}
 use Rattle.cr_http.specs.Found.{whole, refused, clean, cut, StandsAt}
+use Rattle.cr_http.specs.Reading.{IsUnsettled}
 use Rattle.cr_http.specs.Requests.{RequestText}
 use Rattle.cr_http.specs.ToHead.{IsToHead}
 use Rattle.cr_wire.specs.declared.what.Wish.{Wish}
 use Rattle.cr_http.specs.Head.{is_head_method}
+use Rattle.cr_wire.specs.Asked.{LooksAtBody}
 use Rattle.cr_wire.specs.Bounds.{IsBoundedWhat}
 use Rattle.cr_wire.specs.Wish.{wish_text}
 use Rattle.cr_session.specs.declared.reading.WishRead.{WishRead}
@@ -18,14 +20,22 @@ pub record StandsWish (text : List ℕ) (w : Wish) (rest : List ℕ) : Type 0 wh
   pub stands : StandsAt text (whole request.head request.body rest)
   pub wish : w ≡ wish_text request
 
+-- neither a whole request nor a refusal stands at the front of the text
+abbrev pub IsUnfinished : List ℕ → Type 0
+IsUnfinished text = StandsAt text clean ⊎ StandsAt text cut
+
+-- memory may be wanting in reading on: for more bytes, or for the body of the request at the front
+abbrev pub MayWantToRead : List ℕ → Type 0
+MayWantToRead text = IsUnfinished text ⊎ ((w : Wish) × (rest : List ℕ) × StandsWish text w rest × LooksAtBody w.what)
+
 -- what the answer says of the text that came so far, and what of it is kept
 abbrev pub Says : WishRead → List ℕ → List ℕ → Type 0
 Says (reads.Wish w) text kept = StandsWish text w kept
 Says (reads.Malformed why head) text kept = StandsAt text (refused why head)
 Says reads.Clean text kept = StandsAt text clean
 Says reads.Cut text kept = StandsAt text cut
-Says reads.ReadFault text kept = StandsAt text clean ⊎ StandsAt text cut
-Says (reads.OutOfMemory head) text kept = IsToHead text head
+Says reads.ReadFault text kept = IsUnfinished text
+Says (reads.OutOfMemory head) text kept = IsToHead text head × MayWantToRead text
 
 -- the answer is one for a stream that has ended
 abbrev pub AtEndIfEnded : WishRead → Option (List ℕ) → Type 0
@@ -45,18 +55,21 @@ IsBoundedRead reads.Cut = Unit {0}
 IsBoundedRead reads.ReadFault = Unit {0}
 IsBoundedRead (reads.OutOfMemory head) = Unit {0}
 
--- the wish of the request at hand, or want of memory, told to HEAD exactly where the request is one to HEAD
+-- the wish of the request at hand, or want of memory where its body was looked at, told to HEAD exactly where the request
+-- is one to HEAD
 abbrev pub IsAtHand : WishRead → Option RequestText → Type 0
 IsAtHand (reads.Wish w) request = IfSome request (λ r. w ≡ wish_text r)
-IsAtHand (reads.OutOfMemory head) request = IfSome request (λ r. head ≡ is_head_method r.head)
+IsAtHand (reads.OutOfMemory head) request = IfSome request (λ r. (head ≡ is_head_method r.head) × LooksAtBody (wish_text r).what)
 IsAtHand (reads.Malformed why head) request = ⊥
 IsAtHand reads.Clean request = ⊥
 IsAtHand reads.Cut request = ⊥
 IsAtHand reads.ReadFault request = ⊥
 
--- The source gave these bytes; behind those of the inbox they are a text at whose front the answer stands.
-pub record ReadsWish (left left' : Option (List ℕ)) (inbox inbox' : List ℕ) (answer : WishRead) : Type 0 where
+-- The source gave these bytes; behind those of the inbox they are a text at whose front the answer stands. No read was
+-- made once that was settled.
+pub record ReadsWish {S : Type 0} (left : S → Option (List ℕ)) (gives : S → S → List ℕ → Type 0) (source source' : S) (inbox inbox' : List ℕ) (answer : WishRead) : Type 0 where
   pub got : List ℕ
-  pub given : left ≡ and_left got left'
+  pub given : left source ≡ and_left got (left source')
   pub says : Says answer (inbox ++ got) inbox'
-  pub ended : AtEndIfEnded answer left'
+  pub ended : AtEndIfEnded answer (left source')
+  pub needed : ReadsWhile left gives IsUnsettled source source' inbox (inbox ++ got)

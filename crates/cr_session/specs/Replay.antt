@@ -1,18 +1,28 @@
--- Replay: the answers to wishes that were judged one after another, and the history that they lead to.
-use Rattle.std.specs.Prelude.{ℕ, ◌≡◌, ◌<◌, ◌≤◌, ◌+◌, ◌-◌, ◌^◌, List, [], ◌∷◌, ◌++◌, Bool, if◌then◌else◌, map, IsSome, MatchBool}
+-- Replay: wishes that were judged one after another, their answers, and the history that they lead to.
+use Rattle.std.specs.Prelude.{ℕ, ◌≡◌, ◌≤◌, ◌+◌, List, [], ◌∷◌, ◌++◌, Bool, true, false, if◌then◌else◌, map, IsSome, MatchBool}
 use Rattle.cr_base.specs.History.{History}
+use Rattle.cr_book.specs.Seen.{SeenBook}
+use Rattle.cr_ports.specs.Count.{Rises}
 use Rattle.cr_wire.specs.Wishes.{closes}
 use Rattle.cr_wire.specs.declared.what.Wish.{Wish}
 use Rattle.cr_session.specs.Told.{told, unkept, drawn, step}
+
+-- what turns work on: the history, and the count of faults of the keeper of its rows
+pub record Ledger : Type 0 where
+  pub history : History
+  pub faults : ℕ
+
+-- the ledger of a book
+abbrev pub ledger_of : {K : Type 0} → (K → ℕ) → SeenBook K → Ledger
+ledger_of faults book = record { history = book.log; faults = faults book.keeper }
+
+-- ---- one turn
 
 -- a wish that was judged: the history at its turn, and whether what it added was lost, since the keeper failed to keep it
 pub record Judged : Type 0 where
   pub wish : Wish
   pub seen : History
   pub lost : Bool
-
-abbrev pub wishes_of : List Judged → List Wish
-wishes_of judged = map (λ (j : Judged). j.wish) judged
 
 -- the history after a turn
 unfoldable pub history_after : Judged → History
@@ -22,30 +32,34 @@ history_after j = if j.lost then j.seen else step j.seen j.wish
 unfoldable pub answer_to : ℕ → Judged → List ℕ
 answer_to n j = if j.lost then unkept j.wish (closes n j.wish) else told j.seen j.wish (closes n j.wish)
 
+-- the keeper's count of faults over a turn: it rose, its last value aside, where something was lost, and stands elsewhere
+abbrev pub CountsLoss : Bool → ℕ → ℕ → Type 0
+CountsLoss true faults faults' = (faults ≤ faults') × Rises faults faults'
+CountsLoss false faults faults' = faults' ≡ faults
+
+-- The turn saw the history that was there; only what Judge accepts can be lost.
+pub record Turned (j : Judged) (b b' : Ledger) : Type 0 where
+  pub seen : j.seen ≡ b.history
+  pub lost : MatchBool j.lost (IsSome (drawn j.seen j.wish)) (Unit {0})
+  pub history : b'.history ≡ history_after j
+  pub counted : CountsLoss j.lost b.faults b'.faults
+
+-- ---- one turn after another
+
+abbrev pub wishes_of : List Judged → List Wish
+wishes_of judged = map (λ (j : Judged). j.wish) judged
+
 -- the answers to wishes of which the first came as request number n
 abbrev pub answers : ℕ → List Judged → List ℕ
 answers n [] = []
 answers n (j ∷ js) = answer_to n j ++ answers (n + 1) js
 
--- each turn saw the history that the turn before left, and they lead from the one history to the other
-abbrev pub LeadsThrough : History → List Judged → History → Type 0
-LeadsThrough from [] to = from ≡ to
-LeadsThrough from (j ∷ js) to = (j.seen ≡ from) × LeadsThrough (history_after j) js to
-
--- only what Judge accepts can be lost
-abbrev pub LosesOnlyAccepted : List Judged → Type 0
-LosesOnlyAccepted [] = Unit {0}
-LosesOnlyAccepted (j ∷ js) = MatchBool j.lost (IsSome (drawn j.seen j.wish)) (Unit {0}) × LosesOnlyAccepted js
+-- Replay: what was judged leads from the one ledger to the other, each turn from where the turn before left it
+abbrev pub Replays : List Judged → Ledger → Ledger → Type 0
+Replays [] b b' = b' ≡ b
+Replays (j ∷ js) b b' = (next : Ledger) × Turned j b next × Replays js next b'
 
 -- how many were lost
 abbrev pub lost_count : List Judged → ℕ
 lost_count [] = 0
 lost_count (j ∷ js) = (if j.lost then 1 else 0) + lost_count js
-
--- Replay, with the histories and the keeper's counts of faults before and after: what was judged leads from the one
--- history to the other, and at most as many were lost as the count rose by, its last value aside (CountedFaults)
-pub record Replays (judged : List Judged) (old new : History) (faults faults' : ℕ) : Type 0 where
-  pub leads : LeadsThrough old judged new
-  pub lost : LosesOnlyAccepted judged
-  pub counted : faults' < 2 ^ 64 - 1 → faults + lost_count judged ≤ faults'
-  pub later : faults ≤ faults'

@@ -1,4 +1,5 @@
--- Told and Step: what a wish is answered, and what it makes of the history.
+-- Told and Step: what a wish is answered, and what it makes of the history. Both look at who calls and at her view, and at
+-- nothing else of the history.
 use Rattle.std.specs.Prelude.{ℕ, List, ◌++◌, Option, Some, None, Bool, false, if◌then◌else◌, Result, Ok, Err}
 use Rattle.cr_base.specs.declared.reply.Reply.{Reply}
 use Rattle.cr_base.specs.declared.reply.Reply.TheVariants as replies
@@ -6,7 +7,7 @@ use Rattle.cr_base.specs.declared.reply.Rule.{Rule}
 use Rattle.cr_base.specs.History.{History}
 use Rattle.cr_base.specs.Judging.{Drawn}
 use Rattle.cr_policy.specs.Judge.{judge, answer}
-use Rattle.cr_policy.specs.View.{view}
+use Rattle.cr_policy.specs.View.{View, view}
 use Rattle.cr_print.specs.declared.refused.Refused.TheVariants as refused
 use Rattle.cr_print.specs.Answers.{refusal_text, reply_text}
 use Rattle.cr_wire.specs.declared.what.What.{What}
@@ -26,22 +27,23 @@ abbrev pub is_unauthorized : Option ℕ → What → Bool
 is_unauthorized None what = wants_login what
 is_unauthorized (Some user) what = false
 
--- the answer's bytes to what a caller wishes who may, where the connection closes behind it or not
-abbrev pub served_to : Option ℕ → History → Bool → Bool → What → List ℕ
-served_to u H head close NoRoute = refusal_text refused.NoRoute head close
-served_to u H head close (WrongMethod place) = refusal_text (refused.WrongMethod place) head close
-served_to u H head close (BadBody ask) = refusal_text refused.BadBody head close
-served_to u H head close (Command command) = reply_text (reply_of (judge u (view u H) command)) head close
-served_to u H head close (Query query) = reply_text (answer u (view u H) query) head close
+-- the answer's bytes to what a caller wishes who may, on her view, to HEAD or not, where the connection closes behind it
+-- or not
+abbrev pub served_to : Option ℕ → View → Bool → Bool → What → List ℕ
+served_to u V head close NoRoute = refusal_text refused.NoRoute head close
+served_to u V head close (WrongMethod place) = refusal_text (refused.WrongMethod place) head close
+served_to u V head close (BadBody ask) = refusal_text refused.BadBody head close
+served_to u V head close (Command command) = reply_text (reply_of (judge u V command)) head close
+served_to u V head close (Query query) = reply_text (answer u V query) head close
 
 -- the answer's bytes to what a caller wishes: whoever can't be told from nobody is answered one and the same, where a
 -- login is wanted
-abbrev pub told_to : Option ℕ → History → Bool → Bool → What → List ℕ
-told_to u H head close what = if is_unauthorized u what then refusal_text refused.Unauthorized head close else served_to u H head close what
+abbrev pub told_to : Option ℕ → View → Bool → Bool → What → List ℕ
+told_to u V head close what = if is_unauthorized u what then refusal_text refused.Unauthorized head close else served_to u V head close what
 
 -- Told: the answer's bytes to a wish, computed from its caller's view
 unfoldable pub told : History → Wish → Bool → List ℕ
-told H w close = told_to (caller H w) H w.is_head close w.what
+told H w close = told_to (caller H w) (view (caller H w) H) w.is_head close w.what
 
 -- the answer's bytes where what the wish adds was not kept
 unfoldable pub unkept : Wish → Bool → List ℕ
@@ -55,19 +57,19 @@ accepted (Ok drawn) = Some drawn
 accepted (Err rule) = None
 
 -- what the wish of a caller who may adds, where it is a command that Judge accepts
-abbrev pub drawn_of : Option ℕ → History → What → Option Drawn
-drawn_of u H NoRoute = None
-drawn_of u H (WrongMethod place) = None
-drawn_of u H (BadBody ask) = None
-drawn_of u H (Command command) = accepted (judge u (view u H) command)
-drawn_of u H (Query query) = None
+abbrev pub drawn_of : Option ℕ → View → What → Option Drawn
+drawn_of u V NoRoute = None
+drawn_of u V (WrongMethod place) = None
+drawn_of u V (BadBody ask) = None
+drawn_of u V (Command command) = accepted (judge u V command)
+drawn_of u V (Query query) = None
 
 -- what a caller's wish adds: nothing, where a login is wanted and nobody calls
-abbrev pub drawn_for : Option ℕ → History → What → Option Drawn
-drawn_for u H what = if is_unauthorized u what then None else drawn_of u H what
+abbrev pub drawn_for : Option ℕ → View → What → Option Drawn
+drawn_for u V what = if is_unauthorized u what then None else drawn_of u V what
 
 unfoldable pub drawn : History → Wish → Option Drawn
-drawn H w = drawn_for (caller H w) H w.what
+drawn H w = drawn_for (caller H w) (view (caller H w) H) w.what
 
 -- a history, and behind it what was drawn
 abbrev pub and_drawn : History → Option Drawn → History

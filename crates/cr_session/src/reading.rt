@@ -1,5 +1,5 @@
 //! Reads one wish from a stream.
-ghost use Rattle.std.specs.Prelude.{◌≡◌, ◌≤◌, [], IfOk, IsSome};
+ghost use Rattle.std.specs.Prelude.{◌≡◌, ◌≢◌, ◌≤◌, [], IfOk, IsSome};
 ghost use Rattle.cr_ports.specs.Count.{Rises};
 ghost use Rattle.cr_session.specs.Reading.{ReadsWish, IsBoundedRead, IsAtHand};
 
@@ -66,14 +66,19 @@ pub enum WishRead {
 
 /// Reads the request at the front of the bytes that the inbox has not used and those that the source has
 /// left, and gives its wish. What it reads is what the whole text of the stream spells there, however
-/// the source cuts it into pieces. `ReadFault` comes only where the source's count of faults rose, or
-/// stands at its last value; `OutOfMemory` for want of memory alone. Costs the reads, a few looks at each
-/// byte of the head, and one reading of a JSON body where one is wanted.
+/// the source cuts it into pieces.
+///
+/// Nothing is read ahead: each read is made only where neither a whole request nor a refusal stands in
+/// what has come. `ReadFault` comes only where the source's count of faults rose, or stands at its last
+/// value, and with every other answer that count is as it was. `OutOfMemory` comes for want of memory
+/// alone, and only where more bytes are needed or a body is looked at. Costs the reads, a few looks at
+/// each byte of the head, and one reading of a JSON body where one is wanted.
 pub fn read_wish<S: Source>(alloc: Global, source: &mut S, inbox: &mut Inbox) -> WishRead
-    ensures reads { ReadsWish (S.left source.old) (S.left source.new) inbox.old inbox.new result }
+    ensures reads { ReadsWish S.left S.read_gives source.old source.new inbox.old inbox.new result }
     ensures bounded { IsBoundedRead result }
     ensures count { S.faults source.old ≤ S.faults source.new }
     ensures fault { result ≡ WishRead.ReadFault → Rises (S.faults source.old) (S.faults source.new) }
+    ensures steady { result ≢ WishRead.ReadFault → S.faults source.new ≡ S.faults source.old }
 {
     match read_request(source, &mut inbox.requests) {
         RequestRead::Whole => {}

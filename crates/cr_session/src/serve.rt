@@ -1,11 +1,12 @@
 //! The loop over the requests of one connection.
-ghost use Rattle.std.specs.Prelude.{◌≡◌, ◌≤◌, [], List, ℕ, Some, IfOk, OnOk, OnErr};
+ghost use Rattle.std.specs.Prelude.{◌≡◌, ◌≤◌, [], List, ℕ, Some, vec_capacity};
 ghost use Rattle.cr_ports.specs.Count.{Rises};
-ghost use Rattle.cr_print.specs.Put.{HasRoom};
 ghost use Rattle.cr_wire.specs.Bounds.{IsBoundedWhat};
 ghost use Rattle.cr_wire.specs.Wishes.{closes};
-ghost use Rattle.cr_session.specs.Serving.{Connection, WholeText, Rounds, Refuses, Notes};
-ghost use Rattle.cr_session.specs.Turning.{Serves, Sends};
+ghost use Rattle.cr_session.specs.Replay.{ledger_of};
+ghost use Rattle.cr_session.specs.Serving.{Connection, Notes, Refuses, Rounds, WholeText, world_of};
+ghost use Rattle.cr_session.specs.Turning.{Sends, Serves};
+ghost use Rattle.cr_session.specs.Writing.{outlet_of};
 
 use crate::reading::{Inbox, WishRead, read_wish};
 use crate::turn::{Turn, print_turn, take_turn};
@@ -15,7 +16,7 @@ use cr_http::Refusal;
 use cr_ports::{Keeper, Sink, Source};
 use cr_print::{ANSWER_ROOM, Refused, no_memory_text, print_refusal};
 use cr_wire::Wish;
-use std::alloc::{AllocError, Global};
+use std::alloc::Global;
 
 /// Why a connection was closed before its stream ended.
 #[derive(Clone, Copy, Debug, PartialEq, Eq)]
@@ -66,16 +67,7 @@ fn closes(wish: &Wish, number: usize) -> bool
     wish.asks_close || number == LAST_REQUEST
 }
 
-/// Makes the room for an answer that has no list in it. Takes memory only the first time.
-fn make_room(reply: &mut Vec<u8>) -> Result<(), AllocError>
-    ensures empty { OnOk result (reply.new.items ≡ []) }
-    ensures room { OnOk result (HasRoom reply.new 512) }
-{
-    reply.clear();
-    reply.reserve(ANSWER_ROOM)
-}
-
-/// Judges one request and writes its answer, whose room is made before.
+/// Judges one request and writes its answer, in room that was made when the connection began.
 fn serve_request<K: Keeper, O: Sink>(
     book: &mut Book<K>,
     sink: &mut O,
@@ -83,16 +75,14 @@ fn serve_request<K: Keeper, O: Sink>(
     wish: &Wish,
     number: usize,
 ) -> Served
-    requires { IsBoundedWhat wish.now.what }
-    ensures serves { Serves result number wish.now
-        (record { history = book.old.log; keeper_faults = K.faults book.old.keeper; taken = O.taken sink.old; write_faults = O.faults sink.old })
-        (record { history = book.new.log; keeper_faults = K.faults book.new.keeper; taken = O.taken sink.new; write_faults = O.faults sink.new }) }
-    ensures count { O.faults sink.old ≤ O.faults sink.new }
+    requires bounded { IsBoundedWhat wish.now.what }
+    requires room { 512 ≤ vec_capacity reply.old }
+    ensures serves { Serves result number wish.now (ledger_of K.faults book.old) (ledger_of K.faults book.new)
+        (outlet_of O.taken O.faults sink.old) (outlet_of O.taken O.faults sink.new) }
+    ensures room { 512 ≤ vec_capacity reply.new }
 {
     let close = closes(wish, number);
-    if make_room(reply).is_err() {
-        return Served::OutOfMemory;
-    }
+    reply.clear();
     let turn = take_turn(book, wish);
     if let Turn::OutOfMemory = turn {
         return Served::OutOfMemory;
@@ -105,8 +95,7 @@ fn serve_request<K: Keeper, O: Sink>(
 
 /// Writes an answer.
 fn send<O: Sink>(sink: &mut O, reply: &[u8], close: bool) -> Served
-    ensures sends { Sends result close reply.now (O.taken sink.old) (O.taken sink.new) (O.faults sink.old) (O.faults sink.new) }
-    ensures count { O.faults sink.old ≤ O.faults sink.new }
+    ensures { Sends result close reply.now (outlet_of O.taken O.faults sink.old) (outlet_of O.taken O.faults sink.new) }
 {
     match write_reply(sink, reply) {
         Err(_) => Served::WriteFault,
@@ -115,29 +104,23 @@ fn send<O: Sink>(sink: &mut O, reply: &[u8], close: bool) -> Served
     }
 }
 
-/// Writes the answer to what is no request; an error only for want of memory, and then nothing is written.
-fn refuse<O: Sink>(
-    sink: &mut O,
-    reply: &mut Vec<u8>,
-    why: Refusal,
-    to_head: bool,
-) -> Result<Ending, AllocError>
-    ensures refuses { IfOk result (λ ending. Refuses ending why to_head (O.taken sink.old) (O.taken sink.new) (O.faults sink.old) (O.faults sink.new)) }
-    ensures stays { OnErr result (O.taken sink.new ≡ O.taken sink.old) }
-    ensures count { O.faults sink.old ≤ O.faults sink.new }
+/// Writes the answer to what is no request, in room that was made when the connection began.
+fn refuse<O: Sink>(sink: &mut O, reply: &mut Vec<u8>, why: Refusal, to_head: bool) -> Ending
+    requires { 512 ≤ vec_capacity reply.old }
+    ensures refuses { Refuses result why to_head (outlet_of O.taken O.faults sink.old) (outlet_of O.taken O.faults sink.new) }
+    ensures room { 512 ≤ vec_capacity reply.new }
 {
-    make_room(reply)?;
+    reply.clear();
     print_refusal(reply, Refused::Closing(why), to_head, true);
     match write_reply(sink, reply) {
-        Ok(()) => Ok(Ending::Closed(Why::Refused(why))),
-        Err(_) => Ok(Ending::WriteFault),
+        Ok(()) => Ending::Closed(Why::Refused(why)),
+        Err(_) => Ending::WriteFault,
     }
 }
 
 /// Writes that memory is wanting, as far as the sink takes it. Takes no memory.
 fn note_no_memory<O: Sink>(sink: &mut O, to_head: bool) -> Ending
-    ensures notes { Notes (O.taken sink.old) (O.taken sink.new) to_head (O.faults sink.old) (O.faults sink.new) }
-    ensures count { O.faults sink.old ≤ O.faults sink.new }
+    ensures notes { Notes [] to_head (outlet_of O.taken O.faults sink.old) (outlet_of O.taken O.faults sink.new) }
     ensures ending { result ≡ Ending.OutOfMemory }
 {
     let _ = write_reply(sink, no_memory_text(to_head));
@@ -154,9 +137,10 @@ fn serve_next<K: Keeper, S: Source, O: Sink>(
     reply: &mut Vec<u8>,
     number: usize,
 ) -> Option<Ending>
-    ensures { Rounds result number inbox.old inbox.new
-        (record { history = book.old.log; left = S.left source.old; taken = O.taken sink.old; read_faults = S.faults source.old; write_faults = O.faults sink.old; keeper_faults = K.faults book.old.keeper })
-        (record { history = book.new.log; left = S.left source.new; taken = O.taken sink.new; read_faults = S.faults source.new; write_faults = O.faults sink.new; keeper_faults = K.faults book.new.keeper }) }
+    requires { 512 ≤ vec_capacity reply.old }
+    ensures round { let world = world_of K.faults S.faults O.taken O.faults in
+        Rounds S.left S.read_gives result number inbox.old inbox.new (world book.old source.old sink.old) (world book.new source.new sink.new) }
+    ensures room { 512 ≤ vec_capacity reply.new }
 {
     match read_wish(alloc, source, inbox) {
         WishRead::Wish(wish) => match serve_request(book, sink, reply, &wish, number) {
@@ -165,10 +149,7 @@ fn serve_next<K: Keeper, S: Source, O: Sink>(
             Served::WriteFault => Some(Ending::WriteFault),
             Served::OutOfMemory => Some(note_no_memory(sink, wish.is_head)),
         },
-        WishRead::Malformed { why, to_head } => match refuse(sink, reply, why, to_head) {
-            Ok(ending) => Some(ending),
-            Err(_) => Some(note_no_memory(sink, to_head)),
-        },
+        WishRead::Malformed { why, to_head } => Some(refuse(sink, reply, why, to_head)),
         WishRead::Clean => Some(Ending::Clean),
         WishRead::Cut => Some(Ending::Cut),
         WishRead::ReadFault => Some(Ending::ReadFault),
@@ -180,29 +161,35 @@ fn serve_next<K: Keeper, S: Source, O: Sink>(
 /// and writes each answer to the sink before the next request is read.
 ///
 /// Each ending's cause is in the contract: `Clean`, `Cut` and `Closed` exactly by what the bytes spell,
-/// `ReadFault` and `WriteFault` only where that count of faults rose, or stands at its last value,
-/// `OutOfMemory` for want of memory alone.
+/// `ReadFault` and `WriteFault` only where that count of faults rose, or stands at its last value, and no
+/// count rises elsewhere. Behind an answer that couldn't be written no request is judged, and behind one
+/// that closes no byte is read.
+///
+/// `OutOfMemory` comes for want of memory alone. The room for answers is made at the beginning: where it
+/// can't be had, the connection ends before anything is read. Later, memory may be wanting for more bytes,
+/// for reading a body, for an accepted command and for a query that isn't refused, and for nothing else.
 pub fn serve_connection<K: Keeper, S: Source, O: Sink>(
     alloc: Global,
     book: &mut Book<K>,
     source: &mut S,
     sink: &mut O,
 ) -> Ending
-    ensures connection { Connection result 0 []
-        (record { history = book.old.log; left = S.left source.old; taken = O.taken sink.old; read_faults = S.faults source.old; write_faults = O.faults sink.old; keeper_faults = K.faults book.old.keeper })
-        (record { history = book.new.log; left = S.left source.new; taken = O.taken sink.new; read_faults = S.faults source.new; write_faults = O.faults sink.new; keeper_faults = K.faults book.new.keeper }) }
+    ensures connection { let world = world_of K.faults S.faults O.taken O.faults in
+        Connection S.left S.read_gives result 0 [] (world book.old source.old sink.old) (world book.new source.new sink.new) }
 
     // The same of the whole text that the source had left.
-    ensures whole { (b : List ℕ) → S.left source.old ≡ Some b → WholeText result b
-        (record { history = book.old.log; left = S.left source.old; taken = O.taken sink.old; read_faults = S.faults source.old; write_faults = O.faults sink.old; keeper_faults = K.faults book.old.keeper })
-        (record { history = book.new.log; left = S.left source.new; taken = O.taken sink.new; read_faults = S.faults source.new; write_faults = O.faults sink.new; keeper_faults = K.faults book.new.keeper }) }
+    ensures whole { let world = world_of K.faults S.faults O.taken O.faults in
+        (b : List ℕ) → S.left source.old ≡ Some b
+        → WholeText S.left result b (world book.old source.old sink.old) (world book.new source.new sink.new) }
     ensures read_fault { result ≡ Ending.ReadFault → Rises (S.faults source.old) (S.faults source.new) }
     ensures write_fault { result ≡ Ending.WriteFault → Rises (O.faults sink.old) (O.faults sink.new) }
 {
     let Ok(mut inbox) = Inbox::new(alloc) else {
         return note_no_memory(sink, false);
     };
-    let mut reply = Vec::new(alloc);
+    let Ok(mut reply) = Vec::with_capacity(alloc, ANSWER_ROOM) else {
+        return note_no_memory(sink, false);
+    };
     let mut number = 0;
     'serving: loop {
         if let Some(ending) = serve_next(

@@ -1,12 +1,13 @@
 //! One turn: a wish is judged or answered by the book.
-ghost use Rattle.std.specs.Prelude.{◌≡◌, ◌≤◌, [], OnOk, OnErr};
+ghost use Rattle.std.specs.Prelude.{◌≡◌, ◌≤◌, [], OnOk, OnErr, vec_capacity};
 ghost use Rattle.cr_base.specs.Logins.{query_wants_login};
 ghost use Rattle.cr_policy.specs.Legal.{IsAllowed, MayAsk};
 ghost use Rattle.cr_print.specs.Put.{HasRoom};
 ghost use Rattle.cr_wire.specs.Bounds.{IsBoundedWhat};
 ghost use Rattle.cr_wire.specs.Caller.{caller};
+ghost use Rattle.cr_session.specs.Replay.{ledger_of};
 ghost use Rattle.cr_session.specs.Told.{is_unauthorized};
-ghost use Rattle.cr_session.specs.Turning.{Turns, JudgesCommand, AnswersQuery, turn_text, MayWantMemory};
+ghost use Rattle.cr_session.specs.Turning.{Turns, JudgesCommand, AnswersQuery, turn_text, MayWantToPrint};
 
 use cr_base::{Command, Query, Receipt, Reply, UserNo};
 use cr_book::{Book, BookError};
@@ -30,12 +31,12 @@ pub(crate) enum Turn {
     OutOfMemory,
 }
 
-/// Judges or answers a wish. Takes no memory on a refusal. Who calls is asked first, by one look-up
+/// Judges or answers a wish. Takes no memory on a refusal: `Turn::OutOfMemory` comes only for a command
+/// that is accepted and for a query that isn't refused, and then nothing changed. Who calls is asked first, by one look-up
 /// by name; whoever can't be told from nobody is refused alike where a login is wanted.
 pub(crate) fn take_turn<K: Keeper>(book: &mut Book<K>, wish: &Wish) -> Turn
     requires { IsBoundedWhat wish.now.what }
-    ensures turns { Turns result wish.now book.old.log book.new.log (K.faults book.old.keeper) (K.faults book.new.keeper) }
-    ensures count { K.faults book.old.keeper ≤ K.faults book.new.keeper }
+    ensures { Turns result wish.now (ledger_of K.faults book.old) (ledger_of K.faults book.new) }
 {
     let caller = caller_of(book, wish);
     if is_unauthorized(book, &caller, &wish.what) {
@@ -75,8 +76,7 @@ fn caller_of<K: Keeper>(book: &Book<K>, wish: &Wish) -> Option<UserNo>
 /// Judges a command.
 fn judge<K: Keeper>(book: &mut Book<K>, caller: &Option<UserNo>, command: &Command) -> Turn
     requires { IsAllowed book.old.log (record { caller = caller.now; command = command.now }) }
-    ensures judges { JudgesCommand result caller.now command.now book.old.log book.new.log (K.faults book.old.keeper) (K.faults book.new.keeper) }
-    ensures count { K.faults book.old.keeper ≤ K.faults book.new.keeper }
+    ensures { JudgesCommand result caller.now command.now (ledger_of K.faults book.old) (ledger_of K.faults book.new) }
 {
     match book.command(caller, command) {
         Ok(receipt) => Turn::Accepted(receipt),
@@ -98,7 +98,7 @@ fn answer<K: Keeper>(book: &Book<K>, caller: &Option<UserNo>, query: &Query) -> 
 }
 
 /// Appends the answer to what a turn came to: only a query's answer may want more memory than the room
-/// that was made before.
+/// that was made before, and none of those that are bounded. The room never gets smaller.
 pub(crate) fn print_turn(
     reply: &mut Vec<u8>,
     turn: &Turn,
@@ -108,7 +108,8 @@ pub(crate) fn print_turn(
     requires empty { reply.old.items ≡ [] }
     requires room { HasRoom reply.old 512 }
     ensures ok { OnOk result (reply.new.items ≡ turn_text turn.now is_head closes) }
-    ensures err { OnErr result (MayWantMemory turn.now) }
+    ensures err { OnErr result (MayWantToPrint turn.now) }
+    ensures kept { vec_capacity reply.old ≤ vec_capacity reply.new }
 {
     match turn {
         Turn::Refused(refused) => print_refusal(reply, *refused, is_head, closes),

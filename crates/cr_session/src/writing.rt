@@ -1,8 +1,6 @@
 //! Writes a whole reply, piece by piece.
-ghost use Rattle.std.specs.Prelude.{◌≡◌, ◌≤◌, OnOk, OnErr};
-ghost use Rattle.cr_ports.specs.Count.{Rises};
-ghost use Rattle.cr_ports.specs.Stream.{taken_and};
-ghost use Rattle.cr_session.specs.Serving.{TakesPrefix};
+ghost use Rattle.std.specs.Prelude.{[], OnOk, OnErr};
+ghost use Rattle.cr_session.specs.Writing.{BreaksOff, Writes, outlet_of};
 
 use cr_ports::{Sink, WriteStep};
 
@@ -10,13 +8,12 @@ use cr_ports::{Sink, WriteStep};
 #[derive(Clone, Copy, Debug, PartialEq, Eq)]
 pub struct WriteFault;
 
-/// Writes all the bytes, or a prefix of them up to a fault. `WriteFault` comes only where the sink's
-/// count of faults rose, or stands at its last value. Takes no memory.
+/// Writes all the bytes, or a part of them up to a fault. `WriteFault` comes only where the sink's count
+/// of faults rose, or stands at its last value, and bytes are missing then; else the count is as it was.
+/// Behind a fault nothing more is written. Takes no memory.
 pub fn write_reply<O: Sink>(sink: &mut O, bytes: &[u8]) -> Result<(), WriteFault>
-    ensures whole { OnOk result (O.taken sink.new ≡ taken_and (O.taken sink.old) bytes.now) }
-    ensures prefix { OnErr result (TakesPrefix (O.taken sink.old) (O.taken sink.new) bytes.now) }
-    ensures count { O.faults sink.old ≤ O.faults sink.new }
-    ensures failed { OnErr result (Rises (O.faults sink.old) (O.faults sink.new)) }
+    ensures whole { OnOk result (Writes bytes.now (outlet_of O.taken O.faults sink.old) (outlet_of O.taken O.faults sink.new)) }
+    ensures failed { OnErr result (BreaksOff [] bytes.now (outlet_of O.taken O.faults sink.old) (outlet_of O.taken O.faults sink.new)) }
 {
     let mut at = 0;
     'writing: while at < bytes.len() {

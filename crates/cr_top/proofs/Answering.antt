@@ -1,20 +1,24 @@
 -- Where nothing fails, everything that the bytes spell is answered.
-use Rattle.std.proofs.Common.{◌≡◌, ◌∙◌, ◌⊎◌, ◌+◌, ℕ, List, [], ◌∷◌, ◌++◌, Bool, true, false, cond, Some, refl, sym, ap, subst, inl, inr, append-nil, arith}
+use Rattle.std.proofs.Common.{◌≡◌, ◌∙◌, ◌⊎◌, ◌+◌, ◌≤◌, ℕ, List, [], ◌∷◌, ◌++◌, Bool, true, false, cond, Some, None, refl, sym, ap, subst, inl, inr, append-nil, arith}
 use Rattle.std.specs.Prelude.{◌<◌, ◌-◌, ◌^◌, Option, nat_lt}
+use Rattle.cr_base.specs.Lists.{listed}
 use Rattle.cr_base.specs.declared.row.Row.{Row}
 use Rattle.cr_base.specs.History.{History}
 use Rattle.cr_ports.specs.Count.{Rises}
-use Rattle.cr_ports.specs.Stream.{taken_and}
 use Rattle.cr_policy.specs.Legal.{Legal}
 use Rattle.cr_http.specs.Requests.{End, ended_clean, ended_cut, asked, closed}
 use Rattle.cr_wire.specs.Wishes.{Wishes}
+use Rattle.cr_wire.specs.declared.what.Wish.{Wish}
 use Rattle.cr_session.specs.declared.serve.Ending.{Ending}
 use Rattle.cr_session.specs.declared.serve.Ending.TheVariants as endings
 use Rattle.cr_session.specs.declared.serve.Why.TheVariants as whys
 use Rattle.cr_session.specs.Told.{told, step}
-use Rattle.cr_session.specs.Replay.{Judged, Replays, wishes_of, answers, answer_to, history_after, lost_count, LeadsThrough}
+use Rattle.cr_session.specs.Replay.{Judged, Ledger, Turned, CountsLoss, Replays, wishes_of, answers, answer_to, history_after, lost_count}
+use Rattle.cr_session.specs.Wishes.{Spells}
+use Rattle.cr_session.specs.Writing.{Outlet, Writes}
 use Rattle.cr_wire.specs.Wishes.{closes}
-use Rattle.cr_session.specs.Serving.{EndsOn}
+use Rattle.cr_session.specs.Serving.{EndsAs, CountsReads, Connection}
+use Rattle.cr_session.proofs.Turns.{counted}
 use Rattle.cr_top.specs.declared.exit.Exit.{Exit}
 use Rattle.cr_top.specs.declared.exit.Exit.TheVariants as exits
 use Rattle.cr_top.specs.Exits.{exit_of}
@@ -35,55 +39,69 @@ history_after-step : (j : Judged) → j.lost ≡ false → history_after j ≡ s
 unfolding history_after
 history_after-step j e = rw e refl
 
-pub answers-told : (n : ℕ) (H H' : History) (judged : List Judged) → LeadsThrough H judged H' → lost_count judged ≡ 0
-    → answers n judged ≡ told_along n H (wishes_of judged)
-answers-told n H H' [] leads none = refl
-answers-told n H H' (j ∷ js) leads none =
-    let zero = is_zero j.lost (lost_count js) none in
-    let next : LeadsThrough (step H j.wish) js H' = subst (λ (h : History). LeadsThrough h js H') (history_after-step j zero.0 ∙ ap (λ (h : History). step h j.wish) leads.0) leads.1 in
-    ap (λ (text : List ℕ). text ++ answers (n + 1) js) (answer_to-told n j zero.0 ∙ ap (λ (h : History). told h j.wish (closes n j.wish)) leads.0)
-    ∙ ap (λ (texts : List ℕ). told H j.wish (closes n j.wish) ++ texts) (answers-told (n + 1) (step H j.wish) H' js next zero.1)
+-- the history after a turn that lost nothing
+stepped : (j : Judged) (b b' : Ledger) → Turned j b b' → j.lost ≡ false → b'.history ≡ step b.history j.wish
+stepped j b b' t kept = t.history ∙ history_after-step j kept ∙ ap (λ (h : History). step h j.wish) t.seen
 
-pub leads-steps : (H H' : History) (judged : List Judged) → LeadsThrough H judged H' → lost_count judged ≡ 0 → H' ≡ steps_along H (wishes_of judged)
-leads-steps H H' [] leads none = sym leads
-leads-steps H H' (j ∷ js) leads none =
+pub answers-told : (n : ℕ) (b b' : Ledger) (judged : List Judged) → Replays judged b b' → lost_count judged ≡ 0
+    → answers n judged ≡ told_along n b.history (wishes_of judged)
+answers-told n b b' [] r none = refl
+answers-told n b b' (j ∷ js) r none =
     let zero = is_zero j.lost (lost_count js) none in
-    let next : LeadsThrough (step H j.wish) js H' = subst (λ (h : History). LeadsThrough h js H') (history_after-step j zero.0 ∙ ap (λ (h : History). step h j.wish) leads.0) leads.1 in
-    leads-steps (step H j.wish) H' js next zero.1
+    ap (λ (text : List ℕ). text ++ answers (n + 1) js) (answer_to-told n j zero.0 ∙ ap (λ (h : History). told h j.wish (closes n j.wish)) r.1.seen)
+    ∙ ap (λ (texts : List ℕ). told b.history j.wish (closes n j.wish) ++ texts)
+    (answers-told (n + 1) r.0 b' js r.2 zero.1 ∙ ap (λ (h : History). told_along (n + 1) h (wishes_of js)) (stepped j b r.0 r.1 zero.0))
+
+pub leads-steps : (b b' : Ledger) (judged : List Judged) → Replays judged b b' → lost_count judged ≡ 0 → b'.history ≡ steps_along b.history (wishes_of judged)
+leads-steps b b' [] r none = ap (λ (x : Ledger). x.history) r
+leads-steps b b' (j ∷ js) r none =
+    let zero = is_zero j.lost (lost_count js) none in
+    leads-steps r.0 b' js r.2 zero.1 ∙ ap (λ (h : History). steps_along h (wishes_of js)) (stepped j b r.0 r.1 zero.0)
 
 -- ---- by the ending
 
+-- what a text spells from its first request on
+wishes : (b : List ℕ) (ws : List Wish) (end : End) → Spells 0 b ws end → Wishes b ws end
+wishes b ws end s = record { requests = s.requests; spells = s.spells; wished = s.wish }
+
 -- the text ended so, and what it spells was answered
-record Answered (exit : Exit) (b : List ℕ) (judged : List Judged) (o o' : Outside) : Type 0 where
+record Answered (exit : Exit) (b : List ℕ) (judged : List Judged) (s s' : Outlet) : Type 0 where
   end : End
   spells : Wishes b (wishes_of judged) end
   exit_is : exit ≡ exit_at end
-  told : o'.taken ≡ taken_and o.taken (answers 0 judged ++ last_words end)
+  told : Writes (answers 0 judged ++ last_words end) s s'
 
-ended : (ending : Ending) (b : List ℕ) (judged : List Judged) (o o' : Outside) (H H' : History) (f f' : ℕ) → IsFaultless o o'
-    → EndsOn ending b judged (world o H f) (world o' H' f') → (exit_of ending ≡ exits.OutOfMemory) ⊎ Answered (exit_of ending) b judged o o'
-ended endings.Clean b judged o o' H H' f f' faultless e =
-    inr (record { end = ended_clean; spells = e.0; exit_is = refl; told = e.1 ∙ ap (taken_and o.taken) (sym (append-nil (answers 0 judged))) })
-ended endings.Cut b judged o o' H H' f f' faultless e =
-    inr (record { end = ended_cut; spells = e.0; exit_is = refl; told = e.1 ∙ ap (taken_and o.taken) (sym (append-nil (answers 0 judged))) })
-ended (endings.Closed whys.Asked) b judged o o' H H' f f' faultless e =
-    inr (record { end = asked; spells = e.0; exit_is = refl; told = e.1 ∙ ap (taken_and o.taken) (sym (append-nil (answers 0 judged))) })
-ended (endings.Closed (whys.Refused why)) b judged o o' H H' f f' faultless e =
-    inr (record { end = closed why e.0; spells = e.1; exit_is = refl; told = e.2 })
-ended endings.ReadFault b judged o o' H H' f f' faultless e = absurd (faultless.read e.5)
-ended endings.WriteFault b judged o o' H H' f f' faultless e = absurd (faultless.written e.1)
-ended endings.OutOfMemory b judged o o' H H' f f' faultless e = inl refl
+bare : (bytes : List ℕ) (s s' : Outlet) → Writes bytes s s' → Writes (bytes ++ []) s s'
+bare bytes s s' w = subst (λ (t : List ℕ). Writes t s s') (sym (append-nil bytes)) w
 
-answered : (exit : Exit) (b : List ℕ) (judged : List Judged) (o o' : Outside) (H' : History) → Legal H' → LeadsThrough [] judged H' → lost_count judged ≡ 0
-    → Answered exit b judged o o' → AnswersAll exit b o o'
-answered exit b judged o o' H' legal leads none a = record {
-  wishes = wishes_of judged;
-  end = a.end;
-  spells = a.spells;
-  exit_is = a.exit_is;
-  legal = subst Legal (leads-steps [] H' judged leads none) legal;
-  told = a.told ∙ ap (λ (texts : List ℕ). taken_and o.taken (texts ++ last_words a.end)) (answers-told 0 [] H' judged leads none);
-}
+ended : (ending : Ending) (came b : List ℕ) (answered : List Judged) (failed : Option Judged) (H : History) (s s' : Outlet) (f g : ℕ)
+    → (Rises f g → ⊥) → (Rises s.faults s'.faults → ⊥) → CountsReads ending f g → EndsAs ending 0 came b answered failed H s s'
+    → (exit_of ending ≡ exits.OutOfMemory) ⊎ (Answered (exit_of ending) b answered s s' × (failed ≡ None))
+ended ending came b answered (Some j) H s s' f g read written counts e = absurd (written e.2.rises)
+ended endings.Clean came b answered None H s s' f g read written counts e =
+    inr (record { end = ended_clean; spells = wishes b (wishes_of answered) ended_clean e.0; exit_is = refl; told = bare (answers 0 answered) s s' e.1 }, refl)
+ended endings.Cut came b answered None H s s' f g read written counts e =
+    inr (record { end = ended_cut; spells = wishes b (wishes_of answered) ended_cut e.0; exit_is = refl; told = bare (answers 0 answered) s s' e.1 }, refl)
+ended (endings.Closed whys.Asked) came b answered None H s s' f g read written counts e =
+    inr (record { end = asked; spells = wishes b (wishes_of answered) asked e.0; exit_is = refl; told = bare (answers 0 answered) s s' e.1 }, refl)
+ended (endings.Closed (whys.Refused why)) came b answered None H s s' f g read written counts e =
+    inr (record { end = closed why e.0; spells = wishes b (wishes_of answered) (closed why e.0) e.1; exit_is = refl; told = e.2 }, refl)
+ended endings.ReadFault came b answered None H s s' f g read written counts e = absurd (read counts.1)
+ended endings.WriteFault came b answered None H s s' f g read written counts e = absurd (written e.3.rises)
+ended endings.OutOfMemory came b answered None H s s' f g read written counts e = inl refl
+
+module _ {I : Type 0} where
+  answered : (exit : Exit) (b : List ℕ) (judged : List Judged) (o o' : Outside I) (b0 b1 : Ledger) → b0.history ≡ [] → Legal b1.history → Replays judged b0 b1 → lost_count judged ≡ 0
+      → Answered exit b judged o.output o'.output → AnswersAll exit b o o'
+  answered exit b judged o o' b0 b1 empty legal r none a = record {
+    wishes = wishes_of judged;
+    end = a.end;
+    spells = a.spells;
+    exit_is = a.exit_is;
+    legal = subst Legal (leads-steps b0 b1 judged r none ∙ ap (λ (h : History). steps_along h (wishes_of judged)) empty) legal;
+    told = subst (λ (texts : List ℕ). Writes (texts ++ last_words a.end) o.output o'.output)
+        (answers-told 0 b0 b1 judged r none ∙ ap (λ (h : History). told_along 0 h (wishes_of judged)) empty) a.told;
+  }
 
 -- ---- one connection
 
@@ -97,29 +115,36 @@ below : (m n : ℕ) → nat_lt m n ≡ true → m < n
 below m n e = grind arith
 
 -- where the keeper's count didn't rise, nothing was lost
-nothing_lost : (judged : List Judged) (old new : History) (f f' : ℕ) → Replays judged old new f f' → (Rises f f' → ⊥) → lost_count judged ≡ 0
-nothing_lost judged old new f f' r idle = last (nat_lt f' (2 ^ 64 - 1)) refl
+pub nothing_lost : (judged : List Judged) (b b' : Ledger) → Replays judged b b' → (Rises b.faults b'.faults → ⊥) → lost_count judged ≡ 0
+nothing_lost judged b b' r idle = last (nat_lt b'.faults (2 ^ 64 - 1)) refl
   where
-    count : f' < 2 ^ 64 - 1 → (t : Bool) → nat_lt f f' ≡ t → lost_count judged ≡ 0
-    count lt true e = absurd (idle (λ is. below f f' e))
+    count : b'.faults < 2 ^ 64 - 1 → (t : Bool) → nat_lt b.faults b'.faults ≡ t → lost_count judged ≡ 0
+    count lt true e = absurd (idle (λ is. below b.faults b'.faults e))
     count lt false e =
-        let most = r.counted lt in
-        let same = not_below f f' e in
+        let most = counted judged b b' r lt in
+        let same = not_below b.faults b'.faults e in
         omega (arith, most, same)
 
-    last : (t : Bool) → nat_lt f' (2 ^ 64 - 1) ≡ t → lost_count judged ≡ 0
-    last true e = count (below_last f' e) (nat_lt f f') refl
-    last false e = absurd (idle (λ lt. absurd (not_below f' (2 ^ 64 - 1) e lt)))
+    last : (t : Bool) → nat_lt b'.faults (2 ^ 64 - 1) ≡ t → lost_count judged ≡ 0
+    last true e = count (below_last b'.faults e) (nat_lt b.faults b'.faults) refl
+    last false e = absurd (idle (λ lt. absurd (not_below b'.faults (2 ^ 64 - 1) e lt)))
 
-pub pipe_answers : {K : Type 0} (rows : K → Option (List Row)) (faults : K → ℕ) (ending : Ending) (keeper keeper' : K) (b : List ℕ) (o o' : Outside)
-    → Pipes rows faults ending keeper keeper' o o' → o.left ≡ Some b → IsFaultless o o' → (Rises (faults keeper) (faults keeper') → ⊥)
+pub pipe_answers : {K I : Type 0} (rows : K → Option (List Row)) (faults : K → ℕ) (left : I → Option (List ℕ)) (gives : I → I → List ℕ → Type 0) (ending : Ending) (keeper keeper' : K) (b : List ℕ) (o o' : Outside I)
+    → Pipes rows faults left gives ending keeper keeper' o o' → left o.input ≡ Some b → IsFaultless o o' → (Rises (faults keeper) (faults keeper') → ⊥)
     → (exit_of ending ≡ exits.OutOfMemory) ⊎ AnswersAll (exit_of ending) b o o'
-pipe_answers rows faults ending keeper keeper' b o o' p left faultless idle =
-    let text = p.whole b left in
-    let none = nothing_lost text.judged [] p.history (faults keeper) (faults keeper') text.replays idle in
-    by text.judged text.replays.leads none (ended ending b text.judged o o' [] p.history (faults keeper) (faults keeper') faultless text.ends)
+pipe_answers rows faults left gives ending keeper keeper' b o o' p told faultless idle =
+    let text = p.whole b told in
+    by text.answered text.failed text.replays (ended ending text.came b text.answered text.failed p.history o.output o'.output o.read_faults o'.read_faults faultless.read faultless.written p.connection.counts text.ends)
   where
-    by : (judged : List Judged) → LeadsThrough [] judged p.history → lost_count judged ≡ 0 → (exit_of ending ≡ exits.OutOfMemory) ⊎ Answered (exit_of ending) b judged o o'
+    b0 : Ledger
+    b0 = record { history = []; faults = faults keeper }
+
+    b1 : Ledger
+    b1 = record { history = p.history; faults = faults keeper' }
+
+    by : (js : List Judged) (failed : Option Judged) → Replays (js ++ listed failed) b0 b1 → (exit_of ending ≡ exits.OutOfMemory) ⊎ (Answered (exit_of ending) b js o.output o'.output × (failed ≡ None))
         → (exit_of ending ≡ exits.OutOfMemory) ⊎ AnswersAll (exit_of ending) b o o'
-    by judged leads none (inl e) = inl e
-    by judged leads none (inr a) = inr (answered (exit_of ending) b judged o o' p.history p.legal leads none a)
+    by js failed r (inl e) = inl e
+    by js failed r (inr a) =
+        let all : Replays js b0 b1 = subst (λ (xs : List Judged). Replays xs b0 b1) (append-nil js) (subst (λ (x : Option Judged). Replays (js ++ listed x) b0 b1) a.1 r) in
+        inr (answered (exit_of ending) b js o o' b0 b1 refl p.legal all (nothing_lost js b0 b1 all idle) a.0)

@@ -38,7 +38,7 @@ impl Exit {
 }
 
 /// The exit of a run whose connection ended so.
-pub(crate) fn exit_of(ending: Ending) -> Exit
+pub fn exit_of(ending: Ending) -> Exit
     ensures { result ≡ exit_of ending }
 {
     match ending {

@@ -7,23 +7,11 @@ mod exit;
 mod piping;
 mod run;
 
-pub use exit::Exit;
+pub use exit::{Exit, exit_of};
 pub use piping::pipe;
 pub use run::top;
 
 #[cfg(test)]
 mod tests;
 #[cfg(test)]
-mod tests_bodies;
-#[cfg(test)]
 mod tests_book;
-#[cfg(test)]
-mod tests_faults;
-#[cfg(test)]
-mod tests_members;
-#[cfg(test)]
-mod tests_papers;
-#[cfg(test)]
-mod tests_run;
-#[cfg(test)]
-mod tests_script;

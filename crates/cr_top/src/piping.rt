@@ -14,7 +14,9 @@ use std::alloc::Global;
 /// hands back the keeper, which keeps the rows of the last history.
 ///
 /// The keeper begins without rows. `ReadFault` and `WriteFault` come only where the count of `input`,
-/// of `out` rose, or stands at its last value; `OutOfMemory` for want of memory alone.
+/// of `out` rose, or stands at its last value, and no other ending lets a count rise. `OutOfMemory` comes
+/// for want of memory alone, and behind a wish that was read only where it wanted some: see
+/// `serve_connection`.
 pub fn pipe<K: Keeper, I: Source, O: Sink>(
     alloc: Global,
     keeper: K,
@@ -22,19 +24,15 @@ pub fn pipe<K: Keeper, I: Source, O: Sink>(
     out: &mut O,
 ) -> (Ending, K)
     requires { IfSome (K.rows keeper) (λ rows. rows ≡ []) }
-    ensures pipes { Pipes K.rows K.faults result.0 keeper result.1
-        (outside_of (I.left input.old) (O.taken out.old) (I.faults input.old) (O.faults out.old))
-        (outside_of (I.left input.new) (O.taken out.new) (I.faults input.new) (O.faults out.new)) }
+    ensures pipes { let outside = outside_of I.faults O.taken O.faults in
+        Pipes K.rows K.faults I.left I.read_gives result.0 keeper result.1 (outside input.old out.old) (outside input.new out.new) }
 
     // Where nothing fails, the keeper's calls included, all that the input's bytes spell is answered,
     // or memory is wanting.
-    ensures answers { (b : List ℕ) → I.left input.old ≡ Some b → IsFaultless
-        (outside_of (I.left input.old) (O.taken out.old) (I.faults input.old) (O.faults out.old))
-        (outside_of (I.left input.new) (O.taken out.new) (I.faults input.new) (O.faults out.new))
+    ensures answers { let outside = outside_of I.faults O.taken O.faults in
+        (b : List ℕ) → I.left input.old ≡ Some b → IsFaultless (outside input.old out.old) (outside input.new out.new)
         → (Rises (K.faults keeper) (K.faults result.1) → ⊥)
-        → (exit_of result.0 ≡ Exit.OutOfMemory) ⊎ AnswersAll (exit_of result.0) b
-        (outside_of (I.left input.old) (O.taken out.old) (I.faults input.old) (O.faults out.old))
-        (outside_of (I.left input.new) (O.taken out.new) (I.faults input.new) (O.faults out.new)) }
+        → (exit_of result.0 ≡ Exit.OutOfMemory) ⊎ AnswersAll (exit_of result.0) b (outside input.old out.old) (outside input.new out.new) }
     ensures read_fault { result.0 ≡ Ending.ReadFault → Rises (I.faults input.old) (I.faults input.new) }
     ensures write_fault { result.0 ≡ Ending.WriteFault → Rises (O.faults out.old) (O.faults out.new) }
 {

@@ -1,8 +1,7 @@
 //! What the program does with its words.
-ghost use Rattle.std.specs.Prelude.{◌≡◌, ◌≢◌, ◌⊎◌, ℕ, List, Some};
+ghost use Rattle.std.specs.Prelude.{◌≡◌, ◌≢◌, ◌⊎◌, ℕ, List, [], Some};
 ghost use Rattle.cr_ports.specs.Count.{Rises};
-ghost use Rattle.cr_ports.specs.Stream.{taken_and};
-ghost use Rattle.cr_session.specs.Serving.{TakesPrefix};
+ghost use Rattle.cr_session.specs.Writing.{BreaksOff, Writes, outlet_of};
 ghost use Rattle.cr_words.specs.Usage.{usage};
 ghost use Rattle.cr_top.specs.Runs.{outside_of, Takes, Refuses, IsFaultless, AnswersAll};
 ghost use Rattle.cr_top.specs.Words.{AreTaken, AreRefused, PassTest};
@@ -16,8 +15,8 @@ use std::alloc::Global;
 
 /// Writes how the program is called. Takes no memory.
 fn refuse_words<O: Sink>(out: &mut O) -> Exit
-    ensures usage { result ≡ Exit.Usage → O.taken out.new ≡ taken_and (O.taken out.old) usage }
-    ensures fault { result ≡ Exit.WriteFault → TakesPrefix (O.taken out.old) (O.taken out.new) usage × Rises (O.faults out.old) (O.faults out.new) }
+    ensures usage { result ≡ Exit.Usage → Writes usage (outlet_of O.taken O.faults out.old) (outlet_of O.taken O.faults out.new) }
+    ensures fault { result ≡ Exit.WriteFault → BreaksOff [] usage (outlet_of O.taken O.faults out.old) (outlet_of O.taken O.faults out.new) }
     ensures either { (result ≡ Exit.Usage) ⊎ (result ≡ Exit.WriteFault) }
 {
     match write_reply(out, usage_text()) {
@@ -39,22 +38,18 @@ fn refuse_words<O: Sink>(out: &mut O) -> Exit
 pub fn top<I: Source, O: Sink>(alloc: Global, words: &[String], input: &mut I, out: &mut O) -> Exit
     // One connection, from the empty history on: the bytes that out took are the answers that the
     // wishes are told, each on the caller's view of the history at its turn.
-    ensures takes { AreTaken words.now → Takes result
-        (outside_of (I.left input.old) (O.taken out.old) (I.faults input.old) (O.faults out.old))
-        (outside_of (I.left input.new) (O.taken out.new) (I.faults input.new) (O.faults out.new)) }
+    ensures takes { let outside = outside_of I.faults O.taken O.faults in
+        AreTaken words.now → Takes I.left I.read_gives result (outside input.old out.old) (outside input.new out.new) }
 
     // Where nothing fails, all that the input's bytes spell is answered, or memory is wanting.
-    ensures answers { (b : List ℕ) → AreTaken words.now → I.left input.old ≡ Some b → IsFaultless
-        (outside_of (I.left input.old) (O.taken out.old) (I.faults input.old) (O.faults out.old))
-        (outside_of (I.left input.new) (O.taken out.new) (I.faults input.new) (O.faults out.new))
-        → (result ≡ Exit.OutOfMemory) ⊎ AnswersAll result b
-        (outside_of (I.left input.old) (O.taken out.old) (I.faults input.old) (O.faults out.old))
-        (outside_of (I.left input.new) (O.taken out.new) (I.faults input.new) (O.faults out.new)) }
+    ensures answers { let outside = outside_of I.faults O.taken O.faults in
+        (b : List ℕ) → AreTaken words.now → I.left input.old ≡ Some b
+        → IsFaultless (outside input.old out.old) (outside input.new out.new)
+        → (result ≡ Exit.OutOfMemory) ⊎ AnswersAll result b (outside input.old out.old) (outside input.new out.new) }
 
     // Words that name no job are answered by the usage line, and nothing is read.
-    ensures refuses { AreRefused words.now → Refuses result
-        (outside_of (I.left input.old) (O.taken out.old) (I.faults input.old) (O.faults out.old))
-        (outside_of (I.left input.new) (O.taken out.new) (I.faults input.new) (O.faults out.new)) }
+    ensures refuses { let outside = outside_of I.faults O.taken O.faults in
+        AreRefused words.now → Refuses result (outside input.old out.old) (outside input.new out.new) }
     ensures usage { result ≡ Exit.Usage → AreRefused words.now }
     ensures passes { PassTest words.now → result ≢ Exit.Usage }
 

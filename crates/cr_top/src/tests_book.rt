@@ -1,6 +1,6 @@
 //! The calls below the top, each by itself: a book over two connections, one wish, one reply.
 
-use crate::tests_run::{ALICE, CUT_SHORT, GET_PHASE, ROOM, USER_1, joined};
+use crate::tests::{ALICE, CUT_SHORT, GET_PHASE, ROOM, USER_1, joined};
 use cr_base::{PaperNo, Query, Reply, Short, UserNo};
 use cr_book::Book;
 use cr_ports::{Keeper, MemSink, PlainKeeper, PlainSource};

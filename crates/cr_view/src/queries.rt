@@ -1,5 +1,5 @@
 //! What queries are answered by the tables.
-ghost use Rattle.std.specs.Prelude.{◌≡◌, ◌++◌, IfOk, OnOk, Ok, Err, Some, length, map, unwrap_or};
+ghost use Rattle.std.specs.Prelude.{◌≡◌, ◌≢◌, ◌++◌, IfOk, OnOk, OnErr, Ok, Err, Some, length, map, unwrap_or};
 ghost use Rattle.cr_base.specs.Accounts.{lines_of};
 ghost use Rattle.cr_base.specs.Checks.{judged, page_checks};
 ghost use Rattle.cr_base.specs.Judging.{answer_by_role, facts_of_tables, shown_in_tables, query_checks, has_paper, names_in, page_by, standing_at};
@@ -70,8 +70,8 @@ impl Live {
 /// What is answered.
 impl Live {
     /// What the caller's query is answered; an error only for want of memory, and none where a rule
-    /// is broken: that is told whatever memory there is. There is a caller where the query is about
-    /// herself. All accounts cost a walk over them; a page a few look-ups, one more for each name that
+    /// is broken or the state of the conference is asked for: these are told whatever memory there is.
+    /// There is a caller where the query is about herself. All accounts cost a walk over them; a page a few look-ups, one more for each name that
     /// is told, and a copy of what is told; what she is told of herself a walk over her own papers and
     /// conflicts.
     pub fn answer(
@@ -83,6 +83,7 @@ impl Live {
         requires caller { HasAsker caller.now query.now }
         ensures reply { IfOk result (λ reply. reply ≡ answer_by_role self.now.tables caller.now query.now) }
         ensures rule { (rule : Rule) → answer_by_role self.now.tables caller.now query.now ≡ replies.Refused rule → result ≡ Ok (replies.Refused rule) }
+        ensures sure { OnErr result (query.now ≢ queries.Phase) }
     {
         match query {
             Query::Me => Ok(Reply::Me(self.me(alloc, maker(caller))?)),

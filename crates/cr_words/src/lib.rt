@@ -5,9 +5,11 @@
 #![tactic(auto)]
 
 mod build;
+mod laws;
 mod read;
 mod usage;
 
+pub use laws::law_pipe;
 pub use read::{Job, WordsError, read_words};
 pub use usage::usage_text;
 

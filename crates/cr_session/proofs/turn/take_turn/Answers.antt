@@ -1,24 +1,25 @@
 use Rattle.std.proofs.Common.{◌∙◌, ap, subst, sym}
 use Rattle.cr_wire.specs.Bounds.{IsBoundedWhat}
 use Rattle.cr_wire.specs.declared.what.What.{What}
+use Rattle.cr_session.specs.Replay.{ledger_of}
 use Rattle.cr_session.specs.Told.{is_unauthorized}
 use Rattle.cr_session.proofs.TurnLaws.{unauthorized, no_route, wrong_method, bad_body, command-turn, query-turn, caller-command, may-query}
 use Rattle.cr_session.proofs.turn.take_turn.Goals as goal
 
-pub returns-then-is_unauthorized-clause-turns : goal.returns-then-is_unauthorized-clause-turns
-returns-then-is_unauthorized-clause-turns g c = unauthorized _ _ _ c.caller_of-caller.ensures (sym c.is_unauthorized.ensures ∙ c.if-is_unauthorized.true)
+pub returns-then-is_unauthorized : goal.returns-then-is_unauthorized
+returns-then-is_unauthorized g c = unauthorized c.args.wish.now (ledger_of g.K.Keeper.faults c.args.book.now) _ c.caller_of-caller.ensures (sym c.is_unauthorized.ensures ∙ c.if-is_unauthorized.true)
 
-pub returns-in-NoRoute-clause-turns : goal.returns-in-NoRoute-clause-turns
-returns-in-NoRoute-clause-turns g c =
-    no_route _ _ _ c.in-NoRoute.is c.caller_of-caller.ensures (ap (λ (x : What). is_unauthorized c.caller_of-caller.result x) (sym c.in-NoRoute.is) ∙ sym c.is_unauthorized.ensures ∙ c.if-is_unauthorized.false)
+pub returns-in-NoRoute : goal.returns-in-NoRoute
+returns-in-NoRoute g c =
+    no_route c.args.wish.now _ (ledger_of g.K.Keeper.faults c.args.book.now) c.in-NoRoute.is c.caller_of-caller.ensures (ap (λ (x : What). is_unauthorized c.caller_of-caller.result x) (sym c.in-NoRoute.is) ∙ sym c.is_unauthorized.ensures ∙ c.if-is_unauthorized.false)
 
-pub returns-in-WrongMethod-clause-turns : goal.returns-in-WrongMethod-clause-turns
-returns-in-WrongMethod-clause-turns g c =
-    wrong_method _ _ _ _ c.in-WrongMethod.is c.caller_of-caller.ensures (ap (λ (x : What). is_unauthorized c.caller_of-caller.result x) (sym c.in-WrongMethod.is) ∙ sym c.is_unauthorized.ensures ∙ c.if-is_unauthorized.false)
+pub returns-in-WrongMethod : goal.returns-in-WrongMethod
+returns-in-WrongMethod g c =
+    wrong_method c.args.wish.now _ (ledger_of g.K.Keeper.faults c.args.book.now) _ c.in-WrongMethod.is c.caller_of-caller.ensures (ap (λ (x : What). is_unauthorized c.caller_of-caller.result x) (sym c.in-WrongMethod.is) ∙ sym c.is_unauthorized.ensures ∙ c.if-is_unauthorized.false)
 
-pub returns-in-BadBody-clause-turns : goal.returns-in-BadBody-clause-turns
-returns-in-BadBody-clause-turns g c =
-    bad_body _ _ _ _ c.in-BadBody.is c.caller_of-caller.ensures (ap (λ (x : What). is_unauthorized c.caller_of-caller.result x) (sym c.in-BadBody.is) ∙ sym c.is_unauthorized.ensures ∙ c.if-is_unauthorized.false)
+pub returns-in-BadBody : goal.returns-in-BadBody
+returns-in-BadBody g c =
+    bad_body c.args.wish.now _ (ledger_of g.K.Keeper.faults c.args.book.now) _ c.in-BadBody.is c.caller_of-caller.ensures (ap (λ (x : What). is_unauthorized c.caller_of-caller.result x) (sym c.in-BadBody.is) ∙ sym c.is_unauthorized.ensures ∙ c.if-is_unauthorized.false)
 
 pub judge-requires : goal.judge-requires
 judge-requires g c =
@@ -32,10 +33,10 @@ pub answer-requires : goal.answer-requires
 answer-requires g c =
     may-query c.args.book.now.log c.args.wish.now c.caller_of-caller.result c.in-Query.query c.caller_of-caller.ensures (ap (λ (x : What). is_unauthorized c.caller_of-caller.result x) (sym c.in-Query.is) ∙ sym c.is_unauthorized.ensures ∙ c.if-is_unauthorized.false)
 
-pub returns-in-Command-clause-turns : goal.returns-in-Command-clause-turns
-returns-in-Command-clause-turns g c =
-    command-turn _ _ _ _ _ _ _ _ c.in-Command.is c.caller_of-caller.ensures (ap (λ (x : What). is_unauthorized c.caller_of-caller.result x) (sym c.in-Command.is) ∙ sym c.is_unauthorized.ensures ∙ c.if-is_unauthorized.false) c.judge.ensures.judges
+pub returns-in-Command : goal.returns-in-Command
+returns-in-Command g c =
+    command-turn _ c.args.wish.now _ _ (ledger_of g.K.Keeper.faults c.args.book.now) (ledger_of g.K.Keeper.faults c.judge.new.book) c.in-Command.is c.caller_of-caller.ensures (ap (λ (x : What). is_unauthorized c.caller_of-caller.result x) (sym c.in-Command.is) ∙ sym c.is_unauthorized.ensures ∙ c.if-is_unauthorized.false) c.judge.ensures
 
-pub returns-in-Query-clause-turns : goal.returns-in-Query-clause-turns
-returns-in-Query-clause-turns g c =
-    query-turn _ _ _ _ _ _ c.in-Query.is c.caller_of-caller.ensures (ap (λ (x : What). is_unauthorized c.caller_of-caller.result x) (sym c.in-Query.is) ∙ sym c.is_unauthorized.ensures ∙ c.if-is_unauthorized.false) c.answer.ensures
+pub returns-in-Query : goal.returns-in-Query
+returns-in-Query g c =
+    query-turn _ c.args.wish.now _ _ (ledger_of g.K.Keeper.faults c.args.book.now) c.in-Query.is c.caller_of-caller.ensures (ap (λ (x : What). is_unauthorized c.caller_of-caller.result x) (sym c.in-Query.is) ∙ sym c.is_unauthorized.ensures ∙ c.if-is_unauthorized.false) c.answer.ensures

@@ -1,6 +1,7 @@
-use Rattle.std.proofs.Common.{arith, drop, length, ◌-◌, length-take, length-drop}
+use Rattle.std.proofs.Common.{arith, drop, length, ◌-◌, ◌∙◌, length-take, length-drop, refl}
 use Rattle.std.proofs.lemmas.List.{take_rest}
-use Rattle.cr_session.proofs.Taking.{wrote_on, wrote_prefix}
+use Rattle.cr_session.specs.Writing.{Outlet, outlet_of}
+use Rattle.cr_session.proofs.WritingLaws.{wrote_on, wrote_part, wrote_whole}
 use Rattle.cr_session.proofs.writing.write_reply.Goals as goal
 
 pub writing-preserved : goal.writing-preserved
@@ -12,8 +13,16 @@ writing-preserved g c = record {
       let w = c.writing-test.true in
       omega (arith, size, l, d, w);
   taken = wrote_on _ _ _ _ _ _ _ c.writing.invariant.taken (take_rest c.args.bytes.now c.writing.at) c.in-Took.ensures.bytes;
-  count = let a = c.writing.invariant.count in let b = c.in-Took.ensures.count in omega (arith, a, b);
+  steady = c.in-Took.ensures.steady (λ is. cc) ∙ c.writing.invariant.steady;
 }
 
-pub returns-in-Failed-clause-prefix : goal.returns-in-Failed-clause-prefix
-returns-in-Failed-clause-prefix g c = wrote_prefix _ _ _ _ _ c.writing.invariant.taken c.in-Failed.ensures.bytes
+pub returns-in-Failed-clause-failed : goal.returns-in-Failed-clause-failed
+returns-in-Failed-clause-failed g c =
+
+    wrote_part _ (outlet_of g.O.Sink.taken g.O.Sink.faults c.writing.sink) _ c.args.bytes.now c.writing.at c.writing-test.true c.writing.invariant.taken c.writing.invariant.steady
+    c.in-Failed.ensures.bytes c.in-Failed.ensures.count (c.in-Failed.ensures.failed refl)
+
+pub returns-clause-whole : goal.returns-clause-whole
+returns-clause-whole g c =
+    wrote_whole (outlet_of g.O.Sink.taken g.O.Sink.faults c.args.sink.now) (outlet_of g.O.Sink.taken g.O.Sink.faults c.writing.sink) c.args.bytes.now c.writing.at
+    c.writing-test.false c.writing.invariant.taken c.writing.invariant.steady

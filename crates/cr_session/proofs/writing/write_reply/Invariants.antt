@@ -6,7 +6,7 @@ abbrev pub invariant-writing : goal.invariant-writing
 invariant-writing g l = record {
   within : l.at ≤ length l.bytes;
   taken : g.O.Sink.taken l.sink ≡ taken_and (g.O.Sink.taken l.initial.sink) (take l.at l.bytes);
-  count : g.O.Sink.faults l.initial.sink ≤ g.O.Sink.faults l.sink;
+  steady : g.O.Sink.faults l.sink ≡ g.O.Sink.faults l.initial.sink;
 }
 
 abbrev pub decreases-writing : goal.decreases-writing

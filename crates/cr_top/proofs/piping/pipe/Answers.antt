@@ -1,5 +1,5 @@
 use Rattle.std.proofs.Common.{rules}
-use Rattle.cr_top.specs.Runs.{Outside, outside_of}
+use Rattle.cr_top.specs.Runs.{outside_of}
 use Rattle.cr_top.proofs.Answering.{pipe_answers}
 use Rattle.cr_top.proofs.piping.pipe.Goals as goal
 
@@ -8,6 +8,7 @@ returns-clause-pipes g c = search rules
 
 pub returns-clause-answers : goal.returns-clause-answers
 returns-clause-answers g c b left faultless idle =
-    let o : Outside = outside_of (g.I.Source.left c.args.input.now) (g.O.Sink.taken c.args.out.now) (g.I.Source.faults c.args.input.now) (g.O.Sink.faults c.args.out.now) in
-    let o' : Outside = outside_of (g.I.Source.left c.serve_connection-ending.new.source) (g.O.Sink.taken c.serve_connection-ending.new.sink) (g.I.Source.faults c.serve_connection-ending.new.source) (g.O.Sink.faults c.serve_connection-ending.new.sink) in
-    pipe_answers g.K.Keeper.rows g.K.Keeper.faults c.serve_connection-ending.result c.args.keeper c.close.result b o o' (returns-clause-pipes g c) left faultless idle
+    let o = outside_of g.I.Source.faults g.O.Sink.taken g.O.Sink.faults c.args.input.now c.args.out.now in
+    let o' = outside_of g.I.Source.faults g.O.Sink.taken g.O.Sink.faults c.serve_connection-ending.new.source c.serve_connection-ending.new.sink in
+    pipe_answers g.K.Keeper.rows g.K.Keeper.faults g.I.Source.left g.I.Source.read_gives c.serve_connection-ending.result c.args.keeper c.close.result b o o'
+    (returns-clause-pipes g c) left faultless idle

@@ -1,0 +1,126 @@
+//! Whole runs as data: the case files of the folder that this runs in, against the program.
+//!
+//! A case is what is sent on one connection and what is due: each answer's every byte, and how the run
+//! ends. It is run by `top` over streams in memory, with its bytes whole and cut into pieces in several
+//! ways, and gets a line: that all is as due, or the first difference.
+//!
+//! A case file is lines of these forms. What stands ahead of the first case stands ahead of each.
+//!
+//! | line | what it says |
+//! |---|---|
+//! | `# TEXT`, or empty | nothing |
+//! | `== TITLE` | a case begins |
+//! | `$ WORDS` | the words of the command line, where they aren't `confd pipe` |
+//! | `> NAME METHOD PATH [BODY]` | a request is sent, by nobody where NAME is `-`; a NAME without a point has the secret `NAME-secret-000001`, else it is the token `NAME.SECRET` |
+//! | `< CODE CONTENT` | an answer is due; `<!` where the connection closes behind it |
+//! | `< CODE HEAD CONTENT` | an answer to HEAD is due: the head alone of what GET would be answered |
+//! | `< CODE Allow: METHODS; CONTENT` | the same with the field Allow |
+//! | `>>[N] TEXT`, `<<[N] TEXT` | bytes are sent, are due, N times |
+//! | `*N LINE` | N times that line, with the number of the time, from 1, in place of each `\#` |
+//! | `!read [N]`, `!write [N]` | the input fails behind what is sent so far, the output behind what is due so far, or N bytes later |
+//! | `!append N` | append number N, from 1, fails |
+//! | `!each end`, `!each read`, `!each write` | the case is run once for each place at which the input may end, may fail, the output may fail |
+//! | `!whole` | the case is run with its bytes whole alone |
+//! | `=cut`, `=usage`, `=read_fault`, `=write_fault` | how the run ends, where that isn't with status 0 |
+//! | `=rows N` | N rows are kept by the answer ahead of this line |
+//! | `=unread` | what is sent from here on isn't read, where the bytes come one by one |
+//!
+//! In bodies, contents and raw bytes `\r`, `\n` and `\\` are as usual, `\xHH` is a byte, and `\(N TEXT)` is N
+//! times a text.
+#![tactic(auto)]
+
+mod case;
+mod file;
+mod message;
+mod run;
+mod text;
+mod verdict;
+
+use case::Case;
+use file::{FileError, read_cases};
+use std::alloc::{AllocError, Global};
+use std::process::ExitCode;
+use std::{fs, io};
+use verdict::difference;
+
+/// What was run, in numbers.
+#[derive(Clone, Copy, Drop)]
+struct Total {
+    cases: u64,
+    answers: u64,
+    failed: u64,
+}
+
+impl Total {
+    fn add(&mut self, answers: usize, is_failed: bool) {
+        self.cases = self.cases.saturating_add(1);
+        self.answers = self.answers.saturating_add(answers as u64);
+        self.failed = self.failed.saturating_add(u64::from(is_failed));
+    }
+}
+
+// The names of the folder's case files, in order.
+fn case_names(rt: &HostRuntime) -> io::Result<Vec<String>> {
+    let mut names = Vec::new(rt.alloc());
+    for entry in fs::read_dir(rt, ".")? {
+        let entry = entry?;
+        if entry.file_name().ends_with(".case") {
+            names.push(String::from_str(rt.alloc(), entry.file_name())?)?;
+        }
+    }
+    names.sort()?;
+    Ok(names)
+}
+
+// Runs a case, counts it, and tells what came of it.
+fn told(alloc: Global, case: &Case, total: &mut Total) -> Result<String, AllocError> {
+    let answers = case.answers.len();
+    let difference = difference(alloc, case)?;
+    total.add(answers, difference.is_some());
+    match difference {
+        None => format!(in alloc; "ok, {answers} answers"),
+        Some(why) => Ok(why),
+    }
+}
+
+// Runs the cases of a file, a line a case.
+fn run_file(rt: &HostRuntime, name: &str, total: &mut Total) -> io::Result<()> {
+    let alloc = rt.alloc();
+    let text = fs::read_to_string(rt, name)?;
+    match read_cases(alloc, text.as_str()) {
+        Ok(cases) => {
+            for case in cases.iter() {
+                let told = told(alloc, case, total)?;
+                println!(rt; "{name}, {}: {told}", case.title)?;
+            }
+        }
+        Err(FileError::NoForm(line)) => {
+            total.add(0, true);
+            println!(rt; "{name}, line {line}: none of the forms")?;
+        }
+        Err(FileError::OutOfMemory) => return Err(AllocError.into()),
+    }
+    Ok(())
+}
+
+fn main(rt: HostRuntime) -> io::Result<ExitCode> {
+    let mut total = Total {
+        cases: 0,
+        answers: 0,
+        failed: 0,
+    };
+    for name in case_names(&rt)?.iter() {
+        run_file(&rt, name.as_str(), &mut total)?;
+    }
+    let Total {
+        cases,
+        answers,
+        failed,
+    } = total;
+    println!(&rt; "{cases} cases, {answers} answers, {failed} cases not as due")?;
+    Ok(if failed == 0 {
+        ExitCode::SUCCESS
+    } else {
+        ExitCode::FAILURE
+    })
+}

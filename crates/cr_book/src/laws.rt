@@ -1,0 +1,13 @@
+//! A law over the definitions alone: what the tables tell of a user is what the history does.
+ghost use Rattle.std.specs.Prelude.{◌≡◌, ℕ, Option};
+ghost use Rattle.cr_base.specs.Facts.{standing_of};
+ghost use Rattle.cr_base.specs.History.{History};
+ghost use Rattle.cr_base.specs.Judging.{standing_at};
+ghost use Rattle.cr_base.specs.Tables.{tables_of};
+ghost use Rattle.cr_policy.specs.Legal.{Legal};
+
+/// How a user, or nobody, stands by the tables of a legal history, as `Live::standing` tells it, is how
+/// she stands by the history: phase, mode, role, and her ties to a paper, where one is named.
+pub fn law_standing_by_tables()
+    ensures { (user paper : Option ℕ) (H : History) → Legal H → standing_at (tables_of H) user paper ≡ standing_of user paper H }
+{}

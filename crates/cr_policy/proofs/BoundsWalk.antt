@@ -1,0 +1,165 @@
+-- A view is what the bounds give of the entries, one after another.
+use Rattle.std.proofs.Common.{◌≡◌, ℕ, Bool, true, false, [], ◌∷◌, ◌++◌, eqb, refl, sym, ap, ◌∙◌, ◌||◌, append_assoc, Option}
+use Rattle.std.specs.Prelude.{map}
+use Rattle.std.specs.List.{list_any, AllByRecursion}
+use Rattle.std.proofs.lemmas.Bool.{eq-eqb}
+use Rattle.std.proofs.lemmas.List.{map-append}
+use Rattle.std.proofs.lemmas.List.Concat.{flat_map-append}
+use Rattle.cr_base.specs.declared.entry.Entry.{Entry}
+use Rattle.cr_base.specs.declared.entry.Entry.TheVariants.{Submitted}
+use Rattle.cr_base.specs.declared.entry.Stamped.{Stamped}
+use Rattle.cr_base.specs.Lists.{given, is_number}
+use Rattle.cr_base.specs.History.{History, author_told}
+use Rattle.cr_base.specs.Facts.{authors_of, is_author}
+use Rattle.cr_policy.specs.Sighting.{Sighting}
+use Rattle.cr_policy.specs.Triggers.{reader, Place}
+use Rattle.cr_policy.specs.View.{sight, sights, view, is_seen, joined}
+use Rattle.cr_policy.specs.ShownTo.{PartFor, is_told, each_told, kind_for, mark_for, paper_for, user_for, name_for, digest_for, role_for, phase_for, mode_for, maker_for, title_for, abstract_for, switch_for}
+use Rattle.cr_policy.specs.ViewBounds.{EntriesShown, MarksShown, PapersShown, UsersShown, NamesShown, DigestsShown, RolesShown, PhasesShown, ModesShown, MakersShown, TitlesShown, AbstractsShown, SwitchesShown}
+use Rattle.cr_policy.proofs.BoundsParts.{IsWriters, seen-told, kind-one, mark-one, paper-one, user-one, name-one, digest-one, role-one, phase-one, mode-one, maker-one, title-one, abstract-one, switch-one}
+use Rattle.cr_policy.proofs.Tells.{stamp}
+use Rattle.cr_policy.proofs.Walk.{list_any-append}
+
+-- ---- one entry
+
+-- all its parts
+abbrev pub shown_to : PartFor Sighting
+shown_to u H later maker e = record {
+  kind = kind_for u H later maker e;
+  mine = mark_for u H later maker e;
+  paper = paper_for u H later maker e;
+  user = user_for u H later maker e;
+  name = name_for u H later maker e;
+  digest = digest_for u H later maker e;
+  role = role_for u H later maker e;
+  phase = phase_for u H later maker e;
+  mode = mode_for u H later maker e;
+  by = maker_for u H later maker e;
+  title = title_for u H later maker e;
+  abstract = abstract_for u H later maker e;
+  on = switch_for u H later maker e;
+}
+
+module _ (u : Option ℕ) (H : History) where
+  given-same : {A : Type 0} (b c : Bool) (x y : A) → b ≡ c → (c ≡ true → x ≡ y) → given b x ≡ given c y
+  given-same {A} b c x y same h = ap (λ b. given b x) same ∙ by c h
+    where
+      by : (c : Bool) → (c ≡ true → x ≡ y) → given c x ≡ given c y
+      by true h = ap (λ (x : A). x ∷ []) (h refl)
+      by false h = refl
+
+  joined-one : (at : Place) (maker : ℕ) (more : Bool) (e : Entry) → IsWriters u H maker e → is_told u H maker e ≡ true → joined (reader u H) at (stamp maker more e) ≡ shown_to u H at.after maker e
+  joined-one at maker more e writes told = λ i. record {
+    kind = kind-one u H at maker more e i;
+    mine = mark-one u H at maker more e i;
+    paper = paper-one u H at maker more e i;
+    user = user-one u H at maker more e told i;
+    name = name-one u H at maker more e i;
+    digest = digest-one u H at maker more e i;
+    role = role-one u H at maker more e i;
+    phase = phase-one u H at maker more e i;
+    mode = mode-one u H at maker more e i;
+    by = maker-one u H at maker more e i;
+    title = title-one u H at maker more e writes i;
+    abstract = abstract-one u H at maker more e writes i;
+    on = switch-one u H at maker more e told i;
+  }
+
+  sight-one : (at : Place) (maker : ℕ) (more : Bool) (e : Entry) → IsWriters u H maker e → sight (reader u H) at (stamp maker more e) ≡ given (is_told u H maker e) (shown_to u H at.after maker e)
+  sight-one at maker more e writes =
+      given-same (is_seen (reader u H) at (stamp maker more e)) (is_told u H maker e) (joined (reader u H) at (stamp maker more e)) (shown_to u H at.after maker e)
+      (seen-told u H at maker more e) (joined-one at maker more e writes)
+
+  -- ---- the entries of a history
+
+  -- each of them makes a paper of which its maker is an author
+  writes-one : (before : History) (maker : ℕ) (more : Bool) (e : Entry) (after : History) → before ++ (stamp maker more e ∷ after) ≡ H → IsWriters u H maker e
+  writes-one before maker more (Submitted paper title abstract) after whole = λ own.
+      ap (is_author u paper) (sym whole)
+      ∙ ap (list_any (is_number u)) (flat_map-append (λ (e : Stamped). author_told paper e.maker e.entry) before (stamp maker more (Submitted paper title abstract) ∷ after))
+      ∙ list_any-append (is_number u) (authors_of paper before) (given (eqb paper paper) maker ++ authors_of paper after)
+      ∙ ap (λ b. list_any (is_number u) (authors_of paper before) || list_any (is_number u) (given b maker ++ authors_of paper after)) (eq-eqb paper paper refl)
+      ∙ ap (λ b. list_any (is_number u) (authors_of paper before) || (b || list_any (is_number u) (authors_of paper after))) own
+      ∙ or-true (list_any (is_number u) (authors_of paper before))
+    where
+      or-true : (b : Bool) → (b || true) ≡ true
+      or-true true = refl
+      or-true false = refl
+  writes-one before maker more e after whole = tt
+
+  abbrev pub Writes : Stamped → Type 0
+  Writes e = IsWriters u H e.maker e.entry
+
+  writes-all : (before after : History) → before ++ after ≡ H → AllByRecursion Writes after
+  writes-all before [] whole = tt
+  writes-all before (e ∷ after) whole = (writes-one before e.maker e.more e.entry after whole, writes-all (before ++ e ∷ []) after (append_assoc before (e ∷ []) after ∙ whole))
+
+  pub writers-all : AllByRecursion Writes H
+  writers-all = writes-all [] H refl
+
+  sights-told : (before after : History) → AllByRecursion Writes after → sights (reader u H) before after ≡ each_told u H (shown_to u H) after
+  sights-told before [] writes = refl
+  sights-told before (e ∷ after) writes =
+      ap (λ xs. xs ++ sights (reader u H) (before ++ e ∷ []) after) (sight-one (record { before = before; after = after }) e.maker e.more e.entry writes.0)
+      ∙ ap (λ ys. given (is_told u H e.maker e.entry) (shown_to u H after e.maker e.entry) ++ ys) (sights-told (before ++ e ∷ []) after writes.1)
+
+  pub view-told : view u H ≡ each_told u H (shown_to u H) H
+  view-told = sights-told [] H writers-all
+
+  -- ---- a part of them
+
+  map-given : {A : Type 0} (f : Sighting → A) (b : Bool) (x : Sighting) → map f (given b x) ≡ given b (f x)
+  map-given f true x = refl
+  map-given f false x = refl
+
+  map-told : {A : Type 0} (f : Sighting → A) (G : History) → map f (each_told u H (shown_to u H) G) ≡ each_told u H (λ later maker e. f (shown_to u H later maker e)) G
+  map-told f [] = refl
+  map-told f (e ∷ G) =
+      let s : Sighting = shown_to u H G e.maker e.entry in
+      map-append f (given (is_told u H e.maker e.entry) s) (each_told u H (shown_to u H) G)
+      ∙ ap (λ xs. xs ++ map f (each_told u H (shown_to u H) G)) (map-given f (is_told u H e.maker e.entry) s)
+      ∙ ap (λ ys. given (is_told u H e.maker e.entry) (f s) ++ ys) (map-told f G)
+
+  map-view : {A : Type 0} (f : Sighting → A) → map f (view u H) ≡ each_told u H (λ later maker e. f (shown_to u H later maker e)) H
+  map-view f = ap (map f) view-told ∙ map-told f H
+
+-- ---- the laws
+
+pub entries-shown : EntriesShown
+entries-shown u H = map-view u H (λ (s : Sighting). s.kind)
+
+pub marks-shown : MarksShown
+marks-shown u H = map-view u H (λ (s : Sighting). s.mine)
+
+pub papers-shown : PapersShown
+papers-shown u H = map-view u H (λ (s : Sighting). s.paper)
+
+pub users-shown : UsersShown
+users-shown u H = map-view u H (λ (s : Sighting). s.user)
+
+pub names-shown : NamesShown
+names-shown u H = map-view u H (λ (s : Sighting). s.name)
+
+pub digests-shown : DigestsShown
+digests-shown u H = map-view u H (λ (s : Sighting). s.digest)
+
+pub roles-shown : RolesShown
+roles-shown u H = map-view u H (λ (s : Sighting). s.role)
+
+pub phases-shown : PhasesShown
+phases-shown u H = map-view u H (λ (s : Sighting). s.phase)
+
+pub modes-shown : ModesShown
+modes-shown u H = map-view u H (λ (s : Sighting). s.mode)
+
+pub makers-shown : MakersShown
+makers-shown u H = map-view u H (λ (s : Sighting). s.by)
+
+pub titles-shown : TitlesShown
+titles-shown u H = map-view u H (λ (s : Sighting). s.title)
+
+pub abstracts-shown : AbstractsShown
+abstracts-shown u H = map-view u H (λ (s : Sighting). s.abstract)
+
+pub switches-shown : SwitchesShown
+switches-shown u H = map-view u H (λ (s : Sighting). s.on)

@@ -1,0 +1,222 @@
+-- What an accepted command adds, by the rules on the history before it.
+use Rattle.std.proofs.Common.{ℕ, Bool, true, false, cond, ◌≡◌, ◌<◌, ◌+◌, List, [], ◌∷◌, length, eqb, refl, sym, ap, subst, ◌∙◌, ◌||◌, ◌&&◌, Option, Some, None, Ok}
+use Rattle.std.specs.Prelude.{not, is_some, is_none, unwrap_or, map}
+use Rattle.std.specs.List.{list_any, find}
+use Rattle.std.specs.Option.{option_map}
+use Rattle.std.proofs.lemmas.Bool.{eqb-true, leb-false, true≢false, and_parts, not-true, not-false, or_left}
+use Rattle.cr_base.specs.declared.command.Command.{Command}
+use Rattle.cr_base.specs.declared.command.Command.TheVariants.{Register, SetPhase, Submit, Name, SetMode, SetConflict}
+use Rattle.cr_base.specs.declared.entry.Entry.{Entry}
+use Rattle.cr_base.specs.declared.entry.Entry.TheVariants.{Registered, Named, PhaseSet, ModeSet, Submitted, Conflict}
+use Rattle.cr_base.specs.declared.reply.AccountLine.{AccountLine}
+use Rattle.cr_base.specs.declared.standing.Standing.{Standing}
+use Rattle.cr_base.specs.declared.words.Phase.{Phase}
+use Rattle.cr_base.specs.declared.words.Phase.TheVariants.{Setup, Submission, Bidding, Reviewing, Discussion, Notification, Closed}
+use Rattle.cr_base.specs.declared.words.Role.{Role}
+use Rattle.cr_base.specs.declared.words.Role.TheVariants.{Account, Chair}
+use Rattle.cr_base.specs.Lists.{is_number, at_some}
+use Rattle.cr_base.specs.History.{History, Registration, all_told, registration_told}
+use Rattle.cr_base.specs.Facts.{phase_of, role_of, accounts_of, papers_of, own_papers_of, standing_of}
+use Rattle.cr_base.specs.Phases.{is_from, is_phase, is_next}
+use Rattle.cr_base.specs.Words.{role_number, is_member, is_chair}
+use Rattle.cr_base.specs.Checks.{register_checks, phase_checks, submit_checks, name_checks, mode_checks, conflict_case, conflict_checks}
+use Rattle.cr_base.specs.Judging.{Facts, Shown, Drawn, grouped, number_in, user_among, role_among, has_paper, registration_drawn, phase_drawn, submission_drawn, naming_drawn, mode_drawn, conflict_drawn, judge_by}
+use Rattle.cr_base.proofs.CheckLaws.{NoneBroken, judged-Ok}
+use Rattle.cr_policy.specs.Invariants.{IsMadeByUser, IsMarked, IsInPhase, IsByChair, RaisesRole, IsOfMember, IsByRight}
+use Rattle.cr_policy.specs.Judge.{judge}
+use Rattle.cr_policy.specs.Legal.{IsRegistered, IsCaller}
+use Rattle.cr_policy.specs.View.{view}
+use Rattle.cr_policy.specs.ViewFacts.{facts_in_view, shown_in_view}
+use Rattle.cr_policy.proofs.StandingLaws.{standing_from_view, accounts-seen, papers-seen, own_papers-seen}
+
+-- ---- what is added
+
+-- what the rules say of an entry, on the history before it
+pub record IsRuled (H : History) (maker : ℕ) (e : Entry) : Type 0 where
+  pub phase : IsInPhase H e
+  pub chair : IsByChair H maker e
+  pub role : RaisesRole H e
+  pub member : IsOfMember H e
+  pub right : IsByRight H maker e
+
+-- one entry, or the registration of the first user and the role that comes with it
+pub data Adds (H : History) : History → Type 0 where
+  single : (maker : ℕ) (e : Entry) → IsMadeByUser H maker e → IsMarked false e → IsRuled H maker e → Adds H (grouped maker (e ∷ []))
+  first_user : (user : ℕ) (name digest : List ℕ) → user ≡ 1 → Adds H (grouped user (Registered user name digest ∷ Named user Chair ∷ []))
+
+-- ---- the facts of a history
+
+abbrev facts_of : Option ℕ → History → Facts
+facts_of u H = record { standing = λ paper. standing_of u paper H; accounts = accounts_of H; papers = papers_of H; own_papers = own_papers_of u H }
+
+-- any user's view tells them
+facts-seen : (u : Option ℕ) (H : History) → facts_in_view u (view u H) ≡ facts_of u H
+facts-seen u H = λ i. record { standing = λ paper. standing_from_view u paper H i; accounts = accounts-seen u H i; papers = papers-seen u H i; own_papers = own_papers-seen u H i }
+
+-- the role of a user named, if there is one, is the one that the history tells
+module _ (H : History) where
+  abbrev line : Registration → AccountLine
+  line r = record { user = r.user; name = r.name; role = role_of (Some r.user) H }
+
+  abbrev role_found : ℕ → List Registration → Option Role
+  role_found v rs = option_map (λ (a : AccountLine). a.role) (find (λ (a : AccountLine). eqb a.user v) (map line rs))
+
+  role-found : (v : ℕ) (rs : List Registration) → is_none (role_found v rs) ≡ false → unwrap_or (role_found v rs) Account ≡ role_of (Some v) H
+  role-found v [] h = absurd (true≢false h)
+  role-found v (r ∷ rs) h = by (eqb r.user v) refl h (role-found v rs)
+    where
+      found : Bool → Option Role
+      found b = option_map (λ (a : AccountLine). a.role) (cond b (Some (line r)) (find (λ (a : AccountLine). eqb a.user v) (map line rs)))
+
+      by : (b : Bool) → eqb r.user v ≡ b → is_none (found b) ≡ false → (is_none (role_found v rs) ≡ false → unwrap_or (role_found v rs) Account ≡ role_of (Some v) H) → unwrap_or (found b) Account ≡ role_of (Some v) H
+      by true same h rest = ap (λ n. role_of (Some n) H) (eqb-true r.user v same)
+      by false same h rest = rest h
+
+  role-among : (target : Option ℕ) → is_none (role_among (accounts_of H) target) ≡ false → unwrap_or (role_among (accounts_of H) target) Account ≡ role_of (Some (unwrap_or target 0)) H
+  role-among None h = absurd (true≢false h)
+  role-among (Some v) h = role-found v (all_told registration_told H) h
+
+-- ---- conflicts
+
+-- before the bidding it isn't the notification yet
+not_late : (phase : Phase) → is_from Bidding phase ≡ false → is_from Notification phase ≡ false
+not_late Setup h = refl
+not_late Submission h = refl
+not_late Bidding h = absurd (true≢false h)
+not_late Reviewing h = absurd (true≢false h)
+not_late Discussion h = absurd (true≢false h)
+not_late Notification h = absurd (true≢false h)
+not_late Closed h = absurd (true≢false h)
+
+clear-right : (begun own on chair conflicted author : Bool) → begun ≡ true → chair ≡ true → conflicted ≡ false → cond begun ((own && on) || (chair && not conflicted)) (author && on) ≡ true
+clear-right true own on true false author hb hc hf = by own on
+  where
+    by : (own on : Bool) → ((own && on) || true) ≡ true
+    by true true = refl
+    by true false = refl
+    by false on = refl
+clear-right true own on true true author hb hc hf = absurd (true≢false hf)
+clear-right true own on false conflicted author hb hc hf = absurd (true≢false (sym hc))
+clear-right false own on chair conflicted author hb hc hf = absurd (true≢false (sym hb))
+
+own-right : (begun own chair conflicted author : Bool) → begun ≡ true → own ≡ true → cond begun ((own && true) || (chair && not conflicted)) (author && true) ≡ true
+own-right true true chair conflicted author hb ho = refl
+own-right true false chair conflicted author hb ho = absurd (true≢false (sym ho))
+own-right false own chair conflicted author hb ho = absurd (true≢false (sym hb))
+
+author-right : (begun own chair conflicted author : Bool) → begun ≡ false → author ≡ true → cond begun ((own && true) || (chair && not conflicted)) (author && true) ≡ true
+author-right true own chair conflicted author hb ha = absurd (true≢false hb)
+author-right false own chair conflicted true hb ha = refl
+author-right false own chair conflicted false hb ha = absurd (true≢false (sym ha))
+
+-- the five lists of rules say who turns which conflict when
+module _ (H : History) (maker paper user : ℕ) where
+  abbrev begun : Bool
+  begun = is_from Bidding (phase_of H)
+
+  abbrev late : Bool
+  late = is_from Notification (phase_of H)
+
+  abbrev by_maker : Standing
+  by_maker = standing_of (Some maker) (Some paper) H
+
+  conflict-ruled : (on : Bool) → late ≡ false → is_member (role_of (Some user) H) ≡ true → IsByRight H maker (Conflict paper user on) → IsRuled H maker (Conflict paper user on)
+  conflict-ruled on early member right = record { phase = early; chair = tt; role = tt; member = member; right = right }
+
+  case-ruled : (on bidding after herself : Bool) (target : Option Role) (author : Bool) → begun ≡ bidding → late ≡ after → eqb user maker ≡ herself → unwrap_or target Account ≡ role_of (Some user) H
+      → NoneBroken (conflict_case on bidding after herself by_maker target author) → IsRuled H maker (Conflict paper user on)
+  case-ruled false bidding after herself target author b l h r none =
+      let now = and_parts begun (not late) (not-false (begun && not late) none.1.1.0) in
+      conflict-ruled false (not-true late now.1) (ap is_member (sym r) ∙ not-false (is_member (unwrap_or target Account)) none.1.1.1.0)
+      (clear-right begun (eqb user maker) false (is_chair by_maker.role) by_maker.conflicted by_maker.author now.0 (not-false (is_chair by_maker.role) none.0) none.1.0)
+  case-ruled true false after herself target author b l h r none =
+      conflict-ruled true (not_late (phase_of H) b) (ap is_member (sym r) ∙ not-false (is_member (unwrap_or target Account)) none.1.0)
+      (author-right begun (eqb user maker) (is_chair by_maker.role) by_maker.conflicted by_maker.author b (not-false by_maker.author none.0))
+  case-ruled true true true herself target author b l h r none = absurd (true≢false none.0)
+  case-ruled true true false true target author b l h r none =
+      conflict-ruled true l (ap (λ n. is_member (role_of (Some n) H)) (eqb-true user maker h) ∙ not-false (is_member by_maker.role) none.0)
+      (own-right begun (eqb user maker) (is_chair by_maker.role) by_maker.conflicted by_maker.author b h)
+  case-ruled true true false false target author b l h r none =
+      conflict-ruled true l (ap is_member (sym r) ∙ not-false (is_member (unwrap_or target Account)) none.1.1.0)
+      (clear-right begun (eqb user maker) true (is_chair by_maker.role) by_maker.conflicted by_maker.author b (not-false (is_chair by_maker.role) none.0) none.1.0)
+
+-- ---- all commands
+
+registration-adds : (H : History) (caller : Option ℕ) (facts : Facts) (shown : Shown) (name digest : List ℕ) (drawn : Drawn) → judge_by facts shown caller (Register name digest) ≡ Ok drawn → Adds H drawn.group
+registration-adds H caller facts shown name digest drawn accepted =
+    let n : ℕ = length facts.accounts in
+    let k = judged-Ok (register_checks (is_some (number_in facts.accounts name)) n) (registration_drawn (n + 1) name digest) drawn accepted in
+    subst (λ (d : Drawn). Adds H d.group) k.1 (by (n + 1) (eqb (n + 1) 1) refl)
+  where
+    by : (user : ℕ) (b : Bool) → eqb user 1 ≡ b → Adds H (grouped user (cond b (Registered user name digest ∷ Named user Chair ∷ []) (Registered user name digest ∷ [])))
+    by user true is = first_user user name digest (eqb-true user 1 is)
+    by user false is = single user (Registered user name digest) refl (sym is) (record { phase = tt; chair = tt; role = tt; member = tt; right = tt })
+
+module _ (H : History) (maker : ℕ) (shown : Shown) (registered : IsRegistered H maker) where
+  abbrev facts : Facts
+  facts = facts_of (Some maker) H
+
+  abbrev standing : Standing
+  standing = standing_of (Some maker) None H
+
+  abbrev author_shown : Option ℕ → Option ℕ → Bool
+  author_shown paper target = at_some (λ p. list_any (is_number target) (shown.authors p)) paper
+
+  conflict-ruled_for : (paper target : Option ℕ) (on : Bool) → NoneBroken (conflict_checks (standing_of (Some maker) paper H) (has_paper facts paper) (role_among facts.accounts target) (is_number target maker) (author_shown paper target) on) → IsRuled H maker (Conflict (unwrap_or paper 0) (unwrap_or target 0) on)
+  conflict-ruled_for None target on none = absurd (true≢false none.0)
+  conflict-ruled_for (Some p) None on none = absurd (true≢false none.1.0)
+  conflict-ruled_for (Some p) (Some v) on none =
+      case-ruled H maker p v on (is_from Bidding (phase_of H)) (is_from Notification (phase_of H)) (eqb v maker) (role_among facts.accounts (Some v)) (author_shown (Some p) (Some v)) refl refl refl (role-among H (Some v) none.1.0) none.1.1
+
+  command-adds : (command : Command) (drawn : Drawn) → judge_by facts shown (Some maker) command ≡ Ok drawn → Adds H drawn.group
+  command-adds (Register name digest) drawn accepted = registration-adds H (Some maker) facts shown name digest drawn accepted
+  command-adds (SetPhase to) drawn accepted =
+      let k = judged-Ok (phase_checks standing (phase_of H) to) (phase_drawn maker to) drawn accepted in
+      subst (λ (d : Drawn). Adds H d.group) k.1
+      (single maker (PhaseSet to) registered refl (record { phase = not-false (is_next (phase_of H) to) k.0.1.0; chair = not-false (is_chair standing.role) k.0.0; role = tt; member = tt; right = tt }))
+  command-adds (Submit title abstract) drawn accepted =
+      let n : ℕ = length facts.papers in
+      let k = judged-Ok (submit_checks standing n facts.own_papers) (submission_drawn maker (n + 1) title abstract) drawn accepted in
+      subst (λ (d : Drawn). Adds H d.group) k.1
+      (single maker (Submitted (n + 1) title abstract) registered refl (record { phase = not-false (is_phase (phase_of H) Submission) k.0.0; chair = tt; role = tt; member = tt; right = tt }))
+  command-adds (Name name role) drawn accepted =
+      let target : Option ℕ = user_among facts.accounts name in
+      let before : Option Role = role_among facts.accounts target in
+      let k = judged-Ok (name_checks standing before role) (naming_drawn maker (unwrap_or target 0) (unwrap_or name []) role) drawn accepted in
+      let rises : role_number (unwrap_or before Account) < role_number role = leb-false (role_number role) (role_number (unwrap_or before Account)) k.0.1.1.1.0 in
+      subst (λ (d : Drawn). Adds H d.group) k.1
+      (single maker (Named (unwrap_or target 0) role) registered refl (record {
+        phase = k.0.1.1.0;
+        chair = or_left (is_chair standing.role) (eqb (length H) 1) (not-false (is_chair standing.role) k.0.1.0);
+        role = subst (λ (r : Role). role_number r < role_number role) (role-among H target k.0.0) rises;
+        member = tt;
+        right = tt;
+      }))
+  command-adds (SetMode to) drawn accepted =
+      let k = judged-Ok (mode_checks standing (phase_of H)) (mode_drawn maker to) drawn accepted in
+      subst (λ (d : Drawn). Adds H d.group) k.1
+      (single maker (ModeSet to) registered refl (record { phase = not-false (is_phase (phase_of H) Setup) k.0.1.0; chair = not-false (is_chair standing.role) k.0.0; role = tt; member = tt; right = tt }))
+  command-adds (SetConflict paper name on) drawn accepted =
+      let target : Option ℕ = user_among facts.accounts name in
+      let k = judged-Ok (conflict_checks (standing_of (Some maker) paper H) (has_paper facts paper) (role_among facts.accounts target) (is_number target maker) (author_shown paper target) on) (conflict_drawn maker (unwrap_or paper 0) (unwrap_or target 0) on) drawn accepted in
+      subst (λ (d : Drawn). Adds H d.group) k.1 (single maker (Conflict (unwrap_or paper 0) (unwrap_or target 0) on) registered refl (conflict-ruled_for paper target on k.0))
+
+-- a registered user's command
+user-adds : (H : History) (user : ℕ) (command : Command) (drawn : Drawn) → IsRegistered H user → judge (Some user) (view (Some user) H) command ≡ Ok drawn → Adds H drawn.group
+user-adds H user command drawn registered accepted =
+    let shown : Shown = shown_in_view (Some user) (view (Some user) H) in
+    command-adds H user shown registered command drawn (sym (ap (λ (facts : Facts). judge_by facts shown (Some user) command) (facts-seen (Some user) H)) ∙ accepted)
+
+-- the group of an accepted command is one that the rules allow
+pub accepted-adds : (H : History) (caller : Option ℕ) (command : Command) (drawn : Drawn) → IsCaller H caller command → judge caller (view caller H) command ≡ Ok drawn → Adds H drawn.group
+accepted-adds H caller (Register name digest) drawn is accepted = registration-adds H caller (facts_in_view caller (view caller H)) (shown_in_view caller (view caller H)) name digest drawn accepted
+accepted-adds H None (SetPhase to) drawn is accepted = absurd is
+accepted-adds H None (Submit title abstract) drawn is accepted = absurd is
+accepted-adds H None (Name name role) drawn is accepted = absurd is
+accepted-adds H None (SetMode to) drawn is accepted = absurd is
+accepted-adds H None (SetConflict paper name on) drawn is accepted = absurd is
+accepted-adds H (Some user) (SetPhase to) drawn is accepted = user-adds H user (SetPhase to) drawn is accepted
+accepted-adds H (Some user) (Submit title abstract) drawn is accepted = user-adds H user (Submit title abstract) drawn is accepted
+accepted-adds H (Some user) (Name name role) drawn is accepted = user-adds H user (Name name role) drawn is accepted
+accepted-adds H (Some user) (SetMode to) drawn is accepted = user-adds H user (SetMode to) drawn is accepted
+accepted-adds H (Some user) (SetConflict paper name on) drawn is accepted = user-adds H user (SetConflict paper name on) drawn is accepted

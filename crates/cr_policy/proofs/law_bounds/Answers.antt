@@ -1,0 +1,26 @@
+use Rattle.cr_policy.proofs.BoundsWalk.{entries-shown, marks-shown, papers-shown, users-shown, names-shown, digests-shown, roles-shown, phases-shown, modes-shown, makers-shown, titles-shown, abstracts-shown, switches-shown}
+use Rattle.cr_policy.proofs.BoundsTexts.{one-title, one-abstract}
+use Rattle.cr_policy.proofs.BoundsLeft.{outsiders-shown, strangers-shown, nobody-shown}
+use Rattle.cr_policy.proofs.law_bounds.Goals as goal
+
+pub returns : goal.returns
+returns c = record {
+  entries = entries-shown;
+  marks = marks-shown;
+  papers = papers-shown;
+  users = users-shown;
+  names = names-shown;
+  digests = digests-shown;
+  roles = roles-shown;
+  phases = phases-shown;
+  modes = modes-shown;
+  makers = makers-shown;
+  titles = titles-shown;
+  abstracts = abstracts-shown;
+  switches = switches-shown;
+  one_title = one-title;
+  one_abstract = one-abstract;
+  outsiders = outsiders-shown;
+  strangers = strangers-shown;
+  nobody = nobody-shown;
+}

@@ -1,0 +1,295 @@
+-- What each reader sees of the small conference, before the bidding and in it: the whole of her view, a line an entry.
+use Rattle.std.specs.Prelude.{ℕ, Bool, true, false, List, [], ◌∷◌, ◌++◌, Some, codes}
+use Rattle.cr_base.specs.declared.entry.EntryKind.TheVariants as kinds
+use Rattle.cr_base.specs.declared.words.Mode.{Mode}
+use Rattle.cr_base.specs.declared.words.Mode.TheVariants.{Anonymous}
+use Rattle.cr_base.specs.declared.words.Phase.{Phase}
+use Rattle.cr_base.specs.declared.words.Phase.TheVariants.{Submission, Bidding}
+use Rattle.cr_base.specs.declared.words.Role.{Role}
+use Rattle.cr_base.specs.declared.words.Role.TheVariants.{Member, Chair}
+use Rattle.cr_policy.specs.Conference.{alice, bob, carol, dave, erin, fay, gus, Digests, proofs, we_prove, types, we_type}
+use Rattle.cr_policy.specs.Sighting.{Sighting, blank}
+use Rattle.cr_policy.specs.View.{View}
+
+-- ---- what a line may show
+
+-- an account, without its digest
+abbrev pub account : ℕ → List ℕ → Sighting
+account user name = record (blank kinds.Registered) { user = Some user; name = Some name }
+
+-- the reader's own, with it
+abbrev pub own_account : ℕ → List ℕ → List ℕ → Sighting
+own_account user name digest = record (account user name) { mine = true; digest = Some digest }
+
+abbrev pub role_given : ℕ → Role → Sighting
+role_given user role = record (blank kinds.Named) { user = Some user; role = Some role }
+
+abbrev pub mode_set : Mode → Sighting
+mode_set mode = record (blank kinds.ModeSet) { mode = Some mode }
+
+abbrev pub phase_set : Phase → Sighting
+phase_set phase = record (blank kinds.PhaseSet) { phase = Some phase }
+
+-- that there is this paper, and nothing of it
+abbrev pub paper_alone : ℕ → Sighting
+paper_alone paper = record (blank kinds.Submitted) { paper = Some paper }
+
+-- its title
+abbrev pub title_alone : ℕ → List ℕ → Sighting
+title_alone paper title = record (paper_alone paper) { title = Some title }
+
+-- its title and its abstract
+abbrev pub texts : ℕ → List ℕ → List ℕ → Sighting
+texts paper title abstract = record (title_alone paper title) { abstract = Some abstract }
+
+-- both, and who wrote it
+abbrev pub texts_by : ℕ → ℕ → List ℕ → List ℕ → Sighting
+texts_by user paper title abstract = record (texts paper title abstract) { by = Some user }
+
+-- that somebody's conflict with the paper is turned on or off
+abbrev pub conflict : ℕ → ℕ → Bool → Sighting
+conflict paper user on = record (blank kinds.Conflict) { paper = Some paper; user = Some user; on = Some on }
+
+-- the line of an entry that the reader made
+abbrev pub mine : Sighting → Sighting
+mine line = record line { mine = true }
+
+-- ---- registrations, roles, mode and phase: all is public but the digests, and each reader's own lines are marked
+
+abbrev pub opening_to_nobody : Mode → View
+opening_to_nobody mode =
+    account alice (codes "alice")
+    ∷ role_given alice Chair
+    ∷ account bob (codes "bob")
+    ∷ account carol (codes "carol")
+    ∷ account dave (codes "dave")
+    ∷ account erin (codes "erin")
+    ∷ account fay (codes "fay")
+    ∷ account gus (codes "gus")
+    ∷ role_given carol Member
+    ∷ role_given dave Member
+    ∷ role_given fay Chair
+    ∷ mode_set mode
+    ∷ phase_set Submission
+    ∷ []
+
+abbrev pub opening_to_erin : Digests → Mode → View
+opening_to_erin d mode =
+    account alice (codes "alice")
+    ∷ role_given alice Chair
+    ∷ account bob (codes "bob")
+    ∷ account carol (codes "carol")
+    ∷ account dave (codes "dave")
+    ∷ own_account erin (codes "erin") d.erin
+    ∷ account fay (codes "fay")
+    ∷ account gus (codes "gus")
+    ∷ role_given carol Member
+    ∷ role_given dave Member
+    ∷ role_given fay Chair
+    ∷ mode_set mode
+    ∷ phase_set Submission
+    ∷ []
+
+abbrev pub opening_to_bob : Digests → Mode → View
+opening_to_bob d mode =
+    account alice (codes "alice")
+    ∷ role_given alice Chair
+    ∷ own_account bob (codes "bob") d.bob
+    ∷ account carol (codes "carol")
+    ∷ account dave (codes "dave")
+    ∷ account erin (codes "erin")
+    ∷ account fay (codes "fay")
+    ∷ account gus (codes "gus")
+    ∷ role_given carol Member
+    ∷ role_given dave Member
+    ∷ role_given fay Chair
+    ∷ mode_set mode
+    ∷ phase_set Submission
+    ∷ []
+
+abbrev pub opening_to_dave : Digests → Mode → View
+opening_to_dave d mode =
+    account alice (codes "alice")
+    ∷ role_given alice Chair
+    ∷ account bob (codes "bob")
+    ∷ account carol (codes "carol")
+    ∷ own_account dave (codes "dave") d.dave
+    ∷ account erin (codes "erin")
+    ∷ account fay (codes "fay")
+    ∷ account gus (codes "gus")
+    ∷ role_given carol Member
+    ∷ role_given dave Member
+    ∷ role_given fay Chair
+    ∷ mode_set mode
+    ∷ phase_set Submission
+    ∷ []
+
+abbrev pub opening_to_carol : Digests → Mode → View
+opening_to_carol d mode =
+    account alice (codes "alice")
+    ∷ role_given alice Chair
+    ∷ account bob (codes "bob")
+    ∷ own_account carol (codes "carol") d.carol
+    ∷ account dave (codes "dave")
+    ∷ account erin (codes "erin")
+    ∷ account fay (codes "fay")
+    ∷ account gus (codes "gus")
+    ∷ role_given carol Member
+    ∷ role_given dave Member
+    ∷ role_given fay Chair
+    ∷ mode_set mode
+    ∷ phase_set Submission
+    ∷ []
+
+abbrev pub opening_to_alice : Digests → Mode → View
+opening_to_alice d mode =
+    own_account alice (codes "alice") d.alice
+    ∷ mine (role_given alice Chair)
+    ∷ account bob (codes "bob")
+    ∷ account carol (codes "carol")
+    ∷ account dave (codes "dave")
+    ∷ account erin (codes "erin")
+    ∷ account fay (codes "fay")
+    ∷ account gus (codes "gus")
+    ∷ mine (role_given carol Member)
+    ∷ mine (role_given dave Member)
+    ∷ mine (role_given fay Chair)
+    ∷ mine (mode_set mode)
+    ∷ mine (phase_set Submission)
+    ∷ []
+
+abbrev pub opening_to_fay : Digests → Mode → View
+opening_to_fay d mode =
+    account alice (codes "alice")
+    ∷ role_given alice Chair
+    ∷ account bob (codes "bob")
+    ∷ account carol (codes "carol")
+    ∷ account dave (codes "dave")
+    ∷ account erin (codes "erin")
+    ∷ own_account fay (codes "fay") d.fay
+    ∷ account gus (codes "gus")
+    ∷ role_given carol Member
+    ∷ role_given dave Member
+    ∷ role_given fay Chair
+    ∷ mode_set mode
+    ∷ phase_set Submission
+    ∷ []
+
+-- ---- before the bidding
+
+-- nobody in particular, and a user who is only that: that there are two papers
+abbrev pub nobody_before : Mode → View
+nobody_before mode = opening_to_nobody mode ++ paper_alone 1 ∷ paper_alone 2 ∷ []
+
+abbrev pub erin_before : Digests → Mode → View
+erin_before d mode = opening_to_erin d mode ++ paper_alone 1 ∷ paper_alone 2 ∷ []
+
+-- an author: her own paper whole, and whom she declared; of the other paper that it is there
+abbrev pub bob_before : Digests → Mode → View
+bob_before d mode =
+    opening_to_bob d mode
+    ++ mine (texts_by bob 1 proofs we_prove)
+    ∷ paper_alone 2
+    ∷ mine (conflict 1 carol true)
+    ∷ mine (conflict 1 fay true)
+    ∷ []
+
+-- a member: no more than anybody
+abbrev pub dave_before : Digests → Mode → View
+dave_before d mode = opening_to_dave d mode ++ paper_alone 1 ∷ paper_alone 2 ∷ []
+
+-- a member who is declared in conflict: that she is
+abbrev pub carol_before : Digests → Mode → View
+carol_before d mode = opening_to_carol d mode ++ paper_alone 1 ∷ paper_alone 2 ∷ conflict 1 carol true ∷ []
+
+-- a chair: no more than anybody; and one who is declared in conflict: that she is
+abbrev pub alice_before : Digests → Mode → View
+alice_before d mode = opening_to_alice d mode ++ paper_alone 1 ∷ paper_alone 2 ∷ []
+
+abbrev pub fay_before : Digests → Mode → View
+fay_before d mode = opening_to_fay d mode ++ paper_alone 1 ∷ paper_alone 2 ∷ conflict 1 fay true ∷ []
+
+-- ---- in the bidding
+
+-- nobody in particular, and a user who is only that: the phase, and no more of the papers than before
+abbrev pub nobody_in_bidding : Mode → View
+nobody_in_bidding mode = opening_to_nobody mode ++ paper_alone 1 ∷ paper_alone 2 ∷ phase_set Bidding ∷ []
+
+abbrev pub erin_in_bidding : Digests → Mode → View
+erin_in_bidding d mode = opening_to_erin d mode ++ paper_alone 1 ∷ paper_alone 2 ∷ phase_set Bidding ∷ []
+
+-- an author: as before, and not what the committee declares
+abbrev pub bob_in_bidding : Digests → Mode → View
+bob_in_bidding d mode =
+    opening_to_bob d mode
+    ++ mine (texts_by bob 1 proofs we_prove)
+    ∷ paper_alone 2
+    ∷ mine (conflict 1 carol true)
+    ∷ mine (conflict 1 fay true)
+    ∷ phase_set Bidding
+    ∷ []
+
+-- a member in no conflict: both papers, and unless the mode is anonymous who wrote them; of the conflicts her own
+abbrev pub dave_in_bidding : Digests → Mode → View
+dave_in_bidding d Anonymous =
+    opening_to_dave d Anonymous
+    ++ texts 1 proofs we_prove
+    ∷ texts 2 types we_type
+    ∷ phase_set Bidding
+    ∷ mine (conflict 2 dave true)
+    ∷ conflict 2 dave false
+    ∷ []
+dave_in_bidding d mode =
+    opening_to_dave d mode
+    ++ texts_by bob 1 proofs we_prove
+    ∷ texts_by gus 2 types we_type
+    ∷ phase_set Bidding
+    ∷ mine (conflict 2 dave true)
+    ∷ conflict 2 dave false
+    ∷ []
+
+-- a member in conflict with paper 1: its title alone; of the other paper what any member sees
+abbrev pub carol_in_bidding : Digests → Mode → View
+carol_in_bidding d Anonymous =
+    opening_to_carol d Anonymous
+    ++ title_alone 1 proofs
+    ∷ texts 2 types we_type
+    ∷ conflict 1 carol true
+    ∷ phase_set Bidding
+    ∷ []
+carol_in_bidding d mode =
+    opening_to_carol d mode
+    ++ title_alone 1 proofs
+    ∷ texts_by gus 2 types we_type
+    ∷ conflict 1 carol true
+    ∷ phase_set Bidding
+    ∷ []
+
+-- a chair in no conflict: both papers, who wrote them whatever the mode, and every conflict, but not who declared it
+abbrev pub alice_in_bidding : Digests → Mode → View
+alice_in_bidding d mode =
+    opening_to_alice d mode
+    ++ texts_by bob 1 proofs we_prove
+    ∷ texts_by gus 2 types we_type
+    ∷ conflict 1 carol true
+    ∷ conflict 1 fay true
+    ∷ mine (phase_set Bidding)
+    ∷ mine (conflict 1 fay false)
+    ∷ conflict 1 fay true
+    ∷ conflict 2 dave true
+    ∷ mine (conflict 2 dave false)
+    ∷ []
+
+-- a chair in conflict with paper 1: its title alone, and of its conflicts her own; of the other paper what any chair sees
+abbrev pub fay_in_bidding : Digests → Mode → View
+fay_in_bidding d mode =
+    opening_to_fay d mode
+    ++ title_alone 1 proofs
+    ∷ texts_by gus 2 types we_type
+    ∷ conflict 1 fay true
+    ∷ phase_set Bidding
+    ∷ conflict 1 fay false
+    ∷ mine (conflict 1 fay true)
+    ∷ conflict 2 dave true
+    ∷ conflict 2 dave false
+    ∷ []

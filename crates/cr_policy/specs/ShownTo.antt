@@ -1,0 +1,176 @@
+-- Who is shown which part of an entry: a paragraph for each part, and in it a line for each kind of entry that has it. It
+-- is the trigger table turned round and written anew, from what a committee wants: who sees titles, abstracts and authors
+-- is the HotCRP manual's, from when they do follows CoCon's phases (CAV 2014). It rests on facts of the history (phase,
+-- mode, roles, authors, declared conflicts) and on no other word of the trigger table or of a paper's page: who is on the
+-- committee, who is in conflict, when the bidding begins and what a mode hides are said again, so that such a word,
+-- changed there so that more is shown, is refused here.
+use Rattle.std.specs.Prelude.{ℕ, Bool, true, false, not, List, [], ◌∷◌, ◌++◌, Option, Some, None, ◌&&◌, ◌||◌, ◌==◌, if◌then◌else◌}
+use Rattle.std.specs.List.{list_any}
+use Rattle.cr_base.specs.declared.entry.Entry.{Entry}
+use Rattle.cr_base.specs.declared.entry.Entry.TheVariants.{Registered, Named, PhaseSet, ModeSet, Submitted, Conflict}
+use Rattle.cr_base.specs.declared.entry.EntryKind.{EntryKind}
+use Rattle.cr_base.specs.declared.entry.Stamped.{Stamped}
+use Rattle.cr_base.specs.declared.words.Phase.{Phase}
+use Rattle.cr_base.specs.declared.words.Phase.TheVariants.{Setup, Submission, Bidding, Reviewing, Discussion, Notification, Closed}
+use Rattle.cr_base.specs.declared.words.Mode.{Mode}
+use Rattle.cr_base.specs.declared.words.Mode.TheVariants.{Overt, Blind, Anonymous}
+use Rattle.cr_base.specs.declared.words.Role.{Role}
+use Rattle.cr_base.specs.declared.words.Role.TheVariants.{Account, Member, Chair}
+use Rattle.cr_base.specs.Lists.{given, is_number}
+use Rattle.cr_base.specs.History.{History}
+use Rattle.cr_base.specs.Facts.{phase_of, mode_of, role_of, is_author, is_declared}
+use Rattle.cr_base.specs.Rows.{kind_of}
+
+-- ---- who reads
+
+-- members of the committee, chairs among them
+abbrev pub is_on_committee : Role → Bool
+is_on_committee Account = false
+is_on_committee Member = true
+is_on_committee Chair = true
+
+abbrev pub leads_committee : Role → Bool
+leads_committee Account = false
+leads_committee Member = false
+leads_committee Chair = true
+
+-- it is bidding, or later
+abbrev pub is_past_submission : Phase → Bool
+is_past_submission Setup = false
+is_past_submission Submission = false
+is_past_submission Bidding = true
+is_past_submission Reviewing = true
+is_past_submission Discussion = true
+is_past_submission Notification = true
+is_past_submission Closed = true
+
+-- authors are hidden from members
+abbrev pub hides_authors : Mode → Bool
+hides_authors Overt = false
+hides_authors Blind = false
+hides_authors Anonymous = true
+
+-- she wrote the paper, or is declared in conflict with it
+abbrev pub has_conflict : Option ℕ → ℕ → History → Bool
+has_conflict u p H = is_author u p H || is_declared u p H
+
+-- she is on the committee, and it is bidding or later
+abbrev pub serves : Option ℕ → History → Bool
+serves u H = is_on_committee (role_of u H) && is_past_submission (phase_of H)
+
+-- she serves, and is in no conflict with the paper
+abbrev pub handles : Option ℕ → ℕ → History → Bool
+handles u p H = serves u H && not (has_conflict u p H)
+
+-- she handles the paper, and is a chair
+abbrev pub oversees : Option ℕ → ℕ → History → Bool
+oversees u p H = handles u p H && leads_committee (role_of u H)
+
+-- ---- which entries she is told of
+
+-- all but conflicts; of these the ones that name her, that she made, that an author made where she is one, and all that
+-- are with a paper which she oversees
+abbrev pub is_told : Option ℕ → History → ℕ → Entry → Bool
+is_told u H maker (Registered user name digest) = true
+is_told u H maker (Named user role) = true
+is_told u H maker (PhaseSet phase) = true
+is_told u H maker (ModeSet mode) = true
+is_told u H maker (Submitted paper title abstract) = true
+is_told u H maker (Conflict paper user on) =
+    is_number u user
+    || is_number u maker
+    || (is_author u paper H && is_author (Some maker) paper H)
+    || oversees u paper H
+
+-- ---- the parts of an entry that she is told of
+
+-- a part of the entries for a user at the end of a history: of one with these entries behind it, this maker, and this text
+abbrev pub PartFor : Type 0 → Type 0
+PartFor A = Option ℕ → History → History → ℕ → Entry → A
+
+-- the part, where she may know it
+abbrev pub where_known : {A : Type 0} → Bool → A → Option A
+where_known known x = if known then Some x else None
+
+-- the kind, and whether it is her own: always
+abbrev pub kind_for : PartFor EntryKind
+kind_for u H later maker e = kind_of e
+
+abbrev pub mark_for : PartFor Bool
+mark_for u H later maker e = is_number u maker
+
+-- the paper's number: always
+abbrev pub paper_for : PartFor (Option ℕ)
+paper_for u H later maker (Submitted paper title abstract) = Some paper
+paper_for u H later maker (Conflict paper user on) = Some paper
+paper_for u H later maker _ = None
+
+-- the user registered, named to a role, or named in a conflict: always
+abbrev pub user_for : PartFor (Option ℕ)
+user_for u H later maker (Registered user name digest) = Some user
+user_for u H later maker (Named user role) = Some user
+user_for u H later maker (Conflict paper user on) = Some user
+user_for u H later maker _ = None
+
+-- a user's name: always
+abbrev pub name_for : PartFor (Option (List ℕ))
+name_for u H later maker (Registered user name digest) = Some name
+name_for u H later maker _ = None
+
+-- the digest of a secret: to whoever made the registration
+abbrev pub digest_for : PartFor (Option (List ℕ))
+digest_for u H later maker (Registered user name digest) = where_known (is_number u maker) digest
+digest_for u H later maker _ = None
+
+-- a role: always
+abbrev pub role_for : PartFor (Option Role)
+role_for u H later maker (Named user role) = Some role
+role_for u H later maker _ = None
+
+-- a phase: always
+abbrev pub phase_for : PartFor (Option Phase)
+phase_for u H later maker (PhaseSet phase) = Some phase
+phase_for u H later maker _ = None
+
+-- a mode: always
+abbrev pub mode_for : PartFor (Option Mode)
+mode_for u H later maker (ModeSet mode) = Some mode
+mode_for u H later maker _ = None
+
+-- who submitted a paper: to its authors, to those who oversee it, and to those who handle it unless authors are hidden;
+-- who made any other entry: to nobody
+abbrev pub maker_for : PartFor (Option ℕ)
+maker_for u H later maker (Submitted paper title abstract) =
+    where_known (is_author u paper H || oversees u paper H || (handles u paper H && not (hides_authors (mode_of H)))) maker
+maker_for u H later maker _ = None
+
+-- the entry gives the paper its texts
+abbrev pub gives_texts : ℕ → Entry → Bool
+gives_texts p (Submitted paper title abstract) = paper == p
+gives_texts p _ = false
+
+-- one of these later entries gives the paper other texts
+abbrev pub is_replaced : ℕ → History → Bool
+is_replaced p later = list_any (λ (e : Stamped). gives_texts p e.entry) later
+
+-- a title: to the paper's authors, and the last one to those who serve
+abbrev pub title_for : PartFor (Option (List ℕ))
+title_for u H later maker (Submitted paper title abstract) = where_known (is_author u paper H || (not (is_replaced paper later) && serves u H)) title
+title_for u H later maker _ = None
+
+-- an abstract: to the paper's authors, and the last one to those who handle the paper
+abbrev pub abstract_for : PartFor (Option (List ℕ))
+abstract_for u H later maker (Submitted paper title abstract) = where_known (is_author u paper H || (not (is_replaced paper later) && handles u paper H)) abstract
+abstract_for u H later maker _ = None
+
+-- whether a conflict is on: always
+abbrev pub switch_for : PartFor (Option Bool)
+switch_for u H later maker (Conflict paper user on) = Some on
+switch_for u H later maker _ = None
+
+-- ---- all entries
+
+-- the part of each entry that she is told of; H is the whole history
+abbrev pub each_told : {A : Type 0} → Option ℕ → History → (History → ℕ → Entry → A) → History → List A
+each_told u H part [] = []
+each_told u H part (e ∷ later) = given (is_told u H e.maker e.entry) (part later e.maker e.entry) ++ each_told u H part later

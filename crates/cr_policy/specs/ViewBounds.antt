@@ -1,0 +1,119 @@
+-- The bounds of a view: of each part of the entries who is shown it, neither more nor less, and what that leaves for those
+-- who should know little. They hold of every history, legal or not, of every user and of nobody.
+use Rattle.std.specs.Prelude.{ℕ, Bool, false, ◌≡◌, ◌≤◌, ◌||◌, length, map, Option, None, All, IsTrue, IsFalse, if◌then◌else◌}
+use Rattle.std.specs.List.{flat_map, list_any}
+use Rattle.cr_base.specs.declared.entry.Entry.{Entry}
+use Rattle.cr_base.specs.declared.entry.Entry.TheVariants.{Conflict}
+use Rattle.cr_base.specs.declared.entry.EntryKind.{EntryKind}
+use Rattle.cr_base.specs.declared.entry.EntryKind.TheVariants as kinds
+use Rattle.cr_base.specs.declared.entry.Stamped.{Stamped}
+use Rattle.cr_base.specs.Lists.{is_number}
+use Rattle.cr_base.specs.History.{History}
+use Rattle.cr_base.specs.Facts.{is_author}
+use Rattle.cr_policy.specs.Sighting.{Sighting, blank}
+use Rattle.cr_policy.specs.View.{view}
+use Rattle.cr_policy.specs.ViewFacts.{is_user, title_seen, abstract_seen}
+use Rattle.cr_policy.specs.ShownTo.{PartFor, each_told, serves, handles, kind_for, mark_for, paper_for, user_for, name_for, digest_for, role_for, phase_for, mode_for, maker_for, title_for, abstract_for, switch_for}
+
+-- ---- each part
+
+-- this part of the sightings, in order, is that of the entries that the user is told of
+abbrev pub Shows : {A : Type 0} → (Sighting → A) → PartFor A → Type 0
+Shows seen part = (u : Option ℕ) (H : History) → map seen (view u H) ≡ each_told u H (part u H) H
+
+-- there is one sighting of each entry that she is told of, and it tells the kind
+abbrev pub EntriesShown : Type 0
+EntriesShown = Shows (λ (s : Sighting). s.kind) kind_for
+
+-- her own entries are marked
+abbrev pub MarksShown : Type 0
+MarksShown = Shows (λ (s : Sighting). s.mine) mark_for
+
+abbrev pub PapersShown : Type 0
+PapersShown = Shows (λ (s : Sighting). s.paper) paper_for
+
+abbrev pub UsersShown : Type 0
+UsersShown = Shows (λ (s : Sighting). s.user) user_for
+
+abbrev pub NamesShown : Type 0
+NamesShown = Shows (λ (s : Sighting). s.name) name_for
+
+abbrev pub DigestsShown : Type 0
+DigestsShown = Shows (λ (s : Sighting). s.digest) digest_for
+
+abbrev pub RolesShown : Type 0
+RolesShown = Shows (λ (s : Sighting). s.role) role_for
+
+abbrev pub PhasesShown : Type 0
+PhasesShown = Shows (λ (s : Sighting). s.phase) phase_for
+
+abbrev pub ModesShown : Type 0
+ModesShown = Shows (λ (s : Sighting). s.mode) mode_for
+
+abbrev pub MakersShown : Type 0
+MakersShown = Shows (λ (s : Sighting). s.by) maker_for
+
+abbrev pub TitlesShown : Type 0
+TitlesShown = Shows (λ (s : Sighting). s.title) title_for
+
+abbrev pub AbstractsShown : Type 0
+AbstractsShown = Shows (λ (s : Sighting). s.abstract) abstract_for
+
+-- whether a conflict is on
+abbrev pub SwitchesShown : Type 0
+SwitchesShown = Shows (λ (s : Sighting). s.on) switch_for
+
+-- ---- earlier texts
+
+-- of a paper's titles others than its authors are shown one at most, and of its abstracts too
+abbrev pub OneTitle : Type 0
+OneTitle = (u : Option ℕ) (p : ℕ) (H : History) → IsFalse (is_author u p H) → length (flat_map (title_seen p) (view u H)) ≤ 1
+
+abbrev pub OneAbstract : Type 0
+OneAbstract = (u : Option ℕ) (p : ℕ) (H : History) → IsFalse (is_author u p H) → length (flat_map (abstract_seen p) (view u H)) ≤ 1
+
+-- ---- who neither wrote a paper nor handles it
+
+-- all that a sighting on a paper has for one who neither wrote nor handles it: the number, the title where she serves, and
+-- the whole of a conflict that names her or that she made
+abbrev pub IsLeft : Option ℕ → Bool → EntryKind → Sighting → Type 0
+IsLeft u titled kinds.Registered s = ⊥
+IsLeft u titled kinds.Named s = ⊥
+IsLeft u titled kinds.PhaseSet s = ⊥
+IsLeft u titled kinds.ModeSet s = ⊥
+IsLeft u titled kinds.Submitted s = s ≡ record (blank kinds.Submitted) { paper = s.paper; title = if titled then s.title else None }
+IsLeft u titled kinds.Conflict s = IsTrue (s.mine || is_user u s.user) × (s ≡ record (blank kinds.Conflict) { mine = s.mine; paper = s.paper; user = s.user; on = s.on })
+
+-- so of any other than an author: one in conflict, one who isn't on the committee, and all before the bidding
+abbrev pub OutsidersShown : Type 0
+OutsidersShown = (u : Option ℕ) (p : ℕ) (H : History) → IsFalse (is_author u p H || handles u p H) → All (λ (s : Sighting). IsTrue (is_number s.paper p) → IsLeft u (serves u H) s.kind s) (view u H)
+
+-- ---- strangers, and nobody
+
+-- all that is public of an entry: accounts with their names and roles, phases, modes, and the papers' numbers
+abbrev pub IsPublic : EntryKind → Sighting → Type 0
+IsPublic kinds.Registered s = s ≡ record (blank kinds.Registered) { user = s.user; name = s.name }
+IsPublic kinds.Named s = s ≡ record (blank kinds.Named) { user = s.user; role = s.role }
+IsPublic kinds.PhaseSet s = s ≡ record (blank kinds.PhaseSet) { phase = s.phase }
+IsPublic kinds.ModeSet s = s ≡ record (blank kinds.ModeSet) { mode = s.mode }
+IsPublic kinds.Submitted s = s ≡ record (blank kinds.Submitted) { paper = s.paper }
+IsPublic kinds.Conflict s = ⊥
+
+-- the entry is on a paper, and names her
+abbrev pub names_her : Option ℕ → Entry → Bool
+names_her u (Conflict paper user on) = is_number u user
+names_her u _ = false
+
+-- she wrote nothing, doesn't serve, and no entry on a paper names her
+pub record IsStranger (u : Option ℕ) (H : History) : Type 0 where
+  pub author : (p : ℕ) → IsFalse (is_author u p H)
+  pub serving : IsFalse (serves u H)
+  pub named : IsFalse (list_any (λ (e : Stamped). names_her u e.entry) H)
+
+-- strangers are shown what is public, and their own entries
+abbrev pub StrangersShown : Type 0
+StrangersShown = (u : Option ℕ) (H : History) → IsStranger u H → All (λ (s : Sighting). IsFalse s.mine → IsPublic s.kind s) (view u H)
+
+-- nobody is shown what is public
+abbrev pub NobodyShown : Type 0
+NobodyShown = (H : History) → All (λ (s : Sighting). IsPublic s.kind s) (view None H)

@@ -1,0 +1,5 @@
+use Rattle.cr_session.proofs.TwoRunsLaws.{two_runs}
+use Rattle.cr_session.proofs.laws.law_two_runs.Goals as goal
+
+pub returns : goal.returns
+returns c = two_runs
