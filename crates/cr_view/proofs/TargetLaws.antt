@@ -84,7 +84,7 @@ and-judged (check ∷ checks) draw = by check.broken (and-judged checks draw)
     by false h = h
 
 -- the same of one whose judgement and whose answer are told
-drawn-and : (checks : List Check) (draw : Draw) (kept : Result (Unit {0}) Rule) (r : Result Draw Rule) → kept ≡ judged checks tt → r ≡ result_and kept (Ok draw) → drawn_or_rule r ≡ judged checks (drawn_by draw)
+pub drawn-and : (checks : List Check) (draw : Draw) (kept : Result (Unit {0}) Rule) (r : Result Draw Rule) → kept ≡ judged checks tt → r ≡ result_and kept (Ok draw) → drawn_or_rule r ≡ judged checks (drawn_by draw)
 drawn-and checks draw kept r judges told = ap drawn_or_rule told ∙ ap (λ (k : Result (Unit {0}) Rule). behind k draw) judges ∙ and-judged checks draw
 
 -- a naming, where there is a user of the name

@@ -64,8 +64,8 @@ impl Live {
         ensures { drawn_or_rule result ≡ judge_by_role self.now.tables (Some maker) (commands.SetPhase phase) }
     {
         let by = self.standing(&Some(maker), &None);
-        self.stage.judge_phase(&by, phase)?;
-        Ok(Draw::Phase { maker, phase })
+        let kept = self.stage.judge_phase(&by, phase);
+        kept.and(Ok(Draw::Phase { maker, phase }))
     }
 
     fn judge_submission(&self, maker: UserNo, title: Text, abstract_: Text) -> Result<Draw, Rule>
