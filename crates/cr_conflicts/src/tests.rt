@@ -1,3 +1,6 @@
+//! Each public call once, with ample memory. Each rule of a conflict is shown by the cases of the program
+//! `conformance`.
+
 ghost use Rattle.std.specs.Prelude.{◌≡◌, ◌≤◌, ◌∷◌, ◌++◌, [], IsTrue, OnOk};
 ghost use Rattle.cr_base.specs.Ties.{bare_tie, are_before};
 
@@ -107,78 +110,6 @@ fn standing(phase: Phase, role: Role, author: bool, conflicted: bool) -> Standin
     }
 }
 
-#[test]
-fn nobody_and_nothing_first(rt: HostRuntime) -> Result<(), Fail> {
-    let ties = Ties::new(rt.alloc());
-    let (caller, paper) = (UserNo::new(1), PaperNo::new(1));
-    for (phase, on) in [
-        (Phase::Setup, true),
-        (Phase::Setup, false),
-        (Phase::Bidding, true),
-        (Phase::Bidding, false),
-        (Phase::Closed, true),
-        (Phase::Closed, false),
-    ] {
-        let by = standing(phase, Role::Account, false, false);
-        let told = ties.judge_conflict(&by, caller, &None, &None, on);
-        assert!(rt; told == Err(Rule::NoPaper));
-        let told = ties.judge_conflict(&by, caller, &Some(paper), &None, on);
-        assert!(rt; told == Err(Rule::NoUser));
-    }
-    Ok(())
-}
-
-/// Who asks.
-#[derive(Clone, Copy)]
-enum By {
-    Chair,
-    TiedChair,
-    Member,
-    TiedMember,
-    Account,
-    Author,
-}
-
-/// Whom she names: herself, who is number 1, or another, of whom number 7 is the paper's author.
-#[derive(Clone, Copy)]
-enum Of {
-    Herself,
-    Member,
-    Account,
-    Writer,
-    WriterMember,
-}
-
-fn standing_of(by: By, phase: Phase) -> Standing {
-    match by {
-        By::Chair => standing(phase, Role::Chair, false, false),
-        By::TiedChair => standing(phase, Role::Chair, false, true),
-        By::Member => standing(phase, Role::Member, false, false),
-        By::TiedMember => standing(phase, Role::Member, false, true),
-        By::Account => standing(phase, Role::Account, false, false),
-        By::Author => standing(phase, Role::Account, true, true),
-    }
-}
-
-fn target_of(of: Of) -> (UserNo, Role) {
-    match of {
-        Of::Herself => (UserNo::new(1), Role::Member),
-        Of::Member => (UserNo::new(2), Role::Member),
-        Of::Account => (UserNo::new(2), Role::Account),
-        Of::Writer => (UserNo::new(7), Role::Account),
-        Of::WriterMember => (UserNo::new(7), Role::Member),
-    }
-}
-
-/// Whether turning it on or off is answered so; None where no rule is broken.
-fn is_answered(ties: &Ties, on: bool, phase: Phase, by: By, of: Of, wanted: Option<Rule>) -> bool {
-    let standing = standing_of(by, phase);
-    let target = Some(target_of(of));
-    let paper = Some(PaperNo::new(1));
-    let told = ties.judge_conflict(&standing, UserNo::new(1), &paper, &target, on);
-    told.err() == wanted
-}
-
 /// The ties of one paper, by user number 7.
 fn one_paper(alloc: Global) -> Result<Ties, Fail> {
     let mut ties = Ties::new(alloc);
@@ -187,103 +118,15 @@ fn one_paper(alloc: Global) -> Result<Ties, Fail> {
 }
 
 #[test]
-fn rules_of_conflicts_on(rt: HostRuntime) -> Result<(), Fail> {
+fn judges_a_conflict(rt: HostRuntime) -> Result<(), Fail> {
     let ties = one_paper(rt.alloc())?;
-    let cases = [
-        (Phase::Setup, By::Chair, Of::Account, Some(Rule::NotAuthor)),
-        (
-            Phase::Submission,
-            By::Author,
-            Of::Account,
-            Some(Rule::NotAMember),
-        ),
-        (Phase::Submission, By::Author, Of::Member, None),
-        (
-            Phase::Bidding,
-            By::Account,
-            Of::Herself,
-            Some(Rule::NotMember),
-        ),
-        (Phase::Discussion, By::Member, Of::Herself, None),
-        (Phase::Reviewing, By::TiedChair, Of::Herself, None),
-        (
-            Phase::Bidding,
-            By::TiedMember,
-            Of::Account,
-            Some(Rule::NotChair),
-        ),
-        (
-            Phase::Bidding,
-            By::TiedChair,
-            Of::Account,
-            Some(Rule::Conflict),
-        ),
-        (
-            Phase::Bidding,
-            By::Chair,
-            Of::Account,
-            Some(Rule::NotAMember),
-        ),
-        (Phase::Discussion, By::Chair, Of::Member, None),
-        (
-            Phase::Notification,
-            By::Chair,
-            Of::Member,
-            Some(Rule::WrongPhase),
-        ),
-        (
-            Phase::Closed,
-            By::Member,
-            Of::Herself,
-            Some(Rule::WrongPhase),
-        ),
-    ];
-    for (phase, by, of, wanted) in cases {
-        assert!(rt; is_answered(&ties, true, phase, by, of, wanted));
-    }
-    Ok(())
-}
-
-#[test]
-fn rules_of_conflicts_off(rt: HostRuntime) -> Result<(), Fail> {
-    let ties = one_paper(rt.alloc())?;
-    let cases = [
-        (Phase::Setup, By::Member, Of::Account, Some(Rule::NotChair)),
-        (
-            Phase::Setup,
-            By::TiedChair,
-            Of::Account,
-            Some(Rule::Conflict),
-        ),
-        (
-            Phase::Submission,
-            By::Chair,
-            Of::Account,
-            Some(Rule::WrongPhase),
-        ),
-        (
-            Phase::Notification,
-            By::Chair,
-            Of::Member,
-            Some(Rule::WrongPhase),
-        ),
-        (
-            Phase::Bidding,
-            By::Chair,
-            Of::Writer,
-            Some(Rule::NotAMember),
-        ),
-        (
-            Phase::Bidding,
-            By::Chair,
-            Of::WriterMember,
-            Some(Rule::AuthorConflict),
-        ),
-        (Phase::Discussion, By::Chair, Of::Member, None),
-        (Phase::Bidding, By::Chair, Of::Herself, None),
-    ];
-    for (phase, by, of, wanted) in cases {
-        assert!(rt; is_answered(&ties, false, phase, by, of, wanted));
-    }
+    let by = standing(Phase::Bidding, Role::Chair, false, false);
+    let (chair, paper) = (UserNo::new(1), Some(PaperNo::new(1)));
+    let member = Some((UserNo::new(2), Role::Member));
+    let author = Some((UserNo::new(7), Role::Member));
+    assert!(rt; ties.judge_conflict(&by, chair, &paper, &member, true) == Ok(()));
+    assert!(rt;
+        ties.judge_conflict(&by, chair, &paper, &author, false) == Err(Rule::AuthorConflict)
+    );
     Ok(())
 }

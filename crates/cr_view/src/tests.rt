@@ -1,10 +1,10 @@
+//! The groups of entries, which no answer shows, and each public call once, with ample memory. Each rule, and
+//! each key of a page, is shown by the cases of the program `conformance`.
+
 ghost use Rattle.cr_view.specs.Callers.{HasCaller};
 
 use crate::{AnswerError, Live};
-use cr_base::{
-    Command, Mode, Names, PaperNo, Phase, Query, Receipt, Reply, Role, Rule, Short, Stamped, Text,
-    UserNo,
-};
+use cr_base::{Command, Mode, PaperNo, Phase, Query, Reply, Role, Short, Stamped, Text, UserNo};
 use std::alloc::Global;
 use std::test::Fail;
 
@@ -154,130 +154,6 @@ fn groups_of_members(rt: HostRuntime) -> Result<(), Fail> {
         [10, 2, 0, 1, 3],
     ];
     assert!(rt; played.added.as_slice().ends_with(&wanted));
-    Ok(())
-}
-
-/// What a user who sets the phase is answered.
-fn set_by(live: &Live, user: UserNo, phase: Phase) -> Result<Receipt, Rule> {
-    let draw = live.judge(&Some(user), Command::SetPhase { phase })?;
-    Ok(draw.receipt())
-}
-
-#[test]
-fn rules(rt: HostRuntime) -> Result<(), Fail> {
-    let Played { live, added: _ } = conference(rt.alloc())?;
-    let cases = [
-        (UserNo::new(2), Phase::Bidding, Err(Rule::NotChair)),
-        (UserNo::new(1), Phase::Closed, Err(Rule::WrongPhase)),
-        (
-            UserNo::new(1),
-            Phase::Bidding,
-            Ok(Receipt::Phase {
-                phase: Phase::Bidding,
-            }),
-        ),
-    ];
-    for (user, phase, wanted) in cases {
-        assert!(rt; set_by(&live, user, phase) == wanted);
-    }
-    Ok(())
-}
-
-/// Whether a user is told title, abstract, authors and conflict of a paper, or the rule in the way.
-fn told(
-    alloc: Global,
-    live: &Live,
-    user: &Option<UserNo>,
-    paper: &Option<PaperNo>,
-) -> Result<Result<[bool; 4], Rule>, Fail> {
-    match live.show(alloc, user, paper) {
-        Ok(page) => Ok(Ok([
-            page.title.is_some(),
-            page.abstract_.is_some(),
-            page.authors.is_some(),
-            page.conflict.is_some(),
-        ])),
-        Err(AnswerError::Rule(rule)) => Ok(Err(rule)),
-        Err(error) => Err(error)?,
-    }
-}
-
-/// What Alice, Bobby and Carol are told of the first paper, and Alice of the second.
-fn all_told(alloc: Global, live: &Live) -> Result<[Result<[bool; 4], Rule>; 4], Fail> {
-    let (first, second) = (Some(PaperNo::new(1)), Some(PaperNo::new(2)));
-    let alice = told(alloc, live, &Some(UserNo::new(1)), &first)?;
-    let bobby = told(alloc, live, &Some(UserNo::new(2)), &first)?;
-    let carol = told(alloc, live, &Some(UserNo::new(3)), &first)?;
-    let none = told(alloc, live, &Some(UserNo::new(1)), &second)?;
-    Ok([alice, bobby, carol, none])
-}
-
-/// The same in submission, and in bidding.
-fn told_in_turn(alloc: Global) -> Result<[[Result<[bool; 4], Rule>; 4]; 2], Fail> {
-    let mut played = conference(alloc)?;
-    let before = all_told(alloc, &played.live)?;
-    played.set_phase(alloc, Phase::Bidding)?;
-    let after = all_told(alloc, &played.live)?;
-    Ok([before, after])
-}
-
-#[test]
-fn pages(rt: HostRuntime) -> Result<(), Fail> {
-    let told = told_in_turn(rt.alloc())?;
-    let (all, others, none) = (Ok([true; 4]), Err(Rule::NotMember), Err(Rule::NoPaper));
-    let conflict = Ok([false, false, false, true]);
-    assert!(rt; told == [[conflict, all, others, none], [all, all, others, none]]);
-    Ok(())
-}
-
-/// Whether the names are there, and are Carol's alone.
-fn are_carol(names: &Option<Names>) -> bool {
-    match names {
-        Some(names) => is_one(names.as_slice(), b"carol"),
-        None => false,
-    }
-}
-
-/// Whether a user is told that Carol is in conflict with the first paper, that its author declared
-/// her, who wrote it, and that she is in conflict with it herself.
-fn tied(alloc: Global, live: &Live, user: UserNo) -> Result<[bool; 4], Fail> {
-    match live.show(alloc, &Some(user), &Some(PaperNo::new(1))) {
-        Ok(page) => Ok([
-            are_carol(&page.conflicts),
-            are_carol(&page.declared),
-            page.authors.is_some(),
-            page.conflict == Some(true),
-        ]),
-        Err(_) => Ok([false; 4]),
-    }
-}
-
-/// The same of Alice, Bobby and Carol.
-fn all_tied(alloc: Global, live: &Live) -> Result<[[bool; 4]; 3], Fail> {
-    let alice = tied(alloc, live, UserNo::new(1))?;
-    let bobby = tied(alloc, live, UserNo::new(2))?;
-    let carol = tied(alloc, live, UserNo::new(3))?;
-    Ok([alice, bobby, carol])
-}
-
-/// The same in submission, and in bidding.
-fn tied_in_turn(alloc: Global) -> Result<[[[bool; 4]; 3]; 2], Fail> {
-    let mut played = conference(alloc)?;
-    played.name_member(alloc, b"carol")?;
-    played.declare(alloc, b"carol")?;
-    let before = all_tied(alloc, &played.live)?;
-    played.set_phase(alloc, Phase::Bidding)?;
-    let after = all_tied(alloc, &played.live)?;
-    Ok([before, after])
-}
-
-#[test]
-fn conflicts_on_pages(rt: HostRuntime) -> Result<(), Fail> {
-    let tied = tied_in_turn(rt.alloc())?;
-    let (nothing, conflict) = ([false; 4], [false, false, false, true]);
-    let author = [false, true, true, true];
-    let chair = [true, false, true, false];
-    assert!(rt; tied == [[nothing, author, conflict], [chair, author, conflict]]);
     Ok(())
 }
 
