@@ -1,7 +1,7 @@
 //! Ties of papers and users that are found by paper and by user.
 ghost use Rattle.std.specs.Prelude.{◌≡◌, ◌≤◌, ◌<◌, ◌+◌, [], OnOk, map};
 ghost use Rattle.cr_base.specs.Lists.{IsRising};
-ghost use Rattle.cr_base.specs.Pairs.{has_pair, value_of, with_tie, without_pair, ties_of, papers_of};
+ghost use Rattle.cr_base.specs.Pairs.{IsAscending, has_pair, value_of, with_tie, without_pair, ties_of, papers_of};
 ghost use Rattle.cr_base.specs.declared.pairs.Order.TheVariants.{ByPaper};
 
 use crate::PairMap;
@@ -60,7 +60,8 @@ impl<V: Copy + Drop> IndexedPairs<V> {
     /// The ties of a paper, in the order of their users' numbers. Two binary searches; takes no
     /// memory.
     pub fn of_paper(&self, paper: PaperNo) -> &[Tie<V>]
-        ensures { result.now ≡ ties_of ByPaper paper self.now.ties }
+        ensures ties { result.now ≡ ties_of ByPaper paper self.now.ties }
+        ensures order { IsAscending ByPaper self.now.ties }
     {
         self.by_paper.of_paper(paper)
     }

@@ -37,16 +37,6 @@ counted-filled i old filled new n is read put =
     ∙ ap (λ (xs : List ℕ). set xs i (get_or old i 0 + 1)) is
     ∙ counted-by i old (i + 1 - length old) refl
 
--- what stands at the place is no greater than it was
-pub filled-few : (i : ℕ) (old filled : List ℕ) → filled ≡ old ++ replicate (i + 1 - length old) 0 → get_or filled i 0 ≡ get_or old i 0
-filled-few i old filled is = ap (λ (xs : List ℕ). get_or xs i 0) is ∙ padded old (i + 1 - length old) i
-
--- where one stands at the place, nothing is filled up
-pub filled-already : (i : ℕ) (old : List ℕ) → i + 1 ≤ length old → old ≡ old ++ replicate (i + 1 - length old) 0
-filled-already i old h =
-    let none : i + 1 - length old ≡ 0 = omega (arith, h) in
-    sym (ap (λ k. old ++ replicate k 0) none ∙ append-nil old)
-
 -- ---- papers
 
 -- a paper is there where its number is at most the count

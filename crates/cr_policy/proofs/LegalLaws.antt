@@ -38,10 +38,6 @@ pub LeadsTo-append : (from mid to : History) (calls more : List Call) → LeadsT
 LeadsTo-append from mid to [] more first then = subst (λ (H : History). LeadsTo H more to) (sym first) then
 LeadsTo-append from mid to (call ∷ calls) more first then = (first.0, LeadsTo-append (step from call) mid to calls more first.1 then)
 
--- the empty history is legal
-pub Legal-nil : Legal []
-Legal-nil = ([], refl)
-
 -- an allowed call leads from a legal history to a legal one
 pub Legal-step : (H : History) (call : Call) → Legal H → IsAllowed H call → Legal (step H call)
 Legal-step H call legal allowed = (legal.0 ++ call ∷ [], LeadsTo-append [] H (step H call) legal.0 (call ∷ []) legal.1 (allowed, refl))

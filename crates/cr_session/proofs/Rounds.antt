@@ -57,10 +57,6 @@ spells-none n text end s = record { requests = []; wish = refl; spells = s }
 unwritten : (s s' : Outlet) → s' ≡ s → Writes [] s s'
 unwritten s s' e = subst (λ (x : Outlet). Writes [] s x) (sym e) (writes-nil s)
 
--- where a refusal stands
-to_refused : (text : List ℕ) (why : Refusal) (head : Bool) → StandsAt text (refused why head) → IsToHead text head
-to_refused text why head stands = to_head_of text (refused why head) head stands refl
-
 to_wish : (text : List ℕ) (w : Wish) (rest : List ℕ) → StandsWish text w rest → IsToHead text w.is_head
 to_wish text w rest s = to_head_of text (whole s.request.head s.request.body rest) w.is_head s.stands (ap (λ (x : Wish). x.is_head) s.wish)
 

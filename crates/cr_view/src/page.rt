@@ -84,7 +84,7 @@ pub(crate) fn bare_keys(by: &Standing) -> BareKeys
 }
 
 /// The text, shared, where it is told; an error only for want of memory.
-pub(crate) fn copy_where(told: bool, text: Option<&Text>) -> Result<Option<Text>, AllocError>
+pub(crate) fn shared_where(told: bool, text: Option<&Text>) -> Result<Option<Text>, AllocError>
     ensures { IfOk result (λ copied. copied ≡ where_told told (option_copied text.entry)) }
 {
     if !told {

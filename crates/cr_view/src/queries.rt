@@ -16,7 +16,8 @@ ghost use Rattle.cr_view.specs.Replies.{Answers, Shows, page_at};
 use crate::commands::maker;
 use crate::live::Live;
 use crate::page::{
-    bare_keys, conflict_told, copy_where, gets_abstract, gets_conflicts, gets_declared, gets_title,
+    bare_keys, conflict_told, gets_abstract, gets_conflicts, gets_declared, gets_title,
+    shared_where,
 };
 use cr_anonymity::shows_author;
 use cr_base::{
@@ -91,9 +92,9 @@ impl From<AllocError> for AnswerError {
 impl Live {
     /// What the caller's query is answered, or the first broken rule of its kind; an error for want of
     /// memory only where no rule is broken, and never where the state of the conference is asked for.
-    /// There is a caller where the query is about herself. All accounts cost a walk over them; a page a few look-ups, one more for each name that
-    /// is told, and a copy of what is told; what she is told of herself a walk over her own papers and
-    /// conflicts.
+    /// There is a caller where the query is about herself. All accounts cost a walk over them; a page a few
+    /// look-ups and one more for each name that is told, whatever the length of the texts; what she is told
+    /// of herself a walk over her own papers and conflicts.
     pub fn answer(
         &self,
         alloc: Global,
@@ -159,8 +160,8 @@ impl Live {
     fn page(&self, alloc: Global, by: &Standing, paper: PaperNo) -> Result<Page, AllocError>
         ensures { IfOk result (λ page. page ≡ page_at self.now.tables by.now paper) }
     {
-        let title = copy_where(gets_title(by), self.papers.last_title(paper))?;
-        let abstract_ = copy_where(gets_abstract(by), self.papers.last_abstract(paper))?;
+        let title = shared_where(gets_title(by), self.papers.last_title(paper))?;
+        let abstract_ = shared_where(gets_abstract(by), self.papers.last_abstract(paper))?;
         let authors = self.names_where(alloc, shows_author(by, false), self.ties.authors(paper))?;
         let conflicts = self.names_where(alloc, gets_conflicts(by), self.ties.conflicts(paper))?;
         let declared = self.names_where(alloc, gets_declared(by), self.ties.declared(paper))?;
