@@ -3,12 +3,12 @@
 
 A rule of a command stands on both sides of the law that views suffice, so a wrong one that code and
 definition share is proved as well as the right one: the cases are what refuses it. This changes the code
-alone, since nothing is proved here, and wants at least one case of each not to come out as due.
+alone, since nothing is proved here, and wants at least one case of the files named not to come out as due.
 
     checks/wrong_rules.py              all of them, as many at a time as there are processors
     checks/wrong_rules.py WORD..       those with one of these words in their title
 
-Ends with status 0 where every one is refused. Takes two or three processor minutes for each.
+Ends with status 0 where every one is refused. Takes a processor minute or two for each.
 """
 import concurrent.futures
 import os
@@ -18,48 +18,45 @@ import sys
 import tempfile
 
 TOP = os.path.dirname(os.path.dirname(os.path.abspath(__file__)))
-# The cases that walk through callers, phases and arguments; those of framing, faults and limits can't tell rules.
-CASES = ("examples committee register members mode phase submissions conflicts me pages order login routes").split()
-
 VIEW, ACCOUNTS = "crates/cr_view/src", "crates/cr_accounts/src/accounts.rt"
 JUDGING, STAGE = "crates/cr_conflicts/src/judging.rt", "crates/cr_phases/src/stage.rt"
 TIES, PAPERS = "crates/cr_conflicts/src/ties.rt", "crates/cr_papers/src/papers.rt"
 COMMAND, PAGE, TURN = "crates/cr_base/src/command.rt", VIEW + "/page.rt", "crates/cr_session/src/turn.rt"
 
 PLANTS = [
-    ("any user may ask for a page", VIEW + "/queries.rt", "return Err(Rule::NotMember);", "return Ok(by);"),
-    ("not_member is told before no_paper", VIEW + "/queries.rt",
+    ("any user may ask for a page", "order", VIEW + "/queries.rt", "return Err(Rule::NotMember);", "return Ok(by);"),
+    ("not_member is told before no_paper", "order", VIEW + "/queries.rt",
      "        if !self.has_paper(paper) {\n            return Err(Rule::NoPaper);\n        }\n        let by = self.standing(user, paper);\n        if !(by.role.is_member() || by.author) {\n            return Err(Rule::NotMember);\n        }\n",
      "        let by = self.standing(user, paper);\n        if !(by.role.is_member() || by.author) {\n            return Err(Rule::NotMember);\n        }\n        if !self.has_paper(paper) {\n            return Err(Rule::NoPaper);\n        }\n"),
-    ("pages want no login", COMMAND, "            Query::Accounts | Query::Phase => false,\n            Query::Me | Query::Page { .. } => true,",
+    ("pages want no login", "order pages", COMMAND, "            Query::Accounts | Query::Phase => false,\n            Query::Me | Query::Page { .. } => true,",
      "            Query::Accounts | Query::Phase | Query::Page { .. } => false,\n            Query::Me => true,"),
-    ("a submission wants no login", COMMAND, "Command::SetPhase { .. } | Command::Submit { .. } => true,", "Command::SetPhase { .. } => true,\n            Command::Submit { .. } => false,"),
-    ("a 21st paper", PAPERS, "MOST_OWN_PAPERS: u64 = 20", "MOST_OWN_PAPERS: u64 = 21"),
-    ("papers come in bidding too", PAPERS, "!by.phase.is(Phase::Submission)", "!by.phase.is_from(Phase::Submission) || by.phase.is_from(Phase::Reviewing)"),
-    ("members set phase and mode", STAGE, "if !by.role.is_chair() {", "if !by.role.is_member() {"),
-    ("the mode is set in submission too", STAGE, "if !self.phase.is(Phase::Setup) {", "if self.phase.is_from(Phase::Bidding) {"),
-    ("phases may be skipped", STAGE, "if !self.phase.is_before(to) {", "if !to.is_from(self.phase) || to.is(self.phase) {"),
-    ("members name members", ACCOUNTS, "    if !by.role.is_chair() {\n        return Err(Rule::NotChair);", "    if !by.role.is_member() {\n        return Err(Rule::NotChair);"),
-    ("members are named in notification", ACCOUNTS, "by.phase.is_from(Phase::Notification)", "by.phase.is_from(Phase::Closed)"),
-    ("a chair may be named a member", ACCOUNTS, "role.number() <= now.number()", "role.number() == now.number()"),
-    ("anybody declares in submission", JUDGING, "    if !by.author {\n        return Err(Rule::NotAuthor);\n    }\n", ""),
-    ("authors declare accounts", JUDGING, "        return Err(Rule::NotAuthor);\n    }\n    if !role.is_member() {\n        return Err(Rule::NotAMember);\n    }\n", "        return Err(Rule::NotAuthor);\n    }\n"),
-    ("accounts declare themselves", JUDGING, "    if !by.role.is_member() {\n        return Err(Rule::NotMember);\n    }\n", ""),
-    ("chairs in conflict declare others", JUDGING, "fn other(by: &Standing, role: Role) -> Result<(), Rule>", None),
-    ("conflicts are declared at the end", JUDGING, "    if by.phase.is_from(Phase::Notification) {\n        return Err(Rule::WrongPhase);\n    }\n    if herself", "    if herself"),
-    ("chairs in conflict turn conflicts off", JUDGING, "pub(crate) fn off(", None),
-    ("conflicts are turned off in submission", JUDGING, "if !by.phase.is_from(Phase::Bidding) || by.phase.is_from(Phase::Notification) {", "if by.phase.is_from(Phase::Notification) {"),
-    ("an author's conflict is turned off", JUDGING, "    if author {\n        return Err(Rule::AuthorConflict);\n    }\n", ""),
-    ("a conflict once declared stays on", TIES, "switch(&mut self.conflicts, *paper, *user, *on);", "switch(&mut self.conflicts, *paper, *user, *on || self.conflicts.contains(&Pair { paper: *paper, user: *user }));"),
-    ("authors are in no conflict", TIES, "self.is_author(user, paper) || self.conflicts.contains(&Pair { paper, user })", "self.conflicts.contains(&Pair { paper, user })"),
-    ("chairs' declarations count as the authors'", TIES, "insert_where(&mut self.declared, wrote, ", "insert_where(&mut self.declared, wrote || !wrote, "),
-    ("a secret isn't looked at", ACCOUNTS, "if account.digest.as_slice() == digest.as_slice() {", "if account.digest.as_slice() == account.digest.as_slice() {"),
-    ("a bad body is told before 401", TURN, "    if is_unauthorized(book, &caller, &wish.what) {", "    if let What::BadBody(_) = &wish.what {\n        return Turn::Refused(Refused::BadBody);\n    }\n    if is_unauthorized(book, &caller, &wish.what) {"),
-    ("titles before bidding", PAGE, "by.author || (by.role.is_member() && by.phase.is_from(Phase::Bidding))\n", "by.author || (by.role.is_member() && by.phase.is_from(Phase::Submission))\n"),
-    ("abstracts to members in conflict", PAGE, "by.author || (by.is_clear_member() && by.phase.is_from(Phase::Bidding))", "by.author || (by.role.is_member() && by.phase.is_from(Phase::Bidding))"),
-    ("conflicts to clear members", PAGE, "by.is_clear_chair() && by.phase.is_from(Phase::Bidding)\n", "by.is_clear_member() && by.phase.is_from(Phase::Bidding)\n"),
-    ("whom authors declared to chairs", PAGE, "    ensures { result ≡ gets_declared by.now }\n{\n    by.author\n", "    ensures { result ≡ gets_declared by.now }\n{\n    by.author || by.role.is_chair()\n"),
-    ("authors in the anonymous mode", "crates/cr_anonymity/src/shown.rt", "!by.mode.is_anonymous() && ", ""),
+    ("a submission wants no login", "order submissions", COMMAND, "Command::SetPhase { .. } | Command::Submit { .. } => true,", "Command::SetPhase { .. } => true,\n            Command::Submit { .. } => false,"),
+    ("a 21st paper", "order submissions", PAPERS, "MOST_OWN_PAPERS: u64 = 20", "MOST_OWN_PAPERS: u64 = 21"),
+    ("papers come in bidding too", "submissions", PAPERS, "!by.phase.is(Phase::Submission)", "!by.phase.is_from(Phase::Submission) || by.phase.is_from(Phase::Reviewing)"),
+    ("members set phase and mode", "phase", STAGE, "if !by.role.is_chair() {", "if !by.role.is_member() {"),
+    ("the mode is set in submission too", "mode", STAGE, "if !self.phase.is(Phase::Setup) {", "if self.phase.is_from(Phase::Bidding) {"),
+    ("phases may be skipped", "phase", STAGE, "if !self.phase.is_before(to) {", "if !to.is_from(self.phase) || to.is(self.phase) {"),
+    ("members name members", "order", ACCOUNTS, "    if !by.role.is_chair() {\n        return Err(Rule::NotChair);", "    if !by.role.is_member() {\n        return Err(Rule::NotChair);"),
+    ("members are named in notification", "order members", ACCOUNTS, "by.phase.is_from(Phase::Notification)", "by.phase.is_from(Phase::Closed)"),
+    ("a chair may be named a member", "order", ACCOUNTS, "role.number() <= now.number()", "role.number() == now.number()"),
+    ("anybody declares in submission", "order", JUDGING, "    if !by.author {\n        return Err(Rule::NotAuthor);\n    }\n", ""),
+    ("authors declare accounts", "order", JUDGING, "        return Err(Rule::NotAuthor);\n    }\n    if !role.is_member() {\n        return Err(Rule::NotAMember);\n    }\n", "        return Err(Rule::NotAuthor);\n    }\n"),
+    ("accounts declare themselves", "order", JUDGING, "    if !by.role.is_member() {\n        return Err(Rule::NotMember);\n    }\n", ""),
+    ("chairs in conflict declare others", "order", JUDGING, "fn other(by: &Standing, role: Role) -> Result<(), Rule>", None),
+    ("conflicts are declared at the end", "order", JUDGING, "    if by.phase.is_from(Phase::Notification) {\n        return Err(Rule::WrongPhase);\n    }\n    if herself", "    if herself"),
+    ("chairs in conflict turn conflicts off", "order", JUDGING, "pub(crate) fn off(", None),
+    ("conflicts are turned off in submission", "order", JUDGING, "if !by.phase.is_from(Phase::Bidding) || by.phase.is_from(Phase::Notification) {", "if by.phase.is_from(Phase::Notification) {"),
+    ("an author's conflict is turned off", "order", JUDGING, "    if author {\n        return Err(Rule::AuthorConflict);\n    }\n", ""),
+    ("a conflict once declared stays on", "committee examples", TIES, "switch(&mut self.conflicts, *paper, *user, *on);", "switch(&mut self.conflicts, *paper, *user, *on || self.conflicts.contains(&Pair { paper: *paper, user: *user }));"),
+    ("authors are in no conflict", "me", TIES, "self.is_author(user, paper) || self.conflicts.contains(&Pair { paper, user })", "self.conflicts.contains(&Pair { paper, user })"),
+    ("chairs' declarations count as the authors'", "pages", TIES, "insert_where(&mut self.declared, wrote, ", "insert_where(&mut self.declared, wrote || !wrote, "),
+    ("a secret isn't looked at", "login", ACCOUNTS, "if account.digest.as_slice() == digest.as_slice() {", "if account.digest.as_slice() == account.digest.as_slice() {"),
+    ("a bad body is told before 401", "order bodies", TURN, "    if is_unauthorized(book, &caller, &wish.what) {", "    if let What::BadBody(_) = &wish.what {\n        return Turn::Refused(Refused::BadBody);\n    }\n    if is_unauthorized(book, &caller, &wish.what) {"),
+    ("titles before bidding", "examples pages", PAGE, "by.author || (by.role.is_member() && by.phase.is_from(Phase::Bidding))\n", "by.author || (by.role.is_member() && by.phase.is_from(Phase::Submission))\n"),
+    ("abstracts to members in conflict", "examples pages", PAGE, "by.author || (by.is_clear_member() && by.phase.is_from(Phase::Bidding))", "by.author || (by.role.is_member() && by.phase.is_from(Phase::Bidding))"),
+    ("conflicts to clear members", "examples pages", PAGE, "by.is_clear_chair() && by.phase.is_from(Phase::Bidding)\n", "by.is_clear_member() && by.phase.is_from(Phase::Bidding)\n"),
+    ("whom authors declared to chairs", "examples pages", PAGE, "    ensures { result ≡ gets_declared by.now }\n{\n    by.author\n", "    ensures { result ≡ gets_declared by.now }\n{\n    by.author || by.role.is_chair()\n"),
+    ("authors in the anonymous mode", "examples pages", "crates/cr_anonymity/src/shown.rt", "!by.mode.is_anonymous() && ", ""),
 ]
 
 
@@ -76,7 +73,7 @@ def planted(text, old, new):
 
 def tried(plant):
     """Whether the cases refuse the plant, and what the run said last."""
-    title, path, old, new = plant
+    _, files, path, old, new = plant
     with tempfile.TemporaryDirectory(prefix="wrong-rule-") as room:
         shutil.copytree(f"{TOP}/crates", f"{room}/crates", ignore=shutil.ignore_patterns("out"))
         for name in ("crates.txt", "HANDLES"):
@@ -89,7 +86,7 @@ def tried(plant):
             return False, f"not planted: the old text {error}"
         with open(f"{room}/{path}", "w") as file:
             file.write(text)
-        data = [word for case in CASES for word in ("--data", f"{case}.case=data/{case}.case")]
+        data = [word for case in files.split() for word in ("--data", f"{case}.case=data/{case}.case")]
         run = subprocess.run(["rt", "try", "--steps", "100000", "--seconds", "900", *data], cwd=f"{room}/crates/conformance",
                              capture_output=True, text=True)
     total = [line for line in run.stdout.splitlines() if line.endswith("cases not as due")]
