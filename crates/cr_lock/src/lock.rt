@@ -139,11 +139,7 @@ fn wait_and_take<T: Stands, R: Wait>(
 /// Passes are at most 64, as are the tickets drawn and not served, so only one pass sleeps on a bell, and waking one wakes
 /// it. A pass late with its ring for an earlier ticket wakes whoever has the bell by then: that one looks again, and
 /// sleeps again. The sleep compares half the word, which is enough: a bell rings at most 64 times while one pass waits.
-fn ring_next<T: Stands>(
-    shared: &Board<T>,
-    seat: &mut Seat<Option<T>, View<T::Entry>>,
-    served: u64,
-)
+fn ring_next<T: Stands>(shared: &Board<T>, seat: &mut Seat<Option<T>, View<T::Entry>>, served: u64)
     requires { (seat.old.table_id ≡ shared.now.table_id) × (shared.now.table_id.words ≡ 67) }
     ensures { (seat.new.table_id ≡ seat.old.table_id) × (seat.new.me ≡ seat.old.me) }
 {
