@@ -99,6 +99,7 @@ module _ {T E : Type 0} (list : T → List E) (faults : T → ℕ) (first : T) w
         log = r.log;
         ticket = r.ticket;
         serving = r.serving;
+        bells = r.bells;
         words = r.words;
         order = r.order;
         begins = r.begins;
@@ -162,6 +163,7 @@ module _ {T E : Type 0} (list : T → List E) (faults : T → ℕ) (first : T) w
         log = r.log;
         ticket = r.ticket;
         serving = r.serving;
+        bells = r.bells;
         words = r.words;
         order = r.order;
         begins = r.begins;

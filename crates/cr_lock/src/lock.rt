@@ -11,7 +11,7 @@ ghost use Rattle.cr_lock.specs.Closing.{Closes};
 use crate::pass::Pass;
 use crate::rule::HistoryRule;
 use crate::stands::Stands;
-use crate::steps::{Draw, Halve, Look, LookAfterJoin, Next, Note, Unite};
+use crate::steps::{Draw, Halve, Look, LookAfterJoin, Next, Note, Ring, Unite};
 use crate::view::View;
 use atomic_table::{Refused, Seat, Shared, Table};
 use std::alloc::{AllocError, AllocFailed, Global};
@@ -27,6 +27,12 @@ const SERVING: usize = 1;
 
 /// The word with the length of the history.
 const COUNT: usize = 2;
+
+/// The first of the bells, the words that waiters sleep on.
+const FIRST_BELL: usize = 3;
+
+/// How many bells there are: as many as there can be passes, so of the tickets that wait no two share one.
+const BELLS: usize = 64;
 
 /// The slot of the value.
 const VALUE: usize = 0;
@@ -54,7 +60,7 @@ impl<T: Stands> Model for HistoryLock<T> {
 
     ghost view = { λ l. record { lock = l.table.shared.table_id; first = l.table.shared.key.value } };
 
-    ghost invariant = { λ l. (l.table.shared.table_id.words ≡ 3) × (l.table.shared.table_id.slots ≡ 1) };
+    ghost invariant = { λ l. (l.table.shared.table_id.words ≡ 67) × (l.table.shared.table_id.slots ≡ 1) };
 }
 
 /// Why a pass was not split.
@@ -81,13 +87,20 @@ fn one_slot<T>(alloc: Global, value: T) -> Result<Vec<Option<T>, Global>, T>
     }
 }
 
+/// The word that the pass with this ticket sleeps on.
+fn bell_of(ticket: u64) -> usize
+    ensures { (3 ≤ result) × (result < 67) }
+{
+    FIRST_BELL + (ticket % BELLS as u64) as usize
+}
+
 /// Draws a ticket, waits until it is served, and takes the value. The pass has then seen what it stands for.
 fn wait_and_take<T: Stands, R: Wait>(
     rt: &R,
     shared: &Board<T>,
     seat: &mut Seat<Option<T>, View<T::Entry>>,
 ) -> T
-    requires own { (seat.old.table_id ≡ shared.now.table_id) × (seat.old.me.1 ≡ []) × (shared.now.table_id.words ≡ 3) }
+    requires own { (seat.old.table_id ≡ shared.now.table_id) × (seat.old.me.1 ≡ []) × (shared.now.table_id.words ≡ 67) }
     requires rests { ((view seat.old).role ≡ Idle) × (0 < (view seat.old).share) × ((view seat.old).turns < 2 ^ 40) }
     ensures seat { (seat.new.table_id ≡ seat.old.table_id) × (seat.new.me.1 ≡ (0, None) ∷ []) }
     ensures view { (t : ℕ) × (view seat.new ≡ record (view seat.old) {
@@ -98,27 +111,45 @@ fn wait_and_take<T: Stands, R: Wait>(
     ensures seen { IsPrefix (view seat.old).seen (T.list result) }
 {
     let ticket = shared.fetch_add::<Draw>(seat, TICKET, 1);
+    let bell = bell_of(ticket);
     for _ in rt.forever() {
+        // The bell is read before the look, so no ring in between is missed; see `ring_next`.
+        let rung = shared.peek(bell);
         let serving = shared.load::<Look<T>>(seat, SERVING);
         if serving == ticket {
             return shared.exchange(seat, VALUE, None).unwrap();
         }
         // The sleep compares the low half of the word.
-        shared.park(rt, SERVING, (serving % (1 << 32)) as u32);
+        shared.park(rt, bell, (rung % (1 << 32)) as u32);
     }
     unreachable!()
 }
 
-/// Wakes all who sleep, where a ticket behind the one served last was drawn.
+/// Wakes the pass with the ticket behind the one served last, where that was drawn.
 ///
-/// Who draws a ticket only after this look finds the next one being served, so it doesn't sleep on an older number, and
-/// a turn that nobody waits behind makes no system call.
-fn wake_waiting<T: Stands>(shared: &Board<T>, served: u64)
-    requires { shared.now.table_id.words ≡ 3 }
+/// No wake-up is lost, since a waiter reads its bell, then looks at `serving`, then sleeps if the bell is as it was read,
+/// and the pass before it advances `serving`, then looks at the tickets, then rings the bell, then wakes:
+///
+/// - Where the look finds the waiter's ticket served, it doesn't sleep.
+/// - Where it doesn't, `serving` advances later, and so the bell rings after it was read. If it rings before the
+///   waiter falls asleep, the sleep finds another number and returns at once; if after, the wake reaches the waiter.
+/// - Who draws the ticket only after it was found undrawn looks after `serving` has advanced, so it doesn't sleep. Thus a
+///   turn that nobody waits behind makes no system call.
+///
+/// Passes are at most 64, as are the tickets drawn and not served, so only one pass sleeps on a bell, and waking one wakes
+/// it. A pass late with its ring for an earlier ticket wakes whoever has the bell by then: that one looks again, and
+/// sleeps again. The sleep compares half the word, which is enough: a bell rings at most 64 times while one pass waits.
+fn ring_next<T: Stands>(shared: &Board<T>, seat: &mut Seat<Option<T>, View<T::Entry>>, served: u64)
+    requires { (seat.old.table_id ≡ shared.now.table_id) × (shared.now.table_id.words ≡ 67) }
+    ensures { (seat.new.table_id ≡ seat.old.table_id) × (seat.new.me ≡ seat.old.me) }
 {
-    if shared.peek(TICKET) != served.wrapping_add(1) {
-        shared.wake_all(SERVING);
+    let next = served.wrapping_add(1);
+    if shared.peek(TICKET) == next {
+        return;
     }
+    let bell = bell_of(next);
+    shared.fetch_add::<Ring>(seat, bell, 1);
+    shared.wake_one(bell);
 }
 
 impl<T: Stands> HistoryLock<T> {
@@ -130,7 +161,8 @@ impl<T: Stands> HistoryLock<T> {
             (λ refused. refused.1 ≡ value) }
     {
         let about = Snapshot::of(&value);
-        let words = [0, 0, value.entries()];
+        let mut words = [0; FIRST_BELL + BELLS];
+        words[COUNT] = value.entries();
         let slots = match one_slot(alloc, value) {
             Ok(slots) => slots,
             Err(value) => return Err((AllocError, value)),
@@ -170,8 +202,8 @@ impl<T: Stands> HistoryLock<T> {
     ///
     /// A pass makes fewer than 2^40 turns, so all passes together draw fewer tickets than a word can count.
     ///
-    /// A turn that nobody else waits for costs five atomic steps and no system call. Otherwise it wakes all who wait,
-    /// and all but one of them sleep again.
+    /// A turn that nobody else waits for costs six atomic steps and no system call. Otherwise it costs one step more, and
+    /// wakes the next one alone.
     pub fn turn<A, F: FnOnce(&mut T) -> A, R: Wait>(&self, rt: &R, pass: &mut Pass<T>, act: F) -> A
         requires own { pass.old.lock ≡ self.now.lock }
         requires few { pass.old.turns < 2 ^ 40 }
@@ -199,7 +231,7 @@ impl<T: Stands> HistoryLock<T> {
         let None = empty else { unreachable!() };
         shared.fetch_add::<Note<T>>(seat, COUNT, added);
         let served = shared.fetch_add::<Next>(seat, SERVING, 1);
-        wake_waiting(shared, served);
+        ring_next(shared, seat, served);
         *turns += 1;
         answer
     }

@@ -1,6 +1,6 @@
-//! Splits down to the last share, and four threads.
+//! Splits down to the last share, and 64 threads.
 ghost use Rattle.std.specs.Prelude.{◌≡◌, ℕ, List, [], ◌∷◌, ◌++◌, ◌+◌, ◌<◌, ◌≤◌, ◌^◌, length, vec_len, All, OnOk, IfOk, IfSome, MatchResult};
-ghost use Rattle.cr_lock.specs.Passes.{larger_half, smaller_half};
+ghost use Rattle.std.specs.Thread.{IsSync};
 ghost use Rattle.cr_lock.specs.Turns.{groups_of};
 
 use crate::lock::{HistoryLock, SplitError};
@@ -12,7 +12,7 @@ use std::test::Fail;
 use std::thread::{Threads, join};
 
 /// How many turns each thread takes.
-const TURNS: u64 = 1000;
+const TURNS: u64 = 250;
 
 /// Who acted, and which of its acts it was.
 #[derive(Clone, Copy)]
@@ -116,43 +116,34 @@ fn act_often<R: Wait>(
     (pass, Ok(()))
 }
 
-/// Two threads' turns, and then one pass.
-fn act_in_two<R: Threads + Wait + Sync>(
+/// A pass's turns, in as many threads as it has shares, and then one pass.
+/// A thread that halves its pass numbers the halves `2 * who` and `2 * who + 1`.
+#[cycle(crowd)]
+fn act_in_crowd<R: Threads + Wait + Sync>(
     rt: &R,
     lock: &HistoryLock<Acts>,
-    one: Pass<Acts>,
-    other: Pass<Acts>,
+    pass: Pass<Acts>,
     who: u64,
 ) -> (Pass<Acts>, Result<(), AllocError>)
-    requires own { (one.lock ≡ lock.now.lock) × (other.lock ≡ lock.now.lock) }
-    requires fresh { (one.turns ≡ 0) × (other.turns ≡ 0) }
-    requires small { who < 2 ^ 32 }
-    ensures own { (result.0.lock ≡ lock.now.lock) × (result.0.share ≡ one.share + other.share) }
-{
-    let ((one, first), (other, second)) = join(
-        rt,
-        || -> (Pass<Acts>, Result<(), AllocError>)
-            requires { (one.lock ≡ lock.now.lock) × (one.turns ≡ 0) }
-            ensures { (result.0.lock ≡ lock.entry.now.lock) × (result.0.share ≡ one.share) }
-        { act_often(rt, lock, one, who) },
-        || -> (Pass<Acts>, Result<(), AllocError>)
-            requires { (other.lock ≡ lock.now.lock) × (other.turns ≡ 0) × (who < 2 ^ 32) }
-            ensures { (result.0.lock ≡ lock.entry.now.lock) × (result.0.share ≡ other.share) }
-        { act_often(rt, lock, other, who + 1) },
-    );
-    (lock.join(one, other), first.and(second))
-}
-
-/// Both halves of a pass.
-fn halve(lock: &HistoryLock<Acts>, pass: Pass<Acts>) -> (Pass<Acts>, Pass<Acts>)
     requires own { pass.lock ≡ lock.now.lock }
-    requires more { 1 < pass.share }
-    ensures { (result.0 ≡ larger_half pass) × (result.1 ≡ smaller_half pass) }
+    requires fresh { pass.turns ≡ 0 }
+    ensures own { (result.0.lock ≡ lock.now.lock) × (result.0.share ≡ pass.share) }
 {
-    match lock.split(pass) {
+    let (one, other) = match lock.split(pass) {
         Ok(halves) => halves,
-        Err(_) => unreachable!(),
-    }
+        Err((_, pass)) => return act_often(rt, lock, pass, who),
+    };
+    let left = who.wrapping_mul(2);
+    let front = move || -> (Pass<Acts>, Result<(), AllocError>)
+        requires { IsSync R.row × (one.lock ≡ lock.now.lock) × (one.turns ≡ 0) }
+        ensures { (result.0.lock ≡ lock.entry.now.lock) × (result.0.share ≡ one.share) }
+    { act_in_crowd(rt, lock, one, left) };
+    let back = move || -> (Pass<Acts>, Result<(), AllocError>)
+        requires { IsSync R.row × (other.lock ≡ lock.now.lock) × (other.turns ≡ 0) }
+        ensures { (result.0.lock ≡ lock.entry.now.lock) × (result.0.share ≡ other.share) }
+    { act_in_crowd(rt, lock, other, left.wrapping_add(1)) };
+    let ((one, first), (other, second)) = join(rt, front, back);
+    (lock.join(one, other), first.and(second))
 }
 
 /// The value of a lock that was made with no acts: the groups of the joined pass's turns, in order.
@@ -165,8 +156,8 @@ fn close_all(lock: HistoryLock<Acts>, pass: Pass<Acts>) -> Acts
     lock.close(pass)
 }
 
-/// Four threads' turns, and then the value, with the turns that the joined pass counts.
-fn act_in_four<R: Threads + Wait + Sync>(
+/// The turns of 64 threads, and then the value, with the turns that the joined pass counts.
+fn act_in_all<R: Threads + Wait + Sync>(
     rt: &R,
     lock: HistoryLock<Acts>,
     pass: Pass<Acts>,
@@ -174,23 +165,8 @@ fn act_in_four<R: Threads + Wait + Sync>(
     requires own { pass.lock ≡ lock.lock }
     requires fresh { (pass.share ≡ 64) × (pass.turns ≡ 0) × (lock.first.log.items ≡ []) }
 {
-    let (one, two) = halve(&lock, pass);
-    let (one, three) = halve(&lock, one);
-    let (two, four) = halve(&lock, two);
-    let shared = &lock;
-    let ((one, first), (two, second)) = join(
-        rt,
-        || -> (Pass<Acts>, Result<(), AllocError>)
-            requires { (one.lock ≡ shared.now.lock) × (three.lock ≡ shared.now.lock) × (one.turns ≡ 0) × (three.turns ≡ 0) }
-            ensures { (result.0.lock ≡ shared.entry.now.lock) × (result.0.share ≡ one.share + three.share) }
-        { act_in_two(rt, shared, one, three, 0) },
-        || -> (Pass<Acts>, Result<(), AllocError>)
-            requires { (two.lock ≡ shared.now.lock) × (four.lock ≡ shared.now.lock) × (two.turns ≡ 0) × (four.turns ≡ 0) }
-            ensures { (result.0.lock ≡ shared.entry.now.lock) × (result.0.share ≡ two.share + four.share) }
-        { act_in_two(rt, shared, two, four, 2) },
-    );
-    first.and(second)?;
-    let pass = lock.join(one, two);
+    let (pass, told) = act_in_crowd(rt, &lock, pass, 1);
+    told?;
     let turns = lock.turns(&pass);
     Ok((close_all(lock, pass), turns))
 }
@@ -218,8 +194,10 @@ fn splits_to_the_last_share_and_joins_again(rt: HostRuntime) -> Result<(), Alloc
     Ok(())
 }
 
+// All bells are in use, and most waiters sleep, since the threads are many more than the processors. A wake-up that is
+// lost would stop them all.
 #[test]
-fn four_threads_share_one_history(rt: HostRuntime) -> Result<(), Fail> {
+fn sixty_four_threads_share_one_history(rt: HostRuntime) -> Result<(), Fail> {
     let alloc: Global = rt.alloc();
     let Ok((lock, pass)) = HistoryLock::new(
         alloc,
@@ -229,15 +207,15 @@ fn four_threads_share_one_history(rt: HostRuntime) -> Result<(), Fail> {
     ) else {
         return Err(AllocError.into());
     };
-    let (acts, turns) = act_in_four(&rt, lock, pass)?;
+    let (acts, turns) = act_in_all(&rt, lock, pass)?;
     assert_eq!(rt; turns, TURNS);
-    assert_eq!(rt; acts.log.len(), 4 * TURNS as usize);
-    let mut steps = [0u64; 4];
+    assert_eq!(rt; acts.log.len(), 64 * TURNS as usize);
+    let mut steps = [0u64; 64];
     for act in acts.log.iter() {
-        let next = &mut steps[act.who as usize % 4];
+        let next = &mut steps[act.who as usize % 64];
         assert_eq!(rt; act.step, *next, "of {}", act.who);
         *next = next.wrapping_add(1);
     }
-    assert_eq!(rt; steps, [TURNS; 4]);
+    assert_eq!(rt; steps, [TURNS; 64]);
     Ok(())
 }
