@@ -91,7 +91,8 @@ def tried(plant):
                              capture_output=True, text=True)
     total = [line for line in run.stdout.splitlines() if line.endswith("cases not as due")]
     if not total:
-        return False, "no verdict: " + (run.stdout + run.stderr).strip()[-300:]
+        said = run.stdout + run.stderr
+        return "run=fault" in said, "the run breaks off" if "run=fault" in said else "no verdict: " + said.strip()[-300:]
     failed = int(total[0].split(", ")[-1].split()[0])
     first = next((line for line in run.stdout.splitlines() if ".case, " in line and ": ok" not in line), "")
     return failed > 0, f"{failed} cases, first {first.split(':')[0]}" if failed else "PASSES"
