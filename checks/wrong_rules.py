@@ -38,7 +38,7 @@ PLANTS = [
     ("phases may be skipped", "phase", STAGE, "if !self.phase.is_before(to) {", "if !to.is_from(self.phase) || to.is(self.phase) {"),
     ("members name members", "order", ACCOUNTS, "    if !by.role.is_chair() {\n        return Err(Rule::NotChair);", "    if !by.role.is_member() {\n        return Err(Rule::NotChair);"),
     ("members are named in notification", "order members", ACCOUNTS, "by.phase.is_from(Phase::Notification)", "by.phase.is_from(Phase::Closed)"),
-    ("a chair may be named a member", "order", ACCOUNTS, "role.number() <= now.number()", "role.number() == now.number()"),
+    ("a chair may be named a member", "members", ACCOUNTS, "role.number() <= now.number()", "role.number() == now.number()"),
     ("anybody declares in submission", "order", JUDGING, "    if !by.author {\n        return Err(Rule::NotAuthor);\n    }\n", ""),
     ("authors declare accounts", "order", JUDGING, "        return Err(Rule::NotAuthor);\n    }\n    if !role.is_member() {\n        return Err(Rule::NotAMember);\n    }\n", "        return Err(Rule::NotAuthor);\n    }\n"),
     ("accounts declare themselves", "order", JUDGING, "    if !by.role.is_member() {\n        return Err(Rule::NotMember);\n    }\n", ""),
