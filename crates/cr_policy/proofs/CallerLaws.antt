@@ -4,7 +4,6 @@ use Rattle.std.specs.List.{list_any}
 use Rattle.std.specs.Str.{bytes_eq}
 use Rattle.std.proofs.lemmas.Bool.{eqb-true, eq-eqb}
 use Rattle.cr_base.specs.declared.command.Command.{Command}
-use Rattle.cr_base.specs.declared.command.Command.TheVariants.{Register, SetPhase, Submit, Name, SetMode, SetConflict}
 use Rattle.cr_base.specs.declared.entry.Account.{Account}
 use Rattle.cr_base.specs.declared.entry.Entry.{Entry}
 use Rattle.cr_base.specs.declared.entry.Entry.TheVariants.{Registered, Named, PhaseSet, ModeSet, Submitted, Conflict}
@@ -12,9 +11,10 @@ use Rattle.cr_base.specs.Accounts.{AccountsFit}
 use Rattle.cr_base.specs.Facts.{caller_of}
 use Rattle.cr_base.specs.History.{History, Registration, all_told, registration_told, caller_told}
 use Rattle.cr_base.specs.Lists.{last_from}
+use Rattle.cr_base.specs.Logins.{IfWanted, command_wants_login}
 use Rattle.cr_base.specs.Tables.{Tables, no_tables, tables_after, FitInTurn}
 use Rattle.cr_base.proofs.LastLaws.{last_from-given}
-use Rattle.cr_policy.specs.Legal.{IsRegistered, IsUser, IsCaller}
+use Rattle.cr_policy.specs.Legal.{IsRegistered, IsUser, CallsAs, IsCaller}
 
 -- the registration is this user's
 abbrev is_of : ℕ → Registration → Bool
@@ -29,12 +29,7 @@ IsNumbered (Some user) = (1 ≤ user) × (user ≤ 9999)
 
 -- who makes the entries of a command has such a number; the maker of a registration is the new user
 abbrev pub HasMaker : Option ℕ → Command → Type 0
-HasMaker caller (Register name digest) = Unit {0}
-HasMaker caller (SetPhase phase) = IsNumbered caller
-HasMaker caller (Submit title abstract) = IsNumbered caller
-HasMaker caller (Name user role) = IsNumbered caller
-HasMaker caller (SetMode mode) = IsNumbered caller
-HasMaker caller (SetConflict paper user on) = IsNumbered caller
+HasMaker caller command = IfWanted (command_wants_login command) (IsNumbered caller)
 
 numbered-entry : (accounts : List Account) (e : Entry) (user : ℕ) (rest : List Registration) → AccountsFit accounts e → (list_any (is_of user) rest ≡ true → IsNumbered (Some user)) → list_any (is_of user) (registration_told e ++ rest) ≡ true → IsNumbered (Some user)
 numbered-entry accounts (Registered v name digest) user rest fits later h = by (eqb v user) refl h
@@ -56,14 +51,13 @@ user-numbered : (H : History) (caller : Option ℕ) → FitInTurn no_tables H �
 user-numbered H None fits user = user
 user-numbered H (Some user) fits registered = registered-from no_tables H user fits registered
 
+makes : (H : History) (login : Bool) (caller : Option ℕ) → FitInTurn no_tables H → CallsAs H login caller → IfWanted login (IsNumbered caller)
+makes H false caller fits is = tt
+makes H true caller fits is = user-numbered H caller fits is
+
 -- who may give a command makes its entries, where each entry of the history fits in its turn
 pub caller-makes : (H : History) (caller : Option ℕ) (command : Command) → FitInTurn no_tables H → IsCaller H caller command → HasMaker caller command
-caller-makes H caller (Register name digest) fits is = tt
-caller-makes H caller (SetPhase phase) fits is = user-numbered H caller fits is
-caller-makes H caller (Submit title abstract) fits is = user-numbered H caller fits is
-caller-makes H caller (Name user role) fits is = user-numbered H caller fits is
-caller-makes H caller (SetMode mode) fits is = user-numbered H caller fits is
-caller-makes H caller (SetConflict paper user on) fits is = user-numbered H caller fits is
+caller-makes H caller command fits is = makes H (command_wants_login command) caller fits is
 
 -- ---- callers
 
