@@ -207,10 +207,7 @@ impl Accounts {
             Entry::Named { user, role } => {
                 self.accounts[user.place()].role = *role;
             }
-            Entry::PhaseSet { .. }
-            | Entry::ModeSet { .. }
-            | Entry::Submitted { .. }
-            | Entry::Conflict { .. } => {}
+            _ => {}
         }
     }
 }
