@@ -13,7 +13,7 @@ use Rattle.cr_base.specs.declared.words.Role.TheVariants.{Chair}
 use Rattle.cr_base.specs.Accounts.{lines_from}
 use Rattle.cr_base.specs.Facts.{role_of, accounts_of}
 use Rattle.cr_base.specs.History.{History, Registration, all_told, registration_told}
-use Rattle.cr_base.specs.Judging.{grouped}
+use Rattle.cr_base.specs.Drawn.{grouped}
 use Rattle.cr_base.specs.Lists.{numbers_from}
 use Rattle.cr_base.specs.Tables.{no_tables, tables_of, Fits, FitInTurn}
 use Rattle.cr_base.proofs.AccountLaws.{length-lines_of}

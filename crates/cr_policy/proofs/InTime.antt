@@ -14,7 +14,7 @@ use Rattle.cr_base.specs.Lists.{last_or, is_number, until, since}
 use Rattle.cr_base.specs.History.{History, all_told, opens, phase_told, author_told}
 use Rattle.cr_base.specs.Facts.{phase_of, authors_of, is_author}
 use Rattle.cr_base.specs.Phases.{phase_place, is_from, is_phase}
-use Rattle.cr_base.specs.Judging.{grouped}
+use Rattle.cr_base.specs.Drawn.{grouped}
 use Rattle.cr_base.proofs.LastLaws.{last_or-cons}
 use Rattle.cr_policy.specs.Invariants.{is_opening, ByAuthor, ByHerselfOrOther, Early, Late, DeclaresInTime, IsInPhase, IsByRight}
 use Rattle.cr_policy.proofs.Cuts.{AllByRecursion-append, AllByRecursion-map, AllByRecursion-until, until-none, since-none, until-append, since-append, until-before, since-before}

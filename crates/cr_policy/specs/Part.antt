@@ -22,10 +22,10 @@ part_number name = 1
 part_number digest = 2
 part_number role = 3
 part_number phase = 4
-part_number by = 5
-part_number title = 6
-part_number abstract = 7
-part_number mode = 8
+part_number mode = 5
+part_number by = 6
+part_number title = 7
+part_number abstract = 8
 part_number on = 9
 
 -- the part is one of these

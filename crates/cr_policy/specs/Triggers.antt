@@ -88,8 +88,8 @@ none_alike (Registered user name digest) H = true
 none_alike (Named user role) H = true
 none_alike (PhaseSet phase) H = true
 none_alike (ModeSet mode) H = true
-none_alike (Conflict paper user on) H = true
 none_alike (Submitted paper title abstract) H = none_in (title_told paper) H
+none_alike (Conflict paper user on) H = true
 
 -- what a row may ask of where an entry stands: whether it is the first of its matter; the last; the last of those before the
 -- discussion was opened; and whether it was made when the discussion was opened already
@@ -140,11 +140,6 @@ rows r at by (PhaseSet phase) =
 rows r at by (ModeSet mode) =
     everyone see whole
     ∷ []
-rows r at by (Conflict paper user on) =
-    user_named r user see whole
-    ∷ (r.wrote by paper && authors r paper) see whole
-    ∷ (clear_chairs r paper && from r Bidding) see whole
-    ∷ []
 rows r at by (Submitted paper title abstract) =
     everyone see paper_alone
     ∷ authors r paper see whole_and (part.by ∷ [])
@@ -152,6 +147,11 @@ rows r at by (Submitted paper title abstract) =
     ∷ (at.last && clear_members r paper && from r Bidding) see these (part.abstract ∷ [])
     ∷ (clear_chairs r paper && from r Bidding) see these (part.by ∷ [])
     ∷ (clear_members r paper && unless_anonymous r && from r Bidding) see these (part.by ∷ [])
+    ∷ []
+rows r at by (Conflict paper user on) =
+    user_named r user see whole
+    ∷ (r.wrote by paper && authors r paper) see whole
+    ∷ (clear_chairs r paper && from r Bidding) see whole
     ∷ []
 
 -- whether a row applies

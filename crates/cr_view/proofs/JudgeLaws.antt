@@ -4,7 +4,9 @@ use Rattle.cr_base.specs.declared.command.Command.{Command}
 use Rattle.cr_base.specs.declared.command.Command.TheVariants.{Submit}
 use Rattle.cr_base.specs.declared.reply.Rule.{Rule}
 use Rattle.cr_base.specs.Checks.{Check, judged, submit_checks}
-use Rattle.cr_base.specs.Judging.{Drawn, submission_drawn, standing_at, judge_by_role}
+use Rattle.cr_base.specs.Drawn.{Drawn, submission_drawn}
+use Rattle.cr_base.specs.Judging.{judge_by_role}
+use Rattle.cr_base.specs.Sources.{standing_at}
 use Rattle.cr_base.specs.Papers.{paper_count, own_count}
 use Rattle.cr_base.specs.Tables.{Tables}
 use Rattle.cr_base.proofs.CheckLaws.{judged-Ok, judged-none, judged-Err}

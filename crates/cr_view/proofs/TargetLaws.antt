@@ -11,7 +11,9 @@ use Rattle.cr_base.specs.declared.standing.Standing.{Standing}
 use Rattle.cr_base.specs.declared.words.Role.{Role}
 use Rattle.cr_base.specs.Accounts.{number_at, role_at, lines_of}
 use Rattle.cr_base.specs.Checks.{Check, judged, name_checks, conflict_checks}
-use Rattle.cr_base.specs.Judging.{Drawn, naming_drawn, conflict_drawn, name_judged, conflict_judged, user_among, has_paper, standing_at, facts_of_tables, shown_in_tables, judge_by_role}
+use Rattle.cr_base.specs.Drawn.{Drawn, naming_drawn, conflict_drawn}
+use Rattle.cr_base.specs.Judging.{name_judged, conflict_judged, judge_by_role}
+use Rattle.cr_base.specs.Sources.{user_among, has_paper, standing_at, facts_of_tables, shown_in_tables}
 use Rattle.cr_base.specs.Lists.{at_some, is_number}
 use Rattle.cr_base.specs.Tables.{Tables}
 use Rattle.cr_base.specs.Ties.{TiesState, authors_in, is_author_in, is_conflicted_in}

@@ -6,7 +6,8 @@ use Rattle.cr_base.specs.declared.reply.Reply.TheVariants as replies
 use Rattle.cr_base.specs.declared.reply.Rule.{Rule}
 use Rattle.cr_base.specs.declared.standing.Standing.{Standing}
 use Rattle.cr_base.specs.Accounts.{lines_of}
-use Rattle.cr_base.specs.Judging.{page_by, shown_in_tables}
+use Rattle.cr_base.specs.Answering.{page_by}
+use Rattle.cr_base.specs.Sources.{shown_in_tables}
 use Rattle.cr_base.specs.Tables.{Tables}
 use Rattle.cr_view.specs.declared.queries.AnswerError.{AnswerError}
 use Rattle.cr_view.specs.declared.queries.AnswerError.TheVariants as errors

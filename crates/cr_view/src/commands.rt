@@ -3,7 +3,9 @@ ghost use Rattle.std.specs.Prelude.{◌≡◌, ◌+◌, [], IfOk, IsSome, Some, 
 ghost use Rattle.std.specs.Option.{option_map, option_and_then};
 ghost use Rattle.cr_base.specs.Accounts.{number_at, role_at};
 ghost use Rattle.cr_base.specs.Checks.{judged, register_checks, submit_checks, name_checks, conflict_checks};
-ghost use Rattle.cr_base.specs.Judging.{judge_by_role, standing_at, facts_of_tables, has_paper, registration_drawn, submission_drawn, naming_drawn, conflict_drawn};
+ghost use Rattle.cr_base.specs.Drawn.{registration_drawn, submission_drawn, naming_drawn, conflict_drawn};
+ghost use Rattle.cr_base.specs.Judging.{judge_by_role};
+ghost use Rattle.cr_base.specs.Sources.{standing_at, facts_of_tables, has_paper};
 ghost use Rattle.cr_base.specs.Lists.{at_some, is_number};
 ghost use Rattle.cr_base.specs.Papers.{paper_count, own_count};
 ghost use Rattle.cr_base.specs.Ties.{is_author_in};

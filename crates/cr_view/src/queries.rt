@@ -2,7 +2,8 @@
 ghost use Rattle.std.specs.Prelude.{◌≡◌, ◌≢◌, ◌++◌, IfOk, OnOk, OnErr, Ok, Err, Some, map, unwrap_or};
 ghost use Rattle.cr_base.specs.Accounts.{lines_of};
 ghost use Rattle.cr_base.specs.Checks.{judged, page_checks};
-ghost use Rattle.cr_base.specs.Judging.{answer_by_role, facts_of_tables, shown_in_tables, query_checks, has_paper, names_in, page_by, standing_at};
+ghost use Rattle.cr_base.specs.Answering.{answer_by_role, query_checks, page_by};
+ghost use Rattle.cr_base.specs.Sources.{facts_of_tables, shown_in_tables, has_paper, names_in, standing_at};
 ghost use Rattle.cr_base.specs.Lists.{listed};
 ghost use Rattle.cr_base.specs.Papers.{paper_count};
 ghost use Rattle.cr_base.specs.Page.{where_told};
