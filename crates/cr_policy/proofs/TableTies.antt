@@ -10,7 +10,7 @@ use Rattle.cr_base.specs.Page.{shows_author}
 use Rattle.cr_base.specs.Ties.{authors_in}
 use Rattle.cr_base.specs.Rows.{row_of, rows_of}
 use Rattle.cr_base.specs.Tables.{Tables, no_tables, tables_after, tables_from, tables_of, FitInTurn}
-use Rattle.cr_base.specs.Judging.{standing_at, facts_of_tables}
+use Rattle.cr_base.specs.Sources.{standing_at, facts_of_tables}
 use Rattle.cr_policy.specs.View.{view}
 use Rattle.cr_policy.specs.ViewFacts.{authors_in_view, facts_in_view}
 use Rattle.cr_policy.proofs.ConflictTies.{is_conflicted-tables}
