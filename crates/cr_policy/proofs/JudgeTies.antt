@@ -21,7 +21,7 @@ use Rattle.cr_base.specs.Judging.{Facts, Shown, Drawn, maker_of, user_among, rol
 use Rattle.cr_policy.specs.View.{view}
 use Rattle.cr_policy.specs.ViewFacts.{shown_in_view}
 use Rattle.cr_policy.specs.Judge.{judge}
-use Rattle.cr_policy.proofs.TableTies.{facts_in_view-tables, authors-tables}
+use Rattle.cr_policy.proofs.FactTies.{facts_in_view-tables, authors-tables}
 
 -- ---- judgement
 

@@ -14,22 +14,23 @@ use Rattle.cr_base.specs.Tables.{no_tables, tables_of, FitInTurn}
 use Rattle.cr_policy.specs.View.{view}
 use Rattle.cr_policy.specs.Judge.{judge, answer}
 use Rattle.cr_policy.specs.Legal.{Call, IsUser, IsAllowed, followed_by, step, LeadsTo, Legal}
-use Rattle.cr_policy.specs.Invariants.{DeclaresInTime, IsInOrder, InTurn, IsWhole}
+use Rattle.cr_history.specs.Invariants.{DeclaresInTime, IsInOrder, InTurn, IsWhole}
 use Rattle.cr_policy.specs.Laws.{ViewSuffices, DeclaredFromView, LegalKeeps, DigestsAreOwn}
 use Rattle.cr_policy.specs.Triggers.{reader}
 use Rattle.cr_base.proofs.RowLaws.{stamped-row_of}
-use Rattle.cr_policy.proofs.CallerLaws.{caller-makes, caller-registered}
-use Rattle.cr_policy.proofs.NumberTies.{number_of-tables, caller_of-tables}
+use Rattle.cr_history.specs.Groups.{Adds}
+use Rattle.cr_history.proofs.CallerLaws.{caller-registered}
+use Rattle.cr_policy.proofs.AcceptedLaws.{caller-makes, accepted-adds}
+use Rattle.cr_history.proofs.NumberTies.{number_of-tables, caller_of-tables}
 use Rattle.cr_policy.proofs.DeclaredLaws.{declared-seen_by_author}
 use Rattle.cr_policy.proofs.DigestLaws.{own_digests}
-use Rattle.cr_policy.proofs.InOrder.{in_order-append, whole-added}
-use Rattle.cr_policy.proofs.InTime.{in_time-nil, in_time-append}
-use Rattle.cr_policy.proofs.RuleLaws.{Adds, accepted-adds}
-use Rattle.cr_policy.proofs.SizeTies.{sized-tables}
+use Rattle.cr_history.proofs.InOrder.{in_order-append, whole-added}
+use Rattle.cr_history.proofs.InTime.{in_time-nil, in_time-append}
+use Rattle.cr_history.proofs.SizeTies.{sized-tables}
 use Rattle.cr_policy.proofs.JudgeTies.{judge-tables}
 use Rattle.cr_policy.proofs.PageTies.{answer-tables}
-use Rattle.cr_policy.proofs.TableTies.{FitInTurn-append}
-use Rattle.cr_policy.proofs.GroupLaws.{accepted-good}
+use Rattle.cr_history.proofs.TableTies.{FitInTurn-append}
+use Rattle.cr_history.proofs.GroupLaws.{accepted-good}
 
 -- ---- calls one after another
 

@@ -36,8 +36,8 @@ use Rattle.cr_base.proofs.CheckLaws.{judged-Ok}
 use Rattle.cr_base.proofs.ListLaws.{length-numbers_from, role_among-lines_of}
 use Rattle.cr_base.proofs.TargetLaws.{target_within, paper_within}
 use Rattle.cr_base.proofs.TieLaws.{within-before}
-use Rattle.cr_policy.proofs.CallerLaws.{HasMaker}
-use Rattle.cr_policy.proofs.SizeTies.{IsSized}
+use Rattle.cr_history.proofs.CallerLaws.{HasMaker}
+use Rattle.cr_history.proofs.SizeTies.{IsSized}
 
 -- ---- groups
 

@@ -1,4 +1,5 @@
--- Where each entry fits in its turn, what rules and answers read in a view is what they read in the tables.
+-- The tables and rows of more entries; and where each fits in its turn, how a user stands by a history is how she stands by
+-- its tables.
 use Rattle.std.proofs.Common.{ℕ, Bool, true, false, ◌≡◌, [], ◌∷◌, ◌++◌, ap, ◌∙◌, Option, Some}
 use Rattle.std.proofs.lemmas.List.{map-append}
 use Rattle.std.proofs.lemmas.List.Sums.{fold-append}
@@ -11,15 +12,11 @@ use Rattle.cr_base.specs.Ties.{authors_in}
 use Rattle.cr_base.specs.Rows.{row_of, rows_of}
 use Rattle.cr_base.specs.Tables.{Tables, no_tables, tables_after, tables_from, tables_of, FitInTurn}
 use Rattle.cr_base.specs.Judging.{standing_at, facts_of_tables}
-use Rattle.cr_policy.specs.View.{view}
-use Rattle.cr_policy.specs.ViewFacts.{authors_in_view, facts_in_view}
-use Rattle.cr_policy.proofs.ConflictTies.{is_conflicted-tables}
-use Rattle.cr_policy.proofs.StandingLaws.{standing_from_view, accounts-seen, papers-seen, own_papers-seen}
-use Rattle.cr_policy.proofs.PageTells.{authors-seen}
-use Rattle.cr_policy.proofs.LineTies.{accounts_of-tables}
-use Rattle.cr_policy.proofs.StageTies.{phase_of-tables, mode_of-tables}
-use Rattle.cr_policy.proofs.RoleTies.{role_of-tables}
-use Rattle.cr_policy.proofs.PaperTies.{papers_of-tables, own_papers_of-tables, authors_of-tables, is_author-tables}
+use Rattle.cr_history.proofs.ConflictTies.{is_conflicted-tables}
+use Rattle.cr_history.proofs.LineTies.{accounts_of-tables}
+use Rattle.cr_history.proofs.StageTies.{phase_of-tables, mode_of-tables}
+use Rattle.cr_history.proofs.RoleTies.{role_of-tables}
+use Rattle.cr_history.proofs.PaperTies.{papers_of-tables, own_papers_of-tables, authors_of-tables, is_author-tables}
 
 -- ---- more entries
 
@@ -44,15 +41,3 @@ standing_of-tables u paper H fits =
     let author = ap (λ (says : ℕ → Bool). at_some says paper) (λ i p. is_author-tables u p H i) in
     let conflicted = ap (λ (says : ℕ → Bool). at_some says paper) (λ i p. is_conflicted-tables u p H i) in
     λ i. record { phase = phase_of-tables H i; mode = mode_of-tables H i; role = role_of-tables u H fits i; author = author i; conflicted = conflicted i }
-
--- the facts of any user's view are those of the tables
-pub facts_in_view-tables : (u : Option ℕ) (H : History) → FitInTurn no_tables H → facts_in_view u (view u H) ≡ facts_of_tables (tables_of H) u
-facts_in_view-tables u H fits =
-    let accounts = accounts-seen u H ∙ accounts_of-tables H fits in
-    let papers = papers-seen u H ∙ papers_of-tables H fits in
-    let own = own_papers-seen u H ∙ own_papers_of-tables u H in
-    λ i. record { standing = λ paper. (standing_from_view u paper H ∙ standing_of-tables u paper H fits) i; accounts = accounts i; papers = papers i; own_papers = own i }
-
--- who wrote a paper, as the view of one who is told shows it
-pub authors-tables : (u : Option ℕ) (H : History) (p : ℕ) → FitInTurn no_tables H → shows_author (standing_at (tables_of H) u (Some p)) false ≡ true → authors_in_view p (view u H) ≡ authors_in (tables_of H).ties p
-authors-tables u H p fits told = authors-seen u p H (ap (λ (by : Standing). shows_author by false) (standing_of-tables u (Some p) H fits) ∙ told) ∙ authors_of-tables p H

@@ -18,12 +18,11 @@ use Rattle.cr_base.specs.Lists.{numbers_from}
 use Rattle.cr_base.specs.Tables.{no_tables, tables_of, Fits, FitInTurn}
 use Rattle.cr_base.proofs.AccountLaws.{length-lines_of}
 use Rattle.cr_base.proofs.ListLaws.{length-numbers_from, list_any-numbers_from}
-use Rattle.cr_policy.specs.Invariants.{HasNextNumber, HasNewName, IsAboutThose, IsSubmitted, IsInOrder, InTurn, IsWhole}
-use Rattle.cr_policy.specs.Legal.{IsRegistered}
-use Rattle.cr_policy.proofs.LineTies.{accounts_of-tables}
-use Rattle.cr_policy.proofs.NumberTies.{number_of-tables}
-use Rattle.cr_policy.proofs.PaperTies.{papers_of-tables}
-use Rattle.cr_policy.proofs.RuleLaws.{Adds, single, first_user}
+use Rattle.cr_history.specs.Invariants.{IsRegistered, HasNextNumber, HasNewName, IsAboutThose, IsSubmitted, IsInOrder, InTurn, IsWhole}
+use Rattle.cr_history.proofs.LineTies.{accounts_of-tables}
+use Rattle.cr_history.proofs.NumberTies.{number_of-tables}
+use Rattle.cr_history.proofs.PaperTies.{papers_of-tables}
+use Rattle.cr_history.specs.Groups.{Adds, single, first_user}
 
 -- ---- what follows from fitting the tables
 

@@ -22,36 +22,13 @@ use Rattle.cr_base.specs.Words.{role_number, is_member, is_chair}
 use Rattle.cr_base.specs.Checks.{register_checks, phase_checks, submit_checks, name_checks, mode_checks, conflict_case, conflict_checks}
 use Rattle.cr_base.specs.Judging.{Facts, Shown, Drawn, grouped, number_in, user_among, role_among, has_paper, registration_drawn, phase_drawn, submission_drawn, naming_drawn, mode_drawn, conflict_drawn, judge_by}
 use Rattle.cr_base.proofs.CheckLaws.{NoneBroken, judged-Ok}
-use Rattle.cr_policy.specs.Invariants.{IsMadeByUser, IsMarked, IsInPhase, IsByChair, RaisesRole, IsOfMember, IsByRight}
-use Rattle.cr_policy.specs.Judge.{judge}
-use Rattle.cr_policy.specs.Legal.{IsRegistered, IsCaller}
-use Rattle.cr_policy.specs.View.{view}
-use Rattle.cr_policy.specs.ViewFacts.{facts_in_view, shown_in_view}
-use Rattle.cr_policy.proofs.StandingLaws.{standing_from_view, accounts-seen, papers-seen, own_papers-seen}
-
--- ---- what is added
-
--- what the rules say of an entry, on the history before it
-pub record IsRuled (H : History) (maker : ℕ) (e : Entry) : Type 0 where
-  pub phase : IsInPhase H e
-  pub chair : IsByChair H maker e
-  pub role : RaisesRole H e
-  pub member : IsOfMember H e
-  pub right : IsByRight H maker e
-
--- one entry, or the registration of the first user and the role that comes with it
-pub data Adds (H : History) : History → Type 0 where
-  single : (maker : ℕ) (e : Entry) → IsMadeByUser H maker e → IsMarked false e → IsRuled H maker e → Adds H (grouped maker (e ∷ []))
-  first_user : (user : ℕ) (name digest : List ℕ) → user ≡ 1 → Adds H (grouped user (Registered user name digest ∷ Named user Chair ∷ []))
+use Rattle.cr_history.specs.Invariants.{IsRegistered, IsByRight}
+use Rattle.cr_history.specs.Groups.{IsRuled, Adds, single, first_user}
 
 -- ---- the facts of a history
 
-abbrev facts_of : Option ℕ → History → Facts
+abbrev pub facts_of : Option ℕ → History → Facts
 facts_of u H = record { standing = λ paper. standing_of u paper H; accounts = accounts_of H; papers = papers_of H; own_papers = own_papers_of u H }
-
--- any user's view tells them
-facts-seen : (u : Option ℕ) (H : History) → facts_in_view u (view u H) ≡ facts_of u H
-facts-seen u H = λ i. record { standing = λ paper. standing_from_view u paper H i; accounts = accounts-seen u H i; papers = papers-seen u H i; own_papers = own_papers-seen u H i }
 
 -- the role of a user named, if there is one, is the one that the history tells
 module _ (H : History) where
@@ -142,7 +119,7 @@ module _ (H : History) (maker paper user : ℕ) where
 
 -- ---- all commands
 
-registration-adds : (H : History) (caller : Option ℕ) (facts : Facts) (shown : Shown) (name digest : List ℕ) (drawn : Drawn) → judge_by facts shown caller (Register name digest) ≡ Ok drawn → Adds H drawn.group
+pub registration-adds : (H : History) (caller : Option ℕ) (facts : Facts) (shown : Shown) (name digest : List ℕ) (drawn : Drawn) → judge_by facts shown caller (Register name digest) ≡ Ok drawn → Adds H drawn.group
 registration-adds H caller facts shown name digest drawn accepted =
     let n : ℕ = length facts.accounts in
     let k = judged-Ok (register_checks (is_some (number_in facts.accounts name)) n) (registration_drawn (n + 1) name digest) drawn accepted in
@@ -168,7 +145,7 @@ module _ (H : History) (maker : ℕ) (shown : Shown) (registered : IsRegistered 
   conflict-ruled_for (Some p) (Some v) on none =
       case-ruled H maker p v on (is_from Bidding (phase_of H)) (is_from Notification (phase_of H)) (eqb v maker) (role_among facts.accounts (Some v)) (author_shown (Some p) (Some v)) refl refl refl (role-among H (Some v) none.1.0) none.1.1
 
-  command-adds : (command : Command) (drawn : Drawn) → judge_by facts shown (Some maker) command ≡ Ok drawn → Adds H drawn.group
+  pub command-adds : (command : Command) (drawn : Drawn) → judge_by facts shown (Some maker) command ≡ Ok drawn → Adds H drawn.group
   command-adds (Register name digest) drawn accepted = registration-adds H (Some maker) facts shown name digest drawn accepted
   command-adds (SetPhase to) drawn accepted =
       let k = judged-Ok (phase_checks standing (phase_of H) to) (phase_drawn maker to) drawn accepted in
@@ -200,23 +177,3 @@ module _ (H : History) (maker : ℕ) (shown : Shown) (registered : IsRegistered 
       let target : Option ℕ = user_among facts.accounts name in
       let k = judged-Ok (conflict_checks (standing_of (Some maker) paper H) (has_paper facts paper) (role_among facts.accounts target) (is_number target maker) (author_shown paper target) on) (conflict_drawn maker (unwrap_or paper 0) (unwrap_or target 0) on) drawn accepted in
       subst (λ (d : Drawn). Adds H d.group) k.1 (single maker (Conflict (unwrap_or paper 0) (unwrap_or target 0) on) registered refl (conflict-ruled_for paper target on k.0))
-
--- a registered user's command
-user-adds : (H : History) (user : ℕ) (command : Command) (drawn : Drawn) → IsRegistered H user → judge (Some user) (view (Some user) H) command ≡ Ok drawn → Adds H drawn.group
-user-adds H user command drawn registered accepted =
-    let shown : Shown = shown_in_view (Some user) (view (Some user) H) in
-    command-adds H user shown registered command drawn (sym (ap (λ (facts : Facts). judge_by facts shown (Some user) command) (facts-seen (Some user) H)) ∙ accepted)
-
--- the group of an accepted command is one that the rules allow
-pub accepted-adds : (H : History) (caller : Option ℕ) (command : Command) (drawn : Drawn) → IsCaller H caller command → judge caller (view caller H) command ≡ Ok drawn → Adds H drawn.group
-accepted-adds H caller (Register name digest) drawn is accepted = registration-adds H caller (facts_in_view caller (view caller H)) (shown_in_view caller (view caller H)) name digest drawn accepted
-accepted-adds H None (SetPhase to) drawn is accepted = absurd is
-accepted-adds H None (Submit title abstract) drawn is accepted = absurd is
-accepted-adds H None (Name name role) drawn is accepted = absurd is
-accepted-adds H None (SetMode to) drawn is accepted = absurd is
-accepted-adds H None (SetConflict paper name on) drawn is accepted = absurd is
-accepted-adds H (Some user) (SetPhase to) drawn is accepted = user-adds H user (SetPhase to) drawn is accepted
-accepted-adds H (Some user) (Submit title abstract) drawn is accepted = user-adds H user (Submit title abstract) drawn is accepted
-accepted-adds H (Some user) (Name name role) drawn is accepted = user-adds H user (Name name role) drawn is accepted
-accepted-adds H (Some user) (SetMode to) drawn is accepted = user-adds H user (SetMode to) drawn is accepted
-accepted-adds H (Some user) (SetConflict paper name on) drawn is accepted = user-adds H user (SetConflict paper name on) drawn is accepted

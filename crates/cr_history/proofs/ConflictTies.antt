@@ -19,7 +19,7 @@ use Rattle.cr_base.specs.Tables.{Tables, no_tables, tables_after, tables_from, t
 use Rattle.cr_base.proofs.LastLaws.{last_or-given}
 use Rattle.cr_base.proofs.PairLaws.{has_pair-with_tie}
 use Rattle.cr_base.proofs.TieLaws.{has_pair-switched, users_of-push}
-use Rattle.cr_policy.proofs.PaperTies.{is_author-tables}
+use Rattle.cr_history.proofs.PaperTies.{is_author-tables}
 
 -- the paper and the user of an entry are those of a tie, or not
 turned : (q p : ℕ) → eqb q p ≡ eqb p q

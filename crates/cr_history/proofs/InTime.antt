@@ -16,10 +16,10 @@ use Rattle.cr_base.specs.Facts.{phase_of, authors_of, is_author}
 use Rattle.cr_base.specs.Phases.{phase_place, is_from, is_phase}
 use Rattle.cr_base.specs.Judging.{grouped}
 use Rattle.cr_base.proofs.LastLaws.{last_or-cons}
-use Rattle.cr_policy.specs.Invariants.{opens, is_opening, ByAuthor, ByHerselfOrOther, Early, Late, DeclaresInTime, IsInPhase, IsByRight}
-use Rattle.cr_policy.proofs.Cuts.{AllByRecursion-append, AllByRecursion-map, AllByRecursion-until, until-none, since-none, until-append, since-append, until-before, since-before}
-use Rattle.cr_policy.proofs.RuleLaws.{IsRuled, Adds, single, first_user}
-use Rattle.cr_policy.proofs.Walk.{list_any-append}
+use Rattle.cr_history.specs.Invariants.{opens, is_opening, ByAuthor, ByHerselfOrOther, Early, Late, DeclaresInTime, IsInPhase, IsByRight}
+use Rattle.cr_history.proofs.ListCuts.{AllByRecursion-append, AllByRecursion-map, AllByRecursion-until, until-none, since-none, until-append, since-append, until-before, since-before}
+use Rattle.cr_history.specs.Groups.{IsRuled, Adds, single, first_user}
+use Rattle.std.proofs.lemmas.List.Folds.{list_any-append}
 
 -- ---- what the rules say of one group
 

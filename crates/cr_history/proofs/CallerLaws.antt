@@ -14,7 +14,7 @@ use Rattle.cr_base.specs.History.{History, Registration, all_told, registration_
 use Rattle.cr_base.specs.Lists.{last_from}
 use Rattle.cr_base.specs.Tables.{Tables, no_tables, tables_after, FitInTurn}
 use Rattle.cr_base.proofs.LastLaws.{last_from-given}
-use Rattle.cr_policy.specs.Legal.{IsRegistered, IsUser, IsCaller}
+use Rattle.cr_history.specs.Invariants.{IsRegistered}
 
 -- the registration is this user's
 abbrev is_of : ℕ → Registration → Bool
@@ -48,22 +48,9 @@ numbered-entry accounts (ModeSet mode) user rest fits later h = later h
 numbered-entry accounts (Submitted paper title abstract) user rest fits later h = later h
 numbered-entry accounts (Conflict paper v on) user rest fits later h = later h
 
-registered-from : (t : Tables) (H : History) (user : ℕ) → FitInTurn t H → list_any (is_of user) (all_told registration_told H) ≡ true → IsNumbered (Some user)
+pub registered-from : (t : Tables) (H : History) (user : ℕ) → FitInTurn t H → list_any (is_of user) (all_told registration_told H) ≡ true → IsNumbered (Some user)
 registered-from t [] user fits h = cc
 registered-from t (s ∷ H) user fits h = numbered-entry t.accounts s.entry user (all_told registration_told H) fits.0.accounts (registered-from (tables_after t s) H user fits.1) h
-
-user-numbered : (H : History) (caller : Option ℕ) → FitInTurn no_tables H → IsUser H caller → IsNumbered caller
-user-numbered H None fits user = user
-user-numbered H (Some user) fits registered = registered-from no_tables H user fits registered
-
--- who may give a command makes its entries, where each entry of the history fits in its turn
-pub caller-makes : (H : History) (caller : Option ℕ) (command : Command) → FitInTurn no_tables H → IsCaller H caller command → HasMaker caller command
-caller-makes H caller (Register name digest) fits is = tt
-caller-makes H caller (SetPhase phase) fits is = user-numbered H caller fits is
-caller-makes H caller (Submit title abstract) fits is = user-numbered H caller fits is
-caller-makes H caller (Name user role) fits is = user-numbered H caller fits is
-caller-makes H caller (SetMode mode) fits is = user-numbered H caller fits is
-caller-makes H caller (SetConflict paper user on) fits is = user-numbered H caller fits is
 
 -- ---- callers
 
