@@ -36,13 +36,13 @@ pub growth_keeps : GrowthKeeps
 growth_keeps = record {
   first = record { bounded = All-nil IsBoundedEntry; spelled = λ k d within. stamped-row_of _ (All-nil IsBoundedEntry k d within); fits = tt; in_order = tt; whole = tt; in_time = in_time-nil };
   more = λ H g kept adds fits bounded.
-    let all : All IsBoundedEntry (H ++ g) = All-append IsBoundedEntry H g kept.bounded bounded in
-    record {
-      bounded = all;
-      spelled = λ k d within. stamped-row_of _ (all k d within);
-      fits = FitInTurn-append no_tables H g kept.fits fits;
-      in_order = in_order-append H g kept.fits adds fits kept.in_order;
-      whole = whole-added H g adds kept.whole;
-      in_time = in_time-append H g adds kept.in_time;
-    };
+      let all : All IsBoundedEntry (H ++ g) = All-append IsBoundedEntry H g kept.bounded bounded in
+      record {
+        bounded = all;
+        spelled = λ k d within. stamped-row_of _ (all k d within);
+        fits = FitInTurn-append no_tables H g kept.fits fits;
+        in_order = in_order-append H g kept.fits adds fits kept.in_order;
+        whole = whole-added H g adds kept.whole;
+        in_time = in_time-append H g adds kept.in_time;
+      };
 }
