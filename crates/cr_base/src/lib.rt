@@ -2,6 +2,7 @@
 //! replies. The definitions over histories and tables stand in this crate's specs.
 #![tactic(auto)]
 
+mod ask;
 mod command;
 mod entry;
 mod me;
@@ -19,6 +20,7 @@ mod tests;
 mod texts;
 mod words;
 
+pub use ask::Ask;
 pub use command::{Command, Query};
 pub use entry::{Account, Digest, Entry, EntryKind, Stamped};
 pub use me::{Me, PaperNos};

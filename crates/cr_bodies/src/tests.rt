@@ -1,6 +1,5 @@
 use crate::{BodyError, read_command, read_credentials};
-use cr_base::{Command, Mode, PaperNo, Phase, Role, Short};
-use cr_routes::Ask;
+use cr_base::{Ask, Command, Mode, PaperNo, Phase, Role, Short};
 use std::alloc::Global;
 use std::test::Fail;
 

@@ -4,7 +4,6 @@ use Rattle.std.specs.List.{list_any}
 use Rattle.std.specs.Str.{bytes_eq}
 use Rattle.std.proofs.lemmas.Bool.{eqb-true, eq-eqb}
 use Rattle.cr_base.specs.declared.command.Command.{Command}
-use Rattle.cr_base.specs.declared.command.Command.TheVariants.{Register, SetPhase, Submit, Name, SetMode, SetConflict}
 use Rattle.cr_base.specs.declared.entry.Account.{Account}
 use Rattle.cr_base.specs.declared.entry.Entry.{Entry}
 use Rattle.cr_base.specs.declared.entry.Entry.TheVariants.{Registered, Named, PhaseSet, ModeSet, Submitted, Conflict}
@@ -12,6 +11,7 @@ use Rattle.cr_base.specs.Accounts.{AccountsFit}
 use Rattle.cr_base.specs.Facts.{caller_of}
 use Rattle.cr_base.specs.History.{History, Registration, all_told, registration_told, caller_told}
 use Rattle.cr_base.specs.Lists.{last_from}
+use Rattle.cr_base.specs.Logins.{IfWanted, command_wants_login}
 use Rattle.cr_base.specs.Tables.{Tables, no_tables, tables_after, FitInTurn}
 use Rattle.cr_base.proofs.LastLaws.{last_from-given}
 use Rattle.cr_history.specs.Invariants.{IsRegistered}
@@ -29,12 +29,7 @@ IsNumbered (Some user) = (1 ≤ user) × (user ≤ 9999)
 
 -- who makes the entries of a command has such a number; the maker of a registration is the new user
 abbrev pub HasMaker : Option ℕ → Command → Type 0
-HasMaker caller (Register name digest) = Unit {0}
-HasMaker caller (SetPhase phase) = IsNumbered caller
-HasMaker caller (Submit title abstract) = IsNumbered caller
-HasMaker caller (Name user role) = IsNumbered caller
-HasMaker caller (SetMode mode) = IsNumbered caller
-HasMaker caller (SetConflict paper user on) = IsNumbered caller
+HasMaker caller command = IfWanted (command_wants_login command) (IsNumbered caller)
 
 numbered-entry : (accounts : List Account) (e : Entry) (user : ℕ) (rest : List Registration) → AccountsFit accounts e → (list_any (is_of user) rest ≡ true → IsNumbered (Some user)) → list_any (is_of user) (registration_told e ++ rest) ≡ true → IsNumbered (Some user)
 numbered-entry accounts (Registered v name digest) user rest fits later h = by (eqb v user) refl h

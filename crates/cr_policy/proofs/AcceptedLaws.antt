@@ -1,16 +1,17 @@
 -- Who makes the entries of an accepted command, and what these are by the rules.
-use Rattle.std.proofs.Common.{ℕ, ◌≡◌, List, sym, ap, ◌∙◌, Option, Some, None, Ok}
+use Rattle.std.proofs.Common.{ℕ, Bool, true, false, ◌≡◌, List, sym, ap, ◌∙◌, Option, Some, None, Ok}
 use Rattle.cr_base.specs.declared.command.Command.{Command}
 use Rattle.cr_base.specs.declared.command.Command.TheVariants.{Register, SetPhase, Submit, Name, SetMode, SetConflict}
 use Rattle.cr_base.specs.History.{History}
 use Rattle.cr_base.specs.Judging.{Facts, Shown, Drawn, judge_by}
+use Rattle.cr_base.specs.Logins.{IfWanted, command_wants_login}
 use Rattle.cr_base.specs.Tables.{no_tables, FitInTurn}
 use Rattle.cr_history.specs.Groups.{Adds}
 use Rattle.cr_history.specs.Invariants.{IsRegistered}
 use Rattle.cr_history.proofs.CallerLaws.{IsNumbered, HasMaker, registered-from}
 use Rattle.cr_history.proofs.RuleLaws.{facts_of, registration-adds, command-adds}
 use Rattle.cr_policy.specs.Judge.{judge}
-use Rattle.cr_policy.specs.Legal.{IsUser, IsCaller}
+use Rattle.cr_policy.specs.Legal.{IsUser, CallsAs, IsCaller}
 use Rattle.cr_policy.specs.View.{view}
 use Rattle.cr_policy.specs.ViewFacts.{facts_in_view, shown_in_view}
 use Rattle.cr_policy.proofs.StandingLaws.{standing_from_view, accounts-seen, papers-seen, own_papers-seen}
@@ -21,14 +22,13 @@ user-numbered : (H : History) (caller : Option ℕ) → FitInTurn no_tables H �
 user-numbered H None fits user = user
 user-numbered H (Some user) fits registered = registered-from no_tables H user fits registered
 
+makes : (H : History) (login : Bool) (caller : Option ℕ) → FitInTurn no_tables H → CallsAs H login caller → IfWanted login (IsNumbered caller)
+makes H false caller fits is = tt
+makes H true caller fits is = user-numbered H caller fits is
+
 -- who may give a command makes its entries, where each entry of the history fits in its turn
 pub caller-makes : (H : History) (caller : Option ℕ) (command : Command) → FitInTurn no_tables H → IsCaller H caller command → HasMaker caller command
-caller-makes H caller (Register name digest) fits is = tt
-caller-makes H caller (SetPhase phase) fits is = user-numbered H caller fits is
-caller-makes H caller (Submit title abstract) fits is = user-numbered H caller fits is
-caller-makes H caller (Name user role) fits is = user-numbered H caller fits is
-caller-makes H caller (SetMode mode) fits is = user-numbered H caller fits is
-caller-makes H caller (SetConflict paper user on) fits is = user-numbered H caller fits is
+caller-makes H caller command fits is = makes H (command_wants_login command) caller fits is
 
 -- ---- what is added
 

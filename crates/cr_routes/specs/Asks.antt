@@ -5,8 +5,8 @@ use Rattle.cr_routes.specs.declared.place.Place.{Place}
 use Rattle.cr_routes.specs.declared.place.Place.TheVariants as at
 use Rattle.cr_routes.specs.declared.method.Method.{Method}
 use Rattle.cr_routes.specs.declared.method.Method.TheVariants.{Get, Head, Post}
-use Rattle.cr_routes.specs.declared.ask.Ask.{Ask}
-use Rattle.cr_routes.specs.declared.ask.Ask.TheVariants as asks
+use Rattle.cr_base.specs.declared.ask.Ask.{Ask}
+use Rattle.cr_base.specs.declared.ask.Ask.TheVariants as asks
 
 -- one line for each route, HEAD aside
 abbrev pub route_at : Place → Method → Option Ask

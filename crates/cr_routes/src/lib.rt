@@ -5,7 +5,6 @@
 //! stands in `specs/Parts.antt`, without a router; `Routes::find` finds just that with one.
 #![tactic(auto)]
 
-mod ask;
 mod found;
 mod laws;
 mod method;
@@ -14,7 +13,6 @@ mod routes;
 #[cfg(test)]
 mod tests;
 
-pub use ask::Ask;
 pub use found::Found;
 pub use laws::law_paths;
 pub use method::Method;

@@ -1,7 +1,7 @@
 -- What one turn does is what Told and Step say.
 use Rattle.std.proofs.Common.{◌≡◌, ◌∙◌, ℕ, Bool, true, false, cond, Option, Some, None, Result, Ok, Err, refl, sym, ap, subst, IsSome, IsOk}
 use Rattle.cr_base.specs.declared.command.Command.TheVariants.{Register, SetPhase, Submit, Name, SetMode, SetConflict}
-use Rattle.cr_routes.specs.declared.ask.Ask.{Ask}
+use Rattle.cr_base.specs.declared.ask.Ask.{Ask}
 use Rattle.cr_routes.specs.declared.place.Place.{Place}
 use Rattle.cr_policy.specs.Legal.{IsCaller, IsUser, MayAsk}
 use Rattle.cr_base.specs.declared.command.Command.{Command}

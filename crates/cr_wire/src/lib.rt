@@ -10,7 +10,7 @@ mod paper;
 mod what;
 mod wish;
 
-pub use laws::{law_login_by_ask, law_one_list_of_wishes};
+pub use laws::{law_one_ask, law_one_list_of_wishes};
 pub use what::{What, Wish};
 pub use wish::wish_of;
 

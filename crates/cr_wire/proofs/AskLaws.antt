@@ -1,17 +1,17 @@
--- What a body tells is what its request asks for, and it wants the login that its request does.
-use Rattle.std.proofs.Common.{◌≡◌, ℕ, List, Option, Some, None, refl, ap, ◌∙◌}
+-- What a wish asks for is what its request does, whatever the body tells.
+use Rattle.std.proofs.Common.{◌≡◌, ℕ, List, Option, Some, None, refl, ap}
 use Rattle.std.specs.Prelude.{codes}
-use Rattle.cr_base.specs.Logins.{command_wants_login}
+use Rattle.cr_base.specs.Logins.{command_ask}
+use Rattle.cr_base.specs.declared.ask.Ask.{Ask}
+use Rattle.cr_base.specs.declared.ask.Ask.TheVariants as asks
 use Rattle.cr_base.specs.declared.command.Command.{Command}
 use Rattle.cr_base.specs.declared.command.Command.TheVariants as commands
 use Rattle.cr_bodies.specs.Bodies.{command_in, command_read}
 use Rattle.cr_bodies.specs.Field.{◌>>=◌, abstract_at, digest_at, flag_at, mode_at, name_at, phase_at, role_at, title_at, user_at}
 use Rattle.cr_bodies.specs.Json.{json_of}
 use Rattle.cr_routes.specs.Parts.{FoundPath}
-use Rattle.cr_routes.specs.declared.ask.Ask.{Ask}
-use Rattle.cr_routes.specs.declared.ask.Ask.TheVariants as asks
 use Rattle.cr_wire.specs.Asked.{asked, command_of}
-use Rattle.cr_wire.specs.Caller.{ask_of, ask_wants_login, command_ask, wants_login}
+use Rattle.cr_wire.specs.Caller.{ask_of}
 use Rattle.cr_wire.specs.Paper.{paper_of}
 
 -- what a body tells, if it tells anything, is given by this request
@@ -52,22 +52,9 @@ given asks.Phase paper body = of_each asks.Phase (json_of body) (command_in asks
 given asks.Page paper body = of_each asks.Page (json_of body) (command_in asks.Page paper) (λ d. tt)
 given asks.Me paper body = of_each asks.Me (json_of body) (command_in asks.Me paper) (λ d. tt)
 
--- a command wants the login that its request does
-command_login : (command : Command) → command_wants_login command ≡ ask_wants_login (command_ask command)
-command_login (commands.Register name digest) = refl
-command_login (commands.SetPhase phase) = refl
-command_login (commands.Submit title abstract) = refl
-command_login (commands.Name user role) = refl
-command_login (commands.SetMode mode) = refl
-command_login (commands.SetConflict paper user on) = refl
-
 asks_for : (ask : Ask) (told : Option Command) → GivenBy ask told → ask_of (command_of ask told) ≡ Some ask
 asks_for ask None given = refl
 asks_for ask (Some command) given = ap (λ (a : Ask). Some a) given
-
-wants : (ask : Ask) (told : Option Command) → GivenBy ask told → wants_login (command_of ask told) ≡ ask_wants_login ask
-wants ask None given = refl
-wants ask (Some command) given = command_login command ∙ ap ask_wants_login given
 
 pub ask_by_ask : (ask : Ask) (found : FoundPath) (body : List ℕ) → ask_of (asked ask found body) ≡ Some ask
 ask_by_ask asks.Register found body = asks_for asks.Register _ (given asks.Register (paper_of found) body)
@@ -80,15 +67,3 @@ ask_by_ask asks.Submit found body = asks_for asks.Submit _ (given asks.Submit (p
 ask_by_ask asks.Page found body = refl
 ask_by_ask asks.SetConflict found body = asks_for asks.SetConflict _ (given asks.SetConflict (paper_of found) body)
 ask_by_ask asks.Me found body = refl
-
-pub login_by_ask : (ask : Ask) (found : FoundPath) (body : List ℕ) → wants_login (asked ask found body) ≡ ask_wants_login ask
-login_by_ask asks.Register found body = wants asks.Register _ (given asks.Register (paper_of found) body)
-login_by_ask asks.Accounts found body = refl
-login_by_ask asks.Name found body = wants asks.Name _ (given asks.Name (paper_of found) body)
-login_by_ask asks.SetMode found body = wants asks.SetMode _ (given asks.SetMode (paper_of found) body)
-login_by_ask asks.Phase found body = refl
-login_by_ask asks.SetPhase found body = wants asks.SetPhase _ (given asks.SetPhase (paper_of found) body)
-login_by_ask asks.Submit found body = wants asks.Submit _ (given asks.Submit (paper_of found) body)
-login_by_ask asks.Page found body = refl
-login_by_ask asks.SetConflict found body = wants asks.SetConflict _ (given asks.SetConflict (paper_of found) body)
-login_by_ask asks.Me found body = refl
