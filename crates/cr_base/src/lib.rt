@@ -15,6 +15,7 @@ mod row;
 mod shape;
 mod spelling;
 mod standing;
+mod target;
 #[cfg(test)]
 mod tests;
 mod texts;
@@ -31,5 +32,6 @@ pub use paper::Paper;
 pub use reply::{AccountLine, AccountLines, Conference, Receipt, Reply, Rule};
 pub use row::Row;
 pub use standing::Standing;
+pub use target::Target;
 pub use texts::{Blob, Short, Text, is_abstract, is_name, is_title};
 pub use words::{Mode, Phase, Role};

@@ -6,7 +6,7 @@ use Rattle.std.proofs.lemmas.Bool.{eqb-true, eq-eqb}
 use Rattle.cr_base.specs.declared.command.Command.{Command}
 use Rattle.cr_base.specs.declared.entry.Account.{Account}
 use Rattle.cr_base.specs.declared.entry.Entry.{Entry}
-use Rattle.cr_base.specs.declared.entry.Entry.TheVariants.{Registered, Named, PhaseSet, ModeSet, Submitted, Conflict}
+use Rattle.cr_base.specs.declared.entry.Entry.TheVariants.{Registered}
 use Rattle.cr_base.specs.Accounts.{AccountsFit}
 use Rattle.cr_base.specs.Facts.{caller_of}
 use Rattle.cr_base.specs.History.{History, Registration, all_told, registration_told, caller_told}
@@ -37,11 +37,7 @@ numbered-entry accounts (Registered v name digest) user rest fits later h = by (
     by : (b : Bool) → eqb v user ≡ b → (b || list_any (is_of user) rest) ≡ true → IsNumbered (Some user)
     by true same h = let e : v ≡ user = eqb-true v user same in let next = fits.0 in let few = fits.1 in (omega (arith, e, next), omega (arith, e, few))
     by false same h = later h
-numbered-entry accounts (Named v role) user rest fits later h = later h
-numbered-entry accounts (PhaseSet phase) user rest fits later h = later h
-numbered-entry accounts (ModeSet mode) user rest fits later h = later h
-numbered-entry accounts (Submitted paper title abstract) user rest fits later h = later h
-numbered-entry accounts (Conflict paper v on) user rest fits later h = later h
+numbered-entry accounts e user rest fits later h = later h
 
 pub registered-from : (t : Tables) (H : History) (user : ℕ) → FitInTurn t H → list_any (is_of user) (all_told registration_told H) ≡ true → IsNumbered (Some user)
 registered-from t [] user fits h = cc
@@ -72,11 +68,7 @@ caller-entry name digest user (Registered v name' digest') later rest found seen
     by : (right : Bool) → cond right (Some v) found ≡ Some user → (seen || eqb v user) ≡ true
     by true is = let e : v ≡ user = cc in or_right seen (eqb v user) (eq-eqb v user e)
     by false is = or_left seen (eqb v user) (known is)
-caller-entry name digest user (Named v role) later rest found seen go known h = go found seen known h
-caller-entry name digest user (PhaseSet phase) later rest found seen go known h = go found seen known h
-caller-entry name digest user (ModeSet mode) later rest found seen go known h = go found seen known h
-caller-entry name digest user (Submitted paper title abstract) later rest found seen go known h = go found seen known h
-caller-entry name digest user (Conflict paper v on) later rest found seen go known h = go found seen known h
+caller-entry name digest user e later rest found seen go known h = go found seen known h
 
 caller-from : (name digest : List ℕ) (user : ℕ) (found : Option ℕ) (seen : Bool) (H : History) → (found ≡ Some user → seen ≡ true) → last_from found (all_told (caller_told name digest) H) ≡ Some user → (seen || list_any (is_of user) (all_told registration_told H)) ≡ true
 caller-from name digest user found seen [] known h = or_left seen false (known h)

@@ -13,7 +13,7 @@ use Rattle.cr_base.specs.declared.words.Role.TheVariants.{Chair}
 use Rattle.cr_base.specs.Accounts.{lines_from}
 use Rattle.cr_base.specs.Facts.{role_of, accounts_of}
 use Rattle.cr_base.specs.History.{History, Registration, all_told, registration_told}
-use Rattle.cr_base.specs.Judging.{grouped}
+use Rattle.cr_base.specs.Drawn.{grouped}
 use Rattle.cr_base.specs.Lists.{numbers_from}
 use Rattle.cr_base.specs.Tables.{no_tables, tables_of, Fits, FitInTurn}
 use Rattle.cr_base.proofs.AccountLaws.{length-lines_of}
@@ -74,11 +74,7 @@ module _ (H : History) (fits : FitInTurn no_tables H) where
 -- every entry has a registration before it, or is one; so where there is none, there is nothing
 no_entry : (e : Entry) (maker : ℕ) (more : Bool) (after : History) → IsInOrder [] (record { maker = maker; more = more; entry = e }) → length (accounts_of (record { maker = maker; more = more; entry = e } ∷ after)) ≡ 0 → ⊥
 no_entry (Registered user name digest) maker more after h none = omega (arith, none)
-no_entry (Named user role) maker more after h none = false≢true h.maker
-no_entry (PhaseSet phase) maker more after h none = false≢true h.maker
-no_entry (ModeSet mode) maker more after h none = false≢true h.maker
-no_entry (Submitted paper title abstract) maker more after h none = false≢true h.maker
-no_entry (Conflict paper user on) maker more after h none = false≢true h.maker
+no_entry e maker more after h none = false≢true h.maker
 
 nothing_before : (H : History) → InTurn IsInOrder [] H → length (accounts_of H) ≡ 0 → H ≡ []
 nothing_before [] h none = refl

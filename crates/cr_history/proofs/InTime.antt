@@ -11,12 +11,12 @@ use Rattle.cr_base.specs.declared.entry.Stamped.{Stamped}
 use Rattle.cr_base.specs.declared.words.Phase.{Phase}
 use Rattle.cr_base.specs.declared.words.Phase.TheVariants.{Setup, Submission, Bidding, Reviewing, Discussion, Notification, Closed}
 use Rattle.cr_base.specs.Lists.{last_or, is_number, until, since}
-use Rattle.cr_base.specs.History.{History, all_told, phase_told, author_told}
+use Rattle.cr_base.specs.History.{History, all_told, opens, phase_told, author_told}
 use Rattle.cr_base.specs.Facts.{phase_of, authors_of, is_author}
 use Rattle.cr_base.specs.Phases.{phase_place, is_from, is_phase}
-use Rattle.cr_base.specs.Judging.{grouped}
+use Rattle.cr_base.specs.Drawn.{grouped}
 use Rattle.cr_base.proofs.LastLaws.{last_or-cons}
-use Rattle.cr_history.specs.Invariants.{opens, is_opening, ByAuthor, ByHerselfOrOther, Early, Late, DeclaresInTime, IsInPhase, IsByRight}
+use Rattle.cr_history.specs.Invariants.{is_opening, ByAuthor, ByHerselfOrOther, Early, Late, DeclaresInTime, IsInPhase, IsByRight}
 use Rattle.cr_history.proofs.ListCuts.{AllByRecursion-append, AllByRecursion-map, AllByRecursion-until, until-none, since-none, until-append, since-append, until-before, since-before}
 use Rattle.cr_history.specs.Groups.{IsRuled, Adds, single, first_user}
 use Rattle.std.proofs.lemmas.List.Folds.{list_any-append}
@@ -109,7 +109,7 @@ no_authors H begun p (e ∷ g) h = ap (λ xs. xs ++ authors_of p g) (no_author-e
 -- ---- the phase after a group
 
 -- a group that leaves the phase doesn't open the bidding
-opens-silent : (e : Entry) → phase_told e ≡ [] → opens e ≡ false
+opens-silent : (e : Entry) → phase_told e ≡ [] → opens Bidding e ≡ false
 opens-silent (PhaseSet phase) h = absurd (filled h)
   where
     filled : phase ∷ [] ≡ [] → ⊥

@@ -6,7 +6,7 @@ use Rattle.std.proofs.lemmas.Bool.{eq-eqb, ne_eqb}
 use Rattle.std.proofs.lemmas.List.{map-append}
 use Rattle.cr_base.specs.declared.entry.Account.{Account}
 use Rattle.cr_base.specs.declared.entry.Entry.{Entry}
-use Rattle.cr_base.specs.declared.entry.Entry.TheVariants.{Registered, Named, PhaseSet, ModeSet, Submitted, Conflict}
+use Rattle.cr_base.specs.declared.entry.Entry.TheVariants.{Registered, Named}
 use Rattle.cr_base.specs.declared.entry.Stamped.{Stamped}
 use Rattle.cr_base.specs.declared.words.Role.{Role}
 use Rattle.cr_base.specs.declared.words.Role.TheVariants as role
@@ -109,10 +109,7 @@ lines-entry accounts maker more (Named user role') H rs fits later =
     ∙ ap (λ ls. ls ++ map (after H) (map new_line rs)) (lines-named H maker more user role' 1 (user - 1) accounts is)
     ∙ ap (λ ls. map (after (stamp maker more (Named user role') ∷ H)) (lines_of accounts) ++ ls) (sym (after-others H maker more user role' (map new_line rs) (new_lines H maker more user role' (length accounts) rs fits.1 later)))
     ∙ sym (map-append (after (stamp maker more (Named user role') ∷ H)) (lines_of accounts) (map new_line rs))
-lines-entry accounts maker more (PhaseSet phase) H rs fits later = refl
-lines-entry accounts maker more (ModeSet mode) H rs fits later = refl
-lines-entry accounts maker more (Submitted paper title abstract) H rs fits later = refl
-lines-entry accounts maker more (Conflict paper user on) H rs fits later = refl
+lines-entry accounts maker more e H rs fits later = refl
 
 -- there are never fewer accounts than before
 pub length-after : (accounts : List Account) (e : Entry) → length accounts ≤ length (accounts_after accounts e)
@@ -120,18 +117,11 @@ length-after accounts (Registered user name digest) =
     let a : Account = record { name = name; digest = digest; role = role.Account } in
     let n = length-append accounts (a ∷ []) in omega (arith, n)
 length-after accounts (Named user role') = let n = length-with_role accounts (user - 1) role' in omega (arith, n)
-length-after accounts (PhaseSet phase) = omega arith
-length-after accounts (ModeSet mode) = omega arith
-length-after accounts (Submitted paper title abstract) = omega arith
-length-after accounts (Conflict paper user on) = omega arith
+length-after accounts e = omega arith
 
 later-entry : (n : ℕ) (accounts : List Account) (e : Entry) (rs : List Registration) → AccountsFit accounts e → n ≤ length accounts → AllByRecursion (λ (r : Registration). n < r.user) rs → AllByRecursion (λ (r : Registration). n < r.user) (registration_told e ++ rs)
 later-entry n accounts (Registered user name digest) rs fits h later = (let is = fits.0 in omega (arith, is, h), later)
-later-entry n accounts (Named user role') rs fits h later = later
-later-entry n accounts (PhaseSet phase) rs fits h later = later
-later-entry n accounts (ModeSet mode) rs fits h later = later
-later-entry n accounts (Submitted paper title abstract) rs fits h later = later
-later-entry n accounts (Conflict paper user on) rs fits h later = later
+later-entry n accounts e rs fits h later = later
 
 -- users who register later have greater numbers
 later_users : (n : ℕ) (t : Tables) (H : History) → FitInTurn t H → n ≤ length t.accounts → AllByRecursion (λ (r : Registration). n < r.user) (all_told registration_told H)

@@ -7,7 +7,7 @@ use Rattle.std.proofs.lemmas.Bool.{eq-eqb, ne_eqb}
 use Rattle.std.proofs.lemmas.Slice.Eq.{bytes_eq-Decides}
 use Rattle.cr_base.specs.declared.entry.Account.{Account}
 use Rattle.cr_base.specs.declared.entry.Entry.{Entry}
-use Rattle.cr_base.specs.declared.entry.Entry.TheVariants.{Registered, Named, PhaseSet, ModeSet, Submitted, Conflict}
+use Rattle.cr_base.specs.declared.entry.Entry.TheVariants.{Registered, Named}
 use Rattle.cr_base.specs.declared.words.Role.TheVariants as role
 use Rattle.cr_base.specs.Lists.{last_from}
 use Rattle.cr_base.specs.History.{History, all_told, number_told, caller_told}
@@ -27,10 +27,7 @@ number-entry name accounts (Registered user name' digest) fits rest =
     last_from-given (bytes_eq name' name) user (number_at accounts name) rest
     ∙ ap (λ o. last_from o rest) (sym (number_at-push accounts a user fits.0 fits.2 name))
 number-entry name accounts (Named user role') fits rest = ap (λ o. last_from o rest) (sym (number_at-with_role accounts (user - 1) role' name))
-number-entry name accounts (PhaseSet phase) fits rest = refl
-number-entry name accounts (ModeSet mode) fits rest = refl
-number-entry name accounts (Submitted paper title abstract) fits rest = refl
-number-entry name accounts (Conflict paper user on) fits rest = refl
+number-entry name accounts e fits rest = refl
 
 number-from : (name : List ℕ) (t : Tables) (H : History) → FitInTurn t H → last_from (number_at t.accounts name) (all_told (number_told name) H) ≡ number_at (tables_from t H).accounts name
 number-from name t [] fits = refl
@@ -102,10 +99,7 @@ caller-entry name digest accounts (Named user role') fits rest =
     ap (λ o. last_from o rest)
     (passed-same (has_digest accounts digest) (has_digest now digest) (number_at accounts name) (λ v _. sym (has_digest-with_role accounts digest user v role' fits.0))
     ∙ ap (passed (has_digest now digest)) (sym (number_at-with_role accounts (user - 1) role' name)))
-caller-entry name digest accounts (PhaseSet phase) fits rest = refl
-caller-entry name digest accounts (ModeSet mode) fits rest = refl
-caller-entry name digest accounts (Submitted paper title abstract) fits rest = refl
-caller-entry name digest accounts (Conflict paper user on) fits rest = refl
+caller-entry name digest accounts e fits rest = refl
 
 caller-from : (name digest : List ℕ) (t : Tables) (H : History) → FitInTurn t H → last_from (caller_at t.accounts name digest) (all_told (caller_told name digest) H) ≡ caller_at (tables_from t H).accounts name digest
 caller-from name digest t [] fits = refl

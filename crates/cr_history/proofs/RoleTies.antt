@@ -4,7 +4,7 @@ use Rattle.std.specs.Prelude.{unwrap_or}
 use Rattle.std.specs.Option.{option_map}
 use Rattle.cr_base.specs.declared.entry.Account.{Account}
 use Rattle.cr_base.specs.declared.entry.Entry.{Entry}
-use Rattle.cr_base.specs.declared.entry.Entry.TheVariants.{Registered, Named, PhaseSet, ModeSet, Submitted, Conflict}
+use Rattle.cr_base.specs.declared.entry.Entry.TheVariants.{Registered, Named}
 use Rattle.cr_base.specs.declared.words.Role.{Role}
 use Rattle.cr_base.specs.declared.words.Role.TheVariants as role
 use Rattle.cr_base.specs.Lists.{last_or}
@@ -26,10 +26,7 @@ role-entry (Some n) accounts (Registered user name digest) fits rest =
 role-entry (Some n) accounts (Named user role') fits rest =
     last_or-given (eqb n user) (role_in accounts (Some n)) role' rest
     ∙ ap (λ r. last_or r rest) (sym (role_in-with_role accounts user n role' fits.0 fits.1))
-role-entry u accounts (PhaseSet phase) fits rest = refl
-role-entry u accounts (ModeSet mode) fits rest = refl
-role-entry u accounts (Submitted paper title abstract) fits rest = refl
-role-entry u accounts (Conflict paper user on) fits rest = refl
+role-entry u accounts e fits rest = refl
 
 role-from : (u : Option ℕ) (t : Tables) (H : History) → FitInTurn t H → last_or (role_in t.accounts u) (all_told (role_told u) H) ≡ role_in (tables_from t H).accounts u
 role-from u t [] fits = refl

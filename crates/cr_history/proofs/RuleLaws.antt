@@ -10,18 +10,22 @@ use Rattle.cr_base.specs.declared.entry.Entry.{Entry}
 use Rattle.cr_base.specs.declared.entry.Entry.TheVariants.{Registered, Named, PhaseSet, ModeSet, Submitted, Conflict}
 use Rattle.cr_base.specs.declared.reply.AccountLine.{AccountLine}
 use Rattle.cr_base.specs.declared.standing.Standing.{Standing}
+use Rattle.cr_base.specs.declared.target.Target.{Target}
 use Rattle.cr_base.specs.declared.words.Phase.{Phase}
 use Rattle.cr_base.specs.declared.words.Phase.TheVariants.{Setup, Submission, Bidding, Reviewing, Discussion, Notification, Closed}
 use Rattle.cr_base.specs.declared.words.Role.{Role}
 use Rattle.cr_base.specs.declared.words.Role.TheVariants.{Account, Chair}
-use Rattle.cr_base.specs.Lists.{is_number, at_some}
+use Rattle.cr_base.specs.Lists.{is_number}
 use Rattle.cr_base.specs.History.{History, Registration, all_told, registration_told}
 use Rattle.cr_base.specs.Facts.{phase_of, role_of, accounts_of, papers_of, own_papers_of, standing_of}
 use Rattle.cr_base.specs.Phases.{is_from, is_phase, is_next}
 use Rattle.cr_base.specs.Words.{role_number, is_member, is_chair}
-use Rattle.cr_base.specs.Checks.{register_checks, phase_checks, submit_checks, name_checks, mode_checks, conflict_case, conflict_checks}
-use Rattle.cr_base.specs.Judging.{Facts, Shown, Drawn, grouped, number_in, user_among, role_among, has_paper, registration_drawn, phase_drawn, submission_drawn, naming_drawn, mode_drawn, conflict_drawn, judge_by}
+use Rattle.cr_base.specs.Checks.{Check, of_role, target_role, register_checks, phase_checks, submit_checks, name_checks, mode_checks, conflict_case, conflict_checks}
+use Rattle.cr_base.specs.Drawn.{Drawn, grouped, registration_drawn, phase_drawn, submission_drawn, naming_drawn, mode_drawn, conflict_drawn}
+use Rattle.cr_base.specs.Judging.{judge_by}
+use Rattle.cr_base.specs.Sources.{Facts, Shown, number_in, user_among, role_among, paper_named, target_named}
 use Rattle.cr_base.proofs.CheckLaws.{NoneBroken, judged-Ok}
+use Rattle.cr_base.proofs.TargetLaws.{is_none-asked, target_role-of}
 use Rattle.cr_history.specs.Invariants.{IsRegistered, IsByRight}
 use Rattle.cr_history.specs.Groups.{IsRuled, Adds, single, first_user}
 
@@ -100,21 +104,24 @@ module _ (H : History) (maker paper user : ℕ) where
   conflict-ruled : (on : Bool) → late ≡ false → is_member (role_of (Some user) H) ≡ true → IsByRight H maker (Conflict paper user on) → IsRuled H maker (Conflict paper user on)
   conflict-ruled on early member right = record { phase = early; chair = tt; role = tt; member = member; right = right }
 
-  case-ruled : (on bidding after herself : Bool) (target : Option Role) (author : Bool) → begun ≡ bidding → late ≡ after → eqb user maker ≡ herself → unwrap_or target Account ≡ role_of (Some user) H
-      → NoneBroken (conflict_case on bidding after herself by_maker target author) → IsRuled H maker (Conflict paper user on)
-  case-ruled false bidding after herself target author b l h r none =
+  abbrev named : Role → Bool → Bool → Target
+  named role herself author = record { role = role; herself = herself; author = author }
+
+  case-ruled : (on bidding after : Bool) (role : Role) (herself author : Bool) → begun ≡ bidding → late ≡ after → role ≡ role_of (Some user) H → eqb user maker ≡ herself
+      → NoneBroken (conflict_case on bidding after by_maker (named role herself author)) → IsRuled H maker (Conflict paper user on)
+  case-ruled false bidding after role herself author b l r h none =
       let now = and_parts begun (not late) (not-false (begun && not late) none.1.1.0) in
-      conflict-ruled false (not-true late now.1) (ap is_member (sym r) ∙ not-false (is_member (unwrap_or target Account)) none.1.1.1.0)
+      conflict-ruled false (not-true late now.1) (ap is_member (sym r) ∙ not-false (is_member role) none.1.1.1.0)
       (clear-right begun (eqb user maker) false (is_chair by_maker.role) by_maker.conflicted by_maker.author now.0 (not-false (is_chair by_maker.role) none.0) none.1.0)
-  case-ruled true false after herself target author b l h r none =
-      conflict-ruled true (not_late (phase_of H) b) (ap is_member (sym r) ∙ not-false (is_member (unwrap_or target Account)) none.1.0)
+  case-ruled true false after role herself author b l r h none =
+      conflict-ruled true (not_late (phase_of H) b) (ap is_member (sym r) ∙ not-false (is_member role) none.1.0)
       (author-right begun (eqb user maker) (is_chair by_maker.role) by_maker.conflicted by_maker.author b (not-false by_maker.author none.0))
-  case-ruled true true true herself target author b l h r none = absurd (true≢false none.0)
-  case-ruled true true false true target author b l h r none =
+  case-ruled true true true role herself author b l r h none = absurd (true≢false none.0)
+  case-ruled true true false role true author b l r h none =
       conflict-ruled true l (ap (λ n. is_member (role_of (Some n) H)) (eqb-true user maker h) ∙ not-false (is_member by_maker.role) none.0)
       (own-right begun (eqb user maker) (is_chair by_maker.role) by_maker.conflicted by_maker.author b h)
-  case-ruled true true false false target author b l h r none =
-      conflict-ruled true l (ap is_member (sym r) ∙ not-false (is_member (unwrap_or target Account)) none.1.1.0)
+  case-ruled true true false role false author b l r h none =
+      conflict-ruled true l (ap is_member (sym r) ∙ not-false (is_member role) none.1.1.0)
       (clear-right begun (eqb user maker) true (is_chair by_maker.role) by_maker.conflicted by_maker.author b (not-false (is_chair by_maker.role) none.0) none.1.0)
 
 -- ---- all commands
@@ -136,14 +143,25 @@ module _ (H : History) (maker : ℕ) (shown : Shown) (registered : IsRegistered 
   abbrev standing : Standing
   standing = standing_of (Some maker) None H
 
-  abbrev author_shown : Option ℕ → Option ℕ → Bool
-  author_shown paper target = at_some (λ p. list_any (is_number target) (shown.authors p)) paper
+  abbrev checks : Option ℕ → Option ℕ → Bool → List Check
+  checks paper target on = conflict_checks (standing_of (Some maker) paper H) (paper_named facts paper) (target_named facts shown (Some maker) paper target) on
 
-  conflict-ruled_for : (paper target : Option ℕ) (on : Bool) → NoneBroken (conflict_checks (standing_of (Some maker) paper H) (has_paper facts paper) (role_among facts.accounts target) (is_number target maker) (author_shown paper target) on) → IsRuled H maker (Conflict (unwrap_or paper 0) (unwrap_or target 0) on)
+  conflict-ruled_for : (paper target : Option ℕ) (on : Bool) → NoneBroken (checks paper target on) → IsRuled H maker (Conflict (unwrap_or paper 0) (unwrap_or target 0) on)
   conflict-ruled_for None target on none = absurd (true≢false none.0)
   conflict-ruled_for (Some p) None on none = absurd (true≢false none.1.0)
-  conflict-ruled_for (Some p) (Some v) on none =
-      case-ruled H maker p v on (is_from Bidding (phase_of H)) (is_from Notification (phase_of H)) (eqb v maker) (role_among facts.accounts (Some v)) (author_shown (Some p) (Some v)) refl refl refl (role-among H (Some v) none.1.0) none.1.1
+  conflict-ruled_for (Some p) (Some v) on none = by (role_among facts.accounts (Some v)) refl none
+    where
+      author : Bool
+      author = list_any (is_number (Some v)) (shown.authors p)
+
+      found : Option Role → Option Target
+      found role = option_map (λ (r : Role). record { role = r; herself = eqb v maker; author = author }) role
+
+      by : (role : Option Role) → role_among facts.accounts (Some v) ≡ role → NoneBroken (conflict_checks (standing_of (Some maker) (Some p) H) (paper_named facts (Some p)) (found role) on) → IsRuled H maker (Conflict p v on)
+      by None is none = absurd (true≢false none.1.0)
+      by (Some role) is none =
+          let held : role ≡ role_of (Some v) H = ap (λ (o : Option Role). unwrap_or o Account) (sym is) ∙ role-among H (Some v) (ap is_none is) in
+          case-ruled H maker p v on (is_from Bidding (phase_of H)) (is_from Notification (phase_of H)) role (eqb v maker) author refl refl held refl none.1.1
 
   pub command-adds : (command : Command) (drawn : Drawn) → judge_by facts shown (Some maker) command ≡ Ok drawn → Adds H drawn.group
   command-adds (Register name digest) drawn accepted = registration-adds H (Some maker) facts shown name digest drawn accepted
@@ -159,13 +177,15 @@ module _ (H : History) (maker : ℕ) (shown : Shown) (registered : IsRegistered 
   command-adds (Name name role) drawn accepted =
       let target : Option ℕ = user_among facts.accounts name in
       let before : Option Role = role_among facts.accounts target in
-      let k = judged-Ok (name_checks standing before role) (naming_drawn maker (unwrap_or target 0) (unwrap_or name []) role) drawn accepted in
-      let rises : role_number (unwrap_or before Account) < role_number role = leb-false (role_number role) (role_number (unwrap_or before Account)) k.0.1.1.1.0 in
+      let asked : Option Target = option_map of_role before in
+      let k = judged-Ok (name_checks standing asked role) (naming_drawn maker (unwrap_or target 0) (unwrap_or name []) role) drawn accepted in
+      let rises : role_number (target_role asked) < role_number role = leb-false (role_number role) (role_number (target_role asked)) k.0.1.1.1.0 in
+      let there : is_none before ≡ false = sym (is_none-asked of_role before) ∙ k.0.0 in
       subst (λ (d : Drawn). Adds H d.group) k.1
       (single maker (Named (unwrap_or target 0) role) registered refl (record {
         phase = k.0.1.1.0;
         chair = or_left (is_chair standing.role) (eqb (length H) 1) (not-false (is_chair standing.role) k.0.1.0);
-        role = subst (λ (r : Role). role_number r < role_number role) (role-among H target k.0.0) rises;
+        role = subst (λ (r : Role). role_number r < role_number role) (target_role-of before ∙ role-among H target there) rises;
         member = tt;
         right = tt;
       }))
@@ -175,5 +195,5 @@ module _ (H : History) (maker : ℕ) (shown : Shown) (registered : IsRegistered 
       (single maker (ModeSet to) registered refl (record { phase = not-false (is_phase (phase_of H) Setup) k.0.1.0; chair = not-false (is_chair standing.role) k.0.0; role = tt; member = tt; right = tt }))
   command-adds (SetConflict paper name on) drawn accepted =
       let target : Option ℕ = user_among facts.accounts name in
-      let k = judged-Ok (conflict_checks (standing_of (Some maker) paper H) (has_paper facts paper) (role_among facts.accounts target) (is_number target maker) (author_shown paper target) on) (conflict_drawn maker (unwrap_or paper 0) (unwrap_or target 0) on) drawn accepted in
+      let k = judged-Ok (checks paper target on) (conflict_drawn maker (unwrap_or paper 0) (unwrap_or target 0) on) drawn accepted in
       subst (λ (d : Drawn). Adds H d.group) k.1 (single maker (Conflict (unwrap_or paper 0) (unwrap_or target 0) on) registered refl (conflict-ruled_for paper target on k.0))

@@ -1,7 +1,7 @@
 -- The phase and the mode that a history tells are those of its tables.
 use Rattle.std.proofs.Common.{◌≡◌, List, [], ◌∷◌, ◌++◌, refl, ◌∙◌}
 use Rattle.cr_base.specs.declared.entry.Entry.{Entry}
-use Rattle.cr_base.specs.declared.entry.Entry.TheVariants.{Registered, Named, PhaseSet, ModeSet, Submitted, Conflict}
+use Rattle.cr_base.specs.declared.entry.Entry.TheVariants.{PhaseSet, ModeSet}
 use Rattle.cr_base.specs.declared.words.Mode.{Mode}
 use Rattle.cr_base.specs.declared.words.Phase.{Phase}
 use Rattle.cr_base.specs.Lists.{last_or}
@@ -14,12 +14,8 @@ use Rattle.cr_base.proofs.LastLaws.{last_or-cons}
 -- ---- the phase
 
 phase-entry : (stage : StageState) (e : Entry) (rest : List Phase) → last_or stage.phase (phase_told e ++ rest) ≡ last_or (stage_after stage e).phase rest
-phase-entry stage (Registered user name digest) rest = refl
-phase-entry stage (Named user role) rest = refl
 phase-entry stage (PhaseSet next) rest = last_or-cons stage.phase next rest
-phase-entry stage (ModeSet mode) rest = refl
-phase-entry stage (Submitted paper title abstract) rest = refl
-phase-entry stage (Conflict paper user on) rest = refl
+phase-entry stage e rest = refl
 
 phase-from : (t : Tables) (H : History) → last_or t.stage.phase (all_told phase_told H) ≡ (tables_from t H).stage.phase
 phase-from t [] = refl
@@ -32,12 +28,8 @@ phase_of-tables H = phase-from no_tables H
 -- ---- the mode
 
 mode-entry : (stage : StageState) (e : Entry) (rest : List Mode) → last_or stage.mode (mode_told e ++ rest) ≡ last_or (stage_after stage e).mode rest
-mode-entry stage (Registered user name digest) rest = refl
-mode-entry stage (Named user role) rest = refl
-mode-entry stage (PhaseSet phase) rest = refl
 mode-entry stage (ModeSet next) rest = last_or-cons stage.mode next rest
-mode-entry stage (Submitted paper title abstract) rest = refl
-mode-entry stage (Conflict paper user on) rest = refl
+mode-entry stage e rest = refl
 
 mode-from : (t : Tables) (H : History) → last_or t.stage.mode (all_told mode_told H) ≡ (tables_from t H).stage.mode
 mode-from t [] = refl

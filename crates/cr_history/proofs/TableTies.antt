@@ -11,7 +11,7 @@ use Rattle.cr_base.specs.Page.{shows_author}
 use Rattle.cr_base.specs.Ties.{authors_in}
 use Rattle.cr_base.specs.Rows.{row_of, rows_of}
 use Rattle.cr_base.specs.Tables.{Tables, no_tables, tables_after, tables_from, tables_of, FitInTurn}
-use Rattle.cr_base.specs.Judging.{standing_at, facts_of_tables}
+use Rattle.cr_base.specs.Sources.{standing_at}
 use Rattle.cr_history.proofs.ConflictTies.{is_conflicted-tables}
 use Rattle.cr_history.proofs.LineTies.{accounts_of-tables}
 use Rattle.cr_history.proofs.StageTies.{phase_of-tables, mode_of-tables}

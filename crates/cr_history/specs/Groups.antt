@@ -4,7 +4,7 @@ use Rattle.cr_base.specs.declared.entry.Entry.{Entry}
 use Rattle.cr_base.specs.declared.entry.Entry.TheVariants.{Registered, Named}
 use Rattle.cr_base.specs.declared.words.Role.TheVariants.{Chair}
 use Rattle.cr_base.specs.History.{History}
-use Rattle.cr_base.specs.Judging.{grouped}
+use Rattle.cr_base.specs.Drawn.{grouped}
 use Rattle.cr_history.specs.Invariants.{IsMadeByUser, IsMarked, IsInPhase, IsByChair, RaisesRole, IsOfMember, IsByRight}
 
 -- what the rules say of an entry, on the history before it

@@ -6,7 +6,7 @@ use Rattle.cr_base.specs.declared.entry.Entry.TheVariants.{Registered, Named, Ph
 use Rattle.cr_base.specs.declared.entry.Stamped.{Stamped}
 use Rattle.cr_base.specs.declared.words.Phase.TheVariants.{Setup, Submission, Bidding, Notification}
 use Rattle.cr_base.specs.Facts.{phase_of, role_of, accounts_of, papers_of, number_of, is_author, is_conflicted}
-use Rattle.cr_base.specs.History.{History, Registration, all_told, registration_told}
+use Rattle.cr_base.specs.History.{History, Registration, all_told, registration_told, opens}
 use Rattle.cr_base.specs.Lists.{until, since}
 use Rattle.cr_base.specs.Phases.{is_from, is_phase, is_next}
 use Rattle.cr_base.specs.Rows.{kind_of, row_of, stamped, IsBoundedEntry}
@@ -121,12 +121,8 @@ IsWhole (e ∷ []) = IsFalse e.more
 IsWhole (e ∷ next ∷ after) = (IsTrue e.more → next.maker ≡ e.maker) × IsWhole (next ∷ after)
 
 -- whether the entry opens the bidding
-abbrev pub opens : Entry → Bool
-opens (PhaseSet phase) = is_phase phase Bidding
-opens e = false
-
 abbrev pub is_opening : Stamped → Bool
-is_opening e = opens e.entry
+is_opening e = opens Bidding e.entry
 
 -- of a conflict entry: an author of its paper made it
 abbrev pub ByAuthor : History → ℕ → Entry → Type 0

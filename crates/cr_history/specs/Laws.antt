@@ -4,7 +4,7 @@ use Rattle.std.specs.List.{All, list_any}
 use Rattle.cr_base.specs.Accounts.{lines_of, number_at, caller_at}
 use Rattle.cr_base.specs.Facts.{standing_of, accounts_of, number_of, caller_of, papers_of, own_papers_of, title_of, abstract_of, authors_of, is_declared, declared_by_authors}
 use Rattle.cr_base.specs.History.{History}
-use Rattle.cr_base.specs.Judging.{standing_at}
+use Rattle.cr_base.specs.Sources.{standing_at}
 use Rattle.cr_base.specs.Pairs.{has_pair}
 use Rattle.cr_base.specs.Papers.{paper_numbers, own_count, title_at, abstract_at}
 use Rattle.cr_base.specs.Rows.{IsBoundedEntry}

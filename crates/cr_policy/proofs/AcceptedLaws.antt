@@ -3,7 +3,9 @@ use Rattle.std.proofs.Common.{ℕ, Bool, true, false, ◌≡◌, List, sym, ap, 
 use Rattle.cr_base.specs.declared.command.Command.{Command}
 use Rattle.cr_base.specs.declared.command.Command.TheVariants.{Register, SetPhase, Submit, Name, SetMode, SetConflict}
 use Rattle.cr_base.specs.History.{History}
-use Rattle.cr_base.specs.Judging.{Facts, Shown, Drawn, judge_by}
+use Rattle.cr_base.specs.Drawn.{Drawn}
+use Rattle.cr_base.specs.Judging.{judge_by}
+use Rattle.cr_base.specs.Sources.{Facts, Shown}
 use Rattle.cr_base.specs.Logins.{IfWanted, command_wants_login}
 use Rattle.cr_base.specs.Tables.{no_tables, FitInTurn}
 use Rattle.cr_history.specs.Groups.{Adds}

@@ -4,7 +4,7 @@ use Rattle.std.specs.Prelude.{is_some}
 use Rattle.std.specs.List.{AllByRecursion}
 use Rattle.std.proofs.lemmas.Bool.{false≢true}
 use Rattle.cr_base.specs.declared.entry.Entry.{Entry}
-use Rattle.cr_base.specs.declared.entry.Entry.TheVariants.{Registered, Named, PhaseSet, ModeSet, Submitted, Conflict}
+use Rattle.cr_base.specs.declared.entry.Entry.TheVariants.{Registered}
 use Rattle.cr_base.specs.History.{History}
 use Rattle.cr_base.specs.Lists.{given, is_number}
 use Rattle.cr_history.specs.Invariants.{IsMadeByUser, IsInOrder, InTurn}
@@ -27,11 +27,7 @@ module _ (r : Reader) (at : Place) (maker : ℕ) (more : Bool) where
   -- of any one sighting; no other kind of entry has a digest
   own_digest : (H : History) (e : Entry) → IsMadeByUser H maker e → IsOwnDigest r.number (joined r at (stamp maker more e))
   own_digest H (Registered user name digest) made = λ shown. to_maker r.number maker user digest made shown
-  own_digest H (Named user role) made = λ shown. absurd (false≢true shown)
-  own_digest H (PhaseSet phase) made = λ shown. absurd (false≢true shown)
-  own_digest H (ModeSet mode) made = λ shown. absurd (false≢true shown)
-  own_digest H (Submitted paper title abstract) made = λ shown. absurd (false≢true shown)
-  own_digest H (Conflict paper user on) made = λ shown. absurd (false≢true shown)
+  own_digest H e made = λ shown. absurd (false≢true shown)
 
 given-all : {A : Type 0} (P : A → Type 0) (b : Bool) (x : A) → P x → AllByRecursion P (given b x)
 given-all P true x h = (h, tt)

@@ -5,7 +5,7 @@ use Rattle.cr_base.specs.History.{History}
 use Rattle.cr_base.specs.Page.{shows_author}
 use Rattle.cr_base.specs.Ties.{authors_in}
 use Rattle.cr_base.specs.Tables.{no_tables, tables_of, FitInTurn}
-use Rattle.cr_base.specs.Judging.{standing_at, facts_of_tables}
+use Rattle.cr_base.specs.Sources.{standing_at, facts_of_tables}
 use Rattle.cr_history.proofs.LineTies.{accounts_of-tables}
 use Rattle.cr_history.proofs.PaperTies.{papers_of-tables, own_papers_of-tables, authors_of-tables}
 use Rattle.cr_history.proofs.TableTies.{standing_of-tables}

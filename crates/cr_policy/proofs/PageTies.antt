@@ -14,7 +14,8 @@ use Rattle.cr_base.specs.History.{History}
 use Rattle.cr_base.specs.Facts.{standing_of}
 use Rattle.cr_base.specs.Page.{PaperTexts, page_of, where_told, gets_title, gets_abstract, shows_author, gets_conflict, gets_conflicts, gets_declared, bare_keys}
 use Rattle.cr_base.specs.Tables.{Tables, no_tables, tables_of, FitInTurn}
-use Rattle.cr_base.specs.Judging.{Facts, Shown, standing_at, facts_of_tables, shown_in_tables, names_in, query_checks, page_by, reply_or_rule, answer_by, answer_by_role}
+use Rattle.cr_base.specs.Answering.{query_checks, page_by, reply_or_rule, answer_by, answer_by_role}
+use Rattle.cr_base.specs.Sources.{Facts, Shown, standing_at, facts_of_tables, shown_in_tables, names_in}
 use Rattle.cr_policy.specs.View.{view}
 use Rattle.cr_policy.specs.ViewFacts.{is_declared_in_view, declared_in_view, users_where, shown_in_view}
 use Rattle.cr_policy.specs.Judge.{answer}

@@ -9,7 +9,7 @@ use Rattle.cr_base.specs.declared.entry.Stamped.{Stamped}
 use Rattle.cr_base.specs.Lists.{given, listed, is_number}
 use Rattle.cr_base.specs.History.{phase_told, mode_told, paper_told, own_paper_told, author_told, conflict_told, title_told, abstract_told, registration_told, role_told, number_told}
 use Rattle.cr_policy.specs.Part as part
-use Rattle.cr_policy.specs.Part.{Part, names}
+use Rattle.cr_policy.specs.Part.{Part}
 use Rattle.cr_policy.specs.Sighting.{Sighting, where_shown}
 use Rattle.cr_policy.specs.Triggers.{Reader, Place, TriggerRow, applies_any, shows}
 use Rattle.cr_policy.specs.View.{sight, is_seen, joined, rows_at}
@@ -44,7 +44,7 @@ hidden : (rows : List TriggerRow) (p : Part) → applies_any rows ≡ false → 
 hidden [] p h = refl
 hidden (row ∷ rows) p h =
     let parts = or_parts row.applies (applies_any rows) h in
-    neither (names row.parts p) row.applies (shows rows p) parts.0 (hidden rows p parts.1)
+    neither (row.parts p) row.applies (shows rows p) parts.0 (hidden rows p parts.1)
   where
     neither : (n a rest : Bool) → a ≡ false → rest ≡ false → ((n && a) || rest) ≡ false
     neither n a rest ha hr = grind arith

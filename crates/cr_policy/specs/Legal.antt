@@ -3,7 +3,7 @@ use Rattle.std.specs.Prelude.{ℕ, Bool, true, false, ◌≡◌, List, [], ◌�
 use Rattle.cr_base.specs.declared.command.Command.{Command}
 use Rattle.cr_base.specs.declared.reply.Rule.{Rule}
 use Rattle.cr_base.specs.History.{History}
-use Rattle.cr_base.specs.Judging.{Drawn}
+use Rattle.cr_base.specs.Drawn.{Drawn}
 use Rattle.cr_base.specs.Logins.{command_wants_login}
 use Rattle.cr_base.specs.Bounds.{IsBoundedCommand}
 use Rattle.cr_history.specs.Invariants.{IsRegistered}

@@ -16,7 +16,7 @@ use Rattle.cr_base.specs.Lists.{listed, last, last_or, is_number, at_some, until
 use Rattle.cr_base.specs.Phases.{is_phase}
 use Rattle.cr_base.specs.Shapes.{kind_number}
 use Rattle.cr_base.specs.History.{Registration}
-use Rattle.cr_base.specs.Judging.{Facts, Shown}
+use Rattle.cr_base.specs.Sources.{Facts, Shown}
 use Rattle.cr_policy.specs.Sighting.{Sighting}
 use Rattle.cr_policy.specs.View.{View}
 

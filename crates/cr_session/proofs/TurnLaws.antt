@@ -8,7 +8,7 @@ use Rattle.cr_base.specs.declared.command.Command.{Command}
 use Rattle.cr_base.specs.declared.command.Query.{Query}
 use Rattle.cr_base.specs.declared.reply.Rule.{Rule}
 use Rattle.cr_base.specs.History.{History}
-use Rattle.cr_base.specs.Judging.{Drawn}
+use Rattle.cr_base.specs.Drawn.{Drawn}
 use Rattle.cr_base.specs.Logins.{query_wants_login}
 use Rattle.cr_policy.specs.Judge.{judge, answer}
 use Rattle.cr_policy.specs.View.{view}

@@ -14,7 +14,8 @@ use Rattle.cr_base.specs.declared.reply.Reply.TheVariants as replies
 use Rattle.cr_base.specs.declared.reply.Rule.{Rule}
 use Rattle.cr_base.specs.Accounts.{account_at, lines_of}
 use Rattle.cr_base.specs.Checks.{Check, judged}
-use Rattle.cr_base.specs.Judging.{names_in, query_checks, page_by, reply_or_rule, facts_of_tables, shown_in_tables, answer_by_role}
+use Rattle.cr_base.specs.Answering.{query_checks, page_by, reply_or_rule, answer_by_role}
+use Rattle.cr_base.specs.Sources.{names_in, facts_of_tables, shown_in_tables}
 use Rattle.cr_base.specs.Lists.{listed}
 use Rattle.cr_base.specs.Papers.{paper_count}
 use Rattle.cr_base.specs.Tables.{Tables}

@@ -6,7 +6,8 @@ use Rattle.cr_base.specs.declared.entry.Account.{Account}
 use Rattle.cr_base.specs.declared.me.Me.{Me}
 use Rattle.cr_base.specs.declared.words.Role.{Role}
 use Rattle.cr_base.specs.Accounts.{account_at, role_in}
-use Rattle.cr_base.specs.Judging.{facts_of_tables, me_by}
+use Rattle.cr_base.specs.Answering.{me_by}
+use Rattle.cr_base.specs.Sources.{facts_of_tables}
 use Rattle.cr_base.proofs.ListLaws.{name_in-lines_of}
 use Rattle.cr_base.specs.declared.pairs.Order.TheVariants.{ByPaper, ByUser}
 use Rattle.cr_base.specs.declared.pairs.Tie.{Tie}

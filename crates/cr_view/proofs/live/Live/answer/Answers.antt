@@ -1,7 +1,7 @@
 use Rattle.std.proofs.Common.{◌≡◌, ◌∙◌, Ok, Err, sym, subst}
 use Rattle.cr_base.specs.declared.command.Query.{Query}
 use Rattle.cr_base.specs.declared.reply.Reply.TheVariants as replies
-use Rattle.cr_base.specs.Judging.{answer_by_role}
+use Rattle.cr_base.specs.Answering.{answer_by_role}
 use Rattle.cr_view.specs.Replies.{Answers}
 use Rattle.cr_view.proofs.AnswerLaws.{conference-told, page-answered}
 use Rattle.cr_view.proofs.live.Live.answer.Goals as goal
