@@ -10,6 +10,7 @@ use Rattle.cr_history.specs.Groups.{Adds}
 use Rattle.cr_history.specs.Invariants.{Invariants}
 use Rattle.cr_history.specs.Laws.{TablesTell, GrowthKeeps}
 use Rattle.cr_history.proofs.ConflictTies.{is_declared-tables, declared_by_authors-tables}
+use Rattle.cr_history.proofs.GroupLaws.{added-bounded}
 use Rattle.cr_history.proofs.InOrder.{in_order-append, whole-added}
 use Rattle.cr_history.proofs.InTime.{in_time-nil, in_time-append}
 use Rattle.cr_history.proofs.LineTies.{accounts_of-tables}
@@ -35,8 +36,8 @@ tables_tell H fits = record {
 pub growth_keeps : GrowthKeeps
 growth_keeps = record {
   first = record { bounded = All-nil IsBoundedEntry; spelled = λ k d within. stamped-row_of _ (All-nil IsBoundedEntry k d within); fits = tt; in_order = tt; whole = tt; in_time = in_time-nil };
-  more = λ H g kept adds fits bounded.
-      let all : All IsBoundedEntry (H ++ g) = All-append IsBoundedEntry H g kept.bounded bounded in
+  more = λ H g kept adds fits.
+      let all : All IsBoundedEntry (H ++ g) = All-append IsBoundedEntry H g kept.bounded (added-bounded H kept.fits g adds fits) in
       record {
         bounded = all;
         spelled = λ k d within. stamped-row_of _ (all k d within);

@@ -109,7 +109,7 @@ added-in_order H g fits kept (single maker e made marked ruled) fit = (
   },
   tt,
 )
-added-in_order H g fits kept (first_user user name digest is) fit =
+added-in_order H g fits kept (first_user user name digest is texts) fit =
     let next = fit.0.accounts.0 in
     let count = accounts-counted H fits in
     let none : H ≡ [] = nothing_before H kept (omega (arith, next, count, is)) in
@@ -118,7 +118,7 @@ added-in_order H g fits kept (first_user user name digest is) fit =
 
 added-whole : (H g : History) → Adds H g → IsWhole g
 added-whole H g (single maker e made marked ruled) = refl
-added-whole H g (first_user user name digest is) = ((λ more. refl), refl)
+added-whole H g (first_user user name digest is texts) = ((λ more. refl), refl)
 
 -- ---- one behind another
 

@@ -39,7 +39,7 @@ ruled-allowed H maker e ruled = tt
 
 added-allowed : (H g : History) → Adds H g → AllByRecursion (Allowed H) g
 added-allowed H g (single maker e made marked ruled) = (ruled-allowed H maker e ruled, tt)
-added-allowed H g (first_user user name digest is) = (tt, (tt, tt))
+added-allowed H g (first_user user name digest is texts) = (tt, (tt, tt))
 
 -- a group moves the phase on and does nothing else, or leaves the phase
 data Moves (H : History) : History → Type 0 where
@@ -52,7 +52,7 @@ ruled-moves H maker e ruled = stayed _ refl
 
 added-moves : (H g : History) → Adds H g → Moves H g
 added-moves H g (single maker e made marked ruled) = ruled-moves H maker e ruled
-added-moves H g (first_user user name digest is) = stayed _ refl
+added-moves H g (first_user user name digest is texts) = stayed _ refl
 
 -- ---- authors of more entries
 

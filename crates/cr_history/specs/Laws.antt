@@ -1,13 +1,12 @@
 -- The laws of histories: what the tables tell of them, and what is kept as they grow.
 use Rattle.std.specs.Prelude.{ℕ, Bool, ◌≡◌, ◌==◌, List, [], ◌++◌, Option}
-use Rattle.std.specs.List.{All, list_any}
+use Rattle.std.specs.List.{list_any}
 use Rattle.cr_base.specs.Accounts.{lines_of, number_at, caller_at}
 use Rattle.cr_base.specs.Facts.{standing_of, accounts_of, number_of, caller_of, papers_of, own_papers_of, title_of, abstract_of, authors_of, is_declared, declared_by_authors}
 use Rattle.cr_base.specs.History.{History}
 use Rattle.cr_base.specs.Sources.{standing_at}
 use Rattle.cr_base.specs.Pairs.{has_pair}
 use Rattle.cr_base.specs.Papers.{paper_numbers, own_count, title_at, abstract_at}
-use Rattle.cr_base.specs.Rows.{IsBoundedEntry}
 use Rattle.cr_base.specs.Tables.{no_tables, tables_of, FitInTurn}
 use Rattle.cr_base.specs.Ties.{pair_of, authors_in, is_declared_in}
 use Rattle.cr_history.specs.Groups.{Adds}
@@ -31,8 +30,7 @@ pub record AreTold (H : History) : Type 0 where
 abbrev pub TablesTell : Type 0
 TablesTell = (H : History) → FitInTurn no_tables H → AreTold H
 
--- GrowthKeeps: histories that grow by what the rules let commands add, within the bounds and as the tables take it, keep the
--- invariants
+-- GrowthKeeps: histories that grow by what the rules let commands add and the tables take keep the invariants
 pub record GrowthKeeps : Type 0 where
   pub first : Invariants []
-  pub more : (H g : History) → Invariants H → Adds H g → FitInTurn (tables_of H) g → All IsBoundedEntry g → Invariants (H ++ g)
+  pub more : (H g : History) → Invariants H → Adds H g → FitInTurn (tables_of H) g → Invariants (H ++ g)

@@ -15,7 +15,7 @@ pub fn law_tables()
 {}
 
 /// The empty history keeps the invariants; and so does a history that keeps them with a group behind it that the rules let a
-/// command add, that fits the tables in its turn, and whose entries are within their bounds.
+/// command add, its texts within their bounds, and that fits the tables in its turn.
 pub fn law_growth()
     ensures { GrowthKeeps }
 {}

@@ -22,14 +22,13 @@ use Rattle.cr_policy.specs.Triggers.{reader}
 use Rattle.cr_base.proofs.RowLaws.{stamped-row_of}
 use Rattle.cr_history.specs.Groups.{Adds}
 use Rattle.cr_history.proofs.CallerLaws.{caller-registered}
-use Rattle.cr_policy.proofs.AcceptedLaws.{caller-makes, accepted-adds}
+use Rattle.cr_policy.proofs.AcceptedLaws.{accepted-adds, accepted-fits}
 use Rattle.cr_history.proofs.NumberTies.{number_of-tables, caller_of-tables}
 use Rattle.cr_policy.proofs.DeclaredLaws.{declared-seen_by_author}
 use Rattle.cr_policy.proofs.DigestLaws.{own_digests}
 use Rattle.cr_history.proofs.SizeTies.{sized-tables}
 use Rattle.cr_policy.proofs.JudgeTies.{judge-tables}
 use Rattle.cr_policy.proofs.PageTies.{answer-tables}
-use Rattle.cr_history.proofs.GroupLaws.{accepted-good}
 use Rattle.cr_history.proofs.GrowthLaws.{growth_keeps}
 
 -- ---- calls one after another
@@ -59,9 +58,8 @@ Legal-accepted H caller command drawn legal allowed accepted =
 followed-keeps : (H : History) (call : Call) → Invariants H → IsAllowed H call → (r : Result Drawn Rule) → judge call.caller (view call.caller H) call.command ≡ r → Invariants (followed_by H r)
 followed-keeps H call kept allowed (Err rule) is = kept
 followed-keeps H call kept allowed (Ok drawn) is =
-    let maker = caller-makes H call.caller call.command kept.fits allowed.caller in
-    let good = accepted-good (tables_of H) call.caller call.command drawn allowed.bounded maker (sized-tables H kept.fits) (sym (judge-tables call.caller H call.command kept.fits) ∙ is) in
-    growth_keeps.more H drawn.group kept (accepted-adds H call.caller call.command drawn allowed.caller is) good.fits good.bounded
+    let fits = accepted-fits H call.caller call.command drawn kept.fits allowed.caller is in
+    growth_keeps.more H drawn.group kept (accepted-adds H call.caller call.command drawn allowed.bounded allowed.caller is) fits
 
 leads-keeps : (from to : History) (calls : List Call) → Invariants from → LeadsTo from calls to → Invariants to
 leads-keeps from to [] kept leads = subst (λ (H : History). Invariants H) leads kept
