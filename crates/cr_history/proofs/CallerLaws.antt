@@ -1,5 +1,5 @@
 -- Callers have registered, and who has registered has a number that a row can hold.
-use Rattle.std.proofs.Common.{ℕ, Bool, true, false, cond, ◌≡◌, ◌≤◌, List, [], ◌∷◌, ◌++◌, eqb, refl, sym, ap, ◌∙◌, arith, ◌||◌, ◌&&◌, Option, Some, None}
+use Rattle.std.proofs.Common.{ℕ, Bool, true, false, cond, ◌≡◌, List, [], ◌∷◌, ◌++◌, eqb, refl, sym, ap, ◌∙◌, arith, ◌||◌, ◌&&◌, Option, Some, None}
 use Rattle.std.specs.List.{list_any}
 use Rattle.std.specs.Str.{bytes_eq}
 use Rattle.std.proofs.lemmas.Bool.{eqb-true, eq-eqb}
@@ -11,7 +11,7 @@ use Rattle.cr_base.specs.Facts.{caller_of}
 use Rattle.cr_base.specs.History.{History, Registration, all_told, registration_told, caller_told}
 use Rattle.cr_base.specs.Lists.{last_from}
 use Rattle.cr_base.specs.Shapes.{InRange, users}
-use Rattle.cr_base.specs.Tables.{Tables, no_tables, tables_after, FitInTurn}
+use Rattle.cr_base.specs.Tables.{Tables, tables_after, FitInTurn}
 use Rattle.cr_base.proofs.LastLaws.{last_from-given}
 use Rattle.cr_history.specs.Invariants.{IsRegistered}
 

@@ -14,7 +14,7 @@ use Rattle.cr_base.specs.Drawn.{grouped}
 use Rattle.cr_base.specs.History.{History}
 use Rattle.cr_base.specs.Rows.{IsBoundedEntry}
 use Rattle.cr_base.specs.Shapes.{InRange, users, roles, unused}
-use Rattle.cr_base.specs.Tables.{Tables, no_tables, tables_of, Fits, FitInTurn}
+use Rattle.cr_base.specs.Tables.{no_tables, tables_of, Fits, FitInTurn}
 use Rattle.cr_base.specs.Words.{phase_number, mode_number, role_number}
 use Rattle.cr_history.specs.Groups.{IsRuled, Adds, single, first_user}
 use Rattle.cr_history.specs.Invariants.{IsRegistered, IsMadeByUser}

@@ -1,13 +1,10 @@
 -- What every legal history keeps, kept as it grows; and what the tables tell of it.
-use Rattle.std.proofs.Common.{◌≡◌, [], ◌++◌}
+use Rattle.std.proofs.Common.{◌++◌}
 use Rattle.std.specs.List.{All}
 use Rattle.std.proofs.lemmas.List.Elements.{All-nil, All-append}
-use Rattle.cr_base.specs.History.{History}
 use Rattle.cr_base.specs.Rows.{IsBoundedEntry}
-use Rattle.cr_base.specs.Tables.{no_tables, tables_of, FitInTurn}
+use Rattle.cr_base.specs.Tables.{no_tables}
 use Rattle.cr_base.proofs.RowLaws.{stamped-row_of}
-use Rattle.cr_history.specs.Groups.{Adds}
-use Rattle.cr_history.specs.Invariants.{Invariants}
 use Rattle.cr_history.specs.Laws.{TablesTell, GrowthKeeps}
 use Rattle.cr_history.proofs.ConflictTies.{is_declared-tables, declared_by_authors-tables}
 use Rattle.cr_history.proofs.GroupLaws.{added-bounded}

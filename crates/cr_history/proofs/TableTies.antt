@@ -1,22 +1,18 @@
 -- The tables and rows of more entries; and where each fits in its turn, how a user stands by a history is how she stands by
 -- its tables.
-use Rattle.std.proofs.Common.{ℕ, Bool, true, false, ◌≡◌, [], ◌∷◌, ◌++◌, ap, ◌∙◌, Option, Some}
+use Rattle.std.proofs.Common.{ℕ, Bool, ◌≡◌, [], ◌∷◌, ◌++◌, ap, Option}
 use Rattle.std.proofs.lemmas.List.{map-append}
 use Rattle.std.proofs.lemmas.List.Sums.{fold-append}
-use Rattle.cr_base.specs.declared.standing.Standing.{Standing}
 use Rattle.cr_base.specs.Lists.{at_some}
 use Rattle.cr_base.specs.History.{History}
 use Rattle.cr_base.specs.Facts.{standing_of}
-use Rattle.cr_base.specs.Page.{shows_author}
-use Rattle.cr_base.specs.Ties.{authors_in}
 use Rattle.cr_base.specs.Rows.{row_of, rows_of}
 use Rattle.cr_base.specs.Tables.{Tables, no_tables, tables_after, tables_from, tables_of, FitInTurn}
 use Rattle.cr_base.specs.Sources.{standing_at}
 use Rattle.cr_history.proofs.ConflictTies.{is_conflicted-tables}
-use Rattle.cr_history.proofs.LineTies.{accounts_of-tables}
 use Rattle.cr_history.proofs.StageTies.{phase_of-tables, mode_of-tables}
 use Rattle.cr_history.proofs.RoleTies.{role_of-tables}
-use Rattle.cr_history.proofs.PaperTies.{papers_of-tables, own_papers_of-tables, authors_of-tables, is_author-tables}
+use Rattle.cr_history.proofs.PaperTies.{is_author-tables}
 
 -- ---- more entries
 

@@ -1,5 +1,5 @@
 -- The laws of histories: what the tables tell of them, and what is kept as they grow.
-use Rattle.std.specs.Prelude.{ℕ, Bool, ◌≡◌, ◌==◌, List, [], ◌++◌, Option}
+use Rattle.std.specs.Prelude.{ℕ, ◌≡◌, ◌==◌, List, [], ◌++◌, Option}
 use Rattle.std.specs.List.{list_any}
 use Rattle.cr_base.specs.Accounts.{lines_of, number_at, caller_at}
 use Rattle.cr_base.specs.Facts.{standing_of, accounts_of, number_of, caller_of, papers_of, own_papers_of, title_of, abstract_of, authors_of, is_declared, declared_by_authors}

@@ -1,5 +1,5 @@
 -- What an accepted command adds: by the rules and the bounds, and as the tables take it.
-use Rattle.std.proofs.Common.{ℕ, ◌≡◌, List, sym, ap, ◌∙◌, Option, Some, None, Ok}
+use Rattle.std.proofs.Common.{ℕ, ◌≡◌, sym, ap, ◌∙◌, Option, Some, None, Ok}
 use Rattle.cr_base.specs.declared.command.Command.{Command}
 use Rattle.cr_base.specs.declared.command.Command.TheVariants.{Register}
 use Rattle.cr_base.specs.Bounds.{IsBoundedCommand}

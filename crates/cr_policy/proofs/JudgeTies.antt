@@ -4,7 +4,7 @@ use Rattle.std.specs.Prelude.{unwrap_or, not}
 use Rattle.std.specs.List.{list_any}
 use Rattle.std.specs.Option.{option_map}
 use Rattle.cr_base.specs.declared.command.Command.{Command}
-use Rattle.cr_base.specs.declared.command.Command.TheVariants.{Register, SetPhase, Submit, Name, SetMode, SetConflict}
+use Rattle.cr_base.specs.declared.command.Command.TheVariants.{SetConflict}
 use Rattle.cr_base.specs.declared.reply.Rule.{Rule}
 use Rattle.cr_base.specs.declared.reply.Rule.TheVariants as rules
 use Rattle.cr_base.specs.declared.standing.Standing.{Standing}

@@ -1,7 +1,5 @@
 -- Histories that grow by allowed calls.
-use Rattle.std.proofs.Common.{ℕ, ◌≡◌, List, [], ◌∷◌, ◌++◌, refl, sym, ap, subst, ◌∙◌, Option, Some, Result, Ok, Err}
-use Rattle.std.specs.List.{All}
-use Rattle.std.proofs.lemmas.List.Elements.{All-nil, All-append}
+use Rattle.std.proofs.Common.{ℕ, ◌≡◌, List, [], ◌∷◌, ◌++◌, refl, sym, ap, subst, Option, Some, Result, Ok, Err}
 use Rattle.cr_base.specs.declared.command.Command.{Command}
 use Rattle.cr_base.specs.declared.command.Query.{Query}
 use Rattle.cr_base.specs.declared.reply.Rule.{Rule}
@@ -11,7 +9,6 @@ use Rattle.cr_base.specs.History.{History}
 use Rattle.cr_base.specs.Answering.{answer_by_role}
 use Rattle.cr_base.specs.Drawn.{Drawn}
 use Rattle.cr_base.specs.Judging.{judge_by_role}
-use Rattle.cr_base.specs.Rows.{IsBoundedEntry}
 use Rattle.cr_base.specs.Tables.{no_tables, tables_of, FitInTurn}
 use Rattle.cr_policy.specs.View.{view}
 use Rattle.cr_policy.specs.Judge.{judge, answer}
@@ -19,14 +16,11 @@ use Rattle.cr_policy.specs.Legal.{Call, IsUser, IsAllowed, followed_by, step, Le
 use Rattle.cr_history.specs.Invariants.{Invariants, DeclaresInTime}
 use Rattle.cr_policy.specs.Laws.{ViewSuffices, DeclaredFromView, LegalKeeps, DigestsAreOwn}
 use Rattle.cr_policy.specs.Triggers.{reader}
-use Rattle.cr_base.proofs.RowLaws.{stamped-row_of}
-use Rattle.cr_history.specs.Groups.{Adds}
 use Rattle.cr_history.proofs.CallerLaws.{caller-registered}
 use Rattle.cr_policy.proofs.AcceptedLaws.{accepted-adds, accepted-fits}
 use Rattle.cr_history.proofs.NumberTies.{number_of-tables, caller_of-tables}
 use Rattle.cr_policy.proofs.DeclaredLaws.{declared-seen_by_author}
 use Rattle.cr_policy.proofs.DigestLaws.{own_digests}
-use Rattle.cr_history.proofs.SizeTies.{sized-tables}
 use Rattle.cr_policy.proofs.JudgeTies.{judge-tables}
 use Rattle.cr_policy.proofs.PageTies.{answer-tables}
 use Rattle.cr_history.proofs.GrowthLaws.{growth_keeps}
