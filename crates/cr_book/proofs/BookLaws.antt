@@ -18,7 +18,7 @@ use Rattle.cr_policy.specs.Judge.{judge, answer}
 use Rattle.cr_policy.specs.View.{view}
 use Rattle.cr_policy.specs.Legal.{Legal, MayAsk}
 use Rattle.cr_policy.proofs.LegalLaws.{Legal-judge, Legal-answer, Legal-number_of, Legal-caller_of}
-use Rattle.cr_policy.proofs.TableTies.{tables_of-append, rows_of-append}
+use Rattle.cr_history.proofs.TableTies.{tables_of-append, rows_of-append}
 use Rattle.cr_ports.specs.Keeping.{and_rows}
 use Rattle.cr_view.specs.Callers.{HasAsker}
 use Rattle.cr_book.specs.Sound.{IsSound}

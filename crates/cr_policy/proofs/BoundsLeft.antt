@@ -19,7 +19,7 @@ use Rattle.cr_policy.specs.ShownTo.{is_on_committee, leads_committee, is_past_su
 use Rattle.cr_policy.specs.ViewBounds.{IsLeft, OutsidersShown, IsPublic, names_her, IsStranger, StrangersShown, NobodyShown}
 use Rattle.cr_policy.proofs.BoundsParts.{IsWriters}
 use Rattle.cr_policy.proofs.BoundsWalk.{shown_to, writers-all, view-told}
-use Rattle.cr_policy.proofs.Tells.{stamp}
+use Rattle.cr_history.proofs.LineTies.{stamp}
 use Rattle.cr_policy.proofs.Walk.{list_any-nobody}
 
 -- ---- each sighting

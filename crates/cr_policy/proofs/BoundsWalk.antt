@@ -17,8 +17,8 @@ use Rattle.cr_policy.specs.View.{sight, sights, view, is_seen, joined}
 use Rattle.cr_policy.specs.ShownTo.{PartFor, is_told, each_told, kind_for, mark_for, paper_for, user_for, name_for, digest_for, role_for, phase_for, mode_for, maker_for, title_for, abstract_for, switch_for}
 use Rattle.cr_policy.specs.ViewBounds.{EntriesShown, MarksShown, PapersShown, UsersShown, NamesShown, DigestsShown, RolesShown, PhasesShown, ModesShown, MakersShown, TitlesShown, AbstractsShown, SwitchesShown}
 use Rattle.cr_policy.proofs.BoundsParts.{IsWriters, seen-told, kind-one, mark-one, paper-one, user-one, name-one, digest-one, role-one, phase-one, mode-one, maker-one, title-one, abstract-one, switch-one}
-use Rattle.cr_policy.proofs.Tells.{stamp}
-use Rattle.cr_policy.proofs.Walk.{list_any-append}
+use Rattle.cr_history.proofs.LineTies.{stamp}
+use Rattle.std.proofs.lemmas.List.Folds.{list_any-append}
 
 -- ---- one entry
 

@@ -11,14 +11,15 @@ use Rattle.cr_base.specs.Lists.{given, listed, is_number, until, since}
 use Rattle.cr_base.specs.History.{History, opens, declared_told}
 use Rattle.cr_base.specs.Facts.{authors_of, is_author, is_declared, declared_by_authors}
 use Rattle.cr_base.specs.Words.{is_chair}
-use Rattle.cr_policy.specs.Invariants.{is_opening, ByAuthor, ByHerselfOrOther, Early, Late, DeclaresInTime}
+use Rattle.cr_history.specs.Invariants.{is_opening, ByAuthor, ByHerselfOrOther, Early, Late, DeclaresInTime}
 use Rattle.cr_policy.specs.Part as part
 use Rattle.cr_policy.specs.Sighting.{Sighting, where_shown}
 use Rattle.cr_policy.specs.Triggers.{Reader, reader, Place, user_named, clear_chairs, from}
 use Rattle.cr_policy.specs.View.{view, sight, is_seen, joined}
 use Rattle.cr_policy.specs.ViewFacts.{only, is_user, conflict_user_seen, own_or_other_seen, bidding_seen, declared_in_view}
 use Rattle.cr_policy.proofs.Cuts.{CutsAt, sights-until, sights-since, kept_until-each, kept_since-each, flat_map-cut}
-use Rattle.cr_policy.proofs.Tells.{stamp, passes, silent, told_where, paper_value}
+use Rattle.cr_history.proofs.LineTies.{stamp}
+use Rattle.cr_policy.proofs.Tells.{passes, silent, told_where, paper_value}
 use Rattle.cr_policy.proofs.Walk.{only-false, list_any-nobody, Tells}
 
 -- ---- everyone sees the bidding opened

@@ -19,15 +19,16 @@ use Rattle.cr_base.specs.Sources.{Facts, Shown, standing_at, facts_of_tables, sh
 use Rattle.cr_policy.specs.View.{view}
 use Rattle.cr_policy.specs.ViewFacts.{is_declared_in_view, declared_in_view, users_where, shown_in_view}
 use Rattle.cr_policy.specs.Judge.{answer}
-use Rattle.cr_policy.proofs.ConflictTies.{is_among, is_declared-tables, declared_by_authors-tables}
+use Rattle.cr_history.proofs.ConflictTies.{is_among, is_declared-tables, declared_by_authors-tables}
 use Rattle.cr_policy.proofs.DeclaredLaws.{declared-seen_by_author}
-use Rattle.cr_policy.specs.Invariants.{DeclaresInTime}
-use Rattle.cr_policy.proofs.OrderTies.{has_order-tables, users-users_of}
+use Rattle.cr_history.specs.Invariants.{DeclaresInTime}
+use Rattle.cr_history.proofs.OrderTies.{has_order-tables, users-users_of}
 use Rattle.cr_policy.proofs.StandingLaws.{accounts-seen}
 use Rattle.cr_policy.proofs.PageTells.{title-seen, abstract-seen, conflicts-seen}
-use Rattle.cr_policy.proofs.LineTies.{accounts_of-tables}
-use Rattle.cr_policy.proofs.PaperTies.{title_of-tables, abstract_of-tables}
-use Rattle.cr_policy.proofs.TableTies.{standing_of-tables, facts_in_view-tables, authors-tables}
+use Rattle.cr_history.proofs.LineTies.{accounts_of-tables}
+use Rattle.cr_history.proofs.PaperTies.{title_of-tables, abstract_of-tables}
+use Rattle.cr_history.proofs.TableTies.{standing_of-tables}
+use Rattle.cr_policy.proofs.FactTies.{facts_in_view-tables, authors-tables}
 
 -- ---- users by number
 

@@ -18,7 +18,8 @@ use Rattle.cr_policy.specs.View.{view}
 use Rattle.cr_policy.specs.ViewFacts.{phase_seen, mode_seen, paper_seen, own_paper_seen, author_seen, conflict_seen, registration_seen, role_seen, number_seen, phase_in_view, mode_in_view, role_in_view, papers_in_view, own_papers_in_view, accounts_in_view, number_in_view, authors_in_view, is_author_in_view, is_declared_in_view, is_conflicted_in_view}
 use Rattle.cr_policy.specs.Laws.{StandingFromView, PublicFactsFromView}
 use Rattle.cr_policy.proofs.Walk.{sights-all, sights-kept, fold_all, list_any-kept}
-use Rattle.cr_policy.proofs.Tells.{stamp, passes, phase_tells, mode_tells, paper_tells, own_paper_tells, author_tells, author_value, conflict_tells, conflict_value, registration_tells, role_tells, number_tells}
+use Rattle.cr_history.proofs.LineTies.{stamp}
+use Rattle.cr_policy.proofs.Tells.{passes, phase_tells, mode_tells, paper_tells, own_paper_tells, author_tells, author_value, conflict_tells, conflict_value, registration_tells, role_tells, number_tells}
 
 -- ---- the conference
 

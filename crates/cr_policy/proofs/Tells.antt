@@ -1,5 +1,5 @@
 -- What each entry shows of one fact: one lemma a fact, one line a kind of entry that tells of it.
-use Rattle.std.proofs.Common.{◌≡◌, ℕ, Bool, true, false, List, [], ◌∷◌, refl, sym, ap, subst, ◌∙◌, ◌||◌, ◌&&◌, Option, Some, append-nil, eqb, arith}
+use Rattle.std.proofs.Common.{◌≡◌, ℕ, Bool, true, false, List, [], ◌∷◌, refl, sym, ap, ◌∙◌, ◌||◌, ◌&&◌, Option, Some, append-nil, eqb, arith}
 use Rattle.std.specs.List.{flat_map}
 use Rattle.std.specs.Str.{bytes_eq}
 use Rattle.std.proofs.lemmas.Bool.{eqb-true, or_parts, and_parts}
@@ -14,10 +14,8 @@ use Rattle.cr_policy.specs.Sighting.{Sighting, where_shown}
 use Rattle.cr_policy.specs.Triggers.{Reader, Place, TriggerRow, applies_any, shows}
 use Rattle.cr_policy.specs.View.{sight, is_seen, joined, rows_at}
 use Rattle.cr_policy.specs.ViewFacts.{only, is_user, phase_seen, mode_seen, paper_seen, own_paper_seen, author_seen, conflict_seen, title_seen, abstract_seen, registration_seen, role_seen, number_seen}
+use Rattle.cr_history.proofs.LineTies.{stamp}
 use Rattle.cr_policy.proofs.Walk.{only-true, only-false, flat_map-given, Tells, TellsAll}
-
-abbrev pub stamp : ℕ → Bool → Entry → Stamped
-stamp maker more entry = record { maker = maker; more = more; entry = entry }
 
 -- whether a part of an entry is shown
 abbrev pub passes : Part → Reader → Place → Stamped → Bool

@@ -17,7 +17,8 @@ use Rattle.cr_base.proofs.LastLaws.{last_from-given}
 use Rattle.cr_base.proofs.ListLaws.{numbered-nil, numbered-push, numbers_from-push}
 use Rattle.cr_base.proofs.TieLaws.{users_of-push}
 
-turned : (n m : ℕ) → eqb n m ≡ eqb m n
+-- two numbers are compared either way
+pub turned : (n m : ℕ) → eqb n m ≡ eqb m n
 turned n m = grind (arith, nat_tests)
 
 -- what is kept of a paper as it is submitted

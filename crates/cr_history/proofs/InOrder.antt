@@ -6,7 +6,7 @@ use Rattle.std.proofs.lemmas.Bool.{false≢true}
 use Rattle.std.proofs.lemmas.Bool.Decides.{nat_tests}
 use Rattle.cr_base.specs.declared.entry.Account.{Account}
 use Rattle.cr_base.specs.declared.entry.Entry.{Entry}
-use Rattle.cr_base.specs.declared.entry.Entry.TheVariants.{Registered, Named, PhaseSet, ModeSet, Submitted, Conflict}
+use Rattle.cr_base.specs.declared.entry.Entry.TheVariants.{Registered, Named, Submitted, Conflict}
 use Rattle.cr_base.specs.declared.entry.Stamped.{Stamped}
 use Rattle.cr_base.specs.declared.reply.AccountLine.{AccountLine}
 use Rattle.cr_base.specs.declared.words.Role.TheVariants.{Chair}
@@ -18,12 +18,11 @@ use Rattle.cr_base.specs.Lists.{numbers_from}
 use Rattle.cr_base.specs.Tables.{no_tables, tables_of, Fits, FitInTurn}
 use Rattle.cr_base.proofs.AccountLaws.{length-lines_of}
 use Rattle.cr_base.proofs.ListLaws.{length-numbers_from, list_any-numbers_from}
-use Rattle.cr_policy.specs.Invariants.{HasNextNumber, HasNewName, IsAboutThose, IsSubmitted, IsInOrder, InTurn, IsWhole}
-use Rattle.cr_policy.specs.Legal.{IsRegistered}
-use Rattle.cr_policy.proofs.LineTies.{accounts_of-tables}
-use Rattle.cr_policy.proofs.NumberTies.{number_of-tables}
-use Rattle.cr_policy.proofs.PaperTies.{papers_of-tables}
-use Rattle.cr_policy.proofs.RuleLaws.{Adds, single, first_user}
+use Rattle.cr_history.specs.Invariants.{IsRegistered, HasNextNumber, HasNewName, IsAboutThose, IsSubmitted, IsInOrder, InTurn, IsWhole}
+use Rattle.cr_history.proofs.LineTies.{accounts_of-tables}
+use Rattle.cr_history.proofs.NumberTies.{number_of-tables}
+use Rattle.cr_history.proofs.PaperTies.{papers_of-tables}
+use Rattle.cr_history.specs.Groups.{Adds, single, first_user}
 
 -- ---- what follows from fitting the tables
 
@@ -110,7 +109,7 @@ added-in_order H g fits kept (single maker e made marked ruled) fit = (
   },
   tt,
 )
-added-in_order H g fits kept (first_user user name digest is) fit =
+added-in_order H g fits kept (first_user user name digest is texts) fit =
     let next = fit.0.accounts.0 in
     let count = accounts-counted H fits in
     let none : H ≡ [] = nothing_before H kept (omega (arith, next, count, is)) in
@@ -119,7 +118,7 @@ added-in_order H g fits kept (first_user user name digest is) fit =
 
 added-whole : (H g : History) → Adds H g → IsWhole g
 added-whole H g (single maker e made marked ruled) = refl
-added-whole H g (first_user user name digest is) = ((λ more. refl), refl)
+added-whole H g (first_user user name digest is texts) = ((λ more. refl), refl)
 
 -- ---- one behind another
 

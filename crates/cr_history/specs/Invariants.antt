@@ -1,20 +1,21 @@
 -- Invariants: what is so of each entry of a legal history, on the history before it, and of the history as a whole.
-use Rattle.std.specs.Prelude.{ℕ, Bool, false, ◌≡◌, ◌==◌, ◌<◌, ◌+◌, ◌&&◌, ◌||◌, not, [], ◌∷◌, ◌++◌, length, Option, Some, None, is_some, IsTrue, IsFalse, if◌then◌else◌}
+use Rattle.std.specs.Prelude.{ℕ, Bool, ◌≡◌, ◌==◌, ◌<◌, ◌+◌, ◌&&◌, ◌||◌, not, [], ◌∷◌, ◌++◌, length, Some, None, IsTrue, IsFalse, if◌then◌else◌}
 use Rattle.std.specs.List.{All, AllByRecursion, list_any}
 use Rattle.cr_base.specs.declared.entry.Entry.{Entry}
 use Rattle.cr_base.specs.declared.entry.Entry.TheVariants.{Registered, Named, PhaseSet, ModeSet, Submitted, Conflict}
 use Rattle.cr_base.specs.declared.entry.Stamped.{Stamped}
 use Rattle.cr_base.specs.declared.words.Phase.TheVariants.{Setup, Submission, Bidding, Notification}
 use Rattle.cr_base.specs.Facts.{phase_of, role_of, accounts_of, papers_of, number_of, is_author, is_conflicted}
-use Rattle.cr_base.specs.History.{History, opens}
+use Rattle.cr_base.specs.History.{History, Registration, all_told, registration_told, opens}
 use Rattle.cr_base.specs.Lists.{until, since}
 use Rattle.cr_base.specs.Phases.{is_from, is_phase, is_next}
 use Rattle.cr_base.specs.Rows.{kind_of, row_of, stamped, IsBoundedEntry}
 use Rattle.cr_base.specs.Tables.{no_tables, FitInTurn}
 use Rattle.cr_base.specs.Words.{role_number, is_member, is_chair}
-use Rattle.cr_policy.specs.Legal.{IsRegistered}
-use Rattle.cr_policy.specs.Sighting.{Sighting}
-use Rattle.cr_policy.specs.ViewFacts.{is_user}
+
+-- the user has registered
+abbrev pub IsRegistered : History → ℕ → Type 0
+IsRegistered H user = IsTrue (list_any (λ (r : Registration). r.user == user) (all_told registration_told H))
 
 -- ---- an entry in its turn: each is said of the history before it
 
@@ -161,9 +162,3 @@ pub record Invariants (H : History) : Type 0 where
   pub in_order : InTurn IsInOrder [] H
   pub whole : IsWhole H
   pub in_time : DeclaresInTime H
-
--- ---- what follows
-
--- a digest that is shown stands beside the reader's own number; nobody has one
-abbrev pub IsOwnDigest : Option ℕ → Sighting → Type 0
-IsOwnDigest u s = IsTrue (is_some s.digest) → IsTrue (is_user u s.user)

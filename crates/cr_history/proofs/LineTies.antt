@@ -18,7 +18,10 @@ use Rattle.cr_base.specs.Accounts.{with_role, accounts_after, lines_from, lines_
 use Rattle.cr_base.specs.Tables.{Tables, no_tables, tables_after, tables_from, tables_of, FitInTurn}
 use Rattle.cr_base.proofs.AccountLaws.{length-with_role, with_role-suc}
 use Rattle.cr_base.proofs.LastLaws.{last_or-cons}
-use Rattle.cr_policy.proofs.Tells.{stamp}
+
+-- an entry with its maker and its mark
+abbrev pub stamp : ℕ → Bool → Entry → Stamped
+stamp maker more entry = record { maker = maker; more = more; entry = entry }
 
 -- ---- accounts as they stand after more entries
 

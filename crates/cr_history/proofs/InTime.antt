@@ -16,10 +16,10 @@ use Rattle.cr_base.specs.Facts.{phase_of, authors_of, is_author}
 use Rattle.cr_base.specs.Phases.{phase_place, is_from, is_phase}
 use Rattle.cr_base.specs.Drawn.{grouped}
 use Rattle.cr_base.proofs.LastLaws.{last_or-cons}
-use Rattle.cr_policy.specs.Invariants.{is_opening, ByAuthor, ByHerselfOrOther, Early, Late, DeclaresInTime, IsInPhase, IsByRight}
-use Rattle.cr_policy.proofs.Cuts.{AllByRecursion-append, AllByRecursion-map, AllByRecursion-until, until-none, since-none, until-append, since-append, until-before, since-before}
-use Rattle.cr_policy.proofs.RuleLaws.{IsRuled, Adds, single, first_user}
-use Rattle.cr_policy.proofs.Walk.{list_any-append}
+use Rattle.cr_history.specs.Invariants.{is_opening, ByAuthor, ByHerselfOrOther, Early, Late, DeclaresInTime, IsInPhase, IsByRight}
+use Rattle.cr_history.proofs.ListCuts.{AllByRecursion-append, AllByRecursion-map, AllByRecursion-until, until-none, since-none, until-append, since-append, until-before, since-before}
+use Rattle.cr_history.specs.Groups.{IsRuled, Adds, single, first_user}
+use Rattle.std.proofs.lemmas.List.Folds.{list_any-append}
 
 -- ---- what the rules say of one group
 
@@ -39,7 +39,7 @@ ruled-allowed H maker e ruled = tt
 
 added-allowed : (H g : History) → Adds H g → AllByRecursion (Allowed H) g
 added-allowed H g (single maker e made marked ruled) = (ruled-allowed H maker e ruled, tt)
-added-allowed H g (first_user user name digest is) = (tt, (tt, tt))
+added-allowed H g (first_user user name digest is texts) = (tt, (tt, tt))
 
 -- a group moves the phase on and does nothing else, or leaves the phase
 data Moves (H : History) : History → Type 0 where
@@ -52,7 +52,7 @@ ruled-moves H maker e ruled = stayed _ refl
 
 added-moves : (H g : History) → Adds H g → Moves H g
 added-moves H g (single maker e made marked ruled) = ruled-moves H maker e ruled
-added-moves H g (first_user user name digest is) = stayed _ refl
+added-moves H g (first_user user name digest is texts) = stayed _ refl
 
 -- ---- authors of more entries
 

@@ -18,7 +18,7 @@ use Rattle.cr_base.specs.Ties.{BareTies, TiesState, pair_of, bare_tie, switched,
 use Rattle.cr_base.specs.Tables.{Tables, no_tables, tables_after, tables_from, tables_of, FitInTurn}
 use Rattle.cr_base.proofs.PairLaws.{same_pair-is, IsAscending-with_tie, IsAscending-without_pair, has_pair-with_tie, has_pair-without_pair}
 use Rattle.cr_base.proofs.RisingLists.{rising-others_of, numbers-others_of}
-use Rattle.cr_policy.proofs.LineTies.{length-after}
+use Rattle.cr_history.proofs.LineTies.{length-after}
 
 -- ---- ties in order
 

@@ -1,9 +1,8 @@
 -- What a history tells of declared conflicts is what the table of ties has.
-use Rattle.std.proofs.Common.{ℕ, Bool, true, false, cond, ◌≡◌, ◌≤◌, ◌+◌, List, [], ◌∷◌, ◌++◌, length, eqb, refl, sym, ap, ◌∙◌, arith, ◌||◌, ◌&&◌, Option, Some, None, length-append, append-nil}
+use Rattle.std.proofs.Common.{ℕ, Bool, true, false, cond, ◌≡◌, ◌≤◌, List, [], ◌∷◌, ◌++◌, eqb, refl, sym, ap, ◌∙◌, arith, ◌||◌, ◌&&◌, Option, Some, None, length-append, append-nil}
 use Rattle.std.specs.Prelude.{not}
 use Rattle.std.specs.List.{flat_map, list_any}
 use Rattle.std.proofs.lemmas.Bool.{eqb-true, ne_eqb}
-use Rattle.std.proofs.lemmas.Bool.Decides.{nat_tests}
 use Rattle.cr_base.specs.declared.entry.Entry.{Entry}
 use Rattle.cr_base.specs.declared.entry.Entry.TheVariants.{Submitted, Conflict}
 use Rattle.cr_base.specs.declared.entry.Stamped.{Stamped}
@@ -19,11 +18,7 @@ use Rattle.cr_base.specs.Tables.{Tables, no_tables, tables_after, tables_from, t
 use Rattle.cr_base.proofs.LastLaws.{last_or-given}
 use Rattle.cr_base.proofs.PairLaws.{has_pair-with_tie}
 use Rattle.cr_base.proofs.TieLaws.{has_pair-switched, users_of-push}
-use Rattle.cr_policy.proofs.PaperTies.{is_author-tables}
-
--- the paper and the user of an entry are those of a tie, or not
-turned : (q p : ℕ) → eqb q p ≡ eqb p q
-turned q p = grind (arith, nat_tests)
+use Rattle.cr_history.proofs.PaperTies.{turned, is_author-tables}
 
 -- ---- declared conflicts
 

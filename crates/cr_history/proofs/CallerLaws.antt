@@ -1,9 +1,8 @@
 -- Callers have registered, and who has registered has a number that a row can hold.
-use Rattle.std.proofs.Common.{ℕ, Bool, true, false, cond, ◌≡◌, ◌≤◌, List, [], ◌∷◌, ◌++◌, eqb, refl, sym, ap, ◌∙◌, arith, ◌||◌, ◌&&◌, Option, Some, None}
+use Rattle.std.proofs.Common.{ℕ, Bool, true, false, cond, ◌≡◌, List, [], ◌∷◌, ◌++◌, eqb, refl, sym, ap, ◌∙◌, arith, ◌||◌, ◌&&◌, Option, Some, None}
 use Rattle.std.specs.List.{list_any}
 use Rattle.std.specs.Str.{bytes_eq}
 use Rattle.std.proofs.lemmas.Bool.{eqb-true, eq-eqb}
-use Rattle.cr_base.specs.declared.command.Command.{Command}
 use Rattle.cr_base.specs.declared.entry.Account.{Account}
 use Rattle.cr_base.specs.declared.entry.Entry.{Entry}
 use Rattle.cr_base.specs.declared.entry.Entry.TheVariants.{Registered}
@@ -11,10 +10,10 @@ use Rattle.cr_base.specs.Accounts.{AccountsFit}
 use Rattle.cr_base.specs.Facts.{caller_of}
 use Rattle.cr_base.specs.History.{History, Registration, all_told, registration_told, caller_told}
 use Rattle.cr_base.specs.Lists.{last_from}
-use Rattle.cr_base.specs.Logins.{IfWanted, command_wants_login}
-use Rattle.cr_base.specs.Tables.{Tables, no_tables, tables_after, FitInTurn}
+use Rattle.cr_base.specs.Shapes.{InRange, users}
+use Rattle.cr_base.specs.Tables.{Tables, tables_after, FitInTurn}
 use Rattle.cr_base.proofs.LastLaws.{last_from-given}
-use Rattle.cr_policy.specs.Legal.{IsRegistered, IsUser, CallsAs, IsCaller}
+use Rattle.cr_history.specs.Invariants.{IsRegistered}
 
 -- the registration is this user's
 abbrev is_of : ℕ → Registration → Bool
@@ -22,38 +21,18 @@ is_of user r = eqb r.user user
 
 -- ---- numbers of users
 
--- a user from 1 to 9,999
-abbrev pub IsNumbered : Option ℕ → Type 0
-IsNumbered None = ⊥
-IsNumbered (Some user) = (1 ≤ user) × (user ≤ 9999)
-
--- who makes the entries of a command has such a number; the maker of a registration is the new user
-abbrev pub HasMaker : Option ℕ → Command → Type 0
-HasMaker caller command = IfWanted (command_wants_login command) (IsNumbered caller)
-
-numbered-entry : (accounts : List Account) (e : Entry) (user : ℕ) (rest : List Registration) → AccountsFit accounts e → (list_any (is_of user) rest ≡ true → IsNumbered (Some user)) → list_any (is_of user) (registration_told e ++ rest) ≡ true → IsNumbered (Some user)
+numbered-entry : (accounts : List Account) (e : Entry) (user : ℕ) (rest : List Registration) → AccountsFit accounts e → (list_any (is_of user) rest ≡ true → InRange users user) → list_any (is_of user) (registration_told e ++ rest) ≡ true → InRange users user
 numbered-entry accounts (Registered v name digest) user rest fits later h = by (eqb v user) refl h
   where
-    by : (b : Bool) → eqb v user ≡ b → (b || list_any (is_of user) rest) ≡ true → IsNumbered (Some user)
+    by : (b : Bool) → eqb v user ≡ b → (b || list_any (is_of user) rest) ≡ true → InRange users user
     by true same h = let e : v ≡ user = eqb-true v user same in let next = fits.0 in let few = fits.1 in (omega (arith, e, next), omega (arith, e, few))
     by false same h = later h
 numbered-entry accounts e user rest fits later h = later h
 
-registered-from : (t : Tables) (H : History) (user : ℕ) → FitInTurn t H → list_any (is_of user) (all_told registration_told H) ≡ true → IsNumbered (Some user)
+-- who has registered has one that a row can hold
+pub registered-from : (t : Tables) (H : History) (user : ℕ) → FitInTurn t H → list_any (is_of user) (all_told registration_told H) ≡ true → InRange users user
 registered-from t [] user fits h = cc
 registered-from t (s ∷ H) user fits h = numbered-entry t.accounts s.entry user (all_told registration_told H) fits.0.accounts (registered-from (tables_after t s) H user fits.1) h
-
-user-numbered : (H : History) (caller : Option ℕ) → FitInTurn no_tables H → IsUser H caller → IsNumbered caller
-user-numbered H None fits user = user
-user-numbered H (Some user) fits registered = registered-from no_tables H user fits registered
-
-makes : (H : History) (login : Bool) (caller : Option ℕ) → FitInTurn no_tables H → CallsAs H login caller → IfWanted login (IsNumbered caller)
-makes H false caller fits is = tt
-makes H true caller fits is = user-numbered H caller fits is
-
--- who may give a command makes its entries, where each entry of the history fits in its turn
-pub caller-makes : (H : History) (caller : Option ℕ) (command : Command) → FitInTurn no_tables H → IsCaller H caller command → HasMaker caller command
-caller-makes H caller command fits is = makes H (command_wants_login command) caller fits is
 
 -- ---- callers
 

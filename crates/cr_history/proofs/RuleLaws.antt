@@ -6,7 +6,6 @@ use Rattle.std.specs.Option.{option_map}
 use Rattle.std.proofs.lemmas.Bool.{eqb-true, leb-false, true≢false, and_parts, not-true, not-false, or_left}
 use Rattle.cr_base.specs.declared.command.Command.{Command}
 use Rattle.cr_base.specs.declared.command.Command.TheVariants.{Register, SetPhase, Submit, Name, SetMode, SetConflict}
-use Rattle.cr_base.specs.declared.entry.Entry.{Entry}
 use Rattle.cr_base.specs.declared.entry.Entry.TheVariants.{Registered, Named, PhaseSet, ModeSet, Submitted, Conflict}
 use Rattle.cr_base.specs.declared.reply.AccountLine.{AccountLine}
 use Rattle.cr_base.specs.declared.standing.Standing.{Standing}
@@ -20,42 +19,21 @@ use Rattle.cr_base.specs.History.{History, Registration, all_told, registration_
 use Rattle.cr_base.specs.Facts.{phase_of, role_of, accounts_of, papers_of, own_papers_of, standing_of}
 use Rattle.cr_base.specs.Phases.{is_from, is_phase, is_next}
 use Rattle.cr_base.specs.Words.{role_number, is_member, is_chair}
+use Rattle.cr_base.specs.Bounds.{IsBoundedCommand}
+use Rattle.cr_base.specs.Texts.{IsName}
 use Rattle.cr_base.specs.Checks.{Check, of_role, target_role, register_checks, phase_checks, submit_checks, name_checks, mode_checks, conflict_case, conflict_checks}
 use Rattle.cr_base.specs.Drawn.{Drawn, grouped, registration_drawn, phase_drawn, submission_drawn, naming_drawn, mode_drawn, conflict_drawn}
 use Rattle.cr_base.specs.Judging.{judge_by}
 use Rattle.cr_base.specs.Sources.{Facts, Shown, number_in, user_among, role_among, paper_named, target_named}
 use Rattle.cr_base.proofs.CheckLaws.{NoneBroken, judged-Ok}
 use Rattle.cr_base.proofs.TargetLaws.{is_none-asked, target_role-of}
-use Rattle.cr_policy.specs.Invariants.{IsMadeByUser, IsMarked, IsInPhase, IsByChair, RaisesRole, IsOfMember, IsByRight}
-use Rattle.cr_policy.specs.Judge.{judge}
-use Rattle.cr_policy.specs.Legal.{IsRegistered, IsCaller}
-use Rattle.cr_policy.specs.View.{view}
-use Rattle.cr_policy.specs.ViewFacts.{facts_in_view, shown_in_view}
-use Rattle.cr_policy.proofs.StandingLaws.{standing_from_view, accounts-seen, papers-seen, own_papers-seen}
-
--- ---- what is added
-
--- what the rules say of an entry, on the history before it
-pub record IsRuled (H : History) (maker : ℕ) (e : Entry) : Type 0 where
-  pub phase : IsInPhase H e
-  pub chair : IsByChair H maker e
-  pub role : RaisesRole H e
-  pub member : IsOfMember H e
-  pub right : IsByRight H maker e
-
--- one entry, or the registration of the first user and the role that comes with it
-pub data Adds (H : History) : History → Type 0 where
-  single : (maker : ℕ) (e : Entry) → IsMadeByUser H maker e → IsMarked false e → IsRuled H maker e → Adds H (grouped maker (e ∷ []))
-  first_user : (user : ℕ) (name digest : List ℕ) → user ≡ 1 → Adds H (grouped user (Registered user name digest ∷ Named user Chair ∷ []))
+use Rattle.cr_history.specs.Invariants.{IsRegistered, IsByRight}
+use Rattle.cr_history.specs.Groups.{IsRuled, Adds, single, first_user}
 
 -- ---- the facts of a history
 
-abbrev facts_of : Option ℕ → History → Facts
+abbrev pub facts_of : Option ℕ → History → Facts
 facts_of u H = record { standing = λ paper. standing_of u paper H; accounts = accounts_of H; papers = papers_of H; own_papers = own_papers_of u H }
-
--- any user's view tells them
-facts-seen : (u : Option ℕ) (H : History) → facts_in_view u (view u H) ≡ facts_of u H
-facts-seen u H = λ i. record { standing = λ paper. standing_from_view u paper H i; accounts = accounts-seen u H i; papers = papers-seen u H i; own_papers = own_papers-seen u H i }
 
 -- the role of a user named, if there is one, is the one that the history tells
 module _ (H : History) where
@@ -125,7 +103,7 @@ module _ (H : History) (maker paper user : ℕ) where
   by_maker = standing_of (Some maker) (Some paper) H
 
   conflict-ruled : (on : Bool) → late ≡ false → is_member (role_of (Some user) H) ≡ true → IsByRight H maker (Conflict paper user on) → IsRuled H maker (Conflict paper user on)
-  conflict-ruled on early member right = record { phase = early; chair = tt; role = tt; member = member; right = right }
+  conflict-ruled on early member right = record { phase = early; chair = tt; role = tt; member = member; right = right; texts = tt }
 
   abbrev named : Role → Bool → Bool → Target
   named role herself author = record { role = role; herself = herself; author = author }
@@ -149,15 +127,15 @@ module _ (H : History) (maker paper user : ℕ) where
 
 -- ---- all commands
 
-registration-adds : (H : History) (caller : Option ℕ) (facts : Facts) (shown : Shown) (name digest : List ℕ) (drawn : Drawn) → judge_by facts shown caller (Register name digest) ≡ Ok drawn → Adds H drawn.group
-registration-adds H caller facts shown name digest drawn accepted =
+pub registration-adds : (H : History) (caller : Option ℕ) (facts : Facts) (shown : Shown) (name digest : List ℕ) (drawn : Drawn) → IsName name × (length digest ≡ 32) → judge_by facts shown caller (Register name digest) ≡ Ok drawn → Adds H drawn.group
+registration-adds H caller facts shown name digest drawn bounded accepted =
     let n : ℕ = length facts.accounts in
     let k = judged-Ok (register_checks (is_some (number_in facts.accounts name)) n) (registration_drawn (n + 1) name digest) drawn accepted in
     subst (λ (d : Drawn). Adds H d.group) k.1 (by (n + 1) (eqb (n + 1) 1) refl)
   where
     by : (user : ℕ) (b : Bool) → eqb user 1 ≡ b → Adds H (grouped user (cond b (Registered user name digest ∷ Named user Chair ∷ []) (Registered user name digest ∷ [])))
-    by user true is = first_user user name digest (eqb-true user 1 is)
-    by user false is = single user (Registered user name digest) refl (sym is) (record { phase = tt; chair = tt; role = tt; member = tt; right = tt })
+    by user true is = first_user user name digest (eqb-true user 1 is) bounded
+    by user false is = single user (Registered user name digest) refl (sym is) (record { phase = tt; chair = tt; role = tt; member = tt; right = tt; texts = bounded })
 
 module _ (H : History) (maker : ℕ) (shown : Shown) (registered : IsRegistered H maker) where
   abbrev facts : Facts
@@ -186,18 +164,18 @@ module _ (H : History) (maker : ℕ) (shown : Shown) (registered : IsRegistered 
           let held : role ≡ role_of (Some v) H = ap (λ (o : Option Role). unwrap_or o Account) (sym is) ∙ role-among H (Some v) (ap is_none is) in
           case-ruled H maker p v on (is_from Bidding (phase_of H)) (is_from Notification (phase_of H)) role (eqb v maker) author refl refl held refl none.1.1
 
-  command-adds : (command : Command) (drawn : Drawn) → judge_by facts shown (Some maker) command ≡ Ok drawn → Adds H drawn.group
-  command-adds (Register name digest) drawn accepted = registration-adds H (Some maker) facts shown name digest drawn accepted
-  command-adds (SetPhase to) drawn accepted =
+  pub command-adds : (command : Command) (drawn : Drawn) → IsBoundedCommand command → judge_by facts shown (Some maker) command ≡ Ok drawn → Adds H drawn.group
+  command-adds (Register name digest) drawn bounded accepted = registration-adds H (Some maker) facts shown name digest drawn bounded accepted
+  command-adds (SetPhase to) drawn bounded accepted =
       let k = judged-Ok (phase_checks standing (phase_of H) to) (phase_drawn maker to) drawn accepted in
       subst (λ (d : Drawn). Adds H d.group) k.1
-      (single maker (PhaseSet to) registered refl (record { phase = not-false (is_next (phase_of H) to) k.0.1.0; chair = not-false (is_chair standing.role) k.0.0; role = tt; member = tt; right = tt }))
-  command-adds (Submit title abstract) drawn accepted =
+      (single maker (PhaseSet to) registered refl (record { phase = not-false (is_next (phase_of H) to) k.0.1.0; chair = not-false (is_chair standing.role) k.0.0; role = tt; member = tt; right = tt; texts = tt }))
+  command-adds (Submit title abstract) drawn bounded accepted =
       let n : ℕ = length facts.papers in
       let k = judged-Ok (submit_checks standing n facts.own_papers) (submission_drawn maker (n + 1) title abstract) drawn accepted in
       subst (λ (d : Drawn). Adds H d.group) k.1
-      (single maker (Submitted (n + 1) title abstract) registered refl (record { phase = not-false (is_phase (phase_of H) Submission) k.0.0; chair = tt; role = tt; member = tt; right = tt }))
-  command-adds (Name name role) drawn accepted =
+      (single maker (Submitted (n + 1) title abstract) registered refl (record { phase = not-false (is_phase (phase_of H) Submission) k.0.0; chair = tt; role = tt; member = tt; right = tt; texts = bounded }))
+  command-adds (Name name role) drawn bounded accepted =
       let target : Option ℕ = user_among facts.accounts name in
       let before : Option Role = role_among facts.accounts target in
       let asked : Option Target = option_map of_role before in
@@ -211,32 +189,13 @@ module _ (H : History) (maker : ℕ) (shown : Shown) (registered : IsRegistered 
         role = subst (λ (r : Role). role_number r < role_number role) (target_role-of before ∙ role-among H target there) rises;
         member = tt;
         right = tt;
+        texts = tt;
       }))
-  command-adds (SetMode to) drawn accepted =
+  command-adds (SetMode to) drawn bounded accepted =
       let k = judged-Ok (mode_checks standing (phase_of H)) (mode_drawn maker to) drawn accepted in
       subst (λ (d : Drawn). Adds H d.group) k.1
-      (single maker (ModeSet to) registered refl (record { phase = not-false (is_phase (phase_of H) Setup) k.0.1.0; chair = not-false (is_chair standing.role) k.0.0; role = tt; member = tt; right = tt }))
-  command-adds (SetConflict paper name on) drawn accepted =
+      (single maker (ModeSet to) registered refl (record { phase = not-false (is_phase (phase_of H) Setup) k.0.1.0; chair = not-false (is_chair standing.role) k.0.0; role = tt; member = tt; right = tt; texts = tt }))
+  command-adds (SetConflict paper name on) drawn bounded accepted =
       let target : Option ℕ = user_among facts.accounts name in
       let k = judged-Ok (checks paper target on) (conflict_drawn maker (unwrap_or paper 0) (unwrap_or target 0) on) drawn accepted in
       subst (λ (d : Drawn). Adds H d.group) k.1 (single maker (Conflict (unwrap_or paper 0) (unwrap_or target 0) on) registered refl (conflict-ruled_for paper target on k.0))
-
--- a registered user's command
-user-adds : (H : History) (user : ℕ) (command : Command) (drawn : Drawn) → IsRegistered H user → judge (Some user) (view (Some user) H) command ≡ Ok drawn → Adds H drawn.group
-user-adds H user command drawn registered accepted =
-    let shown : Shown = shown_in_view (Some user) (view (Some user) H) in
-    command-adds H user shown registered command drawn (sym (ap (λ (facts : Facts). judge_by facts shown (Some user) command) (facts-seen (Some user) H)) ∙ accepted)
-
--- the group of an accepted command is one that the rules allow
-pub accepted-adds : (H : History) (caller : Option ℕ) (command : Command) (drawn : Drawn) → IsCaller H caller command → judge caller (view caller H) command ≡ Ok drawn → Adds H drawn.group
-accepted-adds H caller (Register name digest) drawn is accepted = registration-adds H caller (facts_in_view caller (view caller H)) (shown_in_view caller (view caller H)) name digest drawn accepted
-accepted-adds H None (SetPhase to) drawn is accepted = absurd is
-accepted-adds H None (Submit title abstract) drawn is accepted = absurd is
-accepted-adds H None (Name name role) drawn is accepted = absurd is
-accepted-adds H None (SetMode to) drawn is accepted = absurd is
-accepted-adds H None (SetConflict paper name on) drawn is accepted = absurd is
-accepted-adds H (Some user) (SetPhase to) drawn is accepted = user-adds H user (SetPhase to) drawn is accepted
-accepted-adds H (Some user) (Submit title abstract) drawn is accepted = user-adds H user (Submit title abstract) drawn is accepted
-accepted-adds H (Some user) (Name name role) drawn is accepted = user-adds H user (Name name role) drawn is accepted
-accepted-adds H (Some user) (SetMode to) drawn is accepted = user-adds H user (SetMode to) drawn is accepted
-accepted-adds H (Some user) (SetConflict paper name on) drawn is accepted = user-adds H user (SetConflict paper name on) drawn is accepted
