@@ -10,10 +10,10 @@ use Rattle.cr_base.specs.declared.pairs.Order.TheVariants.{ByPaper}
 use Rattle.cr_base.specs.declared.pairs.Pair.{Pair}
 use Rattle.cr_base.specs.Lists.{given, last_or, is_number}
 use Rattle.cr_base.specs.History.{History, all_told, conflict_told, declared_told}
-use Rattle.cr_base.specs.Facts.{is_declared, is_conflicted, declared_by_authors}
+use Rattle.cr_base.specs.Facts.{is_conflict_on, is_conflicted, declared_by_authors}
 use Rattle.cr_base.specs.Pairs.{same_pair, with_tie, has_pair}
 use Rattle.cr_base.specs.Papers.{PapersState, papers_after, paper_count, PapersFit}
-use Rattle.cr_base.specs.Ties.{BareTies, TiesState, pair_of, bare_tie, switched, ties_after, authors_in, is_author_in, is_declared_in, is_conflicted_in}
+use Rattle.cr_base.specs.Ties.{BareTies, TiesState, pair_of, bare_tie, switched, ties_after, authors_in, is_author_in, is_conflict_on_in, is_conflicted_in}
 use Rattle.cr_base.specs.Tables.{Tables, no_tables, tables_after, tables_from, tables_of, FitInTurn}
 use Rattle.cr_base.proofs.LastLaws.{last_or-given}
 use Rattle.cr_base.proofs.PairLaws.{has_pair-with_tie}
@@ -57,14 +57,14 @@ nobody-told p [] = refl
 nobody-told p (s ∷ H) = ap (λ xs. xs ++ all_told (conflict_told None p) H) (nobody-entry p s.entry) ∙ nobody-told p H
 
 -- a user's declared conflicts are those of the table
-pub is_declared-tables : (u : Option ℕ) (p : ℕ) (H : History) → is_declared u p H ≡ is_declared_in (tables_of H).ties u p
-is_declared-tables None p H = ap (last_or false) (nobody-told p H)
-is_declared-tables (Some v) p H = conflict-from p v no_tables H
+pub is_conflict_on-tables : (u : Option ℕ) (p : ℕ) (H : History) → is_conflict_on u p H ≡ is_conflict_on_in (tables_of H).ties u p
+is_conflict_on-tables None p H = ap (last_or false) (nobody-told p H)
+is_conflict_on-tables (Some v) p H = conflict-from p v no_tables H
 
 pub is_conflicted-tables : (u : Option ℕ) (p : ℕ) (H : History) → is_conflicted u p H ≡ is_conflicted_in (tables_of H).ties u p
 is_conflicted-tables u p H =
-    ap (λ b. b || is_declared u p H) (is_author-tables u p H)
-    ∙ ap (λ b. is_author_in (tables_of H).ties u p || b) (is_declared-tables u p H)
+    ap (λ b. b || is_conflict_on u p H) (is_author-tables u p H)
+    ∙ ap (λ b. is_author_in (tables_of H).ties u p || b) (is_conflict_on-tables u p H)
 
 -- ---- authors stay
 

@@ -6,7 +6,7 @@ use Rattle.cr_base.specs.Rows.{IsBoundedEntry}
 use Rattle.cr_base.specs.Tables.{no_tables}
 use Rattle.cr_base.proofs.RowLaws.{stamped-row_of}
 use Rattle.cr_history.specs.Laws.{TablesTell, GrowthKeeps}
-use Rattle.cr_history.proofs.ConflictTies.{is_declared-tables, declared_by_authors-tables}
+use Rattle.cr_history.proofs.ConflictTies.{is_conflict_on-tables, declared_by_authors-tables}
 use Rattle.cr_history.proofs.GroupLaws.{added-bounded}
 use Rattle.cr_history.proofs.InOrder.{in_order-append, whole-added}
 use Rattle.cr_history.proofs.InTime.{in_time-nil, in_time-append}
@@ -26,7 +26,7 @@ tables_tell H fits = record {
   title = λ p. title_of-tables p H fits;
   abstract_ = λ p. abstract_of-tables p H fits;
   authors = λ p. authors_of-tables p H;
-  conflict = λ u p. is_declared-tables u p H;
+  conflict = λ u p. is_conflict_on-tables u p H;
   declared = λ p v. declared_by_authors-tables p v H fits;
 }
 

@@ -2,13 +2,13 @@
 use Rattle.std.specs.Prelude.{ℕ, ◌≡◌, ◌==◌, List, [], ◌++◌, Option}
 use Rattle.std.specs.List.{list_any}
 use Rattle.cr_base.specs.Accounts.{lines_of, number_at, caller_at}
-use Rattle.cr_base.specs.Facts.{standing_of, accounts_of, number_of, caller_of, papers_of, own_papers_of, title_of, abstract_of, authors_of, is_declared, declared_by_authors}
+use Rattle.cr_base.specs.Facts.{standing_of, accounts_of, number_of, caller_of, papers_of, own_papers_of, title_of, abstract_of, authors_of, is_conflict_on, declared_by_authors}
 use Rattle.cr_base.specs.History.{History}
 use Rattle.cr_base.specs.Sources.{standing_at}
 use Rattle.cr_base.specs.Pairs.{has_pair}
 use Rattle.cr_base.specs.Papers.{paper_numbers, own_count, title_at, abstract_at}
 use Rattle.cr_base.specs.Tables.{no_tables, tables_of, FitInTurn}
-use Rattle.cr_base.specs.Ties.{pair_of, authors_in, is_declared_in}
+use Rattle.cr_base.specs.Ties.{pair_of, authors_in, is_conflict_on_in}
 use Rattle.cr_history.specs.Groups.{Adds}
 use Rattle.cr_history.specs.Invariants.{Invariants}
 
@@ -23,7 +23,7 @@ pub record AreTold (H : History) : Type 0 where
   pub title : (p : ℕ) → title_of p H ≡ title_at (tables_of H).papers p
   pub abstract_ : (p : ℕ) → abstract_of p H ≡ abstract_at (tables_of H).papers p
   pub authors : (p : ℕ) → authors_of p H ≡ authors_in (tables_of H).ties p
-  pub conflict : (u : Option ℕ) (p : ℕ) → is_declared u p H ≡ is_declared_in (tables_of H).ties u p
+  pub conflict : (u : Option ℕ) (p : ℕ) → is_conflict_on u p H ≡ is_conflict_on_in (tables_of H).ties u p
   pub declared : (p v : ℕ) → list_any (λ w. w == v) (declared_by_authors p H) ≡ has_pair (pair_of p v) (tables_of H).ties.declared
 
 -- TablesTell: it is so where each entry fits in its turn

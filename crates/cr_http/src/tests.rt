@@ -79,7 +79,7 @@ fn whole_and_cut(rt: HostRuntime) -> Result<(), Fail> {
 
 #[test]
 fn refusals(rt: HostRuntime) -> Result<(), Fail> {
-    for (text, why, to_head) in [
+    for (text, why, is_head) in [
         (
             "G(T /phase HTTP/1.1\r\nHost: c\r\n\r\n",
             Refusal::BadHttp,
@@ -118,7 +118,7 @@ fn refusals(rt: HostRuntime) -> Result<(), Fail> {
             false,
         ),
     ] {
-        let last = RequestRead::Refused { why, to_head };
+        let last = RequestRead::Refused { why, is_head };
         check(&rt, rt.alloc(), text.as_bytes(), 0, last)?;
     }
     Ok(())
@@ -144,7 +144,7 @@ fn repeated(
 fn limits(rt: HostRuntime) -> Result<(), Fail> {
     let large = RequestRead::Refused {
         why: Refusal::HeadTooLarge,
-        to_head: false,
+        is_head: false,
     };
     let fields = "GET / HTTP/1.1\r\nHost: c\r\n";
     // 25 bytes before and 2 behind, LF LF: the head has 16,384 bytes, or its last LF is the 16,385th.
@@ -210,7 +210,7 @@ fn left_unread(rt: HostRuntime) -> Result<(), Fail> {
             "PUT / HTTP/1.1\r\nHost: c\r\nContent-Length: 4194305\r\n\r\nabcd",
             RequestRead::Refused {
                 why: Refusal::TooLarge,
-                to_head: false,
+                is_head: false,
             },
             4,
         ),
@@ -218,7 +218,7 @@ fn left_unread(rt: HostRuntime) -> Result<(), Fail> {
             "GET /\r\n\r\nab",
             RequestRead::Refused {
                 why: Refusal::BadHttp,
-                to_head: false,
+                is_head: false,
             },
             2,
         ),

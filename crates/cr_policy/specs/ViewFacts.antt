@@ -150,11 +150,11 @@ abbrev pub is_author_in_view : Option ℕ → ℕ → View → Bool
 is_author_in_view u p V = list_any (is_number u) (authors_in_view p V)
 
 -- ConflictsOf: the last entry shown on the user's conflict with the paper turns it on
-abbrev pub is_declared_in_view : Option ℕ → ℕ → View → Bool
-is_declared_in_view u p V = last_or false (flat_map (conflict_seen u p) V)
+abbrev pub is_conflict_on_in_view : Option ℕ → ℕ → View → Bool
+is_conflict_on_in_view u p V = last_or false (flat_map (conflict_seen u p) V)
 
 abbrev pub is_conflicted_in_view : Option ℕ → ℕ → View → Bool
-is_conflicted_in_view u p V = is_author_in_view u p V || is_declared_in_view u p V
+is_conflicted_in_view u p V = is_author_in_view u p V || is_conflict_on_in_view u p V
 
 -- DeclaredOf, for an author: whom the conflicts name that are her own, or name another than her, or stand before the
 -- bidding was opened; in a legal history these are the ones that an author made
@@ -205,6 +205,6 @@ shown_in_view u V = record {
   title = λ p. title_in_view p V;
   abstract_ = λ p. abstract_in_view p V;
   authors = λ p. authors_in_view p V;
-  conflicts = λ p. users_where (λ v. is_declared_in_view (Some v) p V) V;
+  conflicts = λ p. users_where (λ v. is_conflict_on_in_view (Some v) p V) V;
   declared = λ p. users_where (λ v. list_any (λ w. w == v) (declared_in_view u p V)) V;
 }

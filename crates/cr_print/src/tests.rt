@@ -87,13 +87,13 @@ fn prints_receipts(rt: HostRuntime) -> Result<(), Fail> {
 
 // Whether a reply's content is this text, behind a head that tells its length.
 fn replies(alloc: Global, reply: &Reply, head: &str, content: &str) -> Result<bool, Fail> {
-    let mut to_head = Vec::new(alloc);
-    print_reply(&mut to_head, reply, TO_HEAD)?;
+    let mut is_head = Vec::new(alloc);
+    print_reply(&mut is_head, reply, TO_HEAD)?;
     let mut whole = Vec::from_slice(alloc, head.as_bytes())?;
     whole.extend_from_slice(content.as_bytes())?;
     let mut into = Vec::new(alloc);
     print_reply(&mut into, reply, OPEN)?;
-    Ok(to_head.as_slice() == head.as_bytes() && into.as_slice() == whole.as_slice())
+    Ok(is_head.as_slice() == head.as_bytes() && into.as_slice() == whole.as_slice())
 }
 
 // The accounts of two users.

@@ -24,7 +24,7 @@ use Rattle.cr_base.proofs.CheckLaws.{judged-Ok}
 use Rattle.cr_base.proofs.ListLaws.{length-numbers_from, name_in-lines_of}
 use Rattle.cr_view.specs.declared.queries.AnswerError.{AnswerError}
 use Rattle.cr_view.specs.declared.queries.AnswerError.TheVariants as errors
-use Rattle.cr_view.specs.Replies.{IsServed, Answers, Shows}
+use Rattle.cr_view.specs.Replies.{IsServed, AnswersAsDue, ShowsAsDue}
 use Rattle.cr_view.proofs.JudgeLaws.{refused, passed}
 
 -- ---- walks
@@ -86,7 +86,7 @@ module _ (t : Tables) (caller paper : Option ℕ) where
   page-served (Err rule) h ok = cc
 
   -- what is shown of a page is what is answered
-  pub page-answered : (r : Result Page AnswerError) → Shows r (judged checks page) → Answers (page_answer r) due
+  pub page-answered : (r : Result Page AnswerError) → ShowsAsDue r (judged checks page) → AnswersAsDue (page_answer r) due
   page-answered (Ok given) h = (sym (page-due given h), page-served (Ok given) h refl)
   page-answered (Err (errors.Rule rule)) h = ap reply_or_rule (sym (refused checks page (replies.Page page) rule (sym h)))
   page-answered (Err errors.OutOfMemory) h = page-served (judged checks page) refl h

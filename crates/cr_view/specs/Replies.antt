@@ -24,16 +24,16 @@ IsServed reply = (rule : Rule) → reply ≢ replies.Refused rule
 
 -- A query to which this reply is due was answered so: by that reply, or by the rule that it tells; memory is wanting only
 -- where it tells none.
-abbrev pub Answers : Result Reply AnswerError → Reply → Type 0
-Answers (Ok reply) due = (reply ≡ due) × IsServed due
-Answers (Err (errors.Rule rule)) due = due ≡ replies.Refused rule
-Answers (Err errors.OutOfMemory) due = IsServed due
+abbrev pub AnswersAsDue : Result Reply AnswerError → Reply → Type 0
+AnswersAsDue (Ok reply) due = (reply ≡ due) × IsServed due
+AnswersAsDue (Err (errors.Rule rule)) due = due ≡ replies.Refused rule
+AnswersAsDue (Err errors.OutOfMemory) due = IsServed due
 
 -- the same of a page, which is due or stands behind a rule
-abbrev pub Shows : Result Page AnswerError → Result Page Rule → Type 0
-Shows (Ok page) due = due ≡ Ok page
-Shows (Err (errors.Rule rule)) due = due ≡ Err rule
-Shows (Err errors.OutOfMemory) due = IsOk due
+abbrev pub ShowsAsDue : Result Page AnswerError → Result Page Rule → Type 0
+ShowsAsDue (Ok page) due = due ≡ Ok page
+ShowsAsDue (Err (errors.Rule rule)) due = due ≡ Err rule
+ShowsAsDue (Err errors.OutOfMemory) due = IsOk due
 
 -- ---- by the tables
 

@@ -8,7 +8,7 @@ ghost use Rattle.cr_base.specs.Page.{where_told};
 ghost use Rattle.cr_base.specs.Sources.{facts_of_tables, has_paper};
 ghost use Rattle.cr_base.specs.declared.command.Query.TheVariants as queries;
 ghost use Rattle.cr_view.specs.Callers.{HasAsker};
-ghost use Rattle.cr_view.specs.Replies.{Answers, Shows, conference_at, names_of, page_at, page_due, reader_at};
+ghost use Rattle.cr_view.specs.Replies.{AnswersAsDue, ShowsAsDue, conference_at, names_of, page_at, page_due, reader_at};
 
 use crate::commands::maker;
 use crate::live::Live;
@@ -99,7 +99,7 @@ impl Live {
         query: &Query,
     ) -> Result<Reply, AnswerError>
         requires caller { HasAsker caller.now query.now }
-        ensures answered { Answers result (answer_by_role self.now.tables caller.now query.now) }
+        ensures answered { AnswersAsDue result (answer_by_role self.now.tables caller.now query.now) }
         ensures sure { OnErr result (query.now ≢ queries.Phase) }
     {
         match query {
@@ -141,7 +141,7 @@ impl Live {
         user: &Option<UserNo>,
         paper: &Option<PaperNo>,
     ) -> Result<Page, AnswerError>
-        ensures { Shows result (page_due self.now.tables user.now paper.now) }
+        ensures { ShowsAsDue result (page_due self.now.tables user.now paper.now) }
     {
         let by = match self.reader(user, paper) {
             Ok(by) => by,

@@ -1,6 +1,6 @@
 //! Where a head lies, found by a search that goes on where it stopped.
 ghost use Rattle.std.specs.Prelude.{◌≡◌, ◌+◌, ◌<◌, ◌≤◌, length, take, drop};
-ghost use Rattle.cr_http.specs.Place.{blank_end_from, head_end_from};
+ghost use Rattle.cr_http.specs.HeadRange.{blank_end_from, head_end_from};
 ghost use Rattle.cr_http.specs.Search.{IsLine, Looks, reached};
 
 /// How many bytes from the place on are looked at for a head, the empty lines before it included.
@@ -8,7 +8,7 @@ pub const WINDOW: usize = 16_384;
 
 /// Where a head begins and ends.
 #[derive(Clone, Copy, Debug, PartialEq, Eq)]
-pub struct Place {
+pub struct HeadRange {
     /// The first byte behind the empty lines at the front.
     pub start: usize,
     /// The first byte behind the empty line that ends the head.
@@ -33,7 +33,7 @@ pub enum Search {
 #[derive(Clone, Copy, Debug, PartialEq, Eq)]
 pub enum Look {
     /// A whole head.
-    Found(Place),
+    Found(HeadRange),
     /// No end of a head yet: where to look on.
     NotYet(Search),
 }
@@ -97,7 +97,7 @@ fn look_in_head(bytes: &[u8], start: usize, from: usize) -> Look
             match line_at(&bytes[at + 1..]) {
                 Line::Empty(len) => {
                     let end = at + 1 + len;
-                    return Look::Found(Place { start, end });
+                    return Look::Found(HeadRange { start, end });
                 }
                 Line::Other => {}
                 Line::Open => return Look::NotYet(Search::InHead { start, at }),
