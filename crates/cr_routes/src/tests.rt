@@ -1,4 +1,5 @@
-use crate::{Ask, Found, Method, Place, Routes};
+use crate::{Found, Method, Place, Routes};
+use cr_base::Ask;
 use std::test::Fail;
 
 /// What is found of a path, as a place and two parts.
