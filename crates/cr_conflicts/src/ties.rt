@@ -7,9 +7,7 @@ ghost use Rattle.cr_base.specs.Ties.{no_ties, ties_after, switched, bare_tie, au
 ghost use Rattle.cr_conflicts.specs.Targets.{target_of};
 
 use crate::judging;
-use cr_base::{
-    Entry, Order, Pair, PaperNo, Role, Rule, Stamped, Standing, Target, Tie, UserNo,
-};
+use cr_base::{Entry, Order, Pair, PaperNo, Role, Rule, Stamped, Standing, Target, Tie, UserNo};
 use cr_pairs::{IndexedPairs, PairMap, run_of};
 use std::alloc::{AllocError, Global};
 use std::marker::Model;

@@ -1,5 +1,5 @@
 -- What a history tells of declared conflicts is what the table of ties has.
-use Rattle.std.proofs.Common.{ℕ, Bool, true, false, cond, ◌≡◌, ◌≤◌, ◌+◌, List, [], ◌∷◌, ◌++◌, length, eqb, refl, sym, ap, ◌∙◌, arith, ◌||◌, ◌&&◌, Option, Some, None, length-append, append-nil}
+use Rattle.std.proofs.Common.{ℕ, Bool, true, false, cond, ◌≡◌, ◌≤◌, List, [], ◌∷◌, ◌++◌, eqb, refl, sym, ap, ◌∙◌, arith, ◌||◌, ◌&&◌, Option, Some, None, length-append, append-nil}
 use Rattle.std.specs.Prelude.{not}
 use Rattle.std.specs.List.{flat_map, list_any}
 use Rattle.std.proofs.lemmas.Bool.{eqb-true, ne_eqb}

@@ -1,16 +1,14 @@
 -- What the group of an accepted command is like: its entries fit in their turn, and each has a row.
-use Rattle.std.proofs.Common.{ℕ, Bool, true, false, cond, ◌≡◌, ◌≤◌, ◌<◌, ◌+◌, List, [], ◌∷◌, ◌++◌, length, eqb, refl, sym, ap, subst, ◌∙◌, arith, length-append, Option, Some, None, Ok}
-use Rattle.std.specs.Prelude.{is_some, is_none, unwrap_or}
+use Rattle.std.proofs.Common.{ℕ, Bool, true, false, cond, ◌≡◌, ◌≤◌, ◌+◌, List, [], ◌∷◌, length, eqb, refl, sym, subst, ◌∙◌, arith, Option, Some, None, Ok}
+use Rattle.std.specs.Prelude.{is_some, unwrap_or}
 use Rattle.std.specs.List.{All}
 use Rattle.std.specs.Option.{option_map}
 use Rattle.std.proofs.lemmas.Bool.{true≢false}
 use Rattle.std.proofs.lemmas.List.Elements.{All-from_recursion}
 use Rattle.cr_base.specs.declared.command.Command.{Command}
 use Rattle.cr_base.specs.declared.command.Command.TheVariants.{Register, SetPhase, Submit, Name, SetMode, SetConflict}
-use Rattle.cr_base.specs.declared.entry.Account.{Account}
 use Rattle.cr_base.specs.declared.entry.Entry.TheVariants.{Registered, Named, PhaseSet, ModeSet, Submitted, Conflict}
 use Rattle.cr_base.specs.declared.entry.Stamped.{Stamped}
-use Rattle.cr_base.specs.declared.standing.Standing.{Standing}
 use Rattle.cr_base.specs.declared.words.Phase.{Phase}
 use Rattle.cr_base.specs.declared.words.Phase.TheVariants.{Setup, Submission, Bidding, Reviewing, Discussion, Notification, Closed}
 use Rattle.cr_base.specs.declared.words.Mode.{Mode}
