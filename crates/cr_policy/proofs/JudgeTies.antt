@@ -4,7 +4,7 @@ use Rattle.std.specs.Prelude.{unwrap_or, not}
 use Rattle.std.specs.List.{list_any}
 use Rattle.std.specs.Option.{option_map}
 use Rattle.cr_base.specs.declared.command.Command.{Command}
-use Rattle.cr_base.specs.declared.command.Command.TheVariants.{Register, SetPhase, Submit, Name, SetMode, SetConflict}
+use Rattle.cr_base.specs.declared.command.Command.TheVariants.{SetConflict}
 use Rattle.cr_base.specs.declared.reply.Rule.{Rule}
 use Rattle.cr_base.specs.declared.reply.Rule.TheVariants as rules
 use Rattle.cr_base.specs.declared.standing.Standing.{Standing}
@@ -79,14 +79,10 @@ conflict-same facts shown tabled u (Some p) target on same = by (role_among fact
 
 -- by the same facts, what a view shows makes no other judgement than what the tables hold
 judge-shown : (u : Option ℕ) (H : History) (command : Command) → FitInTurn no_tables H → judge_by (facts_of_tables (tables_of H) u) (shown_in_view u (view u H)) u command ≡ judge_by_role (tables_of H) u command
-judge-shown u H (Register name digest) fits = refl
-judge-shown u H (SetPhase to) fits = refl
-judge-shown u H (Submit title abstract) fits = refl
-judge-shown u H (Name name role) fits = refl
-judge-shown u H (SetMode to) fits = refl
 judge-shown u H (SetConflict paper name on) fits =
     let facts : Facts = facts_of_tables (tables_of H) u in
     conflict-same facts (shown_in_view u (view u H)) (shown_in_tables (tables_of H)) u paper (user_among facts.accounts name) on (λ p told. authors-tables u H p fits told)
+judge-shown u H command fits = refl
 
 -- so the judgement by any user's view is the one by the tables
 pub judge-tables : (u : Option ℕ) (H : History) (command : Command) → FitInTurn no_tables H → judge u (view u H) command ≡ judge_by_role (tables_of H) u command
