@@ -55,10 +55,6 @@ maker-hidden a h leads hides ha hh = grind (arith, ha, hh)
 
 module _ (u : Option ℕ) (p : ℕ) (H : History) (out : (is_author u p H || handles u p H) ≡ false) where
   left-one : (later : History) (maker : ℕ) (more : Bool) (e : Entry) → IsWriters u H maker e → is_told u H maker e ≡ true → is_number (paper_for u H later maker e) p ≡ true → IsLeft u (serves u H) (kind_for u H later maker e) (shown_to u H later maker e)
-  left-one later maker more (Registered user name digest) writes told on_it = absurd (false≢true on_it)
-  left-one later maker more (Named user role) writes told on_it = absurd (false≢true on_it)
-  left-one later maker more (PhaseSet phase) writes told on_it = absurd (false≢true on_it)
-  left-one later maker more (ModeSet mode) writes told on_it = absurd (false≢true on_it)
   left-one later maker more (Conflict paper user on) writes told on_it = (named, refl)
     where
       hers : (named own a w o : Bool) → a ≡ false → o ≡ false → (named || own || (a && w) || o) ≡ true → (own || named) ≡ true
@@ -107,6 +103,7 @@ module _ (u : Option ℕ) (p : ℕ) (H : History) (out : (is_author u p H || han
       titled : (served : Bool) → where_known (is_author u paper H || (not (is_replaced paper later) && served)) title ≡ cond served (where_known (is_author u paper H || (not (is_replaced paper later) && served)) title) None
       titled true = refl
       titled false = known-not _ title (text-hidden (is_author u paper H) (not (is_replaced paper later)) false wrote refl)
+  left-one later maker more e writes told on_it = absurd (false≢true on_it)
 
 pub outsiders-shown : OutsidersShown
 outsiders-shown u p H out =
