@@ -6,6 +6,7 @@ use Rattle.std.specs.Option.{option_map}
 use Rattle.std.proofs.lemmas.Bool.Decides.{nat_tests}
 use Rattle.cr_base.specs.declared.entry.Entry.{Entry}
 use Rattle.cr_base.specs.declared.entry.Entry.TheVariants.{Submitted, Conflict}
+use Rattle.cr_base.specs.declared.entry.Stamped.{Stamped}
 use Rattle.cr_base.specs.declared.paper.Paper.{Paper}
 use Rattle.cr_base.specs.Lists.{given, last, last_from, is_number, numbered}
 use Rattle.cr_base.specs.History.{History, all_told, all_told_by, paper_told, own_paper_told, author_told, title_told, abstract_told}
@@ -16,6 +17,7 @@ use Rattle.cr_base.specs.Tables.{Tables, no_tables, tables_after, tables_from, t
 use Rattle.cr_base.proofs.LastLaws.{last_from-given}
 use Rattle.cr_base.proofs.ListLaws.{numbered-nil, numbered-push, numbers_from-push}
 use Rattle.cr_base.proofs.TieLaws.{users_of-push}
+use Rattle.cr_history.proofs.Folds.{told-fitting}
 
 -- two numbers are compared either way
 pub turned : (n m : ℕ) → eqb n m ≡ eqb m n
@@ -33,13 +35,9 @@ numbers-entry state maker (Submitted paper title abstract) fits rest =
     sym (ap (λ ns. ns ++ rest) (numbers_from-push 1 paper state.papers (kept title abstract) is) ∙ append_assoc (paper_numbers state) (paper ∷ []) rest)
 numbers-entry state maker e fits rest = refl
 
-numbers-from : (t : Tables) (H : History) → FitInTurn t H → paper_numbers t.papers ++ all_told paper_told H ≡ paper_numbers (tables_from t H).papers
-numbers-from t [] fits = append-nil (paper_numbers t.papers)
-numbers-from t (s ∷ H) fits = numbers-entry t.papers s.maker s.entry fits.0.papers (all_told paper_told H) ∙ numbers-from (tables_after t s) H fits.1
-
 -- the papers of a history are numbered from 1
 pub papers_of-tables : (H : History) → FitInTurn no_tables H → papers_of H ≡ paper_numbers (tables_of H).papers
-papers_of-tables H fits = numbers-from no_tables H fits
+papers_of-tables H fits = told-fitting ◌++◌ append-nil (λ (t : Tables). paper_numbers t.papers) (λ (s : Stamped). paper_told s.entry) (λ t s fit. numbers-entry t.papers s.maker s.entry fit.papers) no_tables H fits
 
 -- ---- how many are the user's own
 
@@ -128,16 +126,12 @@ module _ (part : Paper → List ℕ) (p : ℕ) where
       by false o x = refl
   text-entry state maker e fits rest = refl
 
-  text-from : (t : Tables) (H : History) → FitInTurn t H → last_from (text_at part t.papers p) (all_told (text_told part p) H) ≡ text_at part (tables_from t H).papers p
-  text-from t [] fits = refl
-  text-from t (s ∷ H) fits = text-entry t.papers s.maker s.entry fits.0.papers (all_told (text_told part p) H) ∙ text-from (tables_after t s) H fits.1
-
   -- the last text that is told of the paper is the one that the table has
   text-tables : (told : Entry → List (List ℕ)) → ((e : Entry) → told e ≡ text_told part p e) → (H : History) → FitInTurn no_tables H → last (all_told told H) ≡ text_at part (tables_of H).papers p
   text-tables told same H fits =
       ap (λ (told : Entry → List (List ℕ)). last (all_told told H)) (λ i e. same e i)
       ∙ ap (λ (o : Option Paper). last_from (option_map part o) (all_told (text_told part p) H)) (sym (numbered-nil p))
-      ∙ text-from no_tables H fits
+      ∙ told-fitting last_from (λ _. refl) (λ (t : Tables). text_at part t.papers p) (λ (s : Stamped). text_told part p s.entry) (λ t s fit. text-entry t.papers s.maker s.entry fit.papers) no_tables H fits
 
 pub title_of-tables : (p : ℕ) (H : History) → FitInTurn no_tables H → title_of p H ≡ title_at (tables_of H).papers p
 title_of-tables p H fits = text-tables (λ (paper : Paper). paper.title) p (title_told p) (title-text p) H fits
