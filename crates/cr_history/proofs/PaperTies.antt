@@ -17,7 +17,7 @@ use Rattle.cr_base.specs.Tables.{Tables, no_tables, tables_after, tables_from, t
 use Rattle.cr_base.proofs.LastLaws.{last_from-given}
 use Rattle.cr_base.proofs.ListLaws.{numbered-nil, numbered-push, numbers_from-push}
 use Rattle.cr_base.proofs.TieLaws.{users_of-push}
-use Rattle.cr_history.proofs.Folds.{told-fitting}
+use Rattle.cr_history.proofs.Folds.{told-always, told-fitting}
 
 -- two numbers are compared either way
 pub turned : (n m : ℕ) → eqb n m ≡ eqb m n
@@ -80,20 +80,19 @@ own-entry (Some v) state maker (Submitted paper title abstract) n =
     by false m = omega arith
 own-entry u state maker e n = omega arith
 
-own-from : (u : Option ℕ) (t : Tables) (H : History) → own_count t.papers u + length (all_told_by (own_paper_told u) H) ≡ own_count (tables_from t H).papers u
-own-from u t [] = omega arith
-own-from u t (s ∷ H) =
-    ap (λ n. own_count t.papers u + n) (length-append (own_paper_told u s.maker s.entry) (all_told_by (own_paper_told u) H))
-    ∙ own-entry u t.papers s.maker s.entry (length (all_told_by (own_paper_told u) H))
-    ∙ own-from u (tables_after t s) H
-
 -- a user's own papers are those that she submitted
 pub own_papers_of-tables : (u : Option ℕ) (H : History) → own_papers_of u H ≡ own_count (tables_of H).papers u
-own_papers_of-tables u H = none u (own_papers_of u H) ∙ own-from u no_tables H
+own_papers_of-tables u H =
+    none u (own_papers_of u H)
+    ∙ told-always (λ n (papers : List ℕ). n + length papers) (λ n. plus_none n) (λ (t : Tables). own_count t.papers u) (λ (s : Stamped). own_paper_told u s.maker s.entry)
+    (λ t s rest. ap (λ n. own_count t.papers u + n) (length-append (own_paper_told u s.maker s.entry) rest) ∙ own-entry u t.papers s.maker s.entry (length rest)) no_tables H
   where
     none : (u : Option ℕ) (n : ℕ) → n ≡ own_count no_papers u + n
     none None n = omega arith
     none (Some v) n = omega arith
+
+    plus_none : (n : ℕ) → n + length {A = ℕ} [] ≡ n
+    plus_none n = omega arith
 
 -- ---- the texts of a paper
 
@@ -146,15 +145,10 @@ authors-entry p ties maker (Submitted paper title abstract) = ap (λ b. authors_
 authors-entry p ties maker (Conflict paper user on) = append-nil (authors_in ties p)
 authors-entry p ties maker e = append-nil (authors_in ties p)
 
-authors-from : (p : ℕ) (t : Tables) (H : History) → authors_in t.ties p ++ all_told_by (author_told p) H ≡ authors_in (tables_from t H).ties p
-authors-from p t [] = append-nil (authors_in t.ties p)
-authors-from p t (s ∷ H) =
-    sym (append_assoc (authors_in t.ties p) (author_told p s.maker s.entry) (all_told_by (author_told p) H))
-    ∙ ap (λ xs. xs ++ all_told_by (author_told p) H) (authors-entry p t.ties s.maker s.entry)
-    ∙ authors-from p (tables_after t s) H
-
 pub authors_of-tables : (p : ℕ) (H : History) → authors_of p H ≡ authors_in (tables_of H).ties p
-authors_of-tables p H = authors-from p no_tables H
+authors_of-tables p H =
+    told-always ◌++◌ append-nil (λ (t : Tables). authors_in t.ties p) (λ (s : Stamped). author_told p s.maker s.entry)
+    (λ t s rest. sym (append_assoc (authors_in t.ties p) (author_told p s.maker s.entry) rest) ∙ ap (λ xs. xs ++ rest) (authors-entry p t.ties s.maker s.entry)) no_tables H
 
 pub is_author-tables : (u : Option ℕ) (p : ℕ) (H : History) → is_author u p H ≡ is_author_in (tables_of H).ties u p
 is_author-tables u p H = ap (list_any (is_number u)) (authors_of-tables p H)
