@@ -14,11 +14,11 @@ use Rattle.cr_base.specs.History.{History, all_told, title_told}
 use Rattle.cr_base.specs.Facts.{phase_of, mode_of, role_of, is_author}
 use Rattle.cr_base.specs.Phases.{is_from}
 use Rattle.cr_base.specs.Words.{is_anonymous, is_member, is_chair}
+use Rattle.cr_history.proofs.LineTies.{stamp}
 use Rattle.cr_policy.specs.Sighting.{Sighting, where_shown}
 use Rattle.cr_policy.specs.Triggers.{Reader, reader, Place, none_in}
 use Rattle.cr_policy.specs.View.{is_seen, joined}
 use Rattle.cr_policy.specs.ShownTo.{is_on_committee, leads_committee, is_past_submission, hides_authors, is_told, where_known, is_replaced, gives_texts, kind_for, mark_for, paper_for, user_for, name_for, digest_for, role_for, phase_for, mode_for, maker_for, title_for, abstract_for, switch_for}
-use Rattle.cr_history.proofs.LineTies.{stamp}
 
 -- ---- the words of the table, and those of the bounds
 

@@ -5,20 +5,20 @@ use Rattle.std.specs.List.{list_any, AllByRecursion}
 use Rattle.std.proofs.lemmas.Bool.{eq-eqb}
 use Rattle.std.proofs.lemmas.List.{map-append}
 use Rattle.std.proofs.lemmas.List.Concat.{flat_map-append}
+use Rattle.std.proofs.lemmas.List.Folds.{list_any-append}
 use Rattle.cr_base.specs.declared.entry.Entry.{Entry}
 use Rattle.cr_base.specs.declared.entry.Entry.TheVariants.{Submitted}
 use Rattle.cr_base.specs.declared.entry.Stamped.{Stamped}
 use Rattle.cr_base.specs.Lists.{given, is_number}
 use Rattle.cr_base.specs.History.{History, author_told}
 use Rattle.cr_base.specs.Facts.{authors_of, is_author}
+use Rattle.cr_history.proofs.LineTies.{stamp}
 use Rattle.cr_policy.specs.Sighting.{Sighting}
 use Rattle.cr_policy.specs.Triggers.{reader, Place}
 use Rattle.cr_policy.specs.View.{sight, sights, view, is_seen, joined}
 use Rattle.cr_policy.specs.ShownTo.{PartFor, is_told, each_told, kind_for, mark_for, paper_for, user_for, name_for, digest_for, role_for, phase_for, mode_for, maker_for, title_for, abstract_for, switch_for}
 use Rattle.cr_policy.specs.ViewBounds.{EntriesShown, MarksShown, PapersShown, UsersShown, NamesShown, DigestsShown, RolesShown, PhasesShown, ModesShown, MakersShown, TitlesShown, AbstractsShown, SwitchesShown}
 use Rattle.cr_policy.proofs.BoundsParts.{IsWriters, seen-told, shown-one, mark-one, user-one, digest-one, maker-one, title-one, abstract-one, switch-one}
-use Rattle.cr_history.proofs.LineTies.{stamp}
-use Rattle.std.proofs.lemmas.List.Folds.{list_any-append}
 
 -- ---- one entry
 
