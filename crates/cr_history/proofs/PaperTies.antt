@@ -9,11 +9,11 @@ use Rattle.cr_base.specs.declared.entry.Entry.TheVariants.{Submitted, Conflict}
 use Rattle.cr_base.specs.declared.entry.Stamped.{Stamped}
 use Rattle.cr_base.specs.declared.paper.Paper.{Paper}
 use Rattle.cr_base.specs.Lists.{given, last, last_from, is_number, numbered}
-use Rattle.cr_base.specs.History.{History, all_told, all_told_by, paper_told, own_paper_told, author_told, title_told, abstract_told}
+use Rattle.cr_base.specs.History.{History, all_told, paper_told, own_paper_told, author_told, title_told, abstract_told}
 use Rattle.cr_base.specs.Facts.{papers_of, own_papers_of, authors_of, is_author, title_of, abstract_of}
 use Rattle.cr_base.specs.Papers.{PapersState, no_papers, counted, papers_after, paper_numbers, text_at, title_at, abstract_at, own_count, PapersFit}
 use Rattle.cr_base.specs.Ties.{TiesState, ties_after, authors_in, is_author_in}
-use Rattle.cr_base.specs.Tables.{Tables, no_tables, tables_after, tables_from, tables_of, FitInTurn}
+use Rattle.cr_base.specs.Tables.{Tables, no_tables, tables_of, FitInTurn}
 use Rattle.cr_base.proofs.LastLaws.{last_from-given}
 use Rattle.cr_base.proofs.ListLaws.{numbered-nil, numbered-push, numbers_from-push}
 use Rattle.cr_base.proofs.TieLaws.{users_of-push}

@@ -1,5 +1,5 @@
 -- Where each entry fits in its turn, the role that a history tells of any user is that of the accounts.
-use Rattle.std.proofs.Common.{ℕ, ◌≡◌, List, [], ◌∷◌, ◌++◌, eqb, refl, sym, ap, ◌∙◌, Option, Some, None}
+use Rattle.std.proofs.Common.{ℕ, ◌≡◌, List, [], ◌++◌, eqb, refl, sym, ap, ◌∙◌, Option, Some, None}
 use Rattle.std.specs.Prelude.{unwrap_or}
 use Rattle.std.specs.Option.{option_map}
 use Rattle.cr_base.specs.declared.entry.Account.{Account}
@@ -12,7 +12,7 @@ use Rattle.cr_base.specs.Lists.{last_or}
 use Rattle.cr_base.specs.History.{History, all_told, role_told}
 use Rattle.cr_base.specs.Facts.{role_of}
 use Rattle.cr_base.specs.Accounts.{accounts_after, role_in, AccountsFit}
-use Rattle.cr_base.specs.Tables.{Tables, no_tables, tables_after, tables_from, tables_of, FitInTurn}
+use Rattle.cr_base.specs.Tables.{Tables, no_tables, tables_of, FitInTurn}
 use Rattle.cr_base.proofs.LastLaws.{last_or-given}
 use Rattle.cr_base.proofs.ListLaws.{numbered-nil}
 use Rattle.cr_base.proofs.RoleLaws.{role_in-push, role_in-with_role}

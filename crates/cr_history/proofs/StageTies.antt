@@ -1,15 +1,15 @@
 -- The phase and the mode that a history tells are those of its tables.
-use Rattle.std.proofs.Common.{◌≡◌, List, [], ◌∷◌, ◌++◌, refl, ◌∙◌}
+use Rattle.std.proofs.Common.{◌≡◌, List, ◌++◌, refl}
 use Rattle.cr_base.specs.declared.entry.Entry.{Entry}
 use Rattle.cr_base.specs.declared.entry.Entry.TheVariants.{PhaseSet, ModeSet}
 use Rattle.cr_base.specs.declared.entry.Stamped.{Stamped}
 use Rattle.cr_base.specs.declared.words.Mode.{Mode}
 use Rattle.cr_base.specs.declared.words.Phase.{Phase}
 use Rattle.cr_base.specs.Lists.{last_or}
-use Rattle.cr_base.specs.History.{History, all_told, phase_told, mode_told}
+use Rattle.cr_base.specs.History.{History, phase_told, mode_told}
 use Rattle.cr_base.specs.Facts.{phase_of, mode_of}
 use Rattle.cr_base.specs.Stage.{StageState, stage_after}
-use Rattle.cr_base.specs.Tables.{Tables, no_tables, tables_after, tables_from, tables_of}
+use Rattle.cr_base.specs.Tables.{Tables, no_tables, tables_of}
 use Rattle.cr_base.proofs.LastLaws.{last_or-cons}
 use Rattle.cr_history.proofs.Folds.{told-always}
 
