@@ -13,13 +13,13 @@ use Rattle.cr_base.specs.declared.words.Role.TheVariants.{Account}
 use Rattle.cr_base.specs.Lists.{given, last_or, is_number}
 use Rattle.cr_base.specs.History.{History, all_told, role_told}
 use Rattle.cr_base.specs.Facts.{mode_of, phase_of, role_of, authors_of, is_author}
+use Rattle.cr_history.proofs.LineTies.{stamp}
 use Rattle.cr_policy.specs.Sighting.{Sighting, blank}
 use Rattle.cr_policy.specs.View.{view}
 use Rattle.cr_policy.specs.ShownTo.{is_on_committee, leads_committee, is_past_submission, hides_authors, serves, handles, oversees, has_conflict, is_told, where_known, is_replaced, each_told, kind_for, paper_for}
 use Rattle.cr_policy.specs.ViewBounds.{IsLeft, OutsidersShown, IsPublic, names_her, IsStranger, StrangersShown, NobodyShown}
 use Rattle.cr_policy.proofs.BoundsParts.{IsWriters}
 use Rattle.cr_policy.proofs.BoundsWalk.{shown_to, writers-all, view-told}
-use Rattle.cr_history.proofs.LineTies.{stamp}
 use Rattle.cr_policy.proofs.Walk.{list_any-nobody}
 
 -- ---- each sighting
