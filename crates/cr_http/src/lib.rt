@@ -30,6 +30,3 @@ pub use place::WINDOW;
 pub use read::{RequestRead, read_request};
 pub use refusal::Refusal;
 pub use values::{AllValues, Values};
-
-#[cfg(test)]
-mod tests;

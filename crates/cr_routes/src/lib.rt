@@ -11,8 +11,6 @@ mod laws;
 mod method;
 mod place;
 mod routes;
-#[cfg(test)]
-mod tests;
 
 pub use ask::Ask;
 pub use found::Found;
