@@ -1,11 +1,11 @@
 //! Requests and answers.
 
-use cr_base::{AccountLine, AccountLines, Command, Reply, Role, Short, UserNo};
+use cr_base::{AccountLine, AccountLines, Ask, Command, Reply, Role, Short, UserNo};
 use cr_bodies::{read_command, read_credentials};
 use cr_http::{Inbox, RequestRead, read_request};
 use cr_ports::PlainSource;
 use cr_print::{Form, no_memory_text, print_reply};
-use cr_routes::{Ask, Routes};
+use cr_routes::Routes;
 use cr_wire::wish_of;
 use std::alloc::Global;
 use std::test::Fail;
