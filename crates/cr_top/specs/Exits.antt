@@ -19,6 +19,9 @@ abbrev pub status_of : Exit → ℕ
 status_of exits.Done = 0
 status_of exits.Cut = 1
 status_of exits.Usage = 2
+status_of (exits.BadStore row kind) = 3
 status_of exits.ReadFault = 4
 status_of exits.WriteFault = 5
+status_of exits.KeeperFault = 6
+status_of exits.NoUser = 8
 status_of exits.OutOfMemory = 9

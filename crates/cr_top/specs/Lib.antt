@@ -3,3 +3,4 @@ pub mod Words
 pub mod Exits
 pub mod Replayed
 pub mod Runs
+pub mod Stores

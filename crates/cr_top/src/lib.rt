@@ -6,10 +6,12 @@
 mod exit;
 mod piping;
 mod run;
+mod storing;
 
 pub use exit::{Exit, exit_of};
 pub use piping::pipe;
 pub use run::top;
+pub use storing::pipe_store;
 
 #[cfg(test)]
 mod tests;

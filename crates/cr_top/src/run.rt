@@ -8,6 +8,7 @@ ghost use Rattle.cr_top.specs.Words.{AreTaken, AreRefused, PassTest};
 
 use crate::exit::{Exit, exit_of};
 use crate::piping::pipe;
+use cr_book::Book;
 use cr_ports::{PlainKeeper, Sink, Source};
 use cr_session::write_reply;
 use cr_words::{Job, WordsError, read_words, usage_text};
@@ -39,13 +40,13 @@ pub fn top<I: Source, O: Sink>(alloc: Global, words: &[String], input: &mut I, o
     // One connection, from the empty history on: the bytes that out took are the answers that the
     // wishes are told, each on the caller's view of the history at its turn.
     ensures takes { let outside = outside_of I.faults O.taken O.faults in
-        AreTaken words.now → DoesPipe I.left I.read_gives result (outside input.old out.old) (outside input.new out.new) }
+        AreTaken words.now → DoesPipe I.left I.read_gives [] result (outside input.old out.old) (outside input.new out.new) }
 
     // Where nothing fails, all that the input's bytes spell is answered, or memory is wanting.
     ensures answers { let outside = outside_of I.faults O.taken O.faults in
         (b : List ℕ) → AreTaken words.now → I.left input.old ≡ Some b
         → IsFaultless (outside input.old out.old) (outside input.new out.new)
-        → (result ≡ Exit.OutOfMemory) ⊎ AnswersAll result b (outside input.old out.old) (outside input.new out.new) }
+        → (result ≡ Exit.OutOfMemory) ⊎ AnswersAll [] result b (outside input.old out.old) (outside input.new out.new) }
 
     // Words that name no job are answered by the usage line, and nothing is read.
     ensures refuses { let outside = outside_of I.faults O.taken O.faults in
@@ -58,7 +59,8 @@ pub fn top<I: Source, O: Sink>(alloc: Global, words: &[String], input: &mut I, o
 {
     match read_words(alloc, words) {
         Ok(Job::Pipe) => {
-            let (ending, _keeper) = pipe(alloc, PlainKeeper::new(alloc), input, out);
+            let book = Book::open(alloc, PlainKeeper::new(alloc));
+            let (ending, _keeper) = pipe(alloc, book, input, out);
             exit_of(ending)
         }
         Err(WordsError::Usage) => refuse_words(out),

@@ -10,5 +10,5 @@ pub returns-clause-answers : goal.returns-clause-answers
 returns-clause-answers g c b left faultless idle =
     let o = outside_of g.I.Source.faults g.O.Sink.taken g.O.Sink.faults c.args.input.now c.args.out.now in
     let o' = outside_of g.I.Source.faults g.O.Sink.taken g.O.Sink.faults c.serve_connection-ending.new.source c.serve_connection-ending.new.sink in
-    pipe_answers g.K.Keeper.rows g.K.Keeper.faults g.I.Source.left g.I.Source.read_gives c.serve_connection-ending.result c.args.keeper c.close.result b o o'
+    pipe_answers g.K.Keeper.rows g.K.Keeper.faults g.I.Source.left g.I.Source.read_gives c.args.book.log c.serve_connection-ending.result c.args.book.keeper c.close.result b o o'
     (returns-clause-pipes g c) left faultless idle

@@ -1,0 +1,306 @@
+#!/usr/bin/env python3
+"""Tries `confd pipe --store FILE` on real files: what was answered is there, whatever happens.
+
+    python3 checks/store.py [PROGRAM]
+
+PROGRAM is `confd` as `rt run` builds it (crates/confd/out/confd where none is named). Python 3 alone is
+needed. Prints a line a check, and last `N passed, M failed`; ends with status 0 where none failed. Takes
+about a minute.
+"""
+
+import json
+import os
+import random
+import resource
+import shutil
+import signal
+import sqlite3
+import subprocess
+import sys
+import tempfile
+
+TOP = os.path.dirname(os.path.dirname(os.path.abspath(__file__)))
+MANY = 1_000
+PAPERS_EACH = 20
+KILLS = 50
+TABLES = ("people", "papers", "ties", "talk")
+
+
+# ---- requests and answers
+
+
+def request(method, path, who=None, body=None):
+    """One request as bytes; `who` is a name, whose secret is made of it."""
+    lines = [f"{method} {path} HTTP/1.1", "Host: c"]
+    if who is not None:
+        lines.append(f"Authorization: Bearer {who}.{who}-secret-0123456789")
+    content = b""
+    if body is not None:
+        content = json.dumps(body, separators=(",", ":")).encode()
+        lines.append(f"Content-Length: {len(content)}")
+    return "\r\n".join(lines).encode() + b"\r\n\r\n" + content
+
+
+def register(name):
+    return request("POST", "/register", body={"name": name, "secret": f"{name}-secret-0123456789"})
+
+
+def submit(name, title, abstract=""):
+    return request("POST", "/papers", name, {"abstract": abstract, "title": title})
+
+
+def opening():
+    """A chair, and the phase in which papers come: three rows."""
+    return register("alice") + request("POST", "/phase", "alice", {"phase": "submission"})
+
+
+def answers(out):
+    """The answers that stand whole in these bytes, each as its status code and its content."""
+    found = []
+    while True:
+        head, blank, rest = out.partition(b"\r\n\r\n")
+        if not blank:
+            return found
+        fields = dict(line.split(b": ", 1) for line in head.split(b"\r\n")[1:])
+        length = int(fields.get(b"Content-Length", b"0"))
+        if len(rest) < length:
+            return found
+        found.append((int(head.split(b" ")[1]), rest[:length]))
+        out = rest[length:]
+
+
+class Program:
+    def __init__(self, path):
+        self.path = path
+
+    def run(self, words, text=b"", **more):
+        """What a run with these words over these bytes wrote, and its status."""
+        done = subprocess.run([self.path, *words], input=text, stdout=subprocess.PIPE, stderr=subprocess.PIPE, **more)
+        return done.stdout, done.returncode, done.stderr
+
+    def pipe(self, store, text, **more):
+        out, status, _ = self.run(["pipe", "--store", store], text, **more)
+        return answers(out), status
+
+    def begin(self, store):
+        """A run whose input stays open."""
+        return subprocess.Popen(
+            [self.path, "pipe", "--store", store], stdin=subprocess.PIPE, stdout=subprocess.PIPE, stderr=subprocess.DEVNULL
+        )
+
+
+def ask(child, text):
+    """Sends one request, and waits for its answer."""
+    child.stdin.write(text)
+    child.stdin.flush()
+    out = b""
+    while not answers(out):
+        piece = os.read(child.stdout.fileno(), 65536)
+        if not piece:
+            return None
+        out += piece
+    return answers(out)[0]
+
+
+# ---- what stands in a file
+
+
+def rows(store):
+    """Every row of the four tables, by place."""
+    with sqlite3.connect(store) as file:
+        found = [row for table in TABLES for row in file.execute(f"SELECT place, kind, maker, more, n1, b1, b2 FROM {table}")]
+    return sorted(found)
+
+
+def expect(held, what):
+    if not held:
+        raise AssertionError(what)
+
+
+# ---- the checks
+
+
+def many_rows(program, folder):
+    """A thousand registrations and a thousand submissions stand in the file, row by row."""
+    store = os.path.join(folder, "many")
+    names = [f"user{n}" for n in range(MANY)]
+    text = opening() + b"".join(register(name) for name in names)
+    text += b"".join(submit(names[n // PAPERS_EACH], f"Paper {n}", "We prove.") for n in range(MANY))
+    told, status = program.pipe(store, text)
+    expect(status == 0, f"status {status}")
+    expect(all(code in (200, 201) for code, _ in told) and len(told) == 2 + 2 * MANY, "not every request was taken")
+    found = rows(store)
+    expect([row[0] for row in found] == list(range(len(found))), "the places are not 0, 1, 2 ..")
+    expect(len(found) == 3 + 2 * MANY, f"{len(found)} rows")
+    registered = [row for row in found if row[1] == 1]
+    submitted = [row for row in found if row[1] == 5]
+    expect([row[4] for row in registered] == list(range(1, MANY + 2)), "user numbers")
+    expect([bytes(row[5]).decode() for row in registered] == ["alice"] + names, "names")
+    expect([row[4] for row in submitted] == list(range(1, MANY + 1)), "paper numbers")
+    expect(all(len(row[6]) == 32 for row in registered), "digests of 32 bytes")
+    expect(sum(len(row[6]) for row in submitted) == MANY * len("We prove."), "the sum of the abstracts' bytes")
+    accounts, _ = program.pipe(store, request("GET", "/accounts"))
+    expect(len(json.loads(accounts[0][1])["accounts"]) == MANY + 1, "accounts after opening again")
+
+
+def killed(program, folder):
+    """Killed at a random moment: each answered command is there when the store is opened again."""
+    store = os.path.join(folder, "killed")
+    dice = random.Random(7)
+    told, status = program.pipe(store, opening())
+    expect(status == 0, f"status {status}")
+    answered = 1
+    for turn in range(KILLS):
+        child = program.begin(store)
+        for n in range(dice.randrange(1, 6)):
+            answer = ask(child, register(f"user{turn}-{n}"))
+            expect(answer is not None and answer[0] == 201, f"a registration was answered {answer}")
+            answered = json.loads(answer[1])["user"]
+        child.stdin.write(register(f"late{turn}"))
+        child.stdin.flush()
+        if dice.random() < 0.5:
+            dice_wait(dice)
+        child.send_signal(signal.SIGKILL)
+        child.wait()
+        child.stdin.close()
+        child.stdout.close()
+        told, status = program.pipe(store, request("GET", "/accounts"))
+        expect(status == 0, f"opened again with status {status} after kill {turn}")
+        users = [line["user"] for line in json.loads(told[0][1])["accounts"]]
+        expect(len(users) in (answered, answered + 1), f"{len(users)} accounts, {answered} answered, after kill {turn}")
+        answered = len(users)
+
+
+def dice_wait(dice):
+    """Up to two milliseconds."""
+    os.sched_yield()
+    signal.setitimer(signal.ITIMER_REAL, dice.random() / 500)
+    signal.pause()
+
+
+def held_by_another(program, folder):
+    """While confd runs, a second confd and sqlite3 are refused the file."""
+    store = os.path.join(folder, "held")
+    child = program.begin(store)
+    answer = ask(child, register("alice"))
+    expect(answer is not None and answer[0] == 201, f"a registration was answered {answer}")
+    out, status, reason = program.run(["pipe", "--store", store], request("GET", "/phase"))
+    expect(status == 6 and out == b"", f"the second confd ended with {status}")
+    expect(store.encode() in reason, "standard error names no file")
+    refused = False
+    try:
+        with sqlite3.connect(store, timeout=0) as file:
+            file.execute("SELECT count(*) FROM people").fetchone()
+    except sqlite3.OperationalError:
+        refused = True
+    expect(refused, "sqlite3 read the file")
+    child.stdin.close()
+    child.wait()
+    child.stdout.close()
+    expect(len(rows(store)) == 2, "rows after the end")
+
+
+def full_disk(program, folder):
+    """A file that may grow no further: 503, and nothing that was acknowledged is lost."""
+    store = os.path.join(folder, "full")
+    told, status = program.pipe(store, opening())
+    expect(status == 0, f"status {status}")
+
+    def limit():
+        signal.signal(signal.SIGXFSZ, signal.SIG_IGN)
+        resource.setrlimit(resource.RLIMIT_FSIZE, (400_000, 400_000))
+
+    text = b"".join(register(f"user{n}") + submit(f"user{n}", "Proofs", "x" * 5000) for n in range(200))
+    told, status = program.pipe(store, text + request("GET", "/accounts"), preexec_fn=limit)
+    codes = [code for code, _ in told]
+    expect(503 in codes, "nothing was refused with 503")
+    kept = [json.loads(content)["user"] for code, content in told if code == 201 and b"user" in content]
+    papers = sum(1 for code, content in told if code == 201 and b"paper" in content)
+    told, status = program.pipe(store, request("GET", "/accounts") + request("GET", "/phase"))
+    expect(status == 0, f"opened again with status {status}")
+    users = [line["user"] for line in json.loads(told[0][1])["accounts"]]
+    expect(users == [1] + kept, "accounts")
+    expect(json.loads(told[1][1])["papers"] == papers, "papers")
+
+
+def copied(program, folder):
+    """A copy of the file, and of its -wal where there is one, opens with the same rows."""
+    store, copy = os.path.join(folder, "original"), os.path.join(folder, "copy")
+    told, status = program.pipe(store, opening() + submit("alice", "Proofs", "We prove."))
+    expect(status == 0, f"status {status}")
+    for end in ("", "-wal"):
+        if os.path.exists(store + end):
+            shutil.copyfile(store + end, copy + end)
+    first, _ = program.pipe(store, request("GET", "/papers/1", "alice"))
+    second, status = program.pipe(copy, request("GET", "/papers/1", "alice"))
+    expect(status == 0 and first == second, "the copy tells another page")
+
+
+def view_of_a_file(program, folder):
+    """`view` prints what a user sees; a name that is not registered is status 8."""
+    store = os.path.join(folder, "viewed")
+    program.pipe(store, opening())
+    out, status, _ = program.run(["view", "--store", store, "--user", "alice"])
+    lines = [json.loads(line) for line in out.splitlines()]
+    expect(status == 0 and [line["kind"] for line in lines] == ["registered", "named", "phaseset"], f"{status}: {out!r}")
+    out, status, _ = program.run(["view", "--store", store, "--user", "zoe"])
+    expect(status == 8 and out == b"", f"{status}: {out!r}")
+
+
+def bad_files(program, folder):
+    """What is no store of this version is refused with status 6, and a store with a bad row with status 3."""
+    other = os.path.join(folder, "no-database")
+    with open(other, "wb") as file:
+        file.write(b"no database, but long enough to be read as one\n" * 100)
+    told, status = program.pipe(other, request("GET", "/phase"))
+    expect(status == 6 and told == [], f"no database: {status}")
+    for name, change, due in (
+        ("version", "UPDATE meta SET version = 99", 6),
+        ("column", "ALTER TABLE ties ADD COLUMN more_still INTEGER", 6),
+        ("twice", "INSERT INTO talk SELECT * FROM people WHERE place = 1", 6),
+        ("missing", "DELETE FROM people WHERE place = 1", 6),
+        ("type", "UPDATE people SET n1 = 'one' WHERE place = 0", 6),
+        ("table", "INSERT INTO talk SELECT * FROM people WHERE place = 2; DELETE FROM people WHERE place = 2", 6),
+        ("kind", "UPDATE people SET kind = 18 WHERE place = 1", 3),
+        ("number", "UPDATE people SET n1 = 2 WHERE place = 0", 3),
+        ("role", "UPDATE people SET n2 = 1 WHERE place = 1", 3),
+        ("cut", "DELETE FROM people WHERE place >= 1", 3),
+    ):
+        store = os.path.join(folder, f"bad-{name}")
+        program.pipe(store, opening())
+        with sqlite3.connect(store) as file:
+            file.executescript(change)
+        before = open(store, "rb").read()
+        out, status, reason = program.run(["pipe", "--store", store], request("GET", "/phase"))
+        expect(status == due and out == b"", f"{name}: status {status}, due {due}")
+        expect(reason != b"", f"{name}: nothing on standard error")
+        expect(open(store, "rb").read() == before, f"{name}: the file was changed")
+
+
+CHECKS = (many_rows, killed, held_by_another, full_disk, copied, view_of_a_file, bad_files)
+
+
+def main():
+    path = sys.argv[1] if len(sys.argv) > 1 else os.path.join(TOP, "crates", "confd", "out", "confd")
+    if not os.path.exists(path):
+        sys.exit(f"{path}: build it first, with `rt run` in crates/confd")
+    signal.signal(signal.SIGALRM, lambda *_: None)
+    program = Program(os.path.abspath(path))
+    passed = failed = 0
+    for check in CHECKS:
+        title = check.__doc__.strip()
+        with tempfile.TemporaryDirectory() as folder:
+            try:
+                check(program, folder)
+            except AssertionError as error:
+                failed += 1
+                print(f"FAILED: {title}\n    {error}")
+            else:
+                passed += 1
+                print(f"ok: {title}")
+    print(f"{passed} passed, {failed} failed")
+    sys.exit(1 if failed else 0)
+
+
+if __name__ == "__main__":
+    main()
