@@ -1,1 +1,5 @@
 pub mod BookLaws
+pub mod OpeningCommands
+pub mod OpeningLaws
+pub mod OpeningLegal
+pub mod OpeningRows

@@ -13,6 +13,7 @@ ghost use Rattle.cr_view.specs.Draws.{drawn_by};
 ghost use Rattle.cr_view.specs.Replies.{AnswersAsDue};
 ghost use Rattle.cr_book.specs.Sound.{IsKept, Accepts};
 
+use crate::opening::{OpenError, read_all};
 use crate::rows::{copies_of, rows_of};
 use cr_base::{Command, Digest, Query, Receipt, Reply, Rule, Short, Stamped, UserNo};
 use cr_ports::{Keeper, KeeperError};
@@ -55,17 +56,18 @@ pub enum BookError {
 }
 
 impl<K: Keeper> Book<K> {
-    /// The book of a keeper without rows: its history is empty. Reads no row and takes no memory.
-    pub fn open(alloc: Global, keeper: K) -> Book<K>
-        requires { IfSome (K.rows keeper) (λ rows. rows ≡ []) }
-        ensures empty { result.log ≡ [] }
-        ensures same { result.keeper ≡ keeper }
+    /// The book of the history that the keeper's rows spell. Every row is read once, in order, and each
+    /// group is judged as its command was.
+    pub fn open(alloc: Global, mut keeper: K) -> Result<Book<K>, (OpenError, K)>
     {
-        Book {
-            alloc,
-            log: Vec::new(alloc),
-            live: Live::new(alloc),
-            keeper,
+        match read_all(alloc, &mut keeper) {
+            Ok((log, live)) => Ok(Book {
+                alloc,
+                log,
+                live,
+                keeper,
+            }),
+            Err(error) => Err((error, keeper)),
         }
     }
 

@@ -4,8 +4,16 @@
 
 mod book;
 mod laws;
+mod opening;
+mod reading;
+mod rebuilding;
 mod rows;
+mod scratch;
 
 pub use book::{Book, BookError};
 pub use cr_view::AnswerError;
 pub use laws::law_standing_by_tables;
+pub use opening::OpenError;
+
+#[cfg(test)]
+mod tests;

@@ -1,0 +1,75 @@
+//! How a store opens.
+ghost use Rattle.std.specs.Prelude.{◌≡◌, ◌≢◌, ◌≤◌, ◌++◌, ℕ, [], Ok, Err, IfOk, IfErr, IfSome, length, take};
+ghost use Rattle.cr_base.specs.declared.row.Row.{Row};
+ghost use Rattle.cr_base.specs.Rows.{rows_of};
+ghost use Rattle.cr_ports.specs.Count.{Rises};
+
+use crate::reading::{ReadError, Reading};
+use cr_base::{Row, Stamped};
+use cr_ports::{Keeper, KeeperError};
+use cr_view::Live;
+use std::alloc::Global;
+
+/// Why a store doesn't open.
+#[derive(Drop, Debug)]
+pub enum OpenError {
+    /// A row is no entry's, or doesn't continue a legal history, or is the last one though another of
+    /// its command should follow.
+    BadStore {
+        /// Its number, from 0: it is the first such row.
+        row: u64,
+        /// The row as it was read.
+        found: Row,
+    },
+    /// The keeper failed to tell its rows.
+    KeeperFault,
+    /// Memory is wanting.
+    OutOfMemory,
+}
+
+/// The same of a keeper that told nothing.
+fn untold(error: KeeperError) -> OpenError
+{
+    match error {
+        KeeperError::Failed => OpenError::KeeperFault,
+        KeeperError::OutOfMemory => OpenError::OutOfMemory,
+    }
+}
+
+/// Reads every row once, in order.
+fn read_rows<K: Keeper>(alloc: Global, keeper: &mut K, count: u64) -> Result<Reading, OpenError>
+{
+    let mut reading = Reading::new(alloc);
+    for i in 0..count {
+        let row = match keeper.row(i) {
+            Ok(row) => row,
+            Err(error) => return Err(untold(error)),
+        };
+        reading = match reading.read(row) {
+            Ok(after) => after,
+            Err(ReadError::Bad(found)) => return Err(OpenError::BadStore { row: i, found }),
+            Err(ReadError::OutOfMemory) => return Err(OpenError::OutOfMemory),
+        };
+    }
+    Ok(reading)
+}
+
+/// The history that the keeper's rows spell, with its tables.
+pub(crate) fn read_all<K: Keeper>(
+    alloc: Global,
+    keeper: &mut K,
+) -> Result<(Vec<Stamped>, Live), OpenError>
+{
+    let count = match keeper.len() {
+        Ok(count) => count,
+        Err(error) => return Err(untold(error)),
+    };
+    let reading = read_rows(alloc, keeper, count)?;
+    match reading.finish() {
+        Ok(read) => Ok(read),
+        Err(found) => Err(OpenError::BadStore {
+            row: count.saturating_sub(1),
+            found,
+        }),
+    }
+}
