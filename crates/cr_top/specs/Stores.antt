@@ -4,10 +4,15 @@ use Rattle.std.specs.Prelude.{◌≡◌, ◌≢◌, ◌≤◌, ◌⊎◌, ℕ, L
 use Rattle.std.specs.Option.{option_map}
 use Rattle.cr_base.specs.declared.row.Row.{Row}
 use Rattle.cr_base.specs.History.{History}
+use Rattle.cr_base.specs.Facts.{number_of}
 use Rattle.cr_base.specs.Rows.{rows_of}
 use Rattle.cr_ports.specs.Count.{Gains, Rises}
 use Rattle.cr_ports.specs.Shelving.{and_file}
+use Rattle.cr_ports.specs.Writing.{Outlet, Writes, BreaksOff}
 use Rattle.cr_policy.specs.Legal.{Legal}
+use Rattle.cr_policy.specs.View.{view}
+use Rattle.cr_sights.specs.Lines.{lines_text}
+use Rattle.cr_sights.specs.Walks.{StopsShort}
 use Rattle.cr_book.specs.Opening.{IsBadAt}
 use Rattle.cr_book.specs.Seen.{SeenBook}
 use Rattle.cr_session.specs.declared.serve.Ending.{Ending}
@@ -92,3 +97,31 @@ pub record ServesStore {K I : Type 0} (rows : K → Option (List Row)) (path : L
 -- a store that doesn't open leaves input and output as they were
 abbrev pub PipesStore : {K I : Type 0} → (K → Option (List Row)) → List ℕ → (I → Option (List ℕ)) → (I → I → List ℕ → Type 0) → Exit → Outside I → Outside I → Stores → Stores → Type 0
 PipesStore rows path left gives exit o o' s s' = (StaysShut rows path exit s s' × (o' ≡ o)) ⊎ ServesStore rows path left gives exit o o' s s'
+
+-- ---- a view of a store
+
+-- What was told of a user's view of a history, by the exit: all its lines; a part of them, behind which a write failed or
+-- memory was wanting; or that nobody has registered the name.
+abbrev pub TellsView : History → List ℕ → Exit → Outlet → Outlet → Type 0
+TellsView H name exits.Done s s' = (user : ℕ) × (number_of name H ≡ Some user) × Writes (lines_text (view (Some user) H)) s s'
+TellsView H name exits.WriteFault s s' = (user : ℕ) × (number_of name H ≡ Some user) × BreaksOff [] (lines_text (view (Some user) H)) s s'
+TellsView H name exits.OutOfMemory s s' = (user : ℕ) × (number_of name H ≡ Some user) × StopsShort (lines_text (view (Some user) H)) s s'
+TellsView H name exits.NoUser s s' = (number_of name H ≡ None) × (s' ≡ s)
+TellsView H name _ s s' = ⊥
+
+-- The view of the history of the rows at the path was told, and the rows are as they were.
+pub record ViewsStore {K : Type 0} (rows : K → Option (List Row)) (path name : List ℕ) (exit : Exit) (o o' : Outlet) (s s' : Stores) : Type 0 where
+  pub opening : History
+  pub opens : Legal opening
+  pub found : IfSome s.files (λ files. rows_of opening ≡ files path)
+  pub tells : TellsView opening name exit o o'
+  pub files : KeepsFiles rows s s'
+  pub count : s.faults ≤ s'.faults
+
+-- a store that doesn't open leaves the output as it was
+abbrev pub TellsStore : {K : Type 0} → (K → Option (List Row)) → List ℕ → List ℕ → Exit → Outlet → Outlet → Stores → Stores → Type 0
+TellsStore rows path name exit o o' s s' = (StaysShut rows path exit s s' × (o' ≡ o)) ⊎ ViewsStore rows path name exit o o' s s'
+
+-- where nothing fails, a legal history's view is told whole, or nobody there has the name
+abbrev pub AnswersView : History → List ℕ → Exit → Outlet → Outlet → Type 0
+AnswersView H name exit o o' = TellsView H name exit o o' × ((exit ≡ exits.Done) ⊎ (exit ≡ exits.NoUser))

@@ -7,11 +7,13 @@ mod exit;
 mod piping;
 mod run;
 mod storing;
+mod viewing;
 
 pub use exit::{Exit, exit_of};
 pub use piping::pipe;
 pub use run::top;
 pub use storing::pipe_store;
+pub use viewing::view_store;
 
 #[cfg(test)]
 mod tests;

@@ -23,7 +23,7 @@ fn exit_of_shelf(error: KeeperError) -> Exit {
 }
 
 /// The exit of a run whose store has rows that don't open.
-fn exit_of_rows(error: OpenError) -> Exit {
+pub(crate) fn exit_of_rows(error: OpenError) -> Exit {
     match error {
         OpenError::BadStore { row, found } => Exit::BadStore {
             row,
@@ -35,7 +35,7 @@ fn exit_of_rows(error: OpenError) -> Exit {
 }
 
 /// The book of the rows at the path. Where they don't open, the store is shut again, and the exit tells why.
-fn open_store<S: Shelf>(
+pub(crate) fn open_store<S: Shelf>(
     alloc: Global,
     path: &str,
     shelf: &mut S,
