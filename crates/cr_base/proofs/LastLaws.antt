@@ -1,5 +1,5 @@
 -- The last of the values that are told.
-use Rattle.std.proofs.Common.{Bool, true, false, cond, ◌≡◌, List, [], ◌∷◌, ◌++◌, refl, Option, Some, None}
+use Rattle.std.proofs.Common.{Bool, true, false, cond, ◌≡◌, List, [], ◌∷◌, ◌++◌, refl, Option, Some}
 use Rattle.std.specs.Prelude.{unwrap_or}
 use Rattle.cr_base.specs.Lists.{given, last_from, last_or}
 

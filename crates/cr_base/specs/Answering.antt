@@ -43,7 +43,9 @@ me_by facts user = record {
 -- what a query is answered where it breaks no rule
 abbrev pub told_by : Facts → Shown → Option ℕ → Query → Reply
 told_by facts shown caller queries.Accounts = replies.Accounts facts.accounts
-told_by facts shown caller queries.Phase = replies.Conference (record { mode = (facts.standing None).mode; papers = length facts.papers; phase = (facts.standing None).phase })
+told_by facts shown caller queries.Phase =
+    let by = facts.standing None in
+    replies.Conference (record { mode = by.mode; papers = length facts.papers; phase = by.phase })
 told_by facts shown caller queries.Me = replies.Me (me_by facts (maker_of caller))
 told_by facts shown caller (queries.Page paper) = replies.Page (page_by facts shown (unwrap_or paper 0))
 

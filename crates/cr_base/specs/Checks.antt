@@ -142,6 +142,10 @@ conflict_case true false late by target = declare_checks by target
 conflict_case true true true by target = late_checks
 conflict_case true true false by target = if target.herself then own_checks by else other_checks by target
 
+-- on: by the phase
+abbrev pub on_checks : Standing → Target → List Check
+on_checks by target = conflict_case true (is_from Bidding by.phase) (is_from Notification by.phase) by target
+
 -- conflict: the caller's standing at the paper, the paper, the user named, if there is one, and whether it is turned on
 abbrev pub conflict_checks : Standing → NamedPaper → Option Target → Bool → List Check
 conflict_checks by paper target on =

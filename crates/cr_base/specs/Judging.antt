@@ -13,7 +13,9 @@ use Rattle.cr_base.specs.Tables.{Tables}
 -- naming this user, if there is one
 abbrev pub name_judged : Facts → Option ℕ → Option ℕ → List ℕ → Role → Result Drawn Rule
 name_judged facts caller target name role =
-    judged (name_checks (facts.standing None) (option_map of_role (role_among facts.accounts target)) role) (naming_drawn (maker_of caller) (unwrap_or target 0) name role)
+    judged
+    (name_checks (facts.standing None) (option_map of_role (role_among facts.accounts target)) role)
+    (naming_drawn (maker_of caller) (unwrap_or target 0) name role)
 
 -- turning this user's conflict, if there is one, on or off
 abbrev pub conflict_judged : Facts → Shown → Option ℕ → Option ℕ → Option ℕ → Bool → Result Drawn Rule
@@ -29,7 +31,9 @@ judge_by facts shown caller (Register name digest) =
 judge_by facts shown caller (SetPhase to) =
     judged (phase_checks (facts.standing None) (facts.standing None).phase to) (phase_drawn (maker_of caller) to)
 judge_by facts shown caller (Submit title abstract) =
-    judged (submit_checks (facts.standing None) (length facts.papers) facts.own_papers) (submission_drawn (maker_of caller) (length facts.papers + 1) title abstract)
+    judged
+    (submit_checks (facts.standing None) (length facts.papers) facts.own_papers)
+    (submission_drawn (maker_of caller) (length facts.papers + 1) title abstract)
 judge_by facts shown caller (Name name role) =
     name_judged facts caller (user_among facts.accounts name) (unwrap_or name []) role
 judge_by facts shown caller (SetMode to) =

@@ -93,4 +93,5 @@ paper_named facts paper = record { there = has_paper facts paper }
 
 abbrev pub target_named : Facts → Shown → Option ℕ → Option ℕ → Option ℕ → Option Target
 target_named facts shown caller paper user =
-    option_map (λ (role : Role). record { role = role; herself = is_number user (maker_of caller); author = at_some (λ p. list_any (is_number user) (shown.authors p)) paper }) (role_among facts.accounts user)
+    let wrote = at_some (λ p. list_any (is_number user) (shown.authors p)) paper in
+    option_map (λ (role : Role). record { role = role; herself = is_number user (maker_of caller); author = wrote }) (role_among facts.accounts user)

@@ -1,5 +1,5 @@
 -- What the authors by paper and by user are after one more submission, and how they are read.
-use Rattle.std.proofs.Common.{ℕ, Bool, true, false, ◌≡◌, ◌≤◌, ◌∙◌, ◌||◌, ◌&&◌, List, [], ◌∷◌, ◌++◌, eqb, arith, refl, sym, ap, subst, Some}
+use Rattle.std.proofs.Common.{ℕ, Bool, true, ◌≡◌, ◌≤◌, ◌∙◌, ◌||◌, ◌&&◌, [], ◌∷◌, ◌++◌, eqb, arith, refl, sym, ap, subst, Some}
 use Rattle.std.specs.Prelude.{nat_le, nat_lt, not}
 use Rattle.std.specs.Cmp.Derive.{both_true}
 use Rattle.std.specs.List.{list_any, list_all}
@@ -10,7 +10,7 @@ use Rattle.cr_base.specs.declared.pairs.Order.TheVariants.{ByPaper, ByUser}
 use Rattle.cr_base.specs.declared.pairs.Pair.{Pair}
 use Rattle.cr_base.specs.declared.pairs.Tie.{Tie}
 use Rattle.cr_base.specs.Lists.{IsRising, is_number}
-use Rattle.cr_base.specs.Pairs.{same_pair, leads, follows, is_tied, stands, IsSortedBy, IsAscending, has_pair, with_tie, users_of, papers_of}
+use Rattle.cr_base.specs.Pairs.{same_pair, leads, follows, stands, IsSortedBy, IsAscending, has_pair, with_tie, users_of, papers_of}
 use Rattle.cr_base.specs.Ties.{BareTies, pair_of, bare_tie, are_before}
 use Rattle.cr_base.proofs.PairLaws.{IsAscending-with_tie, has_pair-with_tie, list_any-others_of}
 use Rattle.cr_base.proofs.RisingLists.{rising-sorted, rising-others_of, others_of-same}

@@ -1,7 +1,6 @@
 //! The rules of turning a conflict on and off, a function a list of checks.
-ghost use Rattle.std.specs.Prelude.{◌≡◌, true};
-ghost use Rattle.cr_base.specs.Checks.{judged, conflict_case, declare_checks, own_checks, other_checks, off_checks};
-ghost use Rattle.cr_base.specs.Phases.{is_from};
+ghost use Rattle.std.specs.Prelude.{◌≡◌};
+ghost use Rattle.cr_base.specs.Checks.{judged, declare_checks, own_checks, other_checks, on_checks, off_checks};
 
 use cr_base::{Phase, Rule, Standing, Target};
 
@@ -46,7 +45,7 @@ fn other(by: &Standing, target: &Target) -> Result<(), Rule>
 
 /// On: by the phase, and whether the caller names herself.
 pub(crate) fn on(by: &Standing, target: &Target) -> Result<(), Rule>
-    ensures { let phase = by.now.phase in result ≡ judged (conflict_case true (is_from Phase.Bidding phase) (is_from Phase.Notification phase) by.now target.now) tt }
+    ensures { result ≡ judged (on_checks by.now target.now) tt }
 {
     if !by.phase.is_from(Phase::Bidding) {
         return declared(by, target);

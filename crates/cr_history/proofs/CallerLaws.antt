@@ -29,7 +29,7 @@ numbered-entry accounts (Registered v name digest) user rest fits later h = by (
     by false same h = later h
 numbered-entry accounts e user rest fits later h = later h
 
--- who has registered has one that a row can hold
+-- who has registered has a number that a row can hold
 pub registered-from : (t : Tables) (H : History) (user : ℕ) → FitInTurn t H → list_any (is_of user) (all_told registration_told H) ≡ true → InRange users user
 registered-from t [] user fits h = cc
 registered-from t (s ∷ H) user fits h = numbered-entry t.accounts s.entry user (all_told registration_told H) fits.0.accounts (registered-from (tables_after t s) H user fits.1) h

@@ -19,6 +19,7 @@ use Rattle.cr_base.proofs.LastLaws.{last_or-given}
 use Rattle.cr_base.proofs.PairLaws.{has_pair-with_tie}
 use Rattle.cr_base.proofs.TieLaws.{has_pair-switched, users_of-push}
 use Rattle.cr_history.proofs.PaperTies.{turned, is_author-tables}
+use Rattle.cr_history.proofs.Folds.{told-always}
 
 -- ---- declared conflicts
 
@@ -39,10 +40,6 @@ conflict-entry p v ties maker (Conflict paper user on) rest =
     ∙ ap (λ b. last_or b rest) (sym (switched-told on (pair_of p v) paper user ties.conflicts))
 conflict-entry p v ties maker e rest = refl
 
-conflict-from : (p v : ℕ) (t : Tables) (H : History) → last_or (has_pair (pair_of p v) t.ties.conflicts) (all_told (conflict_told (Some v) p) H) ≡ has_pair (pair_of p v) (tables_from t H).ties.conflicts
-conflict-from p v t [] = refl
-conflict-from p v t (s ∷ H) = conflict-entry p v t.ties s.maker s.entry (all_told (conflict_told (Some v) p) H) ∙ conflict-from p v (tables_after t s) H
-
 -- nothing is told of nobody
 nobody-entry : (p : ℕ) (e : Entry) → conflict_told None p e ≡ []
 nobody-entry p (Conflict paper user on) = by (eqb paper p)
@@ -59,7 +56,7 @@ nobody-told p (s ∷ H) = ap (λ xs. xs ++ all_told (conflict_told None p) H) (n
 -- a user's declared conflicts are those of the table
 pub is_conflict_on-tables : (u : Option ℕ) (p : ℕ) (H : History) → is_conflict_on u p H ≡ is_conflict_on_in (tables_of H).ties u p
 is_conflict_on-tables None p H = ap (last_or false) (nobody-told p H)
-is_conflict_on-tables (Some v) p H = conflict-from p v no_tables H
+is_conflict_on-tables (Some v) p H = told-always last_or (λ _. refl) (λ (t : Tables). has_pair (pair_of p v) t.ties.conflicts) (λ (s : Stamped). conflict_told (Some v) p s.entry) (λ t s. conflict-entry p v t.ties s.maker s.entry) no_tables H
 
 pub is_conflicted-tables : (u : Option ℕ) (p : ℕ) (H : History) → is_conflicted u p H ≡ is_conflicted_in (tables_of H).ties u p
 is_conflicted-tables u p H =

@@ -1,5 +1,6 @@
 pub mod CallerLaws
 pub mod ConflictTies
+pub mod Folds
 pub mod GroupLaws
 pub mod GrowthLaws
 pub mod InOrder

@@ -8,15 +8,17 @@ use Rattle.std.proofs.lemmas.Slice.Eq.{bytes_eq-Decides}
 use Rattle.cr_base.specs.declared.entry.Account.{Account}
 use Rattle.cr_base.specs.declared.entry.Entry.{Entry}
 use Rattle.cr_base.specs.declared.entry.Entry.TheVariants.{Registered, Named}
+use Rattle.cr_base.specs.declared.entry.Stamped.{Stamped}
 use Rattle.cr_base.specs.declared.words.Role.TheVariants as role
 use Rattle.cr_base.specs.Lists.{last_from}
-use Rattle.cr_base.specs.History.{History, all_told, number_told, caller_told}
+use Rattle.cr_base.specs.History.{History, number_told, caller_told}
 use Rattle.cr_base.specs.Facts.{number_of, caller_of}
 use Rattle.cr_base.specs.Accounts.{with_role, accounts_after, number_at, has_digest, caller_at, AccountsFit}
-use Rattle.cr_base.specs.Tables.{Tables, no_tables, tables_after, tables_from, tables_of, FitInTurn}
+use Rattle.cr_base.specs.Tables.{Tables, no_tables, tables_of, FitInTurn}
 use Rattle.cr_base.proofs.AccountLaws.{number_at-from, number_at-push, number_at-with_role}
 use Rattle.cr_base.proofs.LastLaws.{last_from-given}
 use Rattle.cr_base.proofs.RoleLaws.{has_digest-push, has_digest-with_role}
+use Rattle.cr_history.proofs.Folds.{told-fitting}
 
 -- ---- numbers
 
@@ -29,13 +31,9 @@ number-entry name accounts (Registered user name' digest) fits rest =
 number-entry name accounts (Named user role') fits rest = ap (λ o. last_from o rest) (sym (number_at-with_role accounts (user - 1) role' name))
 number-entry name accounts e fits rest = refl
 
-number-from : (name : List ℕ) (t : Tables) (H : History) → FitInTurn t H → last_from (number_at t.accounts name) (all_told (number_told name) H) ≡ number_at (tables_from t H).accounts name
-number-from name t [] fits = refl
-number-from name t (s ∷ H) fits = number-entry name t.accounts s.entry fits.0.accounts (all_told (number_told name) H) ∙ number-from name (tables_after t s) H fits.1
-
 -- the user of a name is the one among the accounts
 pub number_of-tables : (name : List ℕ) (H : History) → FitInTurn no_tables H → number_of name H ≡ number_at (tables_of H).accounts name
-number_of-tables name H fits = number-from name no_tables H fits
+number_of-tables name H fits = told-fitting last_from (λ _. refl) (λ (t : Tables). number_at t.accounts name) (λ (s : Stamped). number_told name s.entry) (λ t s fit. number-entry name t.accounts s.entry fit.accounts) no_tables H fits
 
 -- ---- digests
 
@@ -101,10 +99,6 @@ caller-entry name digest accounts (Named user role') fits rest =
     ∙ ap (passed (has_digest now digest)) (sym (number_at-with_role accounts (user - 1) role' name)))
 caller-entry name digest accounts e fits rest = refl
 
-caller-from : (name digest : List ℕ) (t : Tables) (H : History) → FitInTurn t H → last_from (caller_at t.accounts name digest) (all_told (caller_told name digest) H) ≡ caller_at (tables_from t H).accounts name digest
-caller-from name digest t [] fits = refl
-caller-from name digest t (s ∷ H) fits = caller-entry name digest t.accounts s.entry fits.0.accounts (all_told (caller_told name digest) H) ∙ caller-from name digest (tables_after t s) H fits.1
-
 -- the user of a name and a digest is the one among the accounts
 pub caller_of-tables : (name digest : List ℕ) (H : History) → FitInTurn no_tables H → caller_of name digest H ≡ caller_at (tables_of H).accounts name digest
-caller_of-tables name digest H fits = caller-from name digest no_tables H fits
+caller_of-tables name digest H fits = told-fitting last_from (λ _. refl) (λ (t : Tables). caller_at t.accounts name digest) (λ (s : Stamped). caller_told name digest s.entry) (λ t s fit. caller-entry name digest t.accounts s.entry fit.accounts) no_tables H fits

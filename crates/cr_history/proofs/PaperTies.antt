@@ -6,16 +6,18 @@ use Rattle.std.specs.Option.{option_map}
 use Rattle.std.proofs.lemmas.Bool.Decides.{nat_tests}
 use Rattle.cr_base.specs.declared.entry.Entry.{Entry}
 use Rattle.cr_base.specs.declared.entry.Entry.TheVariants.{Submitted, Conflict}
+use Rattle.cr_base.specs.declared.entry.Stamped.{Stamped}
 use Rattle.cr_base.specs.declared.paper.Paper.{Paper}
 use Rattle.cr_base.specs.Lists.{given, last, last_from, is_number, numbered}
-use Rattle.cr_base.specs.History.{History, all_told, all_told_by, paper_told, own_paper_told, author_told, title_told, abstract_told}
+use Rattle.cr_base.specs.History.{History, all_told, paper_told, own_paper_told, author_told, title_told, abstract_told}
 use Rattle.cr_base.specs.Facts.{papers_of, own_papers_of, authors_of, is_author, title_of, abstract_of}
 use Rattle.cr_base.specs.Papers.{PapersState, no_papers, counted, papers_after, paper_numbers, text_at, title_at, abstract_at, own_count, PapersFit}
 use Rattle.cr_base.specs.Ties.{TiesState, ties_after, authors_in, is_author_in}
-use Rattle.cr_base.specs.Tables.{Tables, no_tables, tables_after, tables_from, tables_of, FitInTurn}
+use Rattle.cr_base.specs.Tables.{Tables, no_tables, tables_of, FitInTurn}
 use Rattle.cr_base.proofs.LastLaws.{last_from-given}
 use Rattle.cr_base.proofs.ListLaws.{numbered-nil, numbered-push, numbers_from-push}
 use Rattle.cr_base.proofs.TieLaws.{users_of-push}
+use Rattle.cr_history.proofs.Folds.{told-always, told-fitting}
 
 -- two numbers are compared either way
 pub turned : (n m : ℕ) → eqb n m ≡ eqb m n
@@ -33,13 +35,9 @@ numbers-entry state maker (Submitted paper title abstract) fits rest =
     sym (ap (λ ns. ns ++ rest) (numbers_from-push 1 paper state.papers (kept title abstract) is) ∙ append_assoc (paper_numbers state) (paper ∷ []) rest)
 numbers-entry state maker e fits rest = refl
 
-numbers-from : (t : Tables) (H : History) → FitInTurn t H → paper_numbers t.papers ++ all_told paper_told H ≡ paper_numbers (tables_from t H).papers
-numbers-from t [] fits = append-nil (paper_numbers t.papers)
-numbers-from t (s ∷ H) fits = numbers-entry t.papers s.maker s.entry fits.0.papers (all_told paper_told H) ∙ numbers-from (tables_after t s) H fits.1
-
 -- the papers of a history are numbered from 1
 pub papers_of-tables : (H : History) → FitInTurn no_tables H → papers_of H ≡ paper_numbers (tables_of H).papers
-papers_of-tables H fits = numbers-from no_tables H fits
+papers_of-tables H fits = told-fitting ◌++◌ append-nil (λ (t : Tables). paper_numbers t.papers) (λ (s : Stamped). paper_told s.entry) (λ t s fit. numbers-entry t.papers s.maker s.entry fit.papers) no_tables H fits
 
 -- ---- how many are the user's own
 
@@ -82,20 +80,19 @@ own-entry (Some v) state maker (Submitted paper title abstract) n =
     by false m = omega arith
 own-entry u state maker e n = omega arith
 
-own-from : (u : Option ℕ) (t : Tables) (H : History) → own_count t.papers u + length (all_told_by (own_paper_told u) H) ≡ own_count (tables_from t H).papers u
-own-from u t [] = omega arith
-own-from u t (s ∷ H) =
-    ap (λ n. own_count t.papers u + n) (length-append (own_paper_told u s.maker s.entry) (all_told_by (own_paper_told u) H))
-    ∙ own-entry u t.papers s.maker s.entry (length (all_told_by (own_paper_told u) H))
-    ∙ own-from u (tables_after t s) H
-
 -- a user's own papers are those that she submitted
 pub own_papers_of-tables : (u : Option ℕ) (H : History) → own_papers_of u H ≡ own_count (tables_of H).papers u
-own_papers_of-tables u H = none u (own_papers_of u H) ∙ own-from u no_tables H
+own_papers_of-tables u H =
+    none u (own_papers_of u H)
+    ∙ told-always (λ n (papers : List ℕ). n + length papers) (λ n. plus_none n) (λ (t : Tables). own_count t.papers u) (λ (s : Stamped). own_paper_told u s.maker s.entry)
+    (λ t s rest. ap (λ n. own_count t.papers u + n) (length-append (own_paper_told u s.maker s.entry) rest) ∙ own-entry u t.papers s.maker s.entry (length rest)) no_tables H
   where
     none : (u : Option ℕ) (n : ℕ) → n ≡ own_count no_papers u + n
     none None n = omega arith
     none (Some v) n = omega arith
+
+    plus_none : (n : ℕ) → n + length {A = ℕ} [] ≡ n
+    plus_none n = omega arith
 
 -- ---- the texts of a paper
 
@@ -128,16 +125,12 @@ module _ (part : Paper → List ℕ) (p : ℕ) where
       by false o x = refl
   text-entry state maker e fits rest = refl
 
-  text-from : (t : Tables) (H : History) → FitInTurn t H → last_from (text_at part t.papers p) (all_told (text_told part p) H) ≡ text_at part (tables_from t H).papers p
-  text-from t [] fits = refl
-  text-from t (s ∷ H) fits = text-entry t.papers s.maker s.entry fits.0.papers (all_told (text_told part p) H) ∙ text-from (tables_after t s) H fits.1
-
   -- the last text that is told of the paper is the one that the table has
   text-tables : (told : Entry → List (List ℕ)) → ((e : Entry) → told e ≡ text_told part p e) → (H : History) → FitInTurn no_tables H → last (all_told told H) ≡ text_at part (tables_of H).papers p
   text-tables told same H fits =
       ap (λ (told : Entry → List (List ℕ)). last (all_told told H)) (λ i e. same e i)
       ∙ ap (λ (o : Option Paper). last_from (option_map part o) (all_told (text_told part p) H)) (sym (numbered-nil p))
-      ∙ text-from no_tables H fits
+      ∙ told-fitting last_from (λ _. refl) (λ (t : Tables). text_at part t.papers p) (λ (s : Stamped). text_told part p s.entry) (λ t s fit. text-entry t.papers s.maker s.entry fit.papers) no_tables H fits
 
 pub title_of-tables : (p : ℕ) (H : History) → FitInTurn no_tables H → title_of p H ≡ title_at (tables_of H).papers p
 title_of-tables p H fits = text-tables (λ (paper : Paper). paper.title) p (title_told p) (title-text p) H fits
@@ -152,15 +145,10 @@ authors-entry p ties maker (Submitted paper title abstract) = ap (λ b. authors_
 authors-entry p ties maker (Conflict paper user on) = append-nil (authors_in ties p)
 authors-entry p ties maker e = append-nil (authors_in ties p)
 
-authors-from : (p : ℕ) (t : Tables) (H : History) → authors_in t.ties p ++ all_told_by (author_told p) H ≡ authors_in (tables_from t H).ties p
-authors-from p t [] = append-nil (authors_in t.ties p)
-authors-from p t (s ∷ H) =
-    sym (append_assoc (authors_in t.ties p) (author_told p s.maker s.entry) (all_told_by (author_told p) H))
-    ∙ ap (λ xs. xs ++ all_told_by (author_told p) H) (authors-entry p t.ties s.maker s.entry)
-    ∙ authors-from p (tables_after t s) H
-
 pub authors_of-tables : (p : ℕ) (H : History) → authors_of p H ≡ authors_in (tables_of H).ties p
-authors_of-tables p H = authors-from p no_tables H
+authors_of-tables p H =
+    told-always ◌++◌ append-nil (λ (t : Tables). authors_in t.ties p) (λ (s : Stamped). author_told p s.maker s.entry)
+    (λ t s rest. sym (append_assoc (authors_in t.ties p) (author_told p s.maker s.entry) rest) ∙ ap (λ xs. xs ++ rest) (authors-entry p t.ties s.maker s.entry)) no_tables H
 
 pub is_author-tables : (u : Option ℕ) (p : ℕ) (H : History) → is_author u p H ≡ is_author_in (tables_of H).ties u p
 is_author-tables u p H = ap (list_any (is_number u)) (authors_of-tables p H)

@@ -30,6 +30,3 @@ pub use laws::{law_final_stays, law_one_reading};
 pub use read::{RequestRead, read_request};
 pub use refusal::Refusal;
 pub use values::{AllValues, Values};
-
-#[cfg(test)]
-mod tests;

@@ -6,11 +6,11 @@ use Rattle.std.proofs.lemmas.List.Concat.{flat_map-append}
 use Rattle.cr_base.specs.declared.entry.Stamped.{Stamped}
 use Rattle.cr_base.specs.Lists.{until, since}
 use Rattle.cr_base.specs.History.{History}
+use Rattle.cr_history.proofs.ListCuts.{until-append, since-append}
 use Rattle.cr_policy.specs.Sighting.{Sighting}
 use Rattle.cr_policy.specs.Triggers.{Reader, Place}
 use Rattle.cr_policy.specs.View.{sight, sights}
 use Rattle.cr_policy.specs.ViewFacts.{only}
-use Rattle.cr_history.proofs.ListCuts.{until-append, since-append}
 use Rattle.cr_policy.proofs.Walk.{Tells, kept, sights-kept}
 
 -- ---- what is kept at a cut

@@ -8,12 +8,12 @@ use Rattle.cr_base.specs.declared.entry.Entry.TheVariants.{Registered}
 use Rattle.cr_base.specs.History.{History}
 use Rattle.cr_base.specs.Lists.{given, is_number}
 use Rattle.cr_history.specs.Invariants.{IsMadeByUser, IsInOrder, InTurn}
+use Rattle.cr_history.proofs.ListCuts.{AllByRecursion-append}
+use Rattle.cr_history.proofs.LineTies.{stamp}
 use Rattle.cr_policy.specs.Laws.{IsOwnDigest}
 use Rattle.cr_policy.specs.Sighting.{where_shown}
 use Rattle.cr_policy.specs.Triggers.{Reader, Place}
 use Rattle.cr_policy.specs.View.{sight, sights, is_seen, joined}
-use Rattle.cr_history.proofs.ListCuts.{AllByRecursion-append}
-use Rattle.cr_history.proofs.LineTies.{stamp}
 
 -- the digest of a registration is shown to its maker alone
 to_maker : (u : Option ℕ) (maker user : ℕ) (digest : List ℕ) → maker ≡ user → is_some (where_shown (is_number u maker || false) (Some digest)) ≡ true → is_number u user ≡ true

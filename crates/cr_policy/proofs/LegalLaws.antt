@@ -10,20 +10,20 @@ use Rattle.cr_base.specs.Answering.{answer_by_role}
 use Rattle.cr_base.specs.Drawn.{Drawn}
 use Rattle.cr_base.specs.Judging.{judge_by_role}
 use Rattle.cr_base.specs.Tables.{no_tables, tables_of, FitInTurn}
+use Rattle.cr_history.specs.Invariants.{Invariants, DeclaresInTime}
+use Rattle.cr_history.proofs.CallerLaws.{caller-registered}
+use Rattle.cr_history.proofs.NumberTies.{number_of-tables, caller_of-tables}
+use Rattle.cr_history.proofs.GrowthLaws.{growth_keeps}
 use Rattle.cr_policy.specs.View.{view}
 use Rattle.cr_policy.specs.Judge.{judge, answer}
 use Rattle.cr_policy.specs.Legal.{Call, IsUser, IsAllowed, followed_by, step, LeadsTo, Legal}
-use Rattle.cr_history.specs.Invariants.{Invariants, DeclaresInTime}
 use Rattle.cr_policy.specs.Laws.{ViewSuffices, DeclaredFromView, LegalKeeps, DigestsAreOwn}
 use Rattle.cr_policy.specs.Triggers.{reader}
-use Rattle.cr_history.proofs.CallerLaws.{caller-registered}
 use Rattle.cr_policy.proofs.AcceptedLaws.{accepted-adds, accepted-fits}
-use Rattle.cr_history.proofs.NumberTies.{number_of-tables, caller_of-tables}
 use Rattle.cr_policy.proofs.DeclaredLaws.{declared-seen_by_author}
 use Rattle.cr_policy.proofs.DigestLaws.{own_digests}
 use Rattle.cr_policy.proofs.JudgeTies.{judge-tables}
 use Rattle.cr_policy.proofs.PageTies.{answer-tables}
-use Rattle.cr_history.proofs.GrowthLaws.{growth_keeps}
 
 -- ---- calls one after another
 

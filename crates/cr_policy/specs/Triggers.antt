@@ -99,6 +99,7 @@ pub record Position : Type 0 where
   pub last_before_discussion : Bool
   pub from_discussion : Bool
 
+-- the entry opens the discussion
 abbrev pub opens_discussion : Stamped → Bool
 opens_discussion e = opens Discussion e.entry
 

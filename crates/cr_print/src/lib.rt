@@ -31,6 +31,3 @@ pub use no_memory::no_memory_text;
 pub use receipt::print_receipt;
 pub use refused::{Refused, print_refusal};
 pub use reply::print_reply;
-
-#[cfg(test)]
-mod tests;

@@ -10,8 +10,6 @@ mod laws;
 mod method;
 mod place;
 mod routes;
-#[cfg(test)]
-mod tests;
 
 pub use found::Found;
 pub use laws::law_paths;

@@ -1,6 +1,7 @@
 //! The top call: a command line, an input and an output.
 //!
-//! `top` does what the program's words ask for; `pipe` is one connection from the empty history on.
+//! `top` does what the program's words ask for: `pipe` is one connection from a book's history on, `pipe_store` and
+//! `view_store` work on the rows of a store.
 #![tactic(auto)]
 
 mod exit;
@@ -14,8 +15,3 @@ pub use piping::pipe;
 pub use run::top;
 pub use storing::pipe_store;
 pub use viewing::view_store;
-
-#[cfg(test)]
-mod tests;
-#[cfg(test)]
-mod tests_book;

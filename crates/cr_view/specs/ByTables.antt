@@ -36,7 +36,8 @@ naming_at t maker name role = naming_of t maker (target_at t.accounts name) (unw
 -- what the rules ask of this user, if there is one
 abbrev pub asked_at : Tables → ℕ → Option ℕ → Option ℕ → Option Target
 asked_at t maker paper user =
-    option_map (λ (role : Role). record { role = role; herself = is_number user maker; author = at_some (is_author_in t.ties user) paper }) (option_and_then (role_at t.accounts) user)
+    let wrote = at_some (is_author_in t.ties user) paper in
+    option_map (λ (role : Role). record { role = role; herself = is_number user maker; author = wrote }) (option_and_then (role_at t.accounts) user)
 
 -- turning this user's conflict, if there is one, on or off; and that of the user of a name
 abbrev pub conflict_of : Tables → ℕ → Option ℕ → Option ℕ → Bool → Result Drawn Rule

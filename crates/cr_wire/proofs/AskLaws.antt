@@ -10,7 +10,7 @@ use Rattle.cr_bodies.specs.Bodies.{command_in, command_read}
 use Rattle.cr_bodies.specs.Field.{◌>>=◌, abstract_at, digest_at, flag_at, mode_at, name_at, phase_at, role_at, title_at, user_at}
 use Rattle.cr_bodies.specs.Json.{json_of}
 use Rattle.cr_routes.specs.Parts.{FoundPath}
-use Rattle.cr_wire.specs.Asked.{asked, command_of}
+use Rattle.cr_wire.specs.Asked.{asked, command_of, commanded}
 use Rattle.cr_wire.specs.Caller.{ask_of}
 use Rattle.cr_wire.specs.Paper.{paper_of}
 
@@ -56,14 +56,17 @@ asks_for : (ask : Ask) (told : Option Command) → GivenBy ask told → ask_of (
 asks_for ask None given = refl
 asks_for ask (Some command) given = ap (λ (a : Ask). Some a) given
 
+by_body : (ask : Ask) (found : FoundPath) (body : List ℕ) → ask_of (commanded ask found body) ≡ Some ask
+by_body ask found body = asks_for ask _ (given ask (paper_of found) body)
+
 pub ask_by_ask : (ask : Ask) (found : FoundPath) (body : List ℕ) → ask_of (asked ask found body) ≡ Some ask
-ask_by_ask asks.Register found body = asks_for asks.Register _ (given asks.Register (paper_of found) body)
+ask_by_ask asks.Register found body = by_body asks.Register found body
 ask_by_ask asks.Accounts found body = refl
-ask_by_ask asks.Name found body = asks_for asks.Name _ (given asks.Name (paper_of found) body)
-ask_by_ask asks.SetMode found body = asks_for asks.SetMode _ (given asks.SetMode (paper_of found) body)
+ask_by_ask asks.Name found body = by_body asks.Name found body
+ask_by_ask asks.SetMode found body = by_body asks.SetMode found body
 ask_by_ask asks.Phase found body = refl
-ask_by_ask asks.SetPhase found body = asks_for asks.SetPhase _ (given asks.SetPhase (paper_of found) body)
-ask_by_ask asks.Submit found body = asks_for asks.Submit _ (given asks.Submit (paper_of found) body)
+ask_by_ask asks.SetPhase found body = by_body asks.SetPhase found body
+ask_by_ask asks.Submit found body = by_body asks.Submit found body
 ask_by_ask asks.Page found body = refl
-ask_by_ask asks.SetConflict found body = asks_for asks.SetConflict _ (given asks.SetConflict (paper_of found) body)
+ask_by_ask asks.SetConflict found body = by_body asks.SetConflict found body
 ask_by_ask asks.Me found body = refl

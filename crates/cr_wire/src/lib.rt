@@ -13,6 +13,3 @@ mod wish;
 pub use laws::{law_one_ask, law_one_list_of_wishes};
 pub use what::{What, Wish};
 pub use wish::wish_of;
-
-#[cfg(test)]
-mod tests;

@@ -1,12 +1,34 @@
-//! The calls below the top, each by itself: a book over two connections, one wish, one reply.
+//! A book over two connections, one wish, one reply.
 
-use crate::tests::{ALICE, CUT_SHORT, GET_PHASE, ROOM, USER_1, joined};
 use cr_base::{PaperNo, Query, Reply, Short, UserNo};
 use cr_book::Book;
 use cr_ports::{Keeper, MemSink, PlainKeeper, PlainSource};
 use cr_session::{Ending, Inbox, WishRead, read_wish, serve_connection, write_reply};
 use std::alloc::Global;
 use std::test::Fail;
+
+const ROOM: usize = 4096;
+
+const GET_PHASE: &str = "GET /phase HTTP/1.1\r\nHost: c\r\n\r\n";
+
+const ALICE: &str =
+    "POST /register HTTP/1.1\r\nHost: c\r\nContent-Length: 47\r\n\r\n{\"name\":\"alice\",\"secret\":\"alice-secret-000001\"}";
+
+/// The first 20 bytes of a body of 47.
+const CUT_SHORT: &str =
+    "POST /register HTTP/1.1\r\nHost: c\r\nContent-Length: 47\r\n\r\n{\"name\":\"alice\",\"sec";
+
+const USER_1: &str =
+    "HTTP/1.1 201 Created\r\nContent-Type: application/json\r\nContent-Length: 10\r\n\r\n{\"user\":1}";
+
+/// The texts, one behind the other.
+fn joined(alloc: Global, texts: &[&str]) -> Result<Vec<u8>, Fail> {
+    let mut bytes = Vec::new(alloc);
+    for text in texts {
+        bytes.extend_from_slice(text.as_bytes())?;
+    }
+    Ok(bytes)
+}
 
 /// What a book tells of two connections.
 #[derive(Drop)]
