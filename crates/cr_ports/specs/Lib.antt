@@ -5,3 +5,4 @@ pub mod Script
 pub mod Memory
 pub mod Keeping
 pub mod Adapter
+pub mod Writing
