@@ -1,2 +1,4 @@
-mod Places
+pub mod Places
 pub mod LastLaws
+pub mod SightLaws
+pub mod WalkLaws

@@ -44,21 +44,30 @@ abbrev pub number_value : Option ℕ → Option (List ℕ)
 number_value number = option_map decimal number
 
 -- the parts that are shown, and the mark `mine` on the reader's own, with their keys in the order of their bytes
-unfoldable pub sighting_members : Sighting → List Member
-sighting_members s =
+unfoldable pub first_members : Sighting → List Member
+first_members s =
     told (codes "abstract") (bytes_value s.abstract)
     ++ told (codes "by") (number_value s.by)
     ++ told (codes "digest") (digest_value s.digest)
     ++ told (codes "kind") (Some (quoted (kind_name s.kind)))
-    ++ told (codes "mine") (where_told s.mine (Some (codes "true")))
+
+unfoldable pub middle_members : Sighting → List Member
+middle_members s =
+    told (codes "mine") (where_told s.mine (Some (codes "true")))
     ++ told (codes "mode") (mode_value s.mode)
     ++ told (codes "name") (bytes_value s.name)
     ++ told (codes "on") (option_map truth_text s.on)
-    ++ told (codes "paper") (number_value s.paper)
+
+unfoldable pub last_members : Sighting → List Member
+last_members s =
+    told (codes "paper") (number_value s.paper)
     ++ told (codes "phase") (phase_value s.phase)
     ++ told (codes "role") (role_value s.role)
     ++ told (codes "title") (bytes_value s.title)
     ++ told (codes "user") (number_value s.user)
+
+abbrev pub sighting_members : Sighting → List Member
+sighting_members s = first_members s ++ middle_members s ++ last_members s
 
 unfoldable pub line_text : Sighting → List ℕ
 line_text s = object_text (sighting_members s) ++ codes "\n"

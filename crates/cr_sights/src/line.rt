@@ -1,8 +1,9 @@
 //! A sighting as a line.
 ghost use Rattle.std.specs.Prelude.{◌≡◌, OnOk, option_map};
 ghost use Rattle.cr_base.specs.Lists.{listed};
+ghost use Rattle.cr_print.specs.Json.{Adds};
 ghost use Rattle.cr_print.specs.Put.{Appends};
-ghost use Rattle.cr_sights.specs.Lines.{kind_name, line_text, lines_text};
+ghost use Rattle.cr_sights.specs.Lines.{first_members, kind_name, last_members, line_text, lines_text, middle_members};
 
 use crate::members::{add_bytes, add_digest, add_mode, add_paper, add_phase, add_role, add_user};
 use crate::sighting::Sighting;
@@ -24,29 +25,52 @@ fn kind_name(kind: EntryKind) -> &'static str
     }
 }
 
+/// Writes the members up to `kind`.
+fn add_first(object: &mut Object, into: &mut Vec<u8>, sighting: &Sighting) -> Result<(), AllocError>
+    ensures { Adds result into.old into.new object.old.is_first object.new.is_first (first_members sighting.now) }
+{
+    add_bytes(object, into, "abstract", text_bytes(&sighting.abstract_))?;
+    add_user(object, into, "by", &sighting.by)?;
+    add_digest(object, into, "digest", sighting.digest)?;
+    object.string(into, "kind", kind_name(sighting.kind).as_bytes())?;
+    Ok(())
+}
+
+/// Writes the members from `mine` to `on`.
+fn add_middle(
+    object: &mut Object,
+    into: &mut Vec<u8>,
+    sighting: &Sighting,
+) -> Result<(), AllocError>
+    ensures { Adds result into.old into.new object.old.is_first object.new.is_first (middle_members sighting.now) }
+{
+    object.fixed(into, "mine", sighting.mine, "true")?;
+    add_mode(object, into, "mode", sighting.mode)?;
+    add_bytes(object, into, "name", name_bytes(&sighting.name))?;
+    object.truth(into, "on", sighting.on)?;
+    Ok(())
+}
+
+/// Writes the members from `paper` on.
+fn add_last(object: &mut Object, into: &mut Vec<u8>, sighting: &Sighting) -> Result<(), AllocError>
+    ensures { Adds result into.old into.new object.old.is_first object.new.is_first (last_members sighting.now) }
+{
+    add_paper(object, into, "paper", &sighting.paper)?;
+    add_phase(object, into, "phase", sighting.phase)?;
+    add_role(object, into, "role", sighting.role)?;
+    add_bytes(object, into, "title", text_bytes(&sighting.title))?;
+    add_user(object, into, "user", &sighting.user)?;
+    Ok(())
+}
+
 /// Appends a sighting as one JSON object and a line feed; an error only for want of memory.
 fn append_line(into: &mut Vec<u8>, sighting: &Sighting) -> Result<(), AllocError>
     ensures { Appends result into.old into.new (line_text sighting.now) }
 {
     let mut object = Object::open(into)?;
-    add_bytes(
-        &mut object,
-        into,
-        "abstract",
-        text_bytes(&sighting.abstract_),
-    )?;
-    add_user(&mut object, into, "by", &sighting.by)?;
-    add_digest(&mut object, into, "digest", sighting.digest)?;
-    object.string(into, "kind", kind_name(sighting.kind).as_bytes())?;
-    object.fixed(into, "mine", sighting.mine, "true")?;
-    add_mode(&mut object, into, "mode", sighting.mode)?;
-    add_bytes(&mut object, into, "name", name_bytes(&sighting.name))?;
-    object.truth(into, "on", sighting.on)?;
-    add_paper(&mut object, into, "paper", &sighting.paper)?;
-    add_phase(&mut object, into, "phase", sighting.phase)?;
-    add_role(&mut object, into, "role", sighting.role)?;
-    add_bytes(&mut object, into, "title", text_bytes(&sighting.title))?;
-    add_user(&mut object, into, "user", &sighting.user)?;
+    add_first(&mut object, into, sighting)?;
+    add_middle(&mut object, into, sighting)?;
+    add_last(&mut object, into, sighting)?;
     object.close(into)?;
     into.push(b'\n')?;
     Ok(())

@@ -1,5 +1,6 @@
 //! The members of a view line, each written where its part is shown.
-ghost use Rattle.std.specs.Prelude.{option_map};
+ghost use Rattle.std.specs.Prelude.{◌≡◌, option_map};
+ghost use Rattle.hex.specs.Hex.{encode_lower};
 ghost use Rattle.cr_print.specs.Json.{Adds, told};
 ghost use Rattle.cr_sights.specs.Lines.{bytes_value, digest_value, mode_value, number_value, phase_value, role_value};
 
@@ -44,12 +45,21 @@ pub(crate) fn add_bytes(
     key: &str,
     bytes: Option<&[u8]>,
 ) -> Result<(), AllocError>
-    ensures { Adds result into.old into.new object.old.is_first object.new.is_first (told key.now (bytes_value (option_map (λ b. b.now) bytes))) }
+    ensures { Adds result into.old into.new object.old.is_first object.new.is_first (told key.now (bytes_value (option_map (λ b. b.now) bytes.entry))) }
 {
     match bytes {
         Some(bytes) => object.string(into, key, bytes),
         None => Ok(()),
     }
+}
+
+/// The lower-case hexadecimal digits of a digest.
+fn digits_of(digest: Digest) -> [u8; 64]
+    ensures { result ≡ encode_lower digest }
+{
+    let mut digits = [0; 64];
+    hex::encode_to_slice(digest, &mut digits).unwrap();
+    digits
 }
 
 /// Writes a digest by its 64 lower-case hexadecimal digits.
@@ -59,14 +69,12 @@ pub(crate) fn add_digest(
     key: &str,
     digest: Option<&Digest>,
 ) -> Result<(), AllocError>
-    ensures { Adds result into.old into.new object.old.is_first object.new.is_first (told key.now (digest_value (option_map (λ d. d.now) digest))) }
+    ensures { Adds result into.old into.new object.old.is_first object.new.is_first (told key.now (digest_value (option_map (λ d. d.now) digest.entry))) }
 {
-    let Some(digest) = digest else {
-        return Ok(());
-    };
-    let mut digits = [0; 64];
-    hex::encode_to_slice(*digest, &mut digits).unwrap();
-    object.string(into, key, &digits)
+    match digest {
+        Some(digest) => object.string(into, key, &digits_of(*digest)),
+        None => Ok(()),
+    }
 }
 
 /// Writes a phase by its word.

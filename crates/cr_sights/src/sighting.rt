@@ -6,9 +6,9 @@ ghost use Rattle.cr_base.specs.Phases.{is_from};
 ghost use Rattle.cr_base.specs.Words.{is_anonymous, is_member};
 ghost use Rattle.cr_base.specs.declared.words.Phase.TheVariants as phases;
 ghost use Rattle.cr_base.specs.declared.entry.Entry.TheVariants.{Conflict};
-ghost use Rattle.cr_policy.specs.Triggers.{Place, applies_any, is_last as is_last_at, rows};
+ghost use Rattle.cr_policy.specs.Triggers.{Place, is_last as is_last_at};
 ghost use Rattle.cr_policy.specs.Sighting.{blank as blank_sighting};
-ghost use Rattle.cr_policy.specs.View.{sight as sight_at};
+ghost use Rattle.cr_policy.specs.View.{is_seen, sight as sight_at};
 ghost use Rattle.cr_sights.specs.Readers.{reader_in};
 
 use cr_base::{
@@ -110,18 +110,18 @@ fn shows_maker(by: &Standing) -> bool
     by.author || is_bidding(by) && handles
 }
 
-/// Whether she is shown the title of a paper, though it isn't her own.
-fn shows_title(by: &Standing, is_last: bool) -> bool
-    ensures { result ≡ (is_last && is_member by.now.role && is_from phases.Bidding by.now.phase) }
+/// Whether she is shown the title of a submission.
+fn shows_title(by: &Standing, mine: bool, is_last: bool) -> bool
+    ensures { result ≡ (by.now.author || ((is_last && is_member by.now.role && is_from phases.Bidding by.now.phase) || mine)) }
 {
-    is_last && by.role.is_member() && is_bidding(by)
+    by.author || is_last && by.role.is_member() && is_bidding(by) || mine
 }
 
-/// Whether she is shown the abstract of a paper, though it isn't her own.
-fn shows_abstract(by: &Standing, is_last: bool) -> bool
-    ensures { result ≡ (is_last && is_clear_member by.now && is_from phases.Bidding by.now.phase) }
+/// Whether she is shown the abstract of a submission.
+fn shows_abstract(by: &Standing, mine: bool, is_last: bool) -> bool
+    ensures { result ≡ (by.now.author || ((is_last && is_clear_member by.now && is_from phases.Bidding by.now.phase) || mine)) }
 {
-    is_last && by.is_clear_member() && is_bidding(by)
+    by.author || is_last && by.is_clear_member() && is_bidding(by) || mine
 }
 
 /// Whether she is shown any conflict with a paper, whoever made it.
@@ -131,14 +131,14 @@ fn shows_conflicts(by: &Standing) -> bool
     by.is_clear_chair() && is_bidding(by)
 }
 
-/// Whether she is told that a user is in conflict with a paper, or no longer, where another made the entry: the user
-/// herself is, an author where an author made it, and whoever is shown all of the paper's conflicts.
+/// Whether she is told that a user is in conflict with a paper, or no longer: who made the entry is, the user
+/// herself, an author where an author made it, and whoever is shown all of the paper's conflicts.
 fn tells_conflict(live: &Live, reader: UserNo, maker: UserNo, user: UserNo, paper: PaperNo) -> bool
-    ensures { (at : Place) (on : Bool) → applies_any (rows (reader_in live.now.tables (Some reader)) at maker (Conflict paper user on)) ≡ result }
+    ensures { (at : Place) (more on : Bool) → is_seen (reader_in live.now.tables (Some reader)) at (record { maker = maker; more = more; entry = Conflict paper user on }) ≡ result }
 {
     let by = live.standing(&Some(reader), &Some(paper));
-    let maker = live.standing(&Some(maker), &Some(paper));
-    user == reader || maker.author && by.author || shows_conflicts(&by)
+    let wrote = live.standing(&Some(maker), &Some(paper)).author;
+    user == reader || wrote && by.author || shows_conflicts(&by) || maker == reader
 }
 
 /// What an entry shows a user by the tables of the whole history, and none where it shows her nothing. `is_last`
@@ -151,7 +151,7 @@ pub fn sight<'a>(
 ) -> Option<Sighting<'a>>
     ensures { (at : Place) → is_last_at at stamped.now.entry ≡ is_last → listed result ≡ sight_at (reader_in live.now.tables (Some reader)) at stamped.now }
 {
-    let mine = stamped.maker == reader;
+    let mine = reader == stamped.maker;
     match &stamped.entry {
         Entry::Registered { user, name, digest } => Some(Sighting {
             user: Some(*user),
@@ -178,18 +178,19 @@ pub fn sight<'a>(
             abstract_,
         } => {
             let by = live.standing(&Some(reader), &Some(*paper));
-            let whole = mine || by.author;
             Some(Sighting {
                 paper: Some(*paper),
                 by: shows_maker(&by).then_some(stamped.maker),
-                title: (whole || shows_title(&by, is_last)).then_some(title),
-                abstract_: (whole || shows_abstract(&by, is_last)).then_some(abstract_),
+                title: shows_title(&by, mine, is_last).then_some(title),
+                abstract_: shows_abstract(&by, mine, is_last).then_some(abstract_),
                 ..blank(EntryKind::Submitted, mine)
             })
         }
         Entry::Conflict { paper, user, on } => {
-            let told = mine || tells_conflict(live, reader, stamped.maker, *user, *paper);
-            told.then_some(Sighting {
+            if !tells_conflict(live, reader, stamped.maker, *user, *paper) {
+                return None;
+            }
+            Some(Sighting {
                 paper: Some(*paper),
                 user: Some(*user),
                 on: Some(*on),
