@@ -82,20 +82,20 @@ module _ (r : Reader) (at : Place) (s : Stamped) (paper : ℕ) where
 
       by_table : shows_by ≡ table_by
       by_table =
-        by_is ∙ ap (λ (b : Standing). b.author || (is_from Bidding b.phase && (is_clear_chair b || (is_clear_member b && not (is_anonymous b.mode))))) stands_so
-        ∙ maker-shown (authors r paper) (from r Bidding) (clear_chairs r paper) (clear_members r paper) (unless_anonymous r)
+          by_is ∙ ap (λ (b : Standing). b.author || (is_from Bidding b.phase && (is_clear_chair b || (is_clear_member b && not (is_anonymous b.mode))))) stands_so
+          ∙ maker-shown (authors r paper) (from r Bidding) (clear_chairs r paper) (clear_members r paper) (unless_anonymous r)
 
       title_table : shows_title ≡ table_title own
       title_table =
-        title_is ∙ ap (λ (b : Standing). b.author || (((last && is_member b.role) && is_from Bidding b.phase) || own)) stands_so
-        ∙ ap (λ l. authors r paper || (((l && members r) && from r Bidding) || own)) ends_so
-        ∙ ap (λ o. authors r paper || (((is_last at it && members r) && from r Bidding) || o)) (or_none own)
+          title_is ∙ ap (λ (b : Standing). b.author || (((last && is_member b.role) && is_from Bidding b.phase) || own)) stands_so
+          ∙ ap (λ l. authors r paper || (((l && members r) && from r Bidding) || own)) ends_so
+          ∙ ap (λ o. authors r paper || (((is_last at it && members r) && from r Bidding) || o)) (or_none own)
 
       abstract_table : shows_abstract ≡ table_abstract own
       abstract_table =
-        abstract_is ∙ ap (λ (b : Standing). b.author || (((last && is_clear_member b) && is_from Bidding b.phase) || own)) stands_so
-        ∙ ap (λ l. authors r paper || (((l && clear_members r paper) && from r Bidding) || own)) ends_so
-        ∙ ap (λ o. authors r paper || (((is_last at it && clear_members r paper) && from r Bidding) || o)) (or_none own)
+          abstract_is ∙ ap (λ (b : Standing). b.author || (((last && is_clear_member b) && is_from Bidding b.phase) || own)) stands_so
+          ∙ ap (λ l. authors r paper || (((l && clear_members r paper) && from r Bidding) || own)) ends_so
+          ∙ ap (λ o. authors r paper || (((is_last at it && clear_members r paper) && from r Bidding) || o)) (or_none own)
 
   -- ---- a conflict
 

@@ -1,15 +1,17 @@
 -- A user's view, entry by entry over the history.
-use Rattle.std.proofs.Common.{◌≡◌, ◌≢◌, ◌∙◌, ℕ, ◌+◌, ◌<◌, ◌≤◌, Bool, List, [], ◌∷◌, ◌++◌, length, take, drop, get_or, refl, sym, ap, subst, arith, append_assoc, append-nil, length-append, Some}
+use Rattle.std.proofs.Common.{◌≡◌, ◌≢◌, ◌∙◌, ℕ, ◌+◌, ◌<◌, ◌≤◌, Bool, List, [], ◌∷◌, ◌++◌, length, take, drop, get_or, refl, sym, ap, subst, arith, append_assoc, append-nil, length-append, Option, Some, None}
 use Rattle.std.specs.Prelude.{IfSome}
 use Rattle.std.specs.List.{slice_get}
 use Rattle.std.proofs.lemmas.Grind.{flat_map-append}
 use Rattle.std.proofs.lemmas.List.{drop_all}
 use Rattle.std.proofs.lemmas.Option.{slice_get-get_or}
 use Rattle.cr_base.specs.declared.entry.Stamped.{Stamped}
+use Rattle.cr_base.specs.Lists.{listed}
 use Rattle.cr_base.specs.History.{History}
+use Rattle.cr_ports.specs.Count.{Rises}
 use Rattle.cr_ports.specs.Stream.{taken_and}
 use Rattle.cr_ports.specs.Writing.{Outlet, Writes, BreaksOff}
-use Rattle.cr_ports.proofs.WritingLaws.{writes-nil, writes-append, breaks_behind}
+use Rattle.cr_ports.proofs.WritingLaws.{taken_and-append, writes-nil, writes-append}
 use Rattle.cr_policy.specs.Triggers.{Reader, Place, is_last, none_alike}
 use Rattle.cr_policy.specs.View.{View, sight, sights}
 use Rattle.cr_sights.specs.Last.{IsLastIn}
@@ -33,20 +35,27 @@ module _ (r : Reader) (H : History) (at : ℕ) (d : Stamped) (within : at < leng
       ∙ ap (λ (before : History). sights_at r H at (get_or H at d) ++ sights r before (drop (at + 1) H)) (sym (one_more H at d within))
 
   -- what one entry shows, by what is known of it
-  pub seen_here : (seen : View) (last : Bool) → IsLastIn H at last → ((place : Place) → is_last place (get_or H at d).entry ≡ last → seen ≡ sight r place (get_or H at d)) → seen ≡ sights_at r H at (get_or H at d)
-  seen_here seen last known is =
+  pub seen_here : d ≡ get_or H at d → (seen : View) (last : Bool) → IsLastIn H at last → ((place : Place) → is_last place d.entry ≡ last → seen ≡ sight r place d) → seen ≡ sights_at r H at (get_or H at d)
+  seen_here here seen last known is =
       is (record { before = take at H; after = drop (at + 1) H })
-      (subst (λ o. IfSome o (λ (e : Stamped). none_alike e.entry (drop (at + 1) H) ≡ last)) (slice_get-get_or H at d within) known)
+      (ap (λ (e : Stamped). none_alike e.entry (drop (at + 1) H)) here
+      ∙ subst (λ o. IfSome o (λ (e : Stamped). none_alike e.entry (drop (at + 1) H) ≡ last)) (slice_get-get_or H at d within) known)
+      ∙ ap (λ (e : Stamped). sights_at r H at e) here
 
   -- ---- lengths
 
-  pub counted : (count : ℕ) (seen : View) → seen ≡ sights_at r H at (get_or H at d) → count + length (sights_from r H at) ≡ length (sights r [] H)
-      → (count + length seen) + length (sights_from r H (at + 1)) ≡ length (sights r [] H)
-  counted count seen is was =
+  pub counted : (count n : ℕ) (seen : View) → n ≡ length seen → seen ≡ sights_at r H at (get_or H at d) → count + length (sights_from r H at) ≡ length (sights r [] H)
+      → (count + n) + length (sights_from r H (at + 1)) ≡ length (sights r [] H)
+  counted count n seen many is was =
       let l = length-append (sights_at r H at (get_or H at d)) (sights_from r H (at + 1)) in
       let s = ap length step in
-      let n = ap length is in
-      omega (arith, l, s, n, was)
+      let e = ap length is in
+      omega (arith, l, s, e, many, was)
+
+-- an entry shows one sighting at most
+pub listed-short : {A : Type 0} (o : Option A) → length (listed o) ≤ 1
+listed-short None = omega arith
+listed-short (Some x) = omega arith
 
 -- ---- lines
 
@@ -75,17 +84,16 @@ module _ (r : Reader) (H : History) (at : ℕ) (d : Stamped) (within : at < leng
   pub broke_line : (s s' s'' : Outlet) → Reached r H at s s' → BreaksOff [] line s' s'' → BreaksOff [] (lines_text (sights r [] H)) s s''
   broke_line s s' s'' was now =
       let rest = lines_text (sights_from r H (at + 1)) in
-      let behind = breaks_behind was.done [] line s s' s'' was.written now in
       record {
         part = was.done ++ now.part;
         missing = now.missing ++ rest;
         parts =
-          was.split ∙ ap (λ (b : List ℕ). was.done ++ b) (lines ∙ ap (λ (b : List ℕ). b ++ rest) now.parts ∙ append_assoc now.part now.missing rest)
-          ∙ sym (append_assoc was.done now.part (now.missing ++ rest));
+            was.split ∙ ap (λ (b : List ℕ). was.done ++ b) (lines ∙ ap (λ (b : List ℕ). b ++ rest) now.parts ∙ append_assoc now.part now.missing rest)
+            ∙ sym (append_assoc was.done now.part (now.missing ++ rest));
         short = λ none. now.short (first_nil now.missing rest none);
-        took = behind.took ∙ ap (λ (b : List ℕ). taken_and s.taken (b ++ now.part)) (append-nil was.done);
-        later = behind.later;
-        rises = behind.rises;
+        took = now.took ∙ ap (λ (o : Option (List ℕ)). taken_and o now.part) was.written.took ∙ taken_and-append s.taken was.done now.part;
+        later = let e = was.written.steady in let l = now.later in omega (arith, e, l);
+        rises = subst (λ (f : ℕ). Rises f s''.faults) was.written.steady now.rises;
       }
     where
       first_nil : (a b : List ℕ) → a ++ b ≡ [] → a ≡ []

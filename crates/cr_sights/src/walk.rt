@@ -46,13 +46,13 @@ pub fn write_view<O: Sink>(
     let mut at = 0;
     'lines: while at < log.len() {
         let sighting = sight(live, reader, &log[at], last.is_last(log, at));
-        if fill(&mut line, &sighting).is_err() {
+        let Ok(()) = fill(&mut line, &sighting) else {
             return Err(ViewError::OutOfMemory);
+        };
+        match write_all(sink, &line) {
+            Ok(()) => at += 1,
+            Err(_) => return Err(ViewError::WriteFault),
         }
-        if write_all(sink, &line).is_err() {
-            return Err(ViewError::WriteFault);
-        }
-        at += 1;
     }
     Ok(())
 }
