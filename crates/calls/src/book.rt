@@ -2,8 +2,8 @@
 
 use cr_base::{PaperNo, Query, Reply, Short, UserNo};
 use cr_book::Book;
-use cr_ports::{Keeper, MemSink, PlainKeeper, PlainSource};
-use cr_session::{Ending, Inbox, WishRead, read_wish, serve_connection, write_reply};
+use cr_ports::{Keeper, MemSink, PlainKeeper, PlainSource, write_all};
+use cr_session::{Ending, Inbox, WishRead, read_wish, serve_connection};
 use std::alloc::Global;
 use std::test::Fail;
 
@@ -127,7 +127,7 @@ fn one_wish(rt: HostRuntime) -> Result<(), Fail> {
 fn one_reply(rt: HostRuntime) -> Result<(), Fail> {
     let alloc = rt.alloc();
     let mut sink = MemSink::new(alloc, ROOM, Vec::new(alloc), Vec::new(alloc))?;
-    assert!(rt; write_reply(&mut sink, USER_1.as_bytes()).is_ok());
+    assert!(rt; write_all(&mut sink, USER_1.as_bytes()).is_ok());
     assert!(rt; sink.taken() == USER_1.as_bytes());
     Ok(())
 }

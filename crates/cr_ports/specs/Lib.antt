@@ -6,3 +6,4 @@ pub mod Memory
 pub mod Keeping
 pub mod Adapter
 pub mod Shelving
+pub mod Writing

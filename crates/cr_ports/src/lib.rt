@@ -16,6 +16,7 @@ mod sinks;
 mod source;
 mod sources;
 mod streams;
+mod writing;
 
 pub use calls::Calls;
 pub use keeper::{Keeper, KeeperError};
@@ -28,6 +29,7 @@ pub use sinks::MemSink;
 pub use source::{ReadStep, Source};
 pub use sources::{MemSource, PlainSource};
 pub use streams::{ReadSource, WriteSink};
+pub use writing::{WriteFault, write_all};
 
 #[cfg(test)]
 mod tests;

@@ -15,7 +15,7 @@ use Rattle.cr_session.specs.declared.serve.Why.TheVariants as whys
 use Rattle.cr_session.specs.Told.{told, step}
 use Rattle.cr_session.specs.Replay.{JudgedWish, Ledger, Turned, Replays, wishes_of, answers, answer_to, history_after, lost_count}
 use Rattle.cr_session.specs.Wishes.{Spells}
-use Rattle.cr_session.specs.Writing.{Outlet, Writes}
+use Rattle.cr_ports.specs.Writing.{Outlet, Writes}
 use Rattle.cr_wire.specs.Wishes.{closes}
 use Rattle.cr_session.specs.Serving.{EndsAs, CountsReads}
 use Rattle.cr_session.proofs.Turns.{counted}

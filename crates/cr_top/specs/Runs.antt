@@ -13,7 +13,7 @@ use Rattle.cr_wire.specs.Wishes.{Wishes}
 use Rattle.cr_session.specs.declared.serve.Ending.{Ending}
 use Rattle.cr_session.specs.Replay.{lost_count}
 use Rattle.cr_session.specs.Serving.{World, Connection, WholeText}
-use Rattle.cr_session.specs.Writing.{Outlet, outlet_of, Writes, BreaksOff}
+use Rattle.cr_ports.specs.Writing.{Outlet, outlet_of, Writes, BreaksOff}
 use Rattle.cr_top.specs.declared.exit.Exit.{Exit}
 use Rattle.cr_top.specs.declared.exit.Exit.TheVariants as exits
 use Rattle.cr_top.specs.Exits.{exit_of}

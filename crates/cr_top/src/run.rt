@@ -1,7 +1,7 @@
 //! What the program does with its words.
 ghost use Rattle.std.specs.Prelude.{◌≡◌, ◌≢◌, ◌⊎◌, ℕ, List, [], Some};
 ghost use Rattle.cr_ports.specs.Count.{Rises};
-ghost use Rattle.cr_session.specs.Writing.{BreaksOff, Writes, outlet_of};
+ghost use Rattle.cr_ports.specs.Writing.{BreaksOff, Writes, outlet_of};
 ghost use Rattle.cr_words.specs.Usage.{usage};
 ghost use Rattle.cr_top.specs.Runs.{outside_of, DoesPipe, RefusesWords, IsFaultless, AnswersAll};
 ghost use Rattle.cr_top.specs.Words.{AreTaken, AreRefused, PassTest};
@@ -9,8 +9,7 @@ ghost use Rattle.cr_top.specs.Words.{AreTaken, AreRefused, PassTest};
 use crate::exit::{Exit, exit_of};
 use crate::piping::pipe;
 use cr_book::Book;
-use cr_ports::{PlainKeeper, Sink, Source};
-use cr_session::write_reply;
+use cr_ports::{PlainKeeper, Sink, Source, write_all};
 use cr_words::{Job, WordsError, read_words, usage_text};
 use std::alloc::Global;
 
@@ -20,7 +19,7 @@ fn refuse_words<O: Sink>(out: &mut O) -> Exit
     ensures fault { result ≡ Exit.WriteFault → BreaksOff [] usage (outlet_of O.taken O.faults out.old) (outlet_of O.taken O.faults out.new) }
     ensures either { (result ≡ Exit.Usage) ⊎ (result ≡ Exit.WriteFault) }
 {
-    match write_reply(out, usage_text()) {
+    match write_all(out, usage_text()) {
         Ok(()) => Exit::Usage,
         Err(_) => Exit::WriteFault,
     }

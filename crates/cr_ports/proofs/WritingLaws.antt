@@ -4,7 +4,7 @@ use Rattle.std.proofs.lemmas.List.{take-append-drop, take_all}
 use Rattle.std.proofs.Math.Seq.{take-add}
 use Rattle.cr_ports.specs.Count.{Rises}
 use Rattle.cr_ports.specs.Stream.{taken_and}
-use Rattle.cr_session.specs.Writing.{Outlet, Writes, BreaksOff}
+use Rattle.cr_ports.specs.Writing.{Outlet, Writes, BreaksOff}
 
 pub taken_and-append : (t : Option (List ℕ)) (a b : List ℕ) → taken_and (taken_and t a) b ≡ taken_and t (a ++ b)
 taken_and-append None a b = refl

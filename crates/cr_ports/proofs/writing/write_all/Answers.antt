@@ -1,8 +1,8 @@
 use Rattle.std.proofs.Common.{arith, drop, length, ◌-◌, ◌∙◌, length-take, length-drop, refl}
 use Rattle.std.proofs.lemmas.List.{take_rest}
-use Rattle.cr_session.specs.Writing.{outlet_of}
-use Rattle.cr_session.proofs.WritingLaws.{wrote_on, wrote_part, wrote_whole}
-use Rattle.cr_session.proofs.writing.write_reply.Goals as goal
+use Rattle.cr_ports.specs.Writing.{outlet_of}
+use Rattle.cr_ports.proofs.WritingLaws.{wrote_on, wrote_part, wrote_whole}
+use Rattle.cr_ports.proofs.writing.write_all.Goals as goal
 
 pub writing-preserved : goal.writing-preserved
 writing-preserved g c = record {

@@ -1,6 +1,6 @@
 use Rattle.std.proofs.Common.{◌≡◌, ◌≤◌, ◌-◌, length, take}
 use Rattle.cr_ports.specs.Stream.{taken_and}
-use Rattle.cr_session.proofs.writing.write_reply.Given as goal
+use Rattle.cr_ports.proofs.writing.write_all.Given as goal
 
 abbrev pub invariant-writing : goal.invariant-writing
 invariant-writing g l = record {
