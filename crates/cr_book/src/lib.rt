@@ -7,5 +7,6 @@ mod laws;
 mod rows;
 
 pub use book::{Book, BookError};
+pub use cr_sights::ViewError;
 pub use cr_view::AnswerError;
 pub use laws::law_standing_by_tables;
