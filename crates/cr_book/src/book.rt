@@ -1,5 +1,5 @@
 //! The book: one history, its tables and its keeper.
-ghost use Rattle.std.specs.Prelude.{◌≡◌, ◌≤◌, ◌++◌, ℕ, [], length, IfOk, IsOk, OnOk, OnErr, IfSome, Ok, Err, ◌≢◌};
+ghost use Rattle.std.specs.Prelude.{◌≡◌, ◌≤◌, ◌++◌, ℕ, [], length, IfOk, IsOk, OnOk, OnErr, IfSome, Ok, Err, Some, ◌≢◌};
 ghost use Rattle.cr_base.specs.declared.reply.Rule.{Rule};
 ghost use Rattle.cr_base.specs.Facts.{number_of, caller_of};
 ghost use Rattle.cr_base.specs.Logins.{query_wants_login};
@@ -9,6 +9,9 @@ ghost use Rattle.cr_policy.specs.View.{view};
 ghost use Rattle.cr_base.specs.declared.command.Query.TheVariants as queries;
 ghost use Rattle.cr_policy.specs.Legal.{Legal, IsAllowed, MayAsk};
 ghost use Rattle.cr_ports.specs.Count.{Rises};
+ghost use Rattle.cr_ports.specs.Writing.{outlet_of};
+ghost use Rattle.cr_sights.specs.Lines.{lines_text};
+ghost use Rattle.cr_sights.specs.Walks.{WritesView};
 ghost use Rattle.cr_view.specs.Draws.{drawn_by};
 ghost use Rattle.cr_view.specs.Replies.{AnswersAsDue};
 ghost use Rattle.cr_book.specs.Sound.{IsKept, Accepts};
@@ -16,9 +19,10 @@ ghost use Rattle.cr_book.specs.Sound.{IsKept, Accepts};
 use crate::opening::{OpenError, read_all};
 use crate::rows::{copies_of, rows_of};
 use cr_base::{Command, Digest, Query, Receipt, Reply, Rule, Short, Stamped, UserNo};
-use cr_ports::{Keeper, KeeperError};
+use cr_ports::{Keeper, KeeperError, Sink};
+use cr_sights::{ViewError, view_len, write_view};
 use cr_view::{AnswerError, Draw, Live};
-use std::alloc::Global;
+use std::alloc::{AllocError, Global};
 use std::marker::Model;
 
 /// A history, the tables that it comes to, and the keeper of its rows.
@@ -209,5 +213,26 @@ impl<K: Keeper> Book<K> {
         ensures legal { Legal self.now.log }
     {
         self.log.len() as u64
+    }
+}
+
+/// What a user sees of the history.
+impl<K: Keeper> Book<K> {
+    /// Writes the user's view, one line a sighting: a compact JSON object with the parts that she is shown, its keys in
+    /// the order of their bytes. Behind an error a part of the lines was written. `WriteFault` comes only where the
+    /// sink's count of faults rose, or stands at its last value; else the count is as it was, and `OutOfMemory` comes
+    /// for want of memory alone. No view is made in memory: see `write_view` for the cost.
+    pub fn view_lines<O: Sink>(&self, user: UserNo, sink: &mut O) -> Result<(), ViewError>
+        ensures { WritesView result (lines_text (view (Some user) self.now.log)) (outlet_of O.taken O.faults sink.old) (outlet_of O.taken O.faults sink.new) }
+    {
+        write_view(self.alloc, &self.live, &self.log, user, sink)
+    }
+
+    /// The length of the user's view, which is the number of lines that `view_lines` writes; an error only for want of
+    /// memory. Costs two walks over the history, with a few look-ups an entry.
+    pub fn view_len(&self, user: UserNo) -> Result<u64, AllocError>
+        ensures { IfOk result (λ n. n ≡ length (view (Some user) self.now.log)) }
+    {
+        view_len(self.alloc, &self.live, &self.log, user)
     }
 }

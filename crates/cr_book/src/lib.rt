@@ -11,6 +11,7 @@ mod rows;
 mod scratch;
 
 pub use book::{Book, BookError};
+pub use cr_sights::ViewError;
 pub use cr_view::AnswerError;
 pub use laws::law_standing_by_tables;
 pub use opening::OpenError;

@@ -4,3 +4,4 @@ pub mod Exits
 pub mod Replayed
 pub mod Runs
 pub mod Stores
+pub mod Jobs

@@ -55,23 +55,12 @@ pub record ServesPipe {I : Type 0} (left : I → Option (List ℕ)) (gives : I �
   pub none_lost : lost_count (connection.answered ++ listed connection.failed) ≡ 0
   pub whole : (b : List ℕ) → left o.input ≡ Some b → WholeText left ending b (world o opening 0) (world o' history 0)
 
--- memory was wanting before anything was read or written
-abbrev pub IsUntouched : {I : Type 0} → Exit → Outside I → Outside I → Type 0
-IsUntouched exit o o' = (exit ≡ exits.OutOfMemory) × (o' ≡ o)
-
 -- Words were refused: nothing was read, and the usage line was written, or a part of it where its write failed.
 pub record TellsUsage {I : Type 0} (exit : Exit) (o o' : Outside I) : Type 0 where
   pub unread : o'.input ≡ o.input
   pub no_read : o'.read_faults ≡ o.read_faults
   pub written : ((exit ≡ exits.Usage) × Writes usage o.output o'.output)
       ⊎ ((exit ≡ exits.WriteFault) × BreaksOff [] usage o.output o'.output)
-
--- what a run did whose words were taken, and one whose words were refused
-abbrev pub DoesPipe : {I : Type 0} → (I → Option (List ℕ)) → (I → I → List ℕ → Type 0) → History → Exit → Outside I → Outside I → Type 0
-DoesPipe left gives opening exit o o' = IsUntouched exit o o' ⊎ ServesPipe left gives opening exit o o'
-
-abbrev pub RefusesWords : {I : Type 0} → Exit → Outside I → Outside I → Type 0
-RefusesWords exit o o' = IsUntouched exit o o' ⊎ TellsUsage exit o o'
 
 -- ---- nothing fails
 
