@@ -4,14 +4,27 @@ ghost use Rattle.std.specs.Prelude.{◌≡◌, false};
 use crate::reason::{Reason, Refusal};
 use sqlite::{Alter, Connection, Error, Row, params};
 
+/// The text that makes a table of rows.
+macro_rules! table_of_rows {
+    ($name:literal) => {
+        concat!(
+            "CREATE TABLE ",
+            $name,
+            " (place INTEGER PRIMARY KEY, kind INTEGER NOT NULL, maker INTEGER NOT NULL, more INTEGER NOT NULL,",
+            " n1 INTEGER NOT NULL, n2 INTEGER NOT NULL, n3 INTEGER NOT NULL, n4 INTEGER NOT NULL, n5 INTEGER NOT NULL,",
+            " b1 BLOB NOT NULL, b2 BLOB NOT NULL) STRICT"
+        )
+    };
+}
+
 /// The texts that make the tables, by the tables' names in ascending order. A file keeps them as
 /// they were written.
 const TABLES: [&str; 5] = [
     "CREATE TABLE meta (version INTEGER NOT NULL) STRICT",
-    "CREATE TABLE papers (place INTEGER PRIMARY KEY, kind INTEGER NOT NULL, maker INTEGER NOT NULL, more INTEGER NOT NULL, n1 INTEGER NOT NULL, n2 INTEGER NOT NULL, n3 INTEGER NOT NULL, n4 INTEGER NOT NULL, n5 INTEGER NOT NULL, b1 BLOB NOT NULL, b2 BLOB NOT NULL) STRICT",
-    "CREATE TABLE people (place INTEGER PRIMARY KEY, kind INTEGER NOT NULL, maker INTEGER NOT NULL, more INTEGER NOT NULL, n1 INTEGER NOT NULL, n2 INTEGER NOT NULL, n3 INTEGER NOT NULL, n4 INTEGER NOT NULL, n5 INTEGER NOT NULL, b1 BLOB NOT NULL, b2 BLOB NOT NULL) STRICT",
-    "CREATE TABLE talk (place INTEGER PRIMARY KEY, kind INTEGER NOT NULL, maker INTEGER NOT NULL, more INTEGER NOT NULL, n1 INTEGER NOT NULL, n2 INTEGER NOT NULL, n3 INTEGER NOT NULL, n4 INTEGER NOT NULL, n5 INTEGER NOT NULL, b1 BLOB NOT NULL, b2 BLOB NOT NULL) STRICT",
-    "CREATE TABLE ties (place INTEGER PRIMARY KEY, kind INTEGER NOT NULL, maker INTEGER NOT NULL, more INTEGER NOT NULL, n1 INTEGER NOT NULL, n2 INTEGER NOT NULL, n3 INTEGER NOT NULL, n4 INTEGER NOT NULL, n5 INTEGER NOT NULL, b1 BLOB NOT NULL, b2 BLOB NOT NULL) STRICT",
+    table_of_rows!("papers"),
+    table_of_rows!("people"),
+    table_of_rows!("talk"),
+    table_of_rows!("ties"),
 ];
 
 /// The version of these tables.
