@@ -14,9 +14,11 @@ use Rattle.cr_policy.specs.Legal.{Legal}
 use Rattle.cr_policy.proofs.LegalLaws.{Legal-accepted, legal_invariants}
 use Rattle.cr_history.proofs.TableTies.{tables_of-append, rows_of-append}
 use Rattle.cr_book.specs.Opening.{Continue}
-use Rattle.cr_book.specs.Reading.{IsOpen, IsGroup, IsReading, IsGoing}
+use Rattle.cr_book.specs.Reading.{IsOpen, IsGroup, IsReading, IsGoing, IsRefused}
+use Rattle.cr_book.specs.declared.reading.ReadError.{ReadError}
+use Rattle.cr_book.specs.declared.reading.ReadError.TheVariants as errors
 use Rattle.cr_book.specs.Rebuilding.{drawn_told, IsBegun, NoneBegun}
-use Rattle.cr_book.proofs.OpeningRows.{rows-split, group-covers}
+use Rattle.cr_book.proofs.OpeningRows.{head_is, tail_is, rows-split, group-covers}
 use Rattle.cr_book.proofs.OpeningLegal.{MayAdd, may_add-group, Next, legal-next, next-extends}
 use Rattle.cr_book.proofs.OpeningCommands.{Told, accepted-told, told-adds}
 
@@ -107,3 +109,67 @@ none-begun log t pending row reading none goes = or (legal-next log goes.history
         tail_bounded next =
             let further = next-extends log goes.history next in
             part log (next.group ++ further.0) (subst (λ (h : History). AllByRecursion IsBoundedEntry h) (further.1 ∙ append_assoc log next.group further.0) (legal-bounded goes.history goes.legal))
+
+-- ---- a group that is begun, and its rows
+
+length-rows : (g : History) → length (rows_of g) ≡ length g
+length-rows [] = refl
+length-rows (e ∷ g) = ap suc (length-rows g)
+
+-- rows that a group goes beyond are open
+group-opens : (g : History) (rows : List Row) → IsGroup g → take (length rows) (rows_of g) ≡ rows → length rows < length g → AllByRecursion IsOpen rows
+group-opens g [] ig b few = tt
+group-opens [] (r ∷ rows) ig b few = elim ig [ ]
+group-opens (e ∷ []) (r ∷ rows) ig b few = absurd (omega (arith, few))
+group-opens (e ∷ e' ∷ g) (r ∷ rows) ig b few =
+    (ap (λ (x : Row). x.more) (sym (head_is (row_of e) r (take (length rows) (rows_of (e' ∷ g))) rows b)) ∙ ap (λ m. cond m 1 0) ig.0,
+    group-opens (e' ∷ g) rows ig.1 (tail_is (row_of e) r (take (length rows) (rows_of (e' ∷ g))) rows b) (omega (arith, few)))
+
+-- the reading goes on, where more rows of the group are to come
+pub going-on : (log : History) (t : Tables) (rows : List Row) (group : History) → IsGoing log t rows group → length rows < length group → IsReading log t rows
+going-on log t rows group going few = record {
+  legal = going.legal;
+  same = going.same;
+  unfinished = group-opens group rows going.whole going.begins few;
+  continue = record {
+    history = log ++ group;
+    legal = going.next;
+    after = drop (length rows) (rows_of group);
+    rows_are = rows_of-append log group
+        ∙ ap (λ (x : List Row). rows_of log ++ x) (sym (take-append-drop (length rows) (rows_of group)) ∙ ap (λ (x : List Row). x ++ drop (length rows) (rows_of group)) going.begins)
+        ∙ sym (append_assoc (rows_of log) rows (drop (length rows) (rows_of group)));
+  };
+}
+
+-- all rows of the group are there
+whole-rows : (rows : List Row) (group : History) → take (length rows) (rows_of group) ≡ rows → length group ≤ length rows → rows_of group ≡ rows
+whole-rows rows group begins all = let n = length-rows group in sym (take_all (length rows) (rows_of group) (omega (arith, n, all))) ∙ begins
+
+-- then the group is added, and no row is left
+pub going-whole : (log items : History) (t now : Tables) (rows left : List Row) (group : History) → IsGoing log t rows group → items ≡ log ++ group → now ≡ tables_from t group → left ≡ [] → IsReading items now left
+going-whole log items t now rows left group going is_items is_now is_left = record {
+  legal = subst (λ (x : History). Legal x) (sym is_items) going.next;
+  same = is_now ∙ ap (λ (x : Tables). tables_from x group) going.same ∙ sym (tables_of-append log group) ∙ ap tables_of (sym is_items);
+  unfinished = subst (λ (x : List Row). AllByRecursion IsOpen x) (sym is_left) tt;
+  continue = record {
+    history = items;
+    legal = subst (λ (x : History). Legal x) (sym is_items) going.next;
+    after = [];
+    rows_are = sym (append-nil (rows_of items)) ∙ ap (λ (x : List Row). rows_of items ++ x) (sym is_left) ∙ sym (append-nil (rows_of items ++ left));
+  };
+}
+
+pub going-rows : (log items : History) (t : Tables) (rows left : List Row) (group : History) → IsGoing log t rows group → length group ≤ length rows → items ≡ log ++ group → left ≡ [] → rows_of items ++ left ≡ rows_of log ++ rows
+going-rows log items t rows left group going all is_items is_left =
+    ap (λ (x : List Row). rows_of items ++ x) is_left
+    ∙ append-nil (rows_of items)
+    ∙ ap rows_of is_items
+    ∙ rows_of-append log group
+    ∙ ap (λ (x : List Row). rows_of log ++ x) (whole-rows rows group going.begins all)
+
+-- a row with which none is begun is refused
+pub refused-row : (log : History) (t : Tables) (pending rows : List Row) (row : Row) (error : ReadError) → IsReading log t pending → rows ≡ pending ++ row ∷ [] → IfSome (slice_get rows 0) (λ r. NoneBegun t r rows) → error ≡ errors.Bad row → IsRefused (rows_of log ++ pending) row error
+refused-row log t pending rows row error reading is none bad =
+    let none' = subst (λ (x : List Row). IfSome (slice_get x 0) (λ r. NoneBegun t r x)) is none in
+    subst (λ (e : ReadError). IsRefused (rows_of log ++ pending) row e) (sym bad)
+    (refl, reading.continue, λ goes. none-begun log t pending row reading none' (subst (λ (x : List Row). Continue x) (append_assoc (rows_of log) pending (row ∷ [])) goes))

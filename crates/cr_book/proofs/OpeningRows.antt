@@ -15,10 +15,10 @@ use Rattle.cr_book.specs.Reading.{IsOpen, IsGroup}
 same_entry : (s s' : Stamped) → IsBoundedEntry s → IsBoundedEntry s' → row_of s ≡ row_of s' → s ≡ s'
 same_entry s s' b b' e = sym (only_one (kind_of s'.entry) (row_of s') s refl b e) ∙ only_one (kind_of s'.entry) (row_of s') s' refl b' refl
 
-head_is : {A : Type 0} (x y : A) (xs ys : List A) → x ∷ xs ≡ y ∷ ys → x ≡ y
+pub head_is : {A : Type 0} (x y : A) (xs ys : List A) → x ∷ xs ≡ y ∷ ys → x ≡ y
 head_is x y xs ys e = cc (e)
 
-tail_is : {A : Type 0} (x y : A) (xs ys : List A) → x ∷ xs ≡ y ∷ ys → xs ≡ ys
+pub tail_is : {A : Type 0} (x y : A) (xs ys : List A) → x ∷ xs ≡ y ∷ ys → xs ≡ ys
 tail_is x y xs ys e = cc (e)
 
 cons_is : {A : Type 0} (x y : A) (xs ys : List A) → x ≡ y → xs ≡ ys → x ∷ xs ≡ y ∷ ys

@@ -1,5 +1,6 @@
 -- OpeningExact: which rows open as which history, and at which row others are bad.
-use Rattle.std.specs.Prelude.{ℕ, ◌≡◌, ◌≢◌, ◌+◌, ◌++◌, ◌⊎◌, List, length, take, slice_get, Some, Result, Ok, Err}
+use Rattle.std.specs.Prelude.{ℕ, ◌≡◌, ◌≢◌, ◌+◌, ◌++◌, ◌⊎◌, List, length, take, slice_get, Some, Result, Ok, Err, ◌≤◌}
+use Rattle.cr_ports.specs.Count.{Rises}
 use Rattle.cr_base.specs.declared.row.Row.{Row}
 use Rattle.cr_base.specs.History.{History}
 use Rattle.cr_base.specs.Rows.{rows_of}
@@ -41,3 +42,9 @@ Opens rows (Ok book) = Legal book.log × (rows_of book.log ≡ rows) × ((H : Hi
 Opens rows (Err (errors.BadStore at found, keeper)) = IsBadAt rows at found × ((H : History) → Legal H → rows_of H ≢ rows)
 Opens rows (Err (errors.KeeperFault, keeper)) = Unit {0}
 Opens rows (Err (errors.OutOfMemory, keeper)) = Unit {0}
+
+-- the keeper's count of faults rose where it is told that it failed, and nowhere else
+pub record IsCounted {T : Type 0} (before now : ℕ) (result : Result T OpenError) : Type 0 where
+  pub later : before ≤ now
+  pub failed : result ≡ Err errors.KeeperFault → Rises before now
+  pub steady : result ≢ Err errors.KeeperFault → now ≡ before

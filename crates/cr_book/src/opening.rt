@@ -1,8 +1,10 @@
 //! How a store opens.
-ghost use Rattle.std.specs.Prelude.{◌≡◌, ◌≢◌, ◌≤◌, ◌++◌, ℕ, [], Ok, Err, IfOk, IfErr, IfSome, length, take};
+ghost use Rattle.std.specs.Prelude.{◌≡◌, ◌++◌, List, length, IfOk, IfErr, IfSome};
 ghost use Rattle.cr_base.specs.declared.row.Row.{Row};
 ghost use Rattle.cr_base.specs.Rows.{rows_of};
-ghost use Rattle.cr_ports.specs.Count.{Rises};
+ghost use Rattle.cr_base.specs.Tables.{tables_of};
+ghost use Rattle.cr_policy.specs.Legal.{Legal};
+ghost use Rattle.cr_book.specs.Opening.{Explains, IsCounted};
 
 use crate::reading::{ReadError, Reading};
 use cr_base::{Row, Stamped};
@@ -29,6 +31,8 @@ pub enum OpenError {
 
 /// The same of a keeper that told nothing.
 fn untold(error: KeeperError) -> OpenError
+    ensures fault { result ≡ OpenError.KeeperFault → error ≡ KeeperError.Failed }
+    ensures silent { (rows : List Row) → Explains rows result }
 {
     match error {
         KeeperError::Failed => OpenError::KeeperFault,
@@ -38,6 +42,11 @@ fn untold(error: KeeperError) -> OpenError
 
 /// Reads every row once, in order.
 fn read_rows<K: Keeper>(alloc: Global, keeper: &mut K, count: u64) -> Result<Reading, OpenError>
+    requires { IfSome (K.rows keeper.old) (λ rows. count ≡ length rows) }
+    ensures spelled { IfOk result (λ read. IfSome (K.rows keeper.old) (λ rows. rows_of read.log ++ read.pending ≡ rows)) }
+    ensures bad { IfErr result (λ e. IfSome (K.rows keeper.old) (λ rows. Explains rows e)) }
+    ensures same { K.rows keeper.new ≡ K.rows keeper.old }
+    ensures cause { IsCounted (K.faults keeper.old) (K.faults keeper.new) result }
 {
     let mut reading = Reading::new(alloc);
     for i in 0..count {
@@ -59,6 +68,11 @@ pub(crate) fn read_all<K: Keeper>(
     alloc: Global,
     keeper: &mut K,
 ) -> Result<(Vec<Stamped>, Live), OpenError>
+    ensures legal { IfOk result (λ read. Legal read.0.items × (read.1.tables ≡ tables_of read.0.items)) }
+    ensures spelled { IfOk result (λ read. IfSome (K.rows keeper.old) (λ rows. rows_of read.0.items ≡ rows)) }
+    ensures bad { IfErr result (λ e. IfSome (K.rows keeper.old) (λ rows. Explains rows e)) }
+    ensures same { K.rows keeper.new ≡ K.rows keeper.old }
+    ensures cause { IsCounted (K.faults keeper.old) (K.faults keeper.new) result }
 {
     let count = match keeper.len() {
         Ok(count) => count,

@@ -1,11 +1,9 @@
 //! A store that is being read, row by row.
-ghost use Rattle.std.specs.Prelude.{◌≡◌, ◌<◌, ◌++◌, ◌∷◌, List, [], None, Some, IfOk, IfErr, length};
+ghost use Rattle.std.specs.Prelude.{◌≡◌, ◌<◌, ◌++◌, ◌∷◌, List, [], IfOk, IfErr, length};
 ghost use Rattle.cr_base.specs.declared.row.Row.{Row};
 ghost use Rattle.cr_base.specs.Rows.{rows_of};
 ghost use Rattle.cr_base.specs.Tables.{FitInTurn};
-ghost use Rattle.cr_book.specs.Opening.{Continue};
-ghost use Rattle.cr_book.specs.Reading.{IsReading, IsOpen};
-ghost use Rattle.cr_book.specs.Rebuilding.{IsBegun};
+ghost use Rattle.cr_book.specs.Reading.{IsCutStore, IsGoing, IsRefused, IsWholeStore};
 
 use crate::rebuilding::begun;
 use crate::rows::copies_of;
@@ -59,10 +57,11 @@ impl Reading {
         }
     }
 
-    /// One more row, which is kept until its group is whole. Costs what the group's command costs.
+    /// One more row, which is kept until its group is whole. Costs what judging and applying the group's
+    /// command costs.
     pub(crate) fn read(self, row: Row) -> Result<Reading, ReadError>
-        ensures ok { IfOk result (λ after. rows_of after.log ++ after.pending ≡ rows_of self.log ++ (self.pending ++ row ∷ [])) }
-        ensures bad { IfErr result (λ e. (found : Row) → e ≡ ReadError.Bad found → (found ≡ row) × (Continue (rows_of self.log ++ (self.pending ++ row ∷ [])) → ⊥)) }
+        ensures ok { IfOk result (λ after. rows_of after.log ++ after.pending ≡ (rows_of self.log ++ self.pending) ++ row ∷ []) }
+        ensures refused { IfErr result (λ e. IsRefused (rows_of self.log ++ self.pending) row e) }
     {
         let Reading {
             alloc,
@@ -70,9 +69,10 @@ impl Reading {
             live,
             mut pending,
         } = self;
-        if pending.push(row).is_err() {
+        if pending.reserve(1).is_err() {
             return Err(ReadError::OutOfMemory);
         }
+        pending.push_reserved(row);
         match begun(alloc, &live, &pending) {
             Ok(Some(group)) => with_begun(alloc, log, live, pending, group),
             Ok(None) => Err(last_of(pending)),
@@ -82,6 +82,8 @@ impl Reading {
 
     /// The history read, with its tables; or the last row, where more of its group should come.
     pub(crate) fn finish(self) -> Result<(Vec<Stamped>, Live), Row>
+        ensures whole { IfOk result (λ read. IsWholeStore self.log self.pending read.0.items read.1.tables) }
+        ensures cut { IfErr result (λ last. IsCutStore self.log self.pending last) }
     {
         let Reading {
             alloc: _,
@@ -104,6 +106,10 @@ fn with_begun(
     mut pending: Vec<Row>,
     group: Vec<Stamped>,
 ) -> Result<Reading, ReadError>
+    requires going { IsGoing log.items live.tables pending.items group.items }
+    requires fits { FitInTurn live.tables group.items }
+    ensures ok { IfOk result (λ after. rows_of after.log ++ after.pending ≡ rows_of log.items ++ pending.items) }
+    ensures memory { IfErr result (λ e. e ≡ ReadError.OutOfMemory) }
 {
     if pending.len() < group.len() {
         return Ok(Reading {
@@ -119,9 +125,9 @@ fn with_begun(
     if live.room(&group).is_err() {
         return Err(ReadError::OutOfMemory);
     }
-    if log.append(&mut entries).is_err() {
+    let Ok(()) = log.append(&mut entries) else {
         return Err(ReadError::OutOfMemory);
-    }
+    };
     live.apply_all(group);
     pending.clear();
     Ok(Reading {
