@@ -15,3 +15,5 @@ pub use run::top;
 mod tests;
 #[cfg(test)]
 mod tests_book;
+#[cfg(test)]
+mod tests_view;
