@@ -1,7 +1,7 @@
 //! A case: what is sent on one connection, what fails meanwhile, and what is due.
 
 use crate::message::{add_answer, add_request};
-use crate::store::{add_row, read_row};
+use crate::store::{add_row, copied, read_row};
 use crate::text::{LineError, add_raw, number_of};
 use cr_base::Row;
 use cr_top::Exit;
@@ -163,10 +163,12 @@ impl Case {
         }
     }
 
-    // =@ ROW, or `=@ none`
+    // =@ ROW, or `=@ same`
     fn add_row_due(&mut self, alloc: Global, rest: &str) -> Result<(), LineError> {
         let mut rows = self.rows_due.take().unwrap_or(Vec::new(alloc));
-        if rest != "none" {
+        if rest == "same" {
+            rows = copied(alloc, self.rows.as_slice())?;
+        } else {
             rows.push(read_row(alloc, rest)?)?;
         }
         self.rows_due = Some(rows);

@@ -18,9 +18,9 @@
 //! | `>>[N] TEXT`, `<<[N] TEXT` | bytes are sent, are due, N times |
 //! | `*N LINE` | N times that line, with the number of the time, from 1, in place of each `\#` |
 //! | `!read [N]`, `!write [N]` | the input fails behind what is sent so far, the output behind what is due so far, or N bytes later |
-//! | `@ ROW` | a row that stands in the store `f` ahead of the run: `KIND MAKER MORE N1 N2 N3 N4 N5 B1 B2`, `-` where there are no bytes |
+//! | `@ ROW` | a row that stands in the store `f` ahead of the run: `KIND MAKER MORE N1 N2 N3 N4 N5 B1 B2`, `-` for no bytes, `#` ahead of hexadecimal digits |
 //! | `@N ROW` | the same in place of row number N, from 0, of those told so far |
-//! | `=@ ROW`, `=@ none` | a row that is due there behind the run, in order; that none is |
+//! | `=@ same`, `=@ ROW` | the rows that are due there behind the run: those that stood there ahead of it; and then this one |
 //! | `!open` | the store can't be opened |
 //! | `!append N`, `!row N` | append number N, from 1, fails, in a store without rows; any other call of the keeper does |
 //! | `!each end`, `!each read`, `!each write` | the case is run once for each place at which the input may end, may fail, the output may fail |

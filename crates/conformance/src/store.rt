@@ -1,6 +1,6 @@
 //! The rows of a store, as lines of a case tell them.
 
-use crate::text::{LineError, add_text, number_of};
+use crate::text::{LineError, add_text, byte_of, number_of};
 use cr_base::{Blob, Row};
 use cr_ports::{Keeper, KeeperError, MemShelf, Shelf};
 use std::alloc::{AllocError, Global};
@@ -59,14 +59,26 @@ fn number(word: Option<&str>) -> Result<u64, LineError> {
     }
 }
 
-// The bytes of a row; `-` is none.
+// Adds the bytes that hexadecimal digits tell.
+fn add_digits(into: &mut Vec<u8>, digits: &str) -> Result<(), LineError> {
+    let mut rest = digits;
+    while !rest.is_empty() {
+        let (byte, behind) = rest.split_at_checked(2).ok_or(LineError::NoForm)?;
+        into.push(byte_of(byte)?)?;
+        rest = behind;
+    }
+    Ok(())
+}
+
+// The bytes of a row: none where there is `-`, by hexadecimal digits behind a `#`, else a text.
 fn bytes(alloc: Global, word: Option<&str>) -> Result<Blob, LineError> {
     let word = word.ok_or(LineError::NoForm)?;
-    if word == "-" {
-        return Ok(Blob::empty());
-    }
     let mut bytes = Vec::new(alloc);
-    add_text(&mut bytes, word)?;
+    if let Some(digits) = word.strip_prefix('#') {
+        add_digits(&mut bytes, digits)?;
+    } else if word != "-" {
+        add_text(&mut bytes, word)?;
+    }
     Ok(Blob::from_slice(alloc, bytes.as_slice())?)
 }
 
