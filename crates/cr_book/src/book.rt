@@ -62,8 +62,7 @@ pub enum BookError {
 impl<K: Keeper> Book<K> {
     /// The book of the history that the keeper's rows spell. Every row is read once, in order, and each
     /// group is judged as its command was.
-    pub fn open(alloc: Global, mut keeper: K) -> Result<Book<K>, (OpenError, K)>
-    {
+    pub fn open(alloc: Global, mut keeper: K) -> Result<Book<K>, (OpenError, K)> {
         match read_all(alloc, &mut keeper) {
             Ok((log, live)) => Ok(Book {
                 alloc,

@@ -53,12 +53,7 @@ impl Object {
     }
 
     /// Writes a member that is a number.
-    pub fn number(
-        &mut self,
-        into: &mut Vec<u8>,
-        key: &str,
-        number: u64,
-    ) -> Result<(), AllocError>
+    pub fn number(&mut self, into: &mut Vec<u8>, key: &str, number: u64) -> Result<(), AllocError>
         ensures adds { Adds result into.old into.new self.old.is_first self.new.is_first (told key.now (Some (decimal number))) }
         ensures room { Takes result into.old into.new (length key.now + 24) }
     {
@@ -67,12 +62,7 @@ impl Object {
     }
 
     /// Writes a member that is a string.
-    pub fn string(
-        &mut self,
-        into: &mut Vec<u8>,
-        key: &str,
-        text: &[u8],
-    ) -> Result<(), AllocError>
+    pub fn string(&mut self, into: &mut Vec<u8>, key: &str, text: &[u8]) -> Result<(), AllocError>
         ensures adds { Adds result into.old into.new self.old.is_first self.new.is_first (told key.now (Some (quoted text.now))) }
         ensures room { Takes result into.old into.new (length key.now + 6 * length text.now + 6) }
     {
