@@ -16,5 +16,3 @@ pub use cr_view::AnswerError;
 pub use laws::law_standing_by_tables;
 pub use opening::OpenError;
 
-#[cfg(test)]
-mod tests;

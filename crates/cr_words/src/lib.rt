@@ -13,5 +13,3 @@ pub use laws::law_pipe;
 pub use read::{Job, WordsError, read_words};
 pub use usage::usage_text;
 
-#[cfg(test)]
-mod tests;
