@@ -65,21 +65,13 @@ impl Lane {
         Ok(())
     }
 
-    /// Whether the next row stands at this place. One that stands before it is a row too many.
-    fn stands_at<S: Alter>(
-        &mut self,
-        conn: &mut Connection<S>,
-        place: i64,
-    ) -> Result<bool, Refusal> {
+    /// Whether the next row stands at this place.
+    fn stands_at<S: Alter>(&mut self, conn: &mut Connection<S>, place: i64) -> Result<bool, Error> {
         self.fill(conn)?;
         let Some(next) = self.rows.get(self.taken) else {
             return Ok(false);
         };
-        let found = place_of(next)?;
-        if found < place {
-            return Err(Refusal::Failed(Reason::TakenPlace(found)));
-        }
-        Ok(found == place)
+        Ok(place_of(next)? == place)
     }
 
     /// Takes the next row, which stands at this place.
@@ -138,7 +130,7 @@ impl Lanes {
             (false, false, true, false) => self.ties.take(self.alloc, place),
             (false, false, false, true) => self.talk.take(self.alloc, place),
             (false, false, false, false) => Err(Refusal::Failed(Reason::MissingPlace(place))),
-            _ => Err(Refusal::Failed(Reason::TakenPlace(at))),
+            _ => Err(Refusal::Failed(Reason::TakenPlace(place))),
         }
     }
 }

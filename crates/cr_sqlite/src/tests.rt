@@ -174,7 +174,7 @@ fn bad_stores_are_told_by_their_reason(rt: HostRuntime) -> Result<(), Fail> {
         ),
         (
             "UPDATE people SET place = -1 WHERE place = 0",
-            Some(Reason::TakenPlace(-1)),
+            Some(Reason::MissingPlace(0)),
         ),
         (
             "UPDATE papers SET kind = 4 WHERE place = 8",
