@@ -29,12 +29,16 @@ pub(crate) struct Lanes {
     talk: Lane,
 }
 
+fn prepare<S: Alter>(conn: &mut Connection<S>, sql: &str) -> Result<Statement, Error> {
+    conn.prepare(sql)
+}
+
 impl Lane {
     fn new<S: Alter>(alloc: Global, conn: &mut Connection<S>, table: Table) -> Result<Lane, Error> {
         Ok(Lane {
             table,
-            insert: conn.prepare(table.insert())?,
-            page: conn.prepare(table.page())?,
+            insert: prepare(conn, table.insert())?,
+            page: prepare(conn, table.page())?,
             rows: Vec::new(alloc),
             taken: 0,
             behind: None,
