@@ -38,37 +38,20 @@ impl<S: Alter> Model for SqliteKeeper<S> {
 }
 
 /// Makes the store's tables where the database has none, and else looks at them. The lanes, and
-/// how many rows there are, by the last place.
+/// how many rows there are.
 fn prepare<S: Alter>(alloc: Global, conn: &mut Connection<S>) -> Result<(Lanes, u64), Refusal> {
     make_or_check(conn)?;
     let lanes = Lanes::new(alloc, conn)?;
-    let mut len = 0;
+    let mut len = 0u64;
     for table in [Table::People, Table::Papers, Table::Ties, Table::Talk] {
-        len = len.max(len_of(conn, table)?);
+        len = len.saturating_add(count_of(conn, table)?);
     }
     Ok((lanes, len))
 }
 
-/// The place behind a table's last row.
-fn len_of<S: Alter>(conn: &mut Connection<S>, table: Table) -> Result<u64, Refusal> {
-    let (first, last) = ends(conn, table)?;
-    match first {
-        Some(first) if first < 0 => return Err(Refusal::Failed(Reason::TakenPlace(first))),
-        _ => {}
-    }
-    match last {
-        Some(last) => Ok(u64::try_from(last).unwrap_or(0).saturating_add(1)),
-        None => Ok(0),
-    }
-}
-
-/// The first and the last place of a table, if it has rows.
-fn ends<S: Alter>(
-    conn: &mut Connection<S>,
-    table: Table,
-) -> Result<(Option<i64>, Option<i64>), Error> {
-    let row = conn.query_row(table.ends(), &[])?;
-    Ok((row.get(0)?, row.get(1)?))
+/// How many rows a table has.
+fn count_of<S: Alter>(conn: &mut Connection<S>, table: Table) -> Result<u64, Error> {
+    conn.query_row(table.count(), &[])?.get(0)
 }
 
 /// Adds all rows from a place on, in one transaction, or none of them.
@@ -100,7 +83,8 @@ impl<S: Alter> SqliteKeeper<S> {
     ///
     /// `Failed` comes only where `faults` rose, or stands at its last value: the database isn't a
     /// store of version 1, or a statement failed. `OutOfMemory` comes only where it is as it was.
-    /// Reads the first and last place of each table, and no row.
+    /// Counts the rows; what they are is looked at as they are read. Where each of the first that
+    /// many places then has one row, there is no other.
     pub fn adopt(
         alloc: Global,
         mut conn: Connection<S>,

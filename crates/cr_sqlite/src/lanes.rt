@@ -29,12 +29,16 @@ pub(crate) struct Lanes {
     talk: Lane,
 }
 
+fn prepare<S: Alter>(conn: &mut Connection<S>, sql: &str) -> Result<Statement, Error> {
+    conn.prepare(sql)
+}
+
 impl Lane {
     fn new<S: Alter>(alloc: Global, conn: &mut Connection<S>, table: Table) -> Result<Lane, Error> {
         Ok(Lane {
             table,
-            insert: conn.prepare(table.insert())?,
-            page: conn.prepare(table.page())?,
+            insert: prepare(conn, table.insert())?,
+            page: prepare(conn, table.page())?,
             rows: Vec::new(alloc),
             taken: 0,
             behind: None,
@@ -65,21 +69,13 @@ impl Lane {
         Ok(())
     }
 
-    /// Whether the next row stands at this place. One that stands before it is a row too many.
-    fn stands_at<S: Alter>(
-        &mut self,
-        conn: &mut Connection<S>,
-        place: i64,
-    ) -> Result<bool, Refusal> {
+    /// Whether the next row stands at this place.
+    fn stands_at<S: Alter>(&mut self, conn: &mut Connection<S>, place: i64) -> Result<bool, Error> {
         self.fill(conn)?;
         let Some(next) = self.rows.get(self.taken) else {
             return Ok(false);
         };
-        let found = place_of(next)?;
-        if found < place {
-            return Err(Refusal::Failed(Reason::TakenPlace(found)));
-        }
-        Ok(found == place)
+        Ok(place_of(next)? == place)
     }
 
     /// Takes the next row, which stands at this place.
@@ -138,7 +134,7 @@ impl Lanes {
             (false, false, true, false) => self.ties.take(self.alloc, place),
             (false, false, false, true) => self.talk.take(self.alloc, place),
             (false, false, false, false) => Err(Refusal::Failed(Reason::MissingPlace(place))),
-            _ => Err(Refusal::Failed(Reason::TakenPlace(at))),
+            _ => Err(Refusal::Failed(Reason::TakenPlace(place))),
         }
     }
 }

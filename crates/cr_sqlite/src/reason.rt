@@ -15,10 +15,10 @@ pub enum Reason {
     OtherTables,
     /// The store isn't of version 1.
     OtherVersion,
-    /// No row stands at this place, and some stand behind it.
+    /// No row stands at this place, which is below the number of rows.
     MissingPlace(u64),
-    /// A row stands at this place where none may: a second one, or one before place 0.
-    TakenPlace(i64),
+    /// Two rows stand at this place.
+    TakenPlace(u64),
     /// The row at this place stands in another table than that of its kind.
     OtherTable(u64),
     /// A value of the row at this place is of another type, or no number that a row can hold.
@@ -36,7 +36,7 @@ impl fmt::Display for Reason {
             Reason::OtherTables => f.write_str("the tables are not those of a store"),
             Reason::OtherVersion => f.write_str("the store is not of version 1"),
             Reason::MissingPlace(place) => write!(f, "no row stands at place {place}"),
-            Reason::TakenPlace(place) => write!(f, "a row too many stands at place {place}"),
+            Reason::TakenPlace(place) => write!(f, "two rows stand at place {place}"),
             Reason::OtherTable(place) => write!(
                 f,
                 "the row at place {place} stands in another table than its kind's"

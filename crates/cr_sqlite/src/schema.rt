@@ -2,7 +2,7 @@
 ghost use Rattle.std.specs.Prelude.{◌≡◌, false};
 
 use crate::reason::{Reason, Refusal};
-use sqlite::{Alter, Connection, Error, Row, params};
+use sqlite::{Alter, Connection, Error, Row, Transaction};
 
 /// The text that makes a table of rows.
 macro_rules! table_of_rows {
@@ -89,8 +89,12 @@ fn make_all<S: Alter>(conn: &mut Connection<S>) -> Result<(), Error>
 {
     let mut transaction = conn.transaction();
     for table in TABLES {
-        transaction.execute(table, &[])?;
+        run(&mut transaction, table)?;
     }
-    transaction.execute("INSERT INTO meta VALUES (?1)", params![VERSION])?;
+    run(&mut transaction, "INSERT INTO meta VALUES (1)")?;
     transaction.commit()
+}
+
+fn run<S: Alter>(transaction: &mut Transaction<'_, S>, sql: &str) -> Result<usize, Error> {
+    transaction.execute(sql, &[])
 }

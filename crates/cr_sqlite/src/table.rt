@@ -47,13 +47,13 @@ impl Table {
         }
     }
 
-    /// Reads the first and the last place, each NULL where no row is.
-    pub fn ends(self) -> &'static str {
+    /// Counts the rows.
+    pub fn count(self) -> &'static str {
         match self {
-            Table::People => "SELECT min(place), max(place) FROM people",
-            Table::Papers => "SELECT min(place), max(place) FROM papers",
-            Table::Ties => "SELECT min(place), max(place) FROM ties",
-            Table::Talk => "SELECT min(place), max(place) FROM talk",
+            Table::People => "SELECT count(*) FROM people",
+            Table::Papers => "SELECT count(*) FROM papers",
+            Table::Ties => "SELECT count(*) FROM ties",
+            Table::Talk => "SELECT count(*) FROM talk",
         }
     }
 }

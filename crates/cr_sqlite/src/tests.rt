@@ -5,10 +5,17 @@ ghost use Rattle.sqlite_disk.specs.Memory.{memory_is_usable};
 use crate::{Reason, Refusal, SqliteKeeper};
 use cr_base::{Blob, Row};
 use cr_ports::{Keeper, KeeperError};
-use sqlite::{Alter, Connection, Error, FileStore, Files, MemStore, Options};
+use sqlite::{Alter, Connection, Error, ErrorCode, File, FileStore, Files, MemStore, Options};
 use sqlite_disk::Memory;
 use std::alloc::{AllocError, Global};
 use std::test::Fail;
+
+fn must_send<T: Send>(_: &T) {}
+
+/// A keeper over a file can be moved into a thread.
+fn file_keepers_are_send(keeper: &SqliteKeeper<FileStore<File>>) {
+    must_send(keeper);
+}
 
 /// A row of this kind, with numbers and bytes that tell it from the others.
 fn row_of(alloc: Global, kind: u64) -> Result<Row, AllocError> {
@@ -174,7 +181,7 @@ fn bad_stores_are_told_by_their_reason(rt: HostRuntime) -> Result<(), Fail> {
         ),
         (
             "UPDATE people SET place = -1 WHERE place = 0",
-            Some(Reason::TakenPlace(-1)),
+            Some(Reason::MissingPlace(0)),
         ),
         (
             "UPDATE papers SET kind = 4 WHERE place = 8",
@@ -219,5 +226,30 @@ fn a_file_of_others_stays_as_it_is(rt: HostRuntime) -> Result<(), Fail> {
     let bytes = before.bytes().to_vec(alloc)?;
     let after = refused(alloc, before)?;
     assert!(rt; after.bytes() == bytes.as_slice());
+    Ok(())
+}
+
+#[test]
+fn reasons_are_one_line(rt: HostRuntime) -> Result<(), Fail> {
+    let busy = Reason::Database(Error::SqliteFailure(ErrorCode::DatabaseBusy));
+    for (reason, text) in [
+        (busy, "database is locked"),
+        (Reason::OtherTables, "the tables are not those of a store"),
+        (Reason::OtherVersion, "the store is not of version 1"),
+        (Reason::MissingPlace(3), "no row stands at place 3"),
+        (Reason::TakenPlace(3), "two rows stand at place 3"),
+        (
+            Reason::OtherTable(3),
+            "the row at place 3 stands in another table than its kind's",
+        ),
+        (
+            Reason::OtherValue(3),
+            "the row at place 3 has a value that no row has",
+        ),
+        (Reason::UnknownRow(3), "the row for place 3 fits no table"),
+        (Reason::InTransaction, "a transaction is open"),
+    ] {
+        assert_eq!(rt; format!(in rt.alloc(); "{reason}")?.as_str(), text);
+    }
     Ok(())
 }
