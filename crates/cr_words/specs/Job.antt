@@ -19,16 +19,18 @@ abbrev pub job_seen : Job → NamedJob
 job_seen (Pipe store) = pipe_job (option_map (λ s. s.now) store)
 job_seen (View store user) = view_job store.now user.now
 
-abbrev pub view_named : Option Text → Option Text → Option NamedJob
-view_named (Some store) (Some user) = Some (view_job store user)
-view_named _ _ = None
+abbrev pub with_both : Option Text → Option Text → Option NamedJob
+with_both (Some store) (Some user) = Some (view_job store user)
+with_both _ _ = None
+
+abbrev pub view_named : List Row → Option NamedJob
+view_named rows = with_both (first_of (codes "store") rows) (first_of (codes "user") rows)
 
 -- the job of a subcommand, by its name and the values of its options
 abbrev pub job_named : Text × List Row → Option NamedJob
 job_named sub =
     if bytes_eq sub.0 (codes "pipe") then Some (pipe_job (first_of (codes "store") sub.1))
-    else (if bytes_eq sub.0 (codes "view") then view_named (first_of (codes "store") sub.1) (first_of (codes "user") sub.1)
-    else None)
+    else (if bytes_eq sub.0 (codes "view") then view_named sub.1 else None)
 
 -- the job of the subcommand that clap finds among the words
 abbrev pub job_of : List Text → Option NamedJob

@@ -1,5 +1,5 @@
 -- The command that the words are read by, as clap's own definitions build one.
-use Rattle.std.specs.Prelude.{Bool, true, false, Some, codes}
+use Rattle.std.specs.Prelude.{Bool, true, false, ◌++◌, Some, codes}
 use Rattle.clap.specs.Words.{App, Rule, Text, new_app, new_rule, with_rule, with_subcommand}
 
 -- an option `--id VALUE`: any text, and at most once
@@ -21,3 +21,11 @@ required a = record a { top = record a.top { subcommand_required = true; disable
 -- the program: one line for each subcommand
 unfoldable pub confd_words : App
 confd_words = with_subcommand (with_subcommand (required (new_app (codes "confd"))) pipe.top) view.top
+
+-- ---- the options as one word each, with the value behind `=`
+
+abbrev pub store_word : Text → Text
+store_word file = codes "--store=" ++ file
+
+abbrev pub user_word : Text → Text
+user_word user = codes "--user=" ++ user

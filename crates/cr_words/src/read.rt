@@ -1,9 +1,9 @@
 //! What the words ask for.
 ghost use Rattle.std.specs.Prelude.{◌≡◌, ◌≢◌, Some, [], IfOk, true, map, string_bytes, option_map};
 ghost use Rattle.std.specs.Option.{option_and_then};
-ghost use Rattle.clap.specs.Words.{takes, fault_of, subcommand_rows_of};
+ghost use Rattle.clap.specs.Words.{takes, fault_of, first_of, found_of, rows_of, subcommand_rows_of};
 ghost use Rattle.cr_words.specs.Words.{confd_words};
-ghost use Rattle.cr_words.specs.Job.{job_named, job_of, job_seen};
+ghost use Rattle.cr_words.specs.Job.{job_named, job_of, job_seen, view_named};
 
 use crate::build::confd_command;
 use clap::ArgMatches;
@@ -36,6 +36,23 @@ pub enum WordsError {
     OutOfMemory,
 }
 
+/// The value of the option `--id`, if it was given.
+fn value_of<'a>(options: &ArgMatches<'a>, id: &str) -> Option<&'a str>
+    ensures { option_map (λ s. s.now) result ≡ first_of id.now (rows_of (found_of options.now)) }
+{
+    options.get_str(id)
+}
+
+/// The job of `view`, whose options are both there.
+fn view_job<'a>(options: &ArgMatches<'a>) -> Option<Job<'a>>
+    ensures { option_map job_seen result ≡ view_named (rows_of (found_of options.now)) }
+{
+    Some(Job::View {
+        store: value_of(options, "store")?,
+        user: value_of(options, "user")?,
+    })
+}
+
 /// The job of the subcommand that was used.
 fn named_job<'a>(matches: &ArgMatches<'a>) -> Option<Job<'a>>
     ensures { option_map job_seen result ≡ option_and_then job_named (subcommand_rows_of matches.now) }
@@ -43,12 +60,9 @@ fn named_job<'a>(matches: &ArgMatches<'a>) -> Option<Job<'a>>
     let (name, options) = matches.subcommand()?;
     match name {
         "pipe" => Some(Job::Pipe {
-            store: options.get_str("store"),
+            store: value_of(options, "store"),
         }),
-        "view" => Some(Job::View {
-            store: options.get_str("store")?,
-            user: options.get_str("user")?,
-        }),
+        "view" => view_job(options),
         _ => None,
     }
 }
