@@ -3,3 +3,4 @@ pub mod OpeningCommands
 pub mod OpeningLaws
 pub mod OpeningLegal
 pub mod OpeningRows
+pub mod StoreLaws

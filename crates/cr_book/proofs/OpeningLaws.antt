@@ -121,9 +121,10 @@ group-opens : (g : History) (rows : List Row) → IsGroup g → take (length row
 group-opens g [] ig b few = tt
 group-opens [] (r ∷ rows) ig b few = elim ig [ ]
 group-opens (e ∷ []) (r ∷ rows) ig b few = absurd (omega (arith, few))
-group-opens (e ∷ e' ∷ g) (r ∷ rows) ig b few =
-    (ap (λ (x : Row). x.more) (sym (head_is (row_of e) r (take (length rows) (rows_of (e' ∷ g))) rows b)) ∙ ap (λ m. cond m 1 0) ig.0,
-    group-opens (e' ∷ g) rows ig.1 (tail_is (row_of e) r (take (length rows) (rows_of (e' ∷ g))) rows b) (omega (arith, few)))
+group-opens (e ∷ e' ∷ g) (r ∷ rows) ig b few = (
+  ap (λ (x : Row). x.more) (sym (head_is (row_of e) r (take (length rows) (rows_of (e' ∷ g))) rows b)) ∙ ap (λ m. cond m 1 0) ig.0,
+  group-opens (e' ∷ g) rows ig.1 (tail_is (row_of e) r (take (length rows) (rows_of (e' ∷ g))) rows b) (omega (arith, few)),
+)
 
 -- the reading goes on, where more rows of the group are to come
 pub going-on : (log : History) (t : Tables) (rows : List Row) (group : History) → IsGoing log t rows group → length rows < length group → IsReading log t rows

@@ -41,7 +41,9 @@ fn command_of(live: &Live, first: Entry) -> Option<Command>
         Entry::PhaseSet { phase } => Some(Command::SetPhase { phase }),
         Entry::ModeSet { mode } => Some(Command::SetMode { mode }),
         Entry::Submitted {
-            title, abstract_, ..
+            title,
+            abstract_,
+            ..
         } => Some(Command::Submit { title, abstract_ }),
         Entry::Named { user, role } => {
             let name = live.name_of(user)?;

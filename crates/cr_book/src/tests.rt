@@ -65,8 +65,11 @@ fn open(alloc: Global, keeper: MemKeeper) -> Opened {
 
 /// Alice registers and is a chair; bob and carol register.
 const ALICE: Brief = [1, 1, 1, 1, 0, 0, 1];
+
 const CHAIR: Brief = [2, 1, 0, 1, 2, 0, 0];
+
 const BOB: Brief = [1, 2, 0, 2, 0, 0, 2];
+
 const CAROL: Brief = [1, 3, 0, 3, 0, 0, 3];
 
 /// Bob becomes a member; the mode is set; the phase goes on, bob submits, and declares carol, a member
@@ -89,7 +92,11 @@ fn a_store_cut_after_each_row(rt: HostRuntime) -> Result<(), Fail> {
     let alloc = rt.alloc();
     for i in 0..11 {
         let found = open(alloc, keeper_of(alloc, &LEGAL[..i])?);
-        let due = if i == 1 { Opened::BadAt(0) } else { Opened::Entries(i as u64) };
+        let due = if i == 1 {
+            Opened::BadAt(0)
+        } else {
+            Opened::Entries(i as u64)
+        };
         assert_eq!(rt; found, due, "cut after {i} rows");
     }
     Ok(())

@@ -27,10 +27,10 @@ pub returns-in-Ok-Some-clause-ok : goal.returns-in-Ok-Some-clause-ok
 returns-in-Ok-Some-clause-ok c =
     IfOk-weaker c.with_begun.result _ _
     (λ after is.
-        is
-        ∙ ap (λ (xs : List Row). rows_of c.self.inside.log.items ++ xs) (pushed c.self.inside.pending.items c.reserve.new.self.items c.push_reserved.new.self.items c.args.row c.push_reserved.ensures.items c.reserve.ensures.items)
-        ∙ sym (append_assoc (rows_of c.self.inside.log.items) c.self.inside.pending.items (c.args.row ∷ []))
-        ∙ ap (λ (xs : List Row). xs ++ c.args.row ∷ []) (before _ c.args.self c.self.view_is))
+    is
+    ∙ ap (λ (xs : List Row). rows_of c.self.inside.log.items ++ xs) (pushed c.self.inside.pending.items c.reserve.new.self.items c.push_reserved.new.self.items c.args.row c.push_reserved.ensures.items c.reserve.ensures.items)
+    ∙ sym (append_assoc (rows_of c.self.inside.log.items) c.self.inside.pending.items (c.args.row ∷ []))
+    ∙ ap (λ (xs : List Row). xs ++ c.args.row ∷ []) (before _ c.args.self c.self.view_is))
     c.with_begun.ensures.ok
 
 pub returns-in-Ok-None-clause-refused : goal.returns-in-Ok-None-clause-refused
@@ -38,4 +38,4 @@ returns-in-Ok-None-clause-refused c =
     let none = (rw c.in-Ok-None.field-0-is at c.in-Ok-None.ensures.none) refl in
     subst (λ (rows : List Row). IsRefused rows c.args.row c.last_of.result) (before _ c.args.self c.self.view_is)
     (refused-row c.self.inside.log.items c.self.inside.live.tables c.self.inside.pending.items c.deref.result.now c.args.row c.last_of.result c.self.invariant
-        (c.deref.ensures.value ∙ pushed c.self.inside.pending.items c.reserve.new.self.items c.push_reserved.new.self.items c.args.row c.push_reserved.ensures.items c.reserve.ensures.items) none (c.last_of.ensures c.self.inside.pending.items c.args.row (pushed c.self.inside.pending.items c.reserve.new.self.items c.push_reserved.new.self.items c.args.row c.push_reserved.ensures.items c.reserve.ensures.items)))
+    (c.deref.ensures.value ∙ pushed c.self.inside.pending.items c.reserve.new.self.items c.push_reserved.new.self.items c.args.row c.push_reserved.ensures.items c.reserve.ensures.items) none (c.last_of.ensures c.self.inside.pending.items c.args.row (pushed c.self.inside.pending.items c.reserve.new.self.items c.push_reserved.new.self.items c.args.row c.push_reserved.ensures.items c.reserve.ensures.items)))
