@@ -93,8 +93,11 @@ impl Input<'_> {
             None => (top(alloc, self.words, &mut source, &mut sink), None),
             Some(appends) => {
                 let keeper = MemKeeper::new(alloc, appends.to_vec(alloc)?, Vec::new(alloc));
-                let (ending, mut keeper) = pipe(alloc, keeper, &mut source, &mut sink);
-                (exit_of(ending), keeper.len().ok())
+                let (exit, mut keeper) = match pipe(alloc, keeper, &mut source, &mut sink) {
+                    Ok((ending, keeper)) => (exit_of(ending), keeper),
+                    Err((_error, keeper)) => (Exit::OutOfMemory, keeper),
+                };
+                (exit, keeper.len().ok())
             }
         };
         Ok(Outcome {

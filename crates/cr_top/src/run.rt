@@ -45,7 +45,7 @@ pub fn top<I: Source, O: Sink>(alloc: Global, words: &[String], input: &mut I, o
     ensures answers { let outside = outside_of I.faults O.taken O.faults in
         (b : List ℕ) → AreTaken words.now → I.left input.old ≡ Some b
         → IsFaultless (outside input.old out.old) (outside input.new out.new)
-        → (result ≡ Exit.OutOfMemory) ⊎ AnswersAll result b (outside input.old out.old) (outside input.new out.new) }
+        → (result ≡ Exit.OutOfMemory) ⊎ AnswersAll result b [] (outside input.old out.old) (outside input.new out.new) }
 
     // Words that name no job are answered by the usage line, and nothing is read.
     ensures refuses { let outside = outside_of I.faults O.taken O.faults in
@@ -58,8 +58,11 @@ pub fn top<I: Source, O: Sink>(alloc: Global, words: &[String], input: &mut I, o
 {
     match read_words(alloc, words) {
         Ok(Job::Pipe) => {
-            let (ending, _keeper) = pipe(alloc, PlainKeeper::new(alloc), input, out);
-            exit_of(ending)
+            // A keeper without rows opens but for want of memory.
+            match pipe(alloc, PlainKeeper::new(alloc), input, out) {
+                Ok((ending, _keeper)) => exit_of(ending),
+                Err((_error, _keeper)) => Exit::OutOfMemory,
+            }
         }
         Err(WordsError::Usage) => refuse_words(out),
         Err(WordsError::OutOfMemory) => Exit::OutOfMemory,

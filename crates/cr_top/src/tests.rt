@@ -68,7 +68,10 @@ fn keeps_a_registration(rt: HostRuntime) -> Result<(), Fail> {
 fn kept(alloc: Global, requests: &[&str]) -> Result<(Ending, Vec<u8>, [u64; 3]), Fail> {
     let mut source = PlainSource::new(joined(alloc, requests)?);
     let mut sink = MemSink::new(alloc, ROOM, Vec::new(alloc), Vec::new(alloc))?;
-    let (ending, keeper) = pipe(alloc, PlainKeeper::new(alloc), &mut source, &mut sink);
+    let (ending, keeper) = match pipe(alloc, PlainKeeper::new(alloc), &mut source, &mut sink) {
+        Ok(run) => run,
+        Err((_error, keeper)) => (Ending::OutOfMemory, keeper),
+    };
     Ok((ending, sink.taken().to_vec(alloc)?, first_kinds(keeper)))
 }
 

@@ -2,7 +2,7 @@
 
 use crate::tests::{ALICE, CUT_SHORT, GET_PHASE, ROOM, USER_1, joined};
 use cr_base::{PaperNo, Query, Reply, Short, UserNo};
-use cr_book::Book;
+use cr_book::{Book, OpenError};
 use cr_ports::{Keeper, MemSink, PlainKeeper, PlainSource};
 use cr_session::{Ending, Inbox, WishRead, read_wish, serve_connection, write_reply};
 use std::alloc::Global;
@@ -56,12 +56,20 @@ fn rows(mut keeper: PlainKeeper) -> u64 {
     }
 }
 
+/// The book of a keeper without rows.
+fn empty_book(alloc: Global) -> Result<Book<PlainKeeper>, OpenError> {
+    match Book::open(alloc, PlainKeeper::new(alloc)) {
+        Ok(book) => Ok(book),
+        Err((error, _keeper)) => Err(error),
+    }
+}
+
 /// Alice registers on one connection, and tries again on the next, which is cut.
 fn told_by_a_book(alloc: Global) -> Result<Told, Fail> {
     let mut first = PlainSource::new(joined(alloc, &[ALICE])?);
     let mut second = PlainSource::new(joined(alloc, &[GET_PHASE, ALICE, CUT_SHORT])?);
     let mut sink = MemSink::new(alloc, ROOM, Vec::new(alloc), Vec::new(alloc))?;
-    let mut book = Book::open(alloc, PlainKeeper::new(alloc));
+    let mut book = empty_book(alloc)?;
     let endings = [
         serve_connection(alloc, &mut book, &mut first, &mut sink),
         serve_connection(alloc, &mut book, &mut second, &mut sink),
