@@ -4,3 +4,4 @@ pub mod OpeningLaws
 pub mod OpeningLegal
 pub mod OpeningRows
 pub mod ViewLaws
+pub mod StoreLaws

@@ -1,11 +1,13 @@
 -- What is true of rows that are being read, one behind another.
-use Rattle.std.specs.Prelude.{◌≡◌, ◌++◌, List, [], ◌∷◌, length, take, IsTrue, IsFalse}
+use Rattle.std.specs.Prelude.{ℕ, ◌≡◌, ◌++◌, List, [], ◌∷◌, length, take, IsTrue, IsFalse}
 use Rattle.std.specs.List.{AllByRecursion}
 use Rattle.cr_base.specs.declared.row.Row.{Row}
 use Rattle.cr_base.specs.History.{History}
 use Rattle.cr_base.specs.Rows.{rows_of}
 use Rattle.cr_base.specs.Tables.{Tables, tables_of}
 use Rattle.cr_policy.specs.Legal.{Legal}
+use Rattle.cr_book.specs.declared.opening.OpenError.{OpenError}
+use Rattle.cr_book.specs.declared.opening.OpenError.TheVariants as refusals
 use Rattle.cr_book.specs.declared.reading.ReadError.{ReadError}
 use Rattle.cr_book.specs.declared.reading.ReadError.TheVariants as errors
 use Rattle.cr_book.specs.Opening.{Continue, AreCutOff}
@@ -39,6 +41,11 @@ pub record IsGoing (log : History) (tables : Tables) (rows : List Row) (group : 
 abbrev pub IsRefused : List Row → Row → ReadError → Type 0
 IsRefused before row (errors.Bad found) = (found ≡ row) × Continue before × (Continue (before ++ row ∷ []) → ⊥)
 IsRefused before row errors.OutOfMemory = Unit {0}
+
+-- what a row that is refused in its place comes to
+abbrev pub refusal : ℕ → ReadError → OpenError
+refusal at (errors.Bad found) = refusals.BadStore at found
+refusal at errors.OutOfMemory = refusals.OutOfMemory
 
 -- all rows were read, and each group is whole
 pub record IsWholeStore (log : History) (pending : List Row) (read : History) (tables : Tables) : Type 0 where

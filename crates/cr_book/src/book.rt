@@ -1,5 +1,5 @@
 //! The book: one history, its tables and its keeper.
-ghost use Rattle.std.specs.Prelude.{◌≡◌, ◌≤◌, ◌++◌, ℕ, [], length, IfOk, IsOk, OnOk, OnErr, IfSome, Ok, Err, Some, ◌≢◌};
+ghost use Rattle.std.specs.Prelude.{◌≡◌, ◌≤◌, ◌++◌, ℕ, length, IfOk, IfErr, IsOk, OnOk, OnErr, IfSome, Ok, Err, Some, ◌≢◌};
 ghost use Rattle.cr_base.specs.declared.reply.Rule.{Rule};
 ghost use Rattle.cr_base.specs.Facts.{number_of, caller_of};
 ghost use Rattle.cr_base.specs.Logins.{query_wants_login};
@@ -14,6 +14,7 @@ ghost use Rattle.cr_sights.specs.Lines.{lines_text};
 ghost use Rattle.cr_sights.specs.Walks.{WritesView};
 ghost use Rattle.cr_view.specs.Draws.{drawn_by};
 ghost use Rattle.cr_view.specs.Replies.{AnswersAsDue};
+ghost use Rattle.cr_book.specs.Opening.{Opens, IsCounted};
 ghost use Rattle.cr_book.specs.Sound.{IsKept, Accepts};
 
 use crate::opening::{OpenError, read_all};
@@ -60,9 +61,23 @@ pub enum BookError {
 }
 
 impl<K: Keeper> Book<K> {
-    /// The book of the history that the keeper's rows spell. Every row is read once, in order, and each
-    /// group is judged as its command was.
-    pub fn open(alloc: Global, mut keeper: K) -> Result<Book<K>, (OpenError, K)> {
+    /// The book of the legal history that the keeper's rows spell; with each error the keeper is handed
+    /// back. Every row is read once, in order, and the command of each group is judged again, by the same
+    /// judgement and on the history before it, so opening costs what judging and applying them cost.
+    ///
+    /// `OpenError::BadStore` comes exactly where no legal history has these rows, and tells the first that
+    /// is no entry's or doesn't continue a legal history, or else the last one, where another of its
+    /// command should follow. `KeeperFault` comes only where the keeper's count of faults rose, or stands
+    /// at its last value; with all else the count is as it was, and `OutOfMemory` comes for want of memory
+    /// alone. No row changes.
+    pub fn open(alloc: Global, mut keeper: K) -> Result<Book<K>, (OpenError, K)>
+        ensures exact { IfSome (K.rows keeper) (λ rows. Opens rows result) }
+        ensures legal { IfOk result (λ book. Legal book.log) }
+        ensures same { IfOk result (λ book. K.rows book.keeper ≡ K.rows keeper) }
+        ensures steady { IfOk result (λ book. K.faults book.keeper ≡ K.faults keeper) }
+        ensures given_back { IfErr result (λ e. K.rows e.1 ≡ K.rows keeper) }
+        ensures cause { IfErr result (λ e. IsCounted {T = Unit {0}} (K.faults keeper) (K.faults e.1) (Err e.0)) }
+    {
         match read_all(alloc, &mut keeper) {
             Ok((log, live)) => Ok(Book {
                 alloc,

@@ -8,7 +8,6 @@ mod opening;
 mod reading;
 mod rebuilding;
 mod rows;
-mod scratch;
 
 pub use book::{Book, BookError};
 pub use cr_sights::ViewError;

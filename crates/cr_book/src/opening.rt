@@ -4,7 +4,8 @@ ghost use Rattle.cr_base.specs.declared.row.Row.{Row};
 ghost use Rattle.cr_base.specs.Rows.{rows_of};
 ghost use Rattle.cr_base.specs.Tables.{tables_of};
 ghost use Rattle.cr_policy.specs.Legal.{Legal};
-ghost use Rattle.cr_book.specs.Opening.{Explains, IsCounted};
+ghost use Rattle.cr_book.specs.Opening.{untold, Explains, IsCounted};
+ghost use Rattle.cr_book.specs.Reading.{refusal};
 
 use crate::reading::{ReadError, Reading};
 use cr_base::{Row, Stamped};
@@ -31,12 +32,21 @@ pub enum OpenError {
 
 /// The same of a keeper that told nothing.
 fn untold(error: KeeperError) -> OpenError
-    ensures fault { result ≡ OpenError.KeeperFault → error ≡ KeeperError.Failed }
-    ensures silent { (rows : List Row) → Explains rows result }
+    ensures { result ≡ untold error }
 {
     match error {
         KeeperError::Failed => OpenError::KeeperFault,
         KeeperError::OutOfMemory => OpenError::OutOfMemory,
+    }
+}
+
+/// The same of a refused row of this number.
+fn refusal(row: u64, error: ReadError) -> OpenError
+    ensures { result ≡ refusal row error }
+{
+    match error {
+        ReadError::Bad(found) => OpenError::BadStore { row, found },
+        ReadError::OutOfMemory => OpenError::OutOfMemory,
     }
 }
 
@@ -56,8 +66,7 @@ fn read_rows<K: Keeper>(alloc: Global, keeper: &mut K, count: u64) -> Result<Rea
         };
         reading = match reading.read(row) {
             Ok(after) => after,
-            Err(ReadError::Bad(found)) => return Err(OpenError::BadStore { row: i, found }),
-            Err(ReadError::OutOfMemory) => return Err(OpenError::OutOfMemory),
+            Err(error) => return Err(refusal(i, error)),
         };
     }
     Ok(reading)
@@ -78,12 +87,12 @@ pub(crate) fn read_all<K: Keeper>(
         Ok(count) => count,
         Err(error) => return Err(untold(error)),
     };
-    let reading = read_rows(alloc, keeper, count)?;
+    let reading = match read_rows(alloc, keeper, count) {
+        Ok(reading) => reading,
+        Err(error) => return Err(error),
+    };
     match reading.finish() {
         Ok(read) => Ok(read),
-        Err(found) => Err(OpenError::BadStore {
-            row: count.saturating_sub(1),
-            found,
-        }),
+        Err(last) => Err(refusal(count.saturating_sub(1), ReadError::Bad(last))),
     }
 }
