@@ -1,27 +1,15 @@
 -- Each entry of a legal history is in order on the history before it, and no command's entries are cut off.
-use Rattle.std.proofs.Common.{ℕ, Bool, true, false, ◌≡◌, ◌≤◌, ◌+◌, ◌-◌, List, [], ◌∷◌, ◌++◌, length, eqb, refl, sym, ap, subst, ◌∙◌, arith, append_assoc, append-nil, ◌||◌, ◌&&◌, Some}
-use Rattle.std.specs.Prelude.{nat_le, map}
-use Rattle.std.specs.List.{list_any}
+use Rattle.std.proofs.Common.{ℕ, Bool, false, ◌≡◌, List, [], ◌∷◌, ◌++◌, length, refl, sym, subst, ◌∙◌, arith, append_assoc, append-nil}
 use Rattle.std.proofs.lemmas.Bool.{false≢true}
-use Rattle.std.proofs.lemmas.Bool.Decides.{nat_tests}
-use Rattle.cr_base.specs.declared.entry.Account.{Account}
 use Rattle.cr_base.specs.declared.entry.Entry.{Entry}
-use Rattle.cr_base.specs.declared.entry.Entry.TheVariants.{Registered, Named, Submitted, Conflict}
+use Rattle.cr_base.specs.declared.entry.Entry.TheVariants.{Registered, Named}
 use Rattle.cr_base.specs.declared.entry.Stamped.{Stamped}
-use Rattle.cr_base.specs.declared.reply.AccountLine.{AccountLine}
 use Rattle.cr_base.specs.declared.words.Role.TheVariants.{Chair}
-use Rattle.cr_base.specs.Accounts.{lines_from}
-use Rattle.cr_base.specs.Facts.{role_of, accounts_of}
-use Rattle.cr_base.specs.History.{History, Registration, all_told, registration_told}
+use Rattle.cr_base.specs.Facts.{accounts_of}
+use Rattle.cr_base.specs.History.{History}
 use Rattle.cr_base.specs.Drawn.{grouped}
-use Rattle.cr_base.specs.Lists.{numbers_from}
-use Rattle.cr_base.specs.Tables.{no_tables, tables_of, Fits, FitInTurn}
-use Rattle.cr_base.proofs.AccountLaws.{length-lines_of}
-use Rattle.cr_base.proofs.ListLaws.{length-numbers_from, list_any-numbers_from}
-use Rattle.cr_history.specs.Invariants.{IsRegistered, HasNextNumber, HasNewName, IsAboutThose, IsSubmitted, IsInOrder, InTurn, IsWhole}
-use Rattle.cr_history.proofs.LineTies.{accounts_of-tables}
-use Rattle.cr_history.proofs.NumberTies.{number_of-tables}
-use Rattle.cr_history.proofs.PaperTies.{papers_of-tables}
+use Rattle.cr_base.specs.Tables.{no_tables, tables_of, FitInTurn}
+use Rattle.cr_history.specs.Invariants.{IsInOrder, InTurn, IsWhole}
 use Rattle.cr_history.proofs.GroupLaws.{accounts-counted, fits-number, fits-name, fits-about}
 use Rattle.cr_history.specs.Groups.{Adds, single, first_user}
 
