@@ -1,17 +1,10 @@
 //! A book over two connections, opened again from its rows, with a view; one wish, one reply.
 
 use cr_base::{PaperNo, Query, Reply, Short, UserNo};
-<<<<<<< HEAD:crates/calls/src/book.rt
 use cr_book::Book;
 use cr_ports::{Keeper, MemSink, PlainKeeper, PlainSource, write_all};
 use cr_session::{Ending, Inbox, WishRead, read_wish, serve_connection};
 use std::alloc::{AllocError, Global};
-=======
-use cr_book::{Book, OpenError};
-use cr_ports::{Keeper, MemSink, PlainKeeper, PlainSource};
-use cr_session::{Ending, Inbox, WishRead, read_wish, serve_connection, write_reply};
-use std::alloc::Global;
->>>>>>> e705c4bd9707bb9d109cf21f3372ec77356cc3ba:crates/cr_top/src/tests_book.rt
 use std::test::Fail;
 
 const ROOM: usize = 4096;
@@ -87,7 +80,6 @@ fn rows(keeper: &mut PlainKeeper) -> u64 {
     }
 }
 
-<<<<<<< HEAD:crates/calls/src/book.rt
 /// The book of a keeper's rows.
 fn opened(alloc: Global, keeper: PlainKeeper) -> Result<Book<PlainKeeper>, AllocError> {
     match Book::open(alloc, keeper) {
@@ -106,26 +98,12 @@ fn view(alloc: Global, book: &Book<PlainKeeper>) -> Result<[u64; 2], AllocError>
     Ok([book.view_len(alice)?, sink.taken().len() as u64])
 }
 
-=======
-/// The book of a keeper without rows.
-fn empty_book(alloc: Global) -> Result<Book<PlainKeeper>, OpenError> {
-    match Book::open(alloc, PlainKeeper::new(alloc)) {
-        Ok(book) => Ok(book),
-        Err((error, _keeper)) => Err(error),
-    }
-}
-
->>>>>>> e705c4bd9707bb9d109cf21f3372ec77356cc3ba:crates/cr_top/src/tests_book.rt
 /// Alice registers on one connection, and tries again on the next, which is cut.
 fn told_by_a_book(alloc: Global) -> Result<Told, Fail> {
     let mut first = PlainSource::new(joined(alloc, &[ALICE])?);
     let mut second = PlainSource::new(joined(alloc, &[GET_PHASE, ALICE, CUT_SHORT])?);
     let mut sink = MemSink::new(alloc, ROOM, Vec::new(alloc), Vec::new(alloc))?;
-<<<<<<< HEAD:crates/calls/src/book.rt
     let mut book = opened(alloc, PlainKeeper::new(alloc))?;
-=======
-    let mut book = empty_book(alloc)?;
->>>>>>> e705c4bd9707bb9d109cf21f3372ec77356cc3ba:crates/cr_top/src/tests_book.rt
     let endings = [
         serve_connection(alloc, &mut book, &mut first, &mut sink),
         serve_connection(alloc, &mut book, &mut second, &mut sink),

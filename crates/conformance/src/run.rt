@@ -90,22 +90,8 @@ impl Input<'_> {
     pub fn run(&self, alloc: Global, room: usize) -> Result<Outcome, AllocError> {
         let mut source = self.source(alloc)?;
         let mut sink = self.sink(alloc, room)?;
-<<<<<<< HEAD
         let mut shelf = self.store.shelf(alloc)?;
         let exit = top(alloc, self.words, &mut source, &mut sink, &mut shelf);
-=======
-        let (exit, rows) = match self.appends {
-            None => (top(alloc, self.words, &mut source, &mut sink), None),
-            Some(appends) => {
-                let keeper = MemKeeper::new(alloc, appends.to_vec(alloc)?, Vec::new(alloc));
-                let (exit, mut keeper) = match pipe(alloc, keeper, &mut source, &mut sink) {
-                    Ok((ending, keeper)) => (exit_of(ending), keeper),
-                    Err((_error, keeper)) => (Exit::OutOfMemory, keeper),
-                };
-                (exit, keeper.len().ok())
-            }
-        };
->>>>>>> e705c4bd9707bb9d109cf21f3372ec77356cc3ba
         Ok(Outcome {
             exit,
             out: sink.taken().to_vec(alloc)?,

@@ -32,7 +32,6 @@ outside_of read_faults taken write_faults input out = record { input = input; re
 abbrev pub world : {I : Type 0} → Outside I → History → ℕ → World I
 world o H faults = record { ledger = record { history = H; faults = faults }; source = o.input; read_faults = o.read_faults; sink = o.output }
 
-<<<<<<< HEAD
 -- ---- one connection from an opening history on
 
 -- From this history on, whose rows the keeper had, a connection was served to its ending, and the keeper was handed back
@@ -43,21 +42,6 @@ pub record Pipes {K I : Type 0} (rows : K → Option (List Row)) (faults : K →
   pub kept : IsKept rows keeper' history
   pub connection : Connection left gives ending 0 [] (world o opening (faults keeper)) (world o' history (faults keeper'))
   pub whole : (b : List ℕ) → left o.input ≡ Some b → WholeText left ending b (world o opening (faults keeper)) (world o' history (faults keeper'))
-=======
--- ---- one connection from the history of a keeper's rows
-
--- From the legal history that the keeper's rows spell a connection was served to its ending, and the keeper was handed
--- back with the rows of the last history.
-pub record Pipes {K I : Type 0} (rows : K → Option (List Row)) (faults : K → ℕ) (left : I → Option (List ℕ)) (gives : I → I → List ℕ → Type 0) (ending : Ending) (keeper keeper' : K) (o o' : Outside I) : Type 0 where
-  pub first : History
-  pub first_legal : Legal first
-  pub spelled : IsKept rows keeper first
-  pub history : History
-  pub legal : Legal history
-  pub kept : IsKept rows keeper' history
-  pub connection : Connection left gives ending 0 [] (world o first (faults keeper)) (world o' history (faults keeper'))
-  pub whole : (b : List ℕ) → left o.input ≡ Some b → WholeText left ending b (world o first (faults keeper)) (world o' history (faults keeper'))
->>>>>>> e705c4bd9707bb9d109cf21f3372ec77356cc3ba
 
 -- ---- the exits
 
@@ -85,23 +69,12 @@ pub record IsFaultless {I : Type 0} (o o' : Outside I) : Type 0 where
   pub read : Rises o.read_faults o'.read_faults → ⊥
   pub written : Rises o.output.faults o'.output.faults → ⊥
 
-<<<<<<< HEAD
 -- Each wish that the bytes spell has its answer, told on the history that the wishes before it lead to, from the
 -- opening one on; then comes what the end of the bytes is answered, which gives the exit.
 pub record AnswersAll {I : Type 0} (opening : History) (exit : Exit) (b : List ℕ) (o o' : Outside I) : Type 0 where
-=======
--- Each wish that the bytes spell has its answer, told on the history that the wishes before it lead to, from this
--- one on; then comes what the end of the bytes is answered, which gives the exit.
-pub record AnswersAll {I : Type 0} (exit : Exit) (b : List ℕ) (H : History) (o o' : Outside I) : Type 0 where
->>>>>>> e705c4bd9707bb9d109cf21f3372ec77356cc3ba
   pub wishes : List Wish
   pub end : End
   pub spells : Wishes b wishes end
   pub exit_is : exit ≡ exit_at end
-<<<<<<< HEAD
   pub legal : Legal (steps_along opening wishes)
   pub told : Writes (told_along 0 opening wishes ++ last_words end) o.output o'.output
-=======
-  pub legal : Legal (steps_along H wishes)
-  pub told : Writes (told_along 0 H wishes ++ last_words end) o.output o'.output
->>>>>>> e705c4bd9707bb9d109cf21f3372ec77356cc3ba

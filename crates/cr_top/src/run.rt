@@ -97,18 +97,10 @@ pub fn top<I: Source, O: Sink, S: Shelf>(
         (job : NamedJob) → AreFor words.now job
         → Does S.Keeper.rows I.left I.read_gives job result (outside input.old out.old) (outside input.new out.new) (stores shelf.old) (stores shelf.new) }
 
-<<<<<<< HEAD
     // Where nothing fails, all that the input's bytes spell is answered, and the view is told whole, or memory is wanting.
     ensures answers { let outside = outside_of I.faults O.taken O.faults in let stores = stores_of S.rows S.faults in
         (job : NamedJob) → AreFor words.now job
         → AnswersJob I.left job result (outside input.old out.old) (outside input.new out.new) (stores shelf.old) (stores shelf.new) }
-=======
-    // Where nothing fails, all that the input's bytes spell is answered, or memory is wanting.
-    ensures answers { let outside = outside_of I.faults O.taken O.faults in
-        (b : List ℕ) → AreTaken words.now → I.left input.old ≡ Some b
-        → IsFaultless (outside input.old out.old) (outside input.new out.new)
-        → (result ≡ Exit.OutOfMemory) ⊎ AnswersAll result b [] (outside input.old out.old) (outside input.new out.new) }
->>>>>>> e705c4bd9707bb9d109cf21f3372ec77356cc3ba
 
     // Words that name no job are answered by the usage line, and nothing is read.
     ensures refuses { let outside = outside_of I.faults O.taken O.faults in let stores = stores_of S.rows S.faults in
@@ -123,17 +115,7 @@ pub fn top<I: Source, O: Sink, S: Shelf>(
     ensures keeper_fault { result ≡ Exit.KeeperFault → Rises (S.faults shelf.old) (S.faults shelf.new) }
 {
     match read_words(alloc, words) {
-<<<<<<< HEAD
         Ok(job) => do_job(alloc, job, input, out, shelf),
-=======
-        Ok(Job::Pipe) => {
-            // A keeper without rows opens but for want of memory.
-            match pipe(alloc, PlainKeeper::new(alloc), input, out) {
-                Ok((ending, _keeper)) => exit_of(ending),
-                Err((_error, _keeper)) => Exit::OutOfMemory,
-            }
-        }
->>>>>>> e705c4bd9707bb9d109cf21f3372ec77356cc3ba
         Err(WordsError::Usage) => refuse_words(out),
         Err(WordsError::OutOfMemory) => Exit::OutOfMemory,
     }

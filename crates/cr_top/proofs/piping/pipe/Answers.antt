@@ -3,17 +3,12 @@ use Rattle.cr_top.specs.Runs.{outside_of}
 use Rattle.cr_top.proofs.Answering.{pipe_answers}
 use Rattle.cr_top.proofs.piping.pipe.Goals as goal
 
-pub returns-in-Ok-clause-pipes : goal.returns-in-Ok-clause-pipes
-returns-in-Ok-clause-pipes g c = ?
+pub returns-clause-pipes : goal.returns-clause-pipes
+returns-clause-pipes g c = search rules
 
-<<<<<<< HEAD
 pub returns-clause-answers : goal.returns-clause-answers
 returns-clause-answers g c b left faultless idle =
     let o = outside_of g.I.Source.faults g.O.Sink.taken g.O.Sink.faults c.args.input.now c.args.out.now in
     let o' = outside_of g.I.Source.faults g.O.Sink.taken g.O.Sink.faults c.serve_connection-ending.new.source c.serve_connection-ending.new.sink in
     pipe_answers g.K.Keeper.rows g.K.Keeper.faults g.I.Source.left g.I.Source.read_gives c.args.book.log c.serve_connection-ending.result c.args.book.keeper c.close.result b o o'
     (returns-clause-pipes g c) left faultless idle
-=======
-pub returns-in-Ok-clause-answers : goal.returns-in-Ok-clause-answers
-returns-in-Ok-clause-answers g c b H left told legal faultless idle = ?
->>>>>>> e705c4bd9707bb9d109cf21f3372ec77356cc3ba

@@ -4,7 +4,6 @@ use Rattle.cr_top.specs.declared.exit.Exit.TheVariants as exits
 use Rattle.cr_top.specs.Runs.{outside_of, AnswersAll}
 use Rattle.cr_top.proofs.Serving.{serves-from}
 use Rattle.cr_top.proofs.run.top.Goals as goal
-<<<<<<< HEAD
 
 pub returns-in-Ok-Pipe-clause-takes : goal.returns-in-Ok-Pipe-clause-takes
 returns-in-Ok-Pipe-clause-takes g c taken =
@@ -22,5 +21,3 @@ returns-in-Ok-Pipe-clause-answers g c b taken left faultless =
     let o' = outside_of g.I.Source.faults g.O.Sink.taken g.O.Sink.faults c.pipe-ending.new.input c.pipe-ending.new.out in
     subst (λ (x : Exit). (x ≡ exits.OutOfMemory) ⊎ AnswersAll [] x b o o') (sym c.exit_of.ensures)
     (c.pipe-ending.ensures.answers b left faultless (λ rises. never (rises (omega arith))))
-=======
->>>>>>> e705c4bd9707bb9d109cf21f3372ec77356cc3ba
