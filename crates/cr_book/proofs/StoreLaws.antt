@@ -4,7 +4,7 @@ use Rattle.std.specs.Prelude.{slice_get, ◌≢◌}
 use Rattle.std.proofs.lemmas.List.{take-append-drop}
 use Rattle.cr_base.specs.declared.row.Row.{Row}
 use Rattle.cr_base.specs.History.{History}
-use Rattle.cr_base.specs.Rows.{rows_of}
+use Rattle.cr_base.specs.Rows.{rows_of, row_of}
 use Rattle.cr_base.specs.Tables.{Tables}
 use Rattle.cr_ports.specs.Keeping.{HasCause}
 use Rattle.cr_ports.specs.declared.keeper.KeeperError.{KeeperError}
@@ -16,8 +16,7 @@ use Rattle.cr_book.specs.declared.reading.ReadError.TheVariants as refused
 use Rattle.cr_book.specs.Opening.{Continue, AreCutOff, IsBadAt, Explains, Opens, untold}
 use Rattle.cr_book.specs.Reading.{IsRefused, IsCutStore, IsWholeStore, refusal}
 use Rattle.cr_book.specs.Seen.{SeenBook}
-use Rattle.cr_base.specs.Rows.{row_of}
-use Rattle.cr_policy.specs.Invariants.{IsWhole}
+use Rattle.cr_history.specs.Invariants.{IsWhole}
 use Rattle.cr_policy.specs.Legal.{Legal}
 use Rattle.cr_policy.proofs.LegalLaws.{legal_invariants}
 use Rattle.cr_book.proofs.OpeningLaws.{one_history}
