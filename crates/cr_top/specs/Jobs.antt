@@ -22,7 +22,7 @@ abbrev pub DoesJob : {K I : Type 0} → (K → Option (List Row)) → (I → Opt
 DoesJob rows left gives (pipe_job None) exit o o' s s' = ServesPipe left gives [] exit o o' × (s' ≡ s)
 DoesJob rows left gives (pipe_job (Some path)) exit o o' s s' = PipesStore rows path left gives exit o o' s s'
 DoesJob rows left gives (view_job path name) exit o o' s s' =
-    TellsStore rows path name exit o.output o'.output s s' × (o'.input ≡ o.input) × (o'.read_faults ≡ o.read_faults)
+    TellsStore path name exit o.output o'.output s s' × (o'.input ≡ o.input) × (o'.read_faults ≡ o.read_faults)
 
 -- the same, unless memory was wanting before it began
 abbrev pub Does : {K I : Type 0} → (K → Option (List Row)) → (I → Option (List ℕ)) → (I → I → List ℕ → Type 0) → NamedJob → Exit → Outside I → Outside I → Stores → Stores → Type 0

@@ -42,9 +42,9 @@ rows_at files path = option_map (λ (f : Files). f path) files
 abbrev pub TellsRows : {K : Type 0} → (K → Option (List Row)) → Type 0
 TellsRows {K} rows = (keeper : K) → IsSome (rows keeper)
 
--- the rows at every path are as they were, where keepers tell theirs
-abbrev pub KeepsFiles : {K : Type 0} → (K → Option (List Row)) → Stores → Stores → Type 0
-KeepsFiles rows s s' = TellsRows rows → (path : List ℕ) → rows_at s'.files path ≡ rows_at s.files path
+-- the rows at every path are as they were, where they are told
+abbrev pub KeepsFiles : Stores → Stores → Type 0
+KeepsFiles s s' = IfSome s.files (λ files. (path : List ℕ) → rows_at s'.files path ≡ Some (files path))
 
 -- ---- opening
 
@@ -71,9 +71,9 @@ IsRefused path exits.OutOfMemory s s' = Unit {0}
 IsRefused path _ s s' = ⊥
 
 -- It doesn't open, and the rows are as they were.
-pub record StaysShut {K : Type 0} (rows : K → Option (List Row)) (path : List ℕ) (exit : Exit) (s s' : Stores) : Type 0 where
+pub record StaysShut (path : List ℕ) (exit : Exit) (s s' : Stores) : Type 0 where
   pub refused : IsRefused path exit s s'
-  pub files : KeepsFiles rows s s'
+  pub files : KeepsFiles s s'
   pub count : s.faults ≤ s'.faults
 
 -- ---- one connection over a store
@@ -96,7 +96,7 @@ pub record ServesStore {K I : Type 0} (rows : K → Option (List Row)) (path : L
 
 -- a store that doesn't open leaves input and output as they were
 abbrev pub PipesStore : {K I : Type 0} → (K → Option (List Row)) → List ℕ → (I → Option (List ℕ)) → (I → I → List ℕ → Type 0) → Exit → Outside I → Outside I → Stores → Stores → Type 0
-PipesStore rows path left gives exit o o' s s' = (StaysShut rows path exit s s' × (o' ≡ o)) ⊎ ServesStore rows path left gives exit o o' s s'
+PipesStore rows path left gives exit o o' s s' = (StaysShut path exit s s' × (o' ≡ o)) ⊎ ServesStore rows path left gives exit o o' s s'
 
 -- ---- a view of a store
 
@@ -110,17 +110,17 @@ TellsView H name exits.NoUser s s' = (number_of name H ≡ None) × (s' ≡ s)
 TellsView H name _ s s' = ⊥
 
 -- The view of the history of the rows at the path was told, and the rows are as they were.
-pub record ViewsStore {K : Type 0} (rows : K → Option (List Row)) (path name : List ℕ) (exit : Exit) (o o' : Outlet) (s s' : Stores) : Type 0 where
+pub record ViewsStore (path name : List ℕ) (exit : Exit) (o o' : Outlet) (s s' : Stores) : Type 0 where
   pub opening : History
   pub opens : Legal opening
   pub found : IfSome s.files (λ files. rows_of opening ≡ files path)
   pub tells : TellsView opening name exit o o'
-  pub files : KeepsFiles rows s s'
+  pub files : KeepsFiles s s'
   pub count : s.faults ≤ s'.faults
 
 -- a store that doesn't open leaves the output as it was
-abbrev pub TellsStore : {K : Type 0} → (K → Option (List Row)) → List ℕ → List ℕ → Exit → Outlet → Outlet → Stores → Stores → Type 0
-TellsStore rows path name exit o o' s s' = (StaysShut rows path exit s s' × (o' ≡ o)) ⊎ ViewsStore rows path name exit o o' s s'
+abbrev pub TellsStore : List ℕ → List ℕ → Exit → Outlet → Outlet → Stores → Stores → Type 0
+TellsStore path name exit o o' s s' = (StaysShut path exit s s' × (o' ≡ o)) ⊎ ViewsStore path name exit o o' s s'
 
 -- where nothing fails, a legal history's view is told whole, or nobody there has the name
 abbrev pub AnswersView : History → List ℕ → Exit → Outlet → Outlet → Type 0

@@ -5,6 +5,7 @@ ghost use Rattle.cr_base.specs.Rows.{rows_of};
 ghost use Rattle.cr_policy.specs.Legal.{Legal};
 ghost use Rattle.cr_ports.specs.Count.{Rises};
 ghost use Rattle.cr_top.specs.declared.exit.Exit.{Exit};
+ghost use Rattle.cr_top.specs.Exits.{exit_of_rows, exit_of_shelf};
 ghost use Rattle.cr_top.specs.Runs.{outside_of, IsFaultless, AnswersAll};
 ghost use Rattle.cr_top.specs.Stores.{Files, OpensStore, PipesStore, StaysShut, stores_of};
 
@@ -15,7 +16,9 @@ use cr_ports::{KeeperError, Shelf, Sink, Source};
 use std::alloc::Global;
 
 /// The exit of a run whose store the shelf didn't open.
-fn exit_of_shelf(error: KeeperError) -> Exit {
+fn exit_of_shelf(error: KeeperError) -> Exit
+    ensures { result ≡ exit_of_shelf error }
+{
     match error {
         KeeperError::Failed => Exit::KeeperFault,
         KeeperError::OutOfMemory => Exit::OutOfMemory,
@@ -23,7 +26,9 @@ fn exit_of_shelf(error: KeeperError) -> Exit {
 }
 
 /// The exit of a run whose store has rows that don't open.
-pub(crate) fn exit_of_rows(error: OpenError) -> Exit {
+fn exit_of_rows(error: OpenError) -> Exit
+    ensures { result ≡ exit_of_rows error }
+{
     match error {
         OpenError::BadStore { row, found } => Exit::BadStore {
             row,
@@ -42,7 +47,7 @@ pub(crate) fn open_store<S: Shelf>(
 ) -> Result<Book<S::Keeper>, Exit>
     ensures opened { IfOk result (λ book. OpensStore S.Keeper.faults path.now book (stores_of S.rows S.faults shelf.old) (stores_of S.rows S.faults shelf.new)) }
     ensures open { OnOk result (S.has_opened shelf.new path.now) }
-    ensures refused { IfErr result (λ exit. StaysShut S.Keeper.rows path.now exit (stores_of S.rows S.faults shelf.old) (stores_of S.rows S.faults shelf.new)) }
+    ensures refused { IfErr result (λ exit. StaysShut path.now exit (stores_of S.rows S.faults shelf.old) (stores_of S.rows S.faults shelf.new)) }
 {
     let keeper = match shelf.open(path) {
         Ok(keeper) => keeper,
