@@ -1,11 +1,11 @@
 -- Each row that a walk over the words leaves has a value, where each argument takes one value or is the call for help.
 use Rattle.std.proofs.Common.{◌≡◌, ◌⊎◌, subst, ℕ, zero, suc, ◌&&◌, ◌++◌, List, [], ◌∷◌, Bool, true, false, cond, Option, Some, None, is_some, refl, inl, inr}
-use Rattle.std.specs.Prelude.{⊤, find, fold, option_map, slice_get, drop, length, encode_utf8}
+use Rattle.std.specs.Prelude.{⊤, find, fold, slice_get, drop, length, encode_utf8}
 use Rattle.std.specs.Str.{bytes_eq, chars}
 use Rattle.std.specs.Option.{option_map_or}
-use Rattle.clap.specs.Facts.{explicit_source, unwrap_or_range}
+use Rattle.clap.specs.Facts.{unwrap_or_range}
 use Rattle.clap.specs.Kinds.{Kinds, or_else, range_kinds}
-use Rattle.clap.specs.Walk.{Held, Names, Outcome, done, waits, plain, refused, Row, Rule, Step, next, trailing, subcommand, value, Text, Waiting, idle, option, positional, Walk, action_of, after_flag, after_step, arg_by_id, arg_by_index, arg_by_long, arg_by_short, attached_value, bundle, bundle_met, bundle_step, finished, first_of, has_row, is_pending, flag_met, long_met, long_or_other, option_met, option_word, plain_word, positional_held, reacted, settled, settled_rows, short_met, short_or_plain, subcommand_met, subcommand_or_other, takes_several, takes_values, to_positional, used, used_by_id, walk, rows_after, walk_from, walked, walked_from, with_default, with_values, without, word_met, more_values, at_row, default_rows, reading_by, nothing_held}
+use Rattle.clap.specs.Walk.{Held, Names, Outcome, done, waits, plain, refused, Row, Rule, Step, next, trailing, subcommand, value, Text, Waiting, idle, option, positional, Walk, action_of, after_flag, after_step, arg_by_id, arg_by_index, arg_by_long, arg_by_short, attached_value, bundle, bundle_met, bundle_step, first_of, has_row, is_pending, flag_met, long_met, long_or_other, option_met, option_word, plain_word, reacted, settled, settled_rows, short_met, short_or_plain, subcommand_met, subcommand_or_other, takes_several, takes_values, to_positional, used, used_by_id, walk, rows_after, walk_from, walked, walked_from, with_default, with_values, without, word_met, more_values, default_rows, reading_by, nothing_held}
 use Rattle.clap.specs.Lexer.{long_of, short_of}
 use Rattle.clap.specs.Simple.{Shape}
 use Rattle.clap.specs.Takes.{is_given}
@@ -225,6 +225,7 @@ module _ (s : Shape) (names : Names) (fits : ArePlainRules s.rules) where
           → AreFilled (cond b (h, trailing position) (long_or_other s.rules waiting word (long_of word) h)).0.rows
       by_dashes true e = filled
       by_dashes false e = flag_filled s.rules s.args_override_self fits waiting word (long_of word) h e filled
+
       by_name : (o : Option Text) → other_fault s o word h ≡ [] → AreFilled (subcommand_or_other s.rules o waiting position word h).0.rows
       by_name None e = by_dashes (bytes_eq word (45 ∷ 45 ∷ [])) e
       by_name (Some name) e = filled
@@ -247,6 +248,7 @@ module _ (s : Shape) (names : Names) (fits : ArePlainRules s.rules) where
     where
       met : Held × Step
       met = word_met s.rules names w.is_trailing w.waiting w.position word w.held
+
       by_stop : (o : Option (Text × List Text))
           → cond (is_some o) [] (or_else (word_fault s names w.is_trailing w.waiting word w.held) (step_fault s w.position met.0 met.1)) ≡ []
           → AreFilled (walked_from s.rules names o w word).held.rows

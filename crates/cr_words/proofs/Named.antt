@@ -1,10 +1,10 @@
 -- Words that the command takes name one of its jobs.
-use Rattle.std.proofs.Common.{◌≡◌, ◌≢◌, ◌∙◌, ◌&&◌, ◌||◌, List, [], ◌∷◌, Bool, true, false, not, cond, Option, Some, None, is_some, inl, inr, Result, Ok, Err, IfOk, refl, sym, ap, subst, codes}
-use Rattle.std.specs.Prelude.{find, option_map}
+use Rattle.std.proofs.Common.{◌≡◌, ◌≢◌, ◌∙◌, ◌&&◌, ◌||◌, List, [], ◌∷◌, Bool, true, false, not, cond, Option, Some, None, is_some, inl, inr, Result, Err, IfOk, refl, sym, ap, subst, codes}
+use Rattle.std.specs.Prelude.{option_map}
 use Rattle.std.specs.Option.{option_and_then, option_map_or, ok_or}
 use Rattle.std.specs.List.{list_any}
 use Rattle.clap.specs.Facts.{explicit_source}
-use Rattle.clap.specs.Words.{App, Kinds, Row, Shape, Text, fault_of, first_of, built, is_simple, subcommand_of, takes}
+use Rattle.clap.specs.Words.{App, Row, Shape, Text, fault_of, built, is_simple, subcommand_of, takes}
 use Rattle.clap.specs.Walk.{answers_to, nothing_held, rows_after, stop_after}
 use Rattle.clap.specs.Simple.{argument_words, built_leaf, entered, inherited, label_of, names_of, rows_at}
 use Rattle.clap.specs.Kinds.{check_kinds}
@@ -12,11 +12,11 @@ use Rattle.clap.specs.Takes.{is_given}
 use Rattle.clap.specs.Faults.{check_fault, entered_fault, level_fault}
 use Rattle.clap.proofs.OnLiterals.{clap_on_literals}
 use Rattle.cr_words.specs.Words.{pipe, view, confd_words}
-use Rattle.cr_words.specs.Job.{NamedJob, job_named, job_of, job_seen, view_named, with_both}
+use Rattle.cr_words.specs.Job.{job_named, job_of, job_seen, view_named, with_both}
 use Rattle.cr_words.specs.declared.read.Job.{Job}
 use Rattle.cr_words.specs.declared.read.WordsError.{WordsError}
 use Rattle.cr_words.specs.declared.read.WordsError.TheVariants.{Usage}
-use Rattle.cr_words.proofs.Filled.{ArePlainRules, AreFilled, Level, given_first, level_of}
+use Rattle.cr_words.proofs.Filled.{ArePlainRules, given_first, level_of}
 
 -- ---- what the last check asks for
 

@@ -1,5 +1,5 @@
 -- The command that the words are read by, as clap's own definitions build one.
-use Rattle.std.specs.Prelude.{Bool, true, false, ◌++◌, Some, codes}
+use Rattle.std.specs.Prelude.{Bool, true, false, not, ◌==◌, List, [], ◌∷◌, ◌++◌, Some, codes}
 use Rattle.clap.specs.Words.{App, Rule, Text, new_app, new_rule, with_rule, with_subcommand}
 
 -- an option `--id VALUE`: any text, and at most once
@@ -22,8 +22,21 @@ required a = record a { top = record a.top { subcommand_required = true; disable
 unfoldable pub confd_words : App
 confd_words = with_subcommand (with_subcommand (required (new_app (codes "confd"))) pipe.top) view.top
 
--- ---- the options as one word each, with the value behind `=`
+-- ---- options among the words
 
+-- the text isn't written as an option is: it doesn't begin with a hyphen (45)
+abbrev pub is_plain_text : Text → Bool
+is_plain_text [] = true
+is_plain_text (b ∷ rest) = not (b == 45)
+
+-- the option as two words
+abbrev pub store_words : Text → List Text
+store_words file = codes "--store" ∷ file ∷ []
+
+abbrev pub user_words : Text → List Text
+user_words user = codes "--user" ∷ user ∷ []
+
+-- the option as one word, with its value behind `=`
 abbrev pub store_word : Text → Text
 store_word file = codes "--store=" ++ file
 
