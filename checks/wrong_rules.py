@@ -21,16 +21,15 @@ TOP = os.path.dirname(os.path.dirname(os.path.abspath(__file__)))
 VIEW, ACCOUNTS = "crates/cr_view/src", "crates/cr_accounts/src/accounts.rt"
 JUDGING, STAGE = "crates/cr_conflicts/src/judging.rt", "crates/cr_phases/src/stage.rt"
 TIES, PAPERS = "crates/cr_conflicts/src/ties.rt", "crates/cr_papers/src/papers.rt"
-COMMAND, PAGE, TURN = "crates/cr_base/src/command.rt", VIEW + "/page.rt", "crates/cr_session/src/turn.rt"
+ASK, PAGE, TURN = "crates/cr_base/src/ask.rt", VIEW + "/page.rt", "crates/cr_session/src/turn.rt"
 
 PLANTS = [
     ("any user may ask for a page", "order", VIEW + "/queries.rt", "return Err(Rule::NotMember);", "return Ok(by);"),
     ("not_member is told before no_paper", "order", VIEW + "/queries.rt",
      "        if !self.has_paper(paper) {\n            return Err(Rule::NoPaper);\n        }\n        let by = self.standing(user, paper);\n        if !(by.role.is_member() || by.author) {\n            return Err(Rule::NotMember);\n        }\n",
      "        let by = self.standing(user, paper);\n        if !(by.role.is_member() || by.author) {\n            return Err(Rule::NotMember);\n        }\n        if !self.has_paper(paper) {\n            return Err(Rule::NoPaper);\n        }\n"),
-    ("pages want no login", "order pages", COMMAND, "            Query::Accounts | Query::Phase => false,\n            Query::Me | Query::Page { .. } => true,",
-     "            Query::Accounts | Query::Phase | Query::Page { .. } => false,\n            Query::Me => true,"),
-    ("a submission wants no login", "order submissions", COMMAND, "Command::SetPhase { .. } | Command::Submit { .. } => true,", "Command::SetPhase { .. } => true,\n            Command::Submit { .. } => false,"),
+    ("pages want no login", "order pages", ASK, "Ask::SetConflict | Ask::Page | Ask::Me => true,", "Ask::SetConflict | Ask::Me => true,\n            Ask::Page => false,"),
+    ("a submission wants no login", "order submissions", ASK, "Ask::SetPhase | Ask::Submit => true,", "Ask::SetPhase => true,\n            Ask::Submit => false,"),
     ("a 21st paper", "order submissions", PAPERS, "MOST_OWN_PAPERS: u64 = 20", "MOST_OWN_PAPERS: u64 = 21"),
     ("papers come in bidding too", "submissions", PAPERS, "!by.phase.is(Phase::Submission)", "!by.phase.is_from(Phase::Submission) || by.phase.is_from(Phase::Reviewing)"),
     ("members set phase and mode", "phase", STAGE, "if !by.role.is_chair() {", "if !by.role.is_member() {"),

@@ -6,7 +6,7 @@ use cr_top::Exit;
 use std::alloc::{AllocError, Global};
 
 /// What is sent on one connection, what fails, and what is due.
-#[derive(Clone, Drop)]
+#[derive(Drop)]
 pub struct Case {
     /// Its title, from the line that begins it.
     pub title: String,
@@ -42,7 +42,7 @@ pub struct Mark {
 }
 
 /// What fails in a case.
-#[derive(Clone, Drop)]
+#[derive(Drop)]
 pub struct Faults {
     /// Behind how many bytes the input fails.
     pub read: Option<usize>,
@@ -69,9 +69,9 @@ pub enum Ways {
 
 impl Case {
     /// A case of `confd pipe` that sends nothing yet.
-    pub fn new(alloc: Global) -> Result<Case, AllocError> {
+    pub fn new(alloc: Global, title: &str) -> Result<Case, AllocError> {
         Ok(Case {
-            title: String::new(alloc),
+            title: String::from_str(alloc, title)?,
             words: words_of(alloc, "confd pipe")?,
             sent: Vec::new(alloc),
             due: Vec::new(alloc),

@@ -25,28 +25,42 @@ impl<T: Drop> From<AllocFailed<T>> for FileError {
     }
 }
 
-/// The cases that a file's text tells. Each begins at a line `== TITLE`; what stands ahead of the first of
-/// them stands ahead of each.
-pub fn read_cases(alloc: Global, text: &str) -> Result<Vec<Case>, FileError> {
-    let mut shared = Case::new(alloc)?;
-    let mut cases = Vec::new(alloc);
-    for (i, line) in text.lines().enumerate() {
-        if let Some(title) = line.strip_prefix("== ") {
-            let mut case = shared.clone()?;
-            case.title.push_str(title)?;
-            cases.push(case)?;
-            continue;
+impl FileError {
+    // The same of a line's error, which has this number.
+    fn at(error: LineError, number: usize) -> FileError {
+        match error {
+            LineError::NoForm => FileError::NoForm(number),
+            LineError::OutOfMemory => FileError::OutOfMemory,
         }
-        let number = i.saturating_add(1);
-        let added = match cases.last_mut() {
-            Some(case) => case.add(alloc, number, line),
-            None => shared.add(alloc, number, line),
-        };
-        match added {
+    }
+}
+
+// Adds what these lines say, the first of which has this number in the file. Gives the number of the next.
+fn add_lines(alloc: Global, case: &mut Case, first: usize, text: &str) -> Result<usize, FileError> {
+    let mut number = first;
+    for line in text.lines() {
+        match case.add(alloc, number, line) {
             Ok(()) => {}
-            Err(LineError::NoForm) => return Err(FileError::NoForm(number)),
-            Err(LineError::OutOfMemory) => return Err(FileError::OutOfMemory),
+            Err(error) => return Err(FileError::at(error, number)),
         }
+        number = number.saturating_add(1);
+    }
+    Ok(number)
+}
+
+/// The cases that a file's text tells. Each begins at a line `== TITLE`; what stands ahead of the first of
+/// them, a line at least, stands ahead of each.
+pub fn read_cases(alloc: Global, text: &str) -> Result<Vec<Case>, FileError> {
+    let mut parts = text.split("\n== ");
+    let shared = parts.next().unwrap_or("");
+    let mut cases = Vec::new(alloc);
+    let mut number = shared.lines().count().saturating_add(1);
+    for part in parts {
+        let (title, lines) = part.split_once('\n').unwrap_or((part, ""));
+        let mut case = Case::new(alloc, title)?;
+        add_lines(alloc, &mut case, 1, shared)?;
+        number = add_lines(alloc, &mut case, number.saturating_add(1), lines)?;
+        cases.push(case)?;
     }
     Ok(cases)
 }

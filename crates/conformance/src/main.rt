@@ -59,14 +59,19 @@ impl Total {
     }
 }
 
+// Adds a file's name, where it is a case file's.
+fn add_name(alloc: Global, names: &mut Vec<String>, name: &str) -> Result<(), AllocError> {
+    if name.ends_with(".case") {
+        names.push(String::from_str(alloc, name)?)?;
+    }
+    Ok(())
+}
+
 // The names of the folder's case files, in order.
 fn case_names(rt: &HostRuntime) -> io::Result<Vec<String>> {
     let mut names = Vec::new(rt.alloc());
     for entry in fs::read_dir(rt, ".")? {
-        let entry = entry?;
-        if entry.file_name().ends_with(".case") {
-            names.push(String::from_str(rt.alloc(), entry.file_name())?)?;
-        }
+        add_name(rt.alloc(), &mut names, entry?.file_name())?;
     }
     names.sort()?;
     Ok(names)

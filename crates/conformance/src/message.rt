@@ -23,15 +23,38 @@ fn phrase(code: &str) -> Option<&'static str> {
     }
 }
 
-// The field that tells who asks: nothing for `-`, a token as it is, and for a name its usual secret.
-fn credentials(alloc: Global, name: &str) -> Result<String, AllocError> {
+// Adds texts, one behind the other.
+fn add_parts(into: &mut Vec<u8>, parts: &[&str]) -> Result<(), AllocError> {
+    for part in parts {
+        into.extend_from_slice(part.as_bytes())?;
+    }
+    Ok(())
+}
+
+// Adds the field that tells a content's length.
+fn add_length(alloc: Global, into: &mut Vec<u8>, length: usize) -> Result<(), AllocError> {
+    let digits = format!(in alloc; "{length}")?;
+    add_parts(into, &["Content-Length: ", digits.as_str(), "\r\n"])
+}
+
+// Adds the field that tells who asks: nothing for `-`, a token as it is, and for a name its usual secret.
+fn add_credentials(into: &mut Vec<u8>, name: &str) -> Result<(), AllocError> {
     if name == "-" {
-        return Ok(String::new(alloc));
+        return Ok(());
     }
     if name.contains('.') {
-        return format!(in alloc; "Authorization: Bearer {name}\r\n");
+        return add_parts(into, &["Authorization: Bearer ", name, "\r\n"]);
     }
-    format!(in alloc; "Authorization: Bearer {name}.{name}-secret-000001\r\n")
+    add_parts(
+        into,
+        &[
+            "Authorization: Bearer ",
+            name,
+            ".",
+            name,
+            "-secret-000001\r\n",
+        ],
+    )
 }
 
 /// Adds the request that `NAME METHOD PATH [BODY]` tells.
@@ -40,14 +63,12 @@ pub fn add_request(alloc: Global, into: &mut Vec<u8>, text: &str) -> Result<(), 
     let (Some(name), Some(method), Some(path)) = (words.next(), words.next(), words.next()) else {
         return Err(LineError::NoForm);
     };
+    add_parts(into, &[method, " ", path, " HTTP/1.1\r\nHost: c\r\n"])?;
+    add_credentials(into, name)?;
     let mut body = Vec::new(alloc);
     add_text(&mut body, words.next().unwrap_or(""))?;
-    let credentials = credentials(alloc, name)?;
-    let length = body.len();
-    let head = format!(in alloc;
-        "{method} {path} HTTP/1.1\r\nHost: c\r\n{credentials}Content-Length: {length}\r\n\r\n"
-    )?;
-    into.extend_from_slice(head.as_bytes())?;
+    add_length(alloc, into, body.len())?;
+    into.extend_from_slice(b"\r\n")?;
     into.extend_from_slice(body.as_slice())?;
     Ok(())
 }
@@ -60,13 +81,14 @@ fn challenge(code: &str) -> &'static str {
     }
 }
 
-// The field `Allow` of an answer, and what is told behind it.
-fn split_allow(alloc: Global, text: &str) -> Result<(String, &str), LineError> {
+// Adds the field `Allow` of an answer that has it, and gives what is told behind it.
+fn add_allow<'a>(into: &mut Vec<u8>, text: &'a str) -> Result<&'a str, LineError> {
     let Some(rest) = text.strip_prefix("Allow: ") else {
-        return Ok((String::new(alloc), text));
+        return Ok(text);
     };
     let (methods, rest) = rest.split_once("; ").ok_or(LineError::NoForm)?;
-    Ok((format!(in alloc; "Allow: {methods}\r\n")?, rest))
+    add_parts(into, &["Allow: ", methods, "\r\n"])?;
+    Ok(rest)
 }
 
 /// Adds the answer that `CODE [Allow: METHODS; ][HEAD ]CONTENT` tells. Behind `HEAD` stands the content
@@ -79,17 +101,28 @@ pub fn add_answer(
 ) -> Result<(), LineError> {
     let (code, rest) = text.split_once(' ').ok_or(LineError::NoForm)?;
     let phrase = phrase(code).ok_or(LineError::NoForm)?;
-    let (allow, rest) = split_allow(alloc, rest)?;
-    let without = rest.strip_prefix("HEAD ");
-    let mut content = Vec::new(alloc);
-    add_text(&mut content, without.unwrap_or(rest))?;
-    let challenge = challenge(code);
-    let close = if closes { "Connection: close\r\n" } else { "" };
-    let length = content.len();
-    let head = format!(in alloc;
-        "HTTP/1.1 {code} {phrase}\r\n{challenge}{allow}Content-Type: application/json\r\nContent-Length: {length}\r\n{close}\r\n"
+    add_parts(
+        into,
+        &["HTTP/1.1 ", code, " ", phrase, "\r\n", challenge(code)],
     )?;
-    into.extend_from_slice(head.as_bytes())?;
+    let rest = add_allow(into, rest)?;
+    add_content(alloc, into, rest, closes)
+}
+
+// Adds what stands behind the fields that an answer's code has.
+fn add_content(
+    alloc: Global,
+    into: &mut Vec<u8>,
+    text: &str,
+    closes: bool,
+) -> Result<(), LineError> {
+    let without = text.strip_prefix("HEAD ");
+    let mut content = Vec::new(alloc);
+    add_text(&mut content, without.unwrap_or(text))?;
+    into.extend_from_slice(b"Content-Type: application/json\r\n")?;
+    add_length(alloc, into, content.len())?;
+    let close = if closes { "Connection: close\r\n" } else { "" };
+    add_parts(into, &[close, "\r\n"])?;
     if without.is_none() {
         into.extend_from_slice(content.as_slice())?;
     }

@@ -85,18 +85,26 @@ impl Input<'_> {
         MemSink::new(alloc, room, pieces, Vec::new(alloc))
     }
 
+    // Runs it over these streams. Tells how many rows are kept where they are to be counted.
+    fn serve(
+        &self,
+        alloc: Global,
+        source: &mut MemSource,
+        sink: &mut MemSink,
+    ) -> Result<(Exit, Option<u64>), AllocError> {
+        let Some(appends) = self.appends else {
+            return Ok((top(alloc, self.words, source, sink), None));
+        };
+        let keeper = MemKeeper::new(alloc, appends.to_vec(alloc)?, Vec::new(alloc));
+        let (ending, mut keeper) = pipe(alloc, keeper, source, sink);
+        Ok((exit_of(ending), keeper.len().ok()))
+    }
+
     /// Runs it, with room for so many bytes of answers.
     pub fn run(&self, alloc: Global, room: usize) -> Result<Outcome, AllocError> {
         let mut source = self.source(alloc)?;
         let mut sink = self.sink(alloc, room)?;
-        let (exit, rows) = match self.appends {
-            None => (top(alloc, self.words, &mut source, &mut sink), None),
-            Some(appends) => {
-                let keeper = MemKeeper::new(alloc, appends.to_vec(alloc)?, Vec::new(alloc));
-                let (ending, mut keeper) = pipe(alloc, keeper, &mut source, &mut sink);
-                (exit_of(ending), keeper.len().ok())
-            }
-        };
+        let (exit, rows) = self.serve(alloc, &mut source, &mut sink)?;
         Ok(Outcome {
             exit,
             out: sink.taken().to_vec(alloc)?,

@@ -4,6 +4,7 @@ use crate::case::{Case, Mark, Ways};
 use crate::run::{Cut, Input, Outcome};
 use cr_top::Exit;
 use std::alloc::{AllocError, Global};
+use std::fmt::Debug;
 
 /// More room than any answers that are due need, so that what comes too much is told.
 const SPARE_ROOM: usize = 4096;
@@ -45,12 +46,42 @@ struct Due<'a> {
 
 /// The first difference between what is due of a case and what comes, in words; none where all is as due.
 pub fn difference(alloc: Global, case: &Case) -> Result<Option<String>, AllocError> {
+    for number in 0..runs(case) {
+        let input = input_at(case, number);
+        let due = due_at(case, number);
+        if let Some(why) = compare(alloc, case, &input, &due)? {
+            let name = name_of(case.ways, number);
+            return Ok(Some(format!(in alloc; "{name}, run {number}: {why}")?));
+        }
+    }
+    Ok(None)
+}
+
+// How often a case is run. Where it is run for each number of bytes, a run's number, from 0, is that number.
+fn runs(case: &Case) -> usize {
     match case.ways {
-        Ways::AllCuts => cuts(alloc, case, CUTS.as_slice()),
-        Ways::Whole => cuts(alloc, case, &CUTS[..1]),
-        Ways::EachEnd => each_end(alloc, case),
-        Ways::EachRead => each_read(alloc, case),
-        Ways::EachWrite => each_write(alloc, case),
+        Ways::AllCuts => CUTS.len(),
+        Ways::Whole => 1,
+        Ways::EachEnd | Ways::EachRead => case.sent.len().saturating_add(1),
+        Ways::EachWrite => case.due.len(),
+    }
+}
+
+// The cut of a run: the whole where there is none of that number.
+fn cut_at(number: usize) -> (Cut, Cut, &'static str) {
+    match CUTS.as_slice().get(number) {
+        Some(cut) => *cut,
+        None => (Cut::WHOLE, Cut::WHOLE, "whole"),
+    }
+}
+
+// What is told of a run.
+fn name_of(ways: Ways, number: usize) -> &'static str {
+    match ways {
+        Ways::AllCuts | Ways::Whole => cut_at(number).2,
+        Ways::EachEnd => "the input ends behind a number of bytes",
+        Ways::EachRead => "the input fails behind a number of bytes",
+        Ways::EachWrite => "the output fails behind a number of bytes",
     }
 }
 
@@ -90,28 +121,49 @@ fn input_of(case: &Case, cut: Cut, out_cut: Cut) -> Input<'_> {
     }
 }
 
-// By each of these cuts. What isn't to be read is told where the bytes come one by one.
-fn cuts(
-    alloc: Global,
-    case: &Case,
-    cuts: &[(Cut, Cut, &str)],
-) -> Result<Option<String>, AllocError> {
-    for (cut, out_cut, name) in cuts {
-        let due = Due {
-            out: front(case.due.as_slice(), case.faults.write),
-            exit: case.exit,
-            rows: rows_by(case.answers.as_slice()),
-            unread: case
-                .unread
-                .filter(|_| cut.size == 1)
-                .map(|at| case.sent.len().saturating_sub(at)),
-        };
-        let input = input_of(case, *cut, *out_cut);
-        if let Some(why) = compare(alloc, case, &input, &due)? {
-            return Ok(Some(format!(in alloc; "{name}: {why}")?));
+// The run of a case that has this number.
+fn input_at(case: &Case, number: usize) -> Input<'_> {
+    match case.ways {
+        Ways::AllCuts | Ways::Whole => {
+            let (cut, out_cut, _) = cut_at(number);
+            input_of(case, cut, out_cut)
         }
+        Ways::EachEnd => Input {
+            sent: front(case.sent.as_slice(), Some(number)),
+            ..input_of(case, Cut::BYTES, Cut::WHOLE)
+        },
+        Ways::EachRead => Input {
+            read_fault: Some(number),
+            ..input_of(case, Cut::BYTES, Cut::WHOLE)
+        },
+        Ways::EachWrite => Input {
+            write_fault: Some(number),
+            ..input_of(case, Cut::WHOLE, Cut::BYTES)
+        },
     }
-    Ok(None)
+}
+
+// What is due of the run that has this number.
+fn due_at(case: &Case, number: usize) -> Due<'_> {
+    match case.ways {
+        Ways::AllCuts | Ways::Whole => due_of_cut(case, cut_at(number).0),
+        Ways::EachEnd => due_of_end(case, number),
+        Ways::EachRead => due_of_read(case, number),
+        Ways::EachWrite => due_of_write(case, number),
+    }
+}
+
+// By a cut. What isn't to be read is told where the bytes come one by one.
+fn due_of_cut(case: &Case, cut: Cut) -> Due<'_> {
+    Due {
+        out: front(case.due.as_slice(), case.faults.write),
+        exit: case.exit,
+        rows: rows_by(case.answers.as_slice()),
+        unread: case
+            .unread
+            .filter(|_| cut.size == 1)
+            .map(|at| case.sent.len().saturating_sub(at)),
+    }
 }
 
 // The answers that are due where the input gives so many bytes.
@@ -129,48 +181,28 @@ fn end_of(answers: &[Mark]) -> usize {
     answers.last().map_or(0, |mark| mark.end)
 }
 
-// Where the input ends behind each number of bytes. The end is clean where an answer is due there, or
-// nothing was sent.
-fn each_end(alloc: Global, case: &Case) -> Result<Option<String>, AllocError> {
-    for count in 0..=case.sent.len() {
-        let answers = answered(case, count);
-        let is_clean = count == answers.last().map_or(0, |mark| mark.sent);
-        let due = Due {
-            out: front(case.due.as_slice(), Some(end_of(answers))),
-            exit: if is_clean { Exit::Done } else { Exit::Cut },
-            rows: rows_by(answers),
-            unread: None,
-        };
-        let input = Input {
-            sent: front(case.sent.as_slice(), Some(count)),
-            ..input_of(case, Cut::BYTES, Cut::WHOLE)
-        };
-        if let Some(why) = compare(alloc, case, &input, &due)? {
-            return Ok(Some(format!(in alloc; "ended behind {count} bytes: {why}")?));
-        }
+// Where the input ends behind so many bytes. The end is clean where an answer is due there, or nothing was
+// sent.
+fn due_of_end(case: &Case, count: usize) -> Due<'_> {
+    let answers = answered(case, count);
+    let is_clean = count == answers.last().map_or(0, |mark| mark.sent);
+    Due {
+        out: front(case.due.as_slice(), Some(end_of(answers))),
+        exit: if is_clean { Exit::Done } else { Exit::Cut },
+        rows: rows_by(answers),
+        unread: None,
     }
-    Ok(None)
 }
 
-// Where the input fails behind each number of bytes.
-fn each_read(alloc: Global, case: &Case) -> Result<Option<String>, AllocError> {
-    for count in 0..=case.sent.len() {
-        let answers = answered(case, count);
-        let due = Due {
-            out: front(case.due.as_slice(), Some(end_of(answers))),
-            exit: Exit::ReadFault,
-            rows: rows_by(answers),
-            unread: Some(case.sent.len().saturating_sub(count)),
-        };
-        let input = Input {
-            read_fault: Some(count),
-            ..input_of(case, Cut::BYTES, Cut::WHOLE)
-        };
-        if let Some(why) = compare(alloc, case, &input, &due)? {
-            return Ok(Some(format!(in alloc; "read failed behind {count} bytes: {why}")?));
-        }
+// Where the input fails behind so many bytes.
+fn due_of_read(case: &Case, count: usize) -> Due<'_> {
+    let answers = answered(case, count);
+    Due {
+        out: front(case.due.as_slice(), Some(end_of(answers))),
+        exit: Exit::ReadFault,
+        rows: rows_by(answers),
+        unread: Some(case.sent.len().saturating_sub(count)),
     }
-    Ok(None)
 }
 
 // The answers up to the one in which so many bytes end.
@@ -185,24 +217,14 @@ fn begun(case: &Case, count: usize) -> &[Mark] {
         .unwrap_or(case.answers.as_slice())
 }
 
-// Where the output fails behind each number of bytes.
-fn each_write(alloc: Global, case: &Case) -> Result<Option<String>, AllocError> {
-    for count in 0..case.due.len() {
-        let due = Due {
-            out: front(case.due.as_slice(), Some(count)),
-            exit: Exit::WriteFault,
-            rows: rows_by(begun(case, count)),
-            unread: None,
-        };
-        let input = Input {
-            write_fault: Some(count),
-            ..input_of(case, Cut::WHOLE, Cut::BYTES)
-        };
-        if let Some(why) = compare(alloc, case, &input, &due)? {
-            return Ok(Some(format!(in alloc; "write failed behind {count} bytes: {why}")?));
-        }
+// Where the output fails behind so many bytes.
+fn due_of_write(case: &Case, count: usize) -> Due<'_> {
+    Due {
+        out: front(case.due.as_slice(), Some(count)),
+        exit: Exit::WriteFault,
+        rows: rows_by(begun(case, count)),
+        unread: None,
     }
-    Ok(None)
 }
 
 // Runs it, and tells the first difference.
@@ -250,6 +272,16 @@ fn told(alloc: Global, bytes: &[u8], start: usize) -> Result<String, AllocError>
     String::from_utf8_lossy(alloc, front(rest, Some(TOLD)))
 }
 
+// What came and what was due, in words.
+fn differing<T: Debug>(
+    alloc: Global,
+    what: &str,
+    came: &T,
+    due: &T,
+) -> Result<Option<String>, AllocError> {
+    Ok(Some(format!(in alloc; "{what}: came {came:?}, due {due:?}")?))
+}
+
 // The first difference beside the answers.
 fn differing_end(
     alloc: Global,
@@ -257,18 +289,14 @@ fn differing_end(
     due: &Due<'_>,
 ) -> Result<Option<String>, AllocError> {
     if outcome.exit != due.exit {
-        let (came, due) = (outcome.exit, due.exit);
-        return Ok(Some(format!(in alloc; "ended {came:?}, due {due:?}")?));
+        return differing(alloc, "end", &outcome.exit, &due.exit);
     }
     if due.rows.is_some() && outcome.rows != due.rows {
-        let (came, due) = (outcome.rows, due.rows);
-        return Ok(Some(format!(in alloc; "rows {came:?}, due {due:?}")?));
+        return differing(alloc, "rows", &outcome.rows, &due.rows);
     }
-    match due.unread {
-        Some(unread) if unread != outcome.unread => {
-            let came = outcome.unread;
-            Ok(Some(format!(in alloc; "unread {came}, due {unread}")?))
-        }
-        _ => Ok(None),
+    let unread = Some(outcome.unread);
+    if due.unread.is_some() && unread != due.unread {
+        return differing(alloc, "unread", &unread, &due.unread);
     }
+    Ok(None)
 }

@@ -1,7 +1,7 @@
 //! The accounts of a history, by user number and by name.
 ghost use Rattle.std.specs.Prelude.{◌≡◌, ◌≤◌, ◌<◌, ◌+◌, ◌-◌, [], OnOk, IfOk, is_some, option_and_then, Some, length};
 ghost use Rattle.std.specs.Option.{option_map};
-ghost use Rattle.cr_base.specs.Checks.{judged, register_checks, name_checks};
+ghost use Rattle.cr_base.specs.Checks.{judged, of_role, register_checks, name_checks};
 ghost use Rattle.cr_base.specs.Accounts.{accounts_after, account_at, role_at, role_in, number_at, caller_at, lines_of, AccountsFit};
 
 use cr_base::{
@@ -36,7 +36,7 @@ impl Model for Accounts {
 
 /// Whether the caller may give somebody who has the role `now` another one.
 fn may_name(by: &Standing, now: Role, role: Role) -> Result<(), Rule>
-    ensures { result ≡ judged (name_checks by.now (Some now) role) tt }
+    ensures { result ≡ judged (name_checks by.now (Some (of_role now)) role) tt }
 {
     if !by.role.is_chair() {
         return Err(Rule::NotChair);
@@ -147,7 +147,7 @@ impl Accounts {
     /// `AlreadyNamed` where the user has that role or a greater one. `by` is the caller's standing,
     /// where no paper is named. One read by number at most.
     pub fn judge_name(&self, by: &Standing, target: &Option<UserNo>, role: Role) -> Result<(), Rule>
-        ensures { result ≡ judged (name_checks by.now (option_and_then (role_at self.now.accounts) target.now) role) tt }
+        ensures { result ≡ judged (name_checks by.now (option_map of_role (option_and_then (role_at self.now.accounts) target.now)) role) tt }
     {
         let Some(user) = target else {
             return Err(Rule::NoUser);
@@ -207,10 +207,7 @@ impl Accounts {
             Entry::Named { user, role } => {
                 self.accounts[user.place()].role = *role;
             }
-            Entry::PhaseSet { .. }
-            | Entry::ModeSet { .. }
-            | Entry::Submitted { .. }
-            | Entry::Conflict { .. } => {}
+            _ => {}
         }
     }
 }

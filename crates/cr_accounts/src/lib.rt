@@ -3,7 +3,5 @@
 #![tactic(auto)]
 
 mod accounts;
-#[cfg(test)]
-mod tests;
 
 pub use accounts::Accounts;

@@ -2,7 +2,5 @@
 #![tactic(auto)]
 
 mod shown;
-#[cfg(test)]
-mod tests;
 
 pub use shown::shows_author;

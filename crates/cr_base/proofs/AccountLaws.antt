@@ -10,7 +10,9 @@ use Rattle.std.proofs.lemmas.Slice.Eq.{bytes_eq-Decides}
 use Rattle.std.proofs.lemmas.Iterator.Adapters.{position_from-zero}
 use Rattle.cr_base.specs.Accounts.{number_at, lines_of, lines_from, with_role, AccountsFit}
 use Rattle.cr_base.specs.Checks.{judged, register_checks}
-use Rattle.cr_base.specs.Judging.{Drawn, number_in, registration_drawn, judge_by_role}
+use Rattle.cr_base.specs.Drawn.{Drawn, registration_drawn}
+use Rattle.cr_base.specs.Judging.{judge_by_role}
+use Rattle.cr_base.specs.Sources.{number_in}
 use Rattle.cr_base.specs.Tables.{Tables}
 use Rattle.cr_base.specs.declared.command.Command.TheVariants.{Register}
 use Rattle.cr_base.specs.declared.entry.Account.{Account}

@@ -1,7 +1,7 @@
 -- The last of the values that are told.
-use Rattle.std.proofs.Common.{Bool, true, false, cond, ◌≡◌, List, [], ◌∷◌, ◌++◌, refl, Option, Some, None}
+use Rattle.std.proofs.Common.{Bool, true, false, cond, ◌≡◌, List, [], ◌∷◌, ◌++◌, refl, Option, Some}
 use Rattle.std.specs.Prelude.{unwrap_or}
-use Rattle.cr_base.specs.Lists.{given, listed, last, last_from, last_or}
+use Rattle.cr_base.specs.Lists.{given, last_from, last_or}
 
 -- ---- the last, or another
 
@@ -22,8 +22,3 @@ last_or-given false x y xs = refl
 pub last_from-given : {A : Type 0} (b : Bool) (x : A) (o : Option A) (rest : List A) → last_from o (given b x ++ rest) ≡ last_from (cond b (Some x) o) rest
 last_from-given true x o rest = refl
 last_from-given false x o rest = refl
-
--- the last of at most one value
-pub last-listed : {A : Type 0} (o : Option A) → last (listed o) ≡ o
-last-listed None = refl
-last-listed (Some x) = refl

@@ -1,5 +1,6 @@
 pub mod AccountLaws
 pub mod CheckLaws
+pub mod FitLaws
 pub mod LastLaws
 pub mod ListLaws
 pub mod PairLaws

@@ -1,13 +1,13 @@
 -- Elements by their number, and the numbers of elements.
 use Rattle.std.proofs.Common.{ℕ, Bool, true, false, cond, ◌≡◌, ◌≤◌, ◌+◌, ◌-◌, List, [], ◌∷◌, ◌++◌, length, eqb, refl, sym, ap, ◌∙◌, arith, zero, suc, Option, Some, None, ◌&&◌, ◌||◌}
-use Rattle.std.specs.Prelude.{nat_le, map}
+use Rattle.std.specs.Prelude.{nat_le}
 use Rattle.std.specs.List.{slice_get, list_any, find}
 use Rattle.std.specs.Option.{option_map, option_and_then}
 use Rattle.std.proofs.lemmas.Bool.Decides.{nat_tests}
 use Rattle.cr_base.specs.declared.entry.Account.{Account}
 use Rattle.cr_base.specs.declared.reply.AccountLine.{AccountLine}
 use Rattle.cr_base.specs.Accounts.{lines_from, lines_of, account_at, role_at}
-use Rattle.cr_base.specs.Judging.{name_in, role_among}
+use Rattle.cr_base.specs.Sources.{name_in, role_among}
 use Rattle.cr_base.specs.Lists.{numbered, numbers_from}
 
 -- ---- elements by number
@@ -30,16 +30,6 @@ numbered-some xs zero low high = absurd (omega arith)
 numbered-some [] (suc n) low high = absurd (omega arith)
 numbered-some (x ∷ xs) (suc zero) low high = (x, refl)
 numbered-some (x ∷ xs) (suc (suc n)) low high = numbered-some xs (suc n) (omega arith) (omega arith)
-
-get-map : {A B : Type 0} (f : A → B) (xs : List A) (n : ℕ) → slice_get (map f xs) n ≡ option_map f (slice_get xs n)
-get-map f [] n = refl
-get-map f (x ∷ xs) zero = refl
-get-map f (x ∷ xs) (suc n) = get-map f xs n
-
--- what is made of the element of a number
-pub numbered-map : {A B : Type 0} (f : A → B) (xs : List A) (n : ℕ) → numbered (map f xs) n ≡ option_map f (numbered xs n)
-numbered-map f xs zero = refl
-numbered-map f xs (suc n) = get-map f xs n
 
 not_zero : (n : ℕ) → eqb (suc n) 0 ≡ false
 not_zero n = grind (arith, nat_tests)

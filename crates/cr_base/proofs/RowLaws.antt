@@ -95,8 +95,8 @@ built-row_of (Registered user name digest) m o h = refl
 built-row_of (Named user role) m o h = ap (λ x. Named user x) (role_at-number role h.n2.0)
 built-row_of (PhaseSet phase) m o h = ap (λ x. PhaseSet x) (phase_at-number phase)
 built-row_of (ModeSet mode) m o h = ap (λ x. ModeSet x) (mode_at-number mode)
-built-row_of (Conflict paper user on) m o h = ap (λ x. Conflict paper user x) (bit-back on)
 built-row_of (Submitted paper title abstract) m o h = refl
+built-row_of (Conflict paper user on) m o h = ap (λ x. Conflict paper user x) (bit-back on)
 
 restamp : (s : Stamped) (p : Bool) (f : Entry) → p ≡ s.more → f ≡ s.entry → ◌≡◌ {A = Stamped} (record { maker = s.maker; more = p; entry = f }) s
 restamp s p f hp hf = let e : ◌≡◌ {A = Stamped} (record { maker = s.maker; more = p; entry = f }) (record { maker = s.maker; more = s.more; entry = s.entry }) = cc in e
@@ -116,8 +116,8 @@ kind_at-number kind.Registered = refl
 kind_at-number kind.Named = refl
 kind_at-number kind.PhaseSet = refl
 kind_at-number kind.ModeSet = refl
-kind_at-number kind.Conflict = refl
 kind_at-number kind.Submitted = refl
+kind_at-number kind.Conflict = refl
 
 same_kind : (k j : EntryKind) → kind_number k ≡ kind_number j → k ≡ j
 same_kind k j e = sym (kind_at-number k) ∙ ap kind_at e ∙ kind_at-number j
@@ -127,8 +127,8 @@ kind_of-built kind.Registered r = refl
 kind_of-built kind.Named r = refl
 kind_of-built kind.PhaseSet r = refl
 kind_of-built kind.ModeSet r = refl
-kind_of-built kind.Conflict r = refl
 kind_of-built kind.Submitted r = refl
+kind_of-built kind.Conflict r = refl
 
 kind_of-row : (k : EntryKind) (r : Row) (s : Stamped) → kind_number k ≡ r.kind → row_of s ≡ r → kind_of s.entry ≡ k
 kind_of-row k r s hk e = same_kind (kind_of s.entry) k (ap (λ (q : Row). q.kind) e ∙ sym hk)

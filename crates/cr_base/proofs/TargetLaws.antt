@@ -1,14 +1,32 @@
 -- The users and papers that commands name are numbered within the tables.
-use Rattle.std.proofs.Common.{ℕ, false, ◌≡◌, ◌≤◌, ◌+◌, ◌-◌, List, [], ◌∷◌, length, eqb, sym, ap, ◌∙◌, arith, zero, suc, Option, Some, None, ◌&&◌}
+use Rattle.std.proofs.Common.{ℕ, false, ◌≡◌, ◌≤◌, ◌+◌, ◌-◌, List, [], ◌∷◌, length, eqb, refl, sym, ap, ◌∙◌, arith, zero, suc, Option, Some, None, ◌&&◌}
 use Rattle.std.specs.Prelude.{is_none, not, nat_le, unwrap_or}
 use Rattle.std.specs.List.{list_any}
-use Rattle.std.specs.Option.{option_and_then}
+use Rattle.std.specs.Option.{option_map, option_and_then}
 use Rattle.std.proofs.lemmas.Bool.{true≢false}
 use Rattle.std.proofs.lemmas.Bool.Decides.{nat_tests}
 use Rattle.cr_base.specs.declared.entry.Account.{Account}
+use Rattle.cr_base.specs.declared.target.Target.{Target}
+use Rattle.cr_base.specs.declared.words.Role.{Role}
+use Rattle.cr_base.specs.declared.words.Role.TheVariants as roles
 use Rattle.cr_base.specs.Accounts.{role_at}
+use Rattle.cr_base.specs.Checks.{of_role, target_role}
 use Rattle.cr_base.specs.Lists.{at_some, numbers_from}
 use Rattle.cr_base.proofs.ListLaws.{list_any-numbers_from}
+
+-- ---- the user named
+
+-- there is none exactly where no role is found
+pub is_none-asked : (asked : Role → Target) (role : Option Role) → is_none (option_map asked role) ≡ is_none role
+is_none-asked asked None = refl
+is_none-asked asked (Some role) = refl
+
+-- her role is the one found
+pub target_role-of : (role : Option Role) → target_role (option_map of_role role) ≡ unwrap_or role roles.Account
+target_role-of None = refl
+target_role-of (Some role) = refl
+
+-- ---- numbers
 
 -- a user who has a role has one of the accounts' numbers
 account_within : (accounts : List Account) (v : ℕ) → is_none (role_at accounts v) ≡ false → (1 ≤ v) × (v ≤ length accounts)

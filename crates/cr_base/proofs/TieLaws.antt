@@ -1,8 +1,8 @@
 -- What is there after a pair was switched on or off, who the authors of a paper are, and which papers have ties.
-use Rattle.std.proofs.Common.{ℕ, Bool, true, false, cond, ◌≡◌, ◌≤◌, ◌+◌, List, [], ◌∷◌, ◌++◌, length, length-append, eqb, refl, sym, ap, subst, ◌∙◌, arith, ◌||◌, ◌&&◌, Some}
+use Rattle.std.proofs.Common.{ℕ, Bool, true, false, cond, ◌≡◌, ◌≤◌, ◌+◌, [], ◌∷◌, ◌++◌, length-append, eqb, refl, sym, ap, subst, ◌∙◌, arith, ◌||◌, ◌&&◌}
 use Rattle.std.specs.Prelude.{nat_le, nat_lt, not, map}
 use Rattle.std.specs.Cmp.Derive.{both_true}
-use Rattle.std.specs.List.{list_any, list_all}
+use Rattle.std.specs.List.{list_all}
 use Rattle.std.proofs.lemmas.Bool.{and_parts}
 use Rattle.std.proofs.lemmas.Bool.Decides.{nat_tests}
 use Rattle.cr_base.specs.declared.entry.Entry.{Entry}
@@ -12,7 +12,7 @@ use Rattle.cr_base.specs.declared.pairs.Pair.{Pair}
 use Rattle.cr_base.specs.declared.pairs.Tie.{Tie}
 use Rattle.cr_base.specs.declared.paper.Paper.{Paper}
 use Rattle.cr_base.specs.Lists.{given}
-use Rattle.cr_base.specs.Pairs.{same_pair, is_tied, with_tie, has_pair, ties_of, users_of}
+use Rattle.cr_base.specs.Pairs.{same_pair, is_tied, has_pair, ties_of, users_of}
 use Rattle.cr_base.specs.Papers.{PapersState, papers_after, paper_count, PapersFit}
 use Rattle.cr_base.specs.Ties.{BareTies, TiesState, pair_of, bare_tie, switched, ties_after, are_before, are_within, AreWithin}
 use Rattle.cr_base.proofs.PairLaws.{same_pair-is, list_all-with_tie, list_all-filter, has_pair-with_tie, has_pair-without_pair}

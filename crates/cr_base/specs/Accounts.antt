@@ -6,7 +6,7 @@ use Rattle.cr_base.specs.declared.words.Role.{Role}
 use Rattle.cr_base.specs.declared.words.Role.TheVariants as role
 use Rattle.cr_base.specs.declared.entry.Account.{Account}
 use Rattle.cr_base.specs.declared.entry.Entry.{Entry}
-use Rattle.cr_base.specs.declared.entry.Entry.TheVariants.{Registered, Named, PhaseSet, ModeSet, Submitted, Conflict}
+use Rattle.cr_base.specs.declared.entry.Entry.TheVariants.{Registered, Named, Conflict}
 use Rattle.cr_base.specs.declared.reply.AccountLine.{AccountLine}
 use Rattle.cr_base.specs.Lists.{numbered}
 
@@ -20,10 +20,7 @@ with_role accounts at role = option_map_or (λ a. slice_set accounts at (record 
 abbrev pub accounts_after : List Account → Entry → List Account
 accounts_after accounts (Registered user name digest) = accounts ++ record { name = name; digest = digest; role = role.Account } ∷ []
 accounts_after accounts (Named user role) = with_role accounts (user - 1) role
-accounts_after accounts (PhaseSet phase) = accounts
-accounts_after accounts (ModeSet mode) = accounts
-accounts_after accounts (Submitted paper title abstract) = accounts
-accounts_after accounts (Conflict paper user on) = accounts
+accounts_after accounts _ = accounts
 
 -- ---- what is read
 
@@ -66,7 +63,5 @@ lines_of accounts = lines_from 1 accounts
 abbrev pub AccountsFit : List Account → Entry → Type 0
 AccountsFit accounts (Registered user name digest) = (user ≡ length accounts + 1) × (user ≤ 9999) × (number_at accounts name ≡ None)
 AccountsFit accounts (Named user role) = (1 ≤ user) × (user ≤ length accounts)
-AccountsFit accounts (PhaseSet phase) = Unit {0}
-AccountsFit accounts (ModeSet mode) = Unit {0}
-AccountsFit accounts (Submitted paper title abstract) = Unit {0}
 AccountsFit accounts (Conflict paper user on) = (1 ≤ user) × (user ≤ length accounts)
+AccountsFit accounts _ = Unit {0}

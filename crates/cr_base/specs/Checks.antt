@@ -1,9 +1,11 @@
 -- The rules of each command and query, in order, over plain values: a list of checks, of which the first broken one
 -- answers. They are the server's own, by CoCon's phases and roles and the HotCRP manual's conflicts.
-use Rattle.std.specs.Prelude.{ℕ, Bool, true, false, not, ◌||◌, ◌&&◌, nat_le, List, [], ◌∷◌, Option, is_none, unwrap_or, Result, Ok, Err, if◌then◌else◌}
+use Rattle.std.specs.Prelude.{ℕ, Bool, true, false, not, ◌||◌, ◌&&◌, nat_le, List, [], ◌∷◌, Option, is_none, Result, Ok, Err, if◌then◌else◌}
+use Rattle.std.specs.Option.{option_map_or}
 use Rattle.cr_base.specs.declared.reply.Rule.{Rule}
 use Rattle.cr_base.specs.declared.reply.Rule.TheVariants as rules
 use Rattle.cr_base.specs.declared.standing.Standing.{Standing}
+use Rattle.cr_base.specs.declared.target.Target.{Target}
 use Rattle.cr_base.specs.declared.words.Phase.{Phase}
 use Rattle.cr_base.specs.declared.words.Phase.TheVariants.{Setup, Submission, Bidding, Notification}
 use Rattle.cr_base.specs.declared.words.Role.{Role}
@@ -24,6 +26,26 @@ broken breaks rule = record { broken = broken; rule = rule }
 abbrev pub judged : {A : Type 0} → List Check → A → Result A Rule
 judged [] drawn = Ok drawn
 judged (check ∷ checks) drawn = if check.broken then Err check.rule else judged checks drawn
+
+-- ---- what is named
+
+-- what the rules ask of the paper that a command or a query names: whether it is there
+pub record NamedPaper : Type 0 where
+  pub there : Bool
+
+-- what is asked of a user, where no rule asks for more than her role
+abbrev pub of_role : Role → Target
+of_role role = record { role = role; herself = false; author = false }
+
+-- the role of the user named, and an account's where there is none
+abbrev pub target_role : Option Target → Role
+target_role target = option_map_or (λ (user : Target). user.role) target Account
+
+-- the rules about the user named, where there is one
+abbrev pub about : Option Target → (Target → List Check) → List Check
+about target asked = option_map_or asked target []
+
+-- ---- commands and queries
 
 -- register: whether the name is taken, and how many accounts there are
 abbrev pub register_checks : Bool → ℕ → List Check
@@ -47,20 +69,20 @@ submit_checks by count own =
     ∷ nat_le 20 own breaks rules.QuotaPapers
     ∷ []
 
--- a paper's page: the caller's standing at the paper, and whether the paper is there
-abbrev pub page_checks : Standing → Bool → List Check
-page_checks by found =
-    not found breaks rules.NoPaper
+-- a paper's page: the caller's standing at the paper, and the paper
+abbrev pub page_checks : Standing → NamedPaper → List Check
+page_checks by paper =
+    not paper.there breaks rules.NoPaper
     ∷ not (is_member by.role || by.author) breaks rules.NotMember
     ∷ []
 
--- name: the caller's standing, the role of the user named, if there is one, and the role that she is to have
-abbrev pub name_checks : Standing → Option Role → Role → List Check
+-- name: the caller's standing, the user named, if there is one, and the role that she is to have
+abbrev pub name_checks : Standing → Option Target → Role → List Check
 name_checks by target role =
     is_none target breaks rules.NoUser
     ∷ not (is_chair by.role) breaks rules.NotChair
     ∷ is_from Notification by.phase breaks rules.WrongPhase
-    ∷ nat_le (role_number role) (role_number (unwrap_or target Account)) breaks rules.AlreadyNamed
+    ∷ nat_le (role_number role) (role_number (target_role target)) breaks rules.AlreadyNamed
     ∷ []
 
 -- mode: the caller's standing, and the phase now
@@ -77,10 +99,10 @@ abbrev pub is_in_committee : Phase → Bool
 is_in_committee phase = is_from Bidding phase && not (is_from Notification phase)
 
 -- on, in setup or submission: authors declare members
-abbrev pub declare_checks : Standing → Option Role → List Check
+abbrev pub declare_checks : Standing → Target → List Check
 declare_checks by target =
     not by.author breaks rules.NotAuthor
-    ∷ not (is_member (unwrap_or target Account)) breaks rules.NotAMember
+    ∷ not (is_member target.role) breaks rules.NotAMember
     ∷ []
 
 -- on, from bidding to discussion: members declare themselves
@@ -90,11 +112,11 @@ own_checks by =
     ∷ []
 
 -- on, from bidding to discussion: clear chairs declare other members
-abbrev pub other_checks : Standing → Option Role → List Check
+abbrev pub other_checks : Standing → Target → List Check
 other_checks by target =
     not (is_chair by.role) breaks rules.NotChair
     ∷ by.conflicted breaks rules.Conflict
-    ∷ not (is_member (unwrap_or target Account)) breaks rules.NotAMember
+    ∷ not (is_member target.role) breaks rules.NotAMember
     ∷ []
 
 -- on, later: never
@@ -104,27 +126,29 @@ late_checks =
     ∷ []
 
 -- off: clear chairs, of members who are no authors
-abbrev pub off_checks : Standing → Option Role → Bool → List Check
-off_checks by target author =
+abbrev pub off_checks : Standing → Target → List Check
+off_checks by target =
     not (is_chair by.role) breaks rules.NotChair
     ∷ by.conflicted breaks rules.Conflict
     ∷ not (is_in_committee by.phase) breaks rules.WrongPhase
-    ∷ not (is_member (unwrap_or target Account)) breaks rules.NotAMember
-    ∷ author breaks rules.AuthorConflict
+    ∷ not (is_member target.role) breaks rules.NotAMember
+    ∷ target.author breaks rules.AuthorConflict
     ∷ []
 
--- which of the five lists it is: on or off, bidding or later, after the discussion, and whether she names herself
-abbrev pub conflict_case : Bool → Bool → Bool → Bool → Standing → Option Role → Bool → List Check
-conflict_case false bidding late herself by target author = off_checks by target author
-conflict_case true false late herself by target author = declare_checks by target
-conflict_case true true true herself by target author = late_checks
-conflict_case true true false true by target author = own_checks by
-conflict_case true true false false by target author = other_checks by target
+-- which of the five lists it is: on or off, bidding or later, and after the discussion
+abbrev pub conflict_case : Bool → Bool → Bool → Standing → Target → List Check
+conflict_case false bidding late by target = off_checks by target
+conflict_case true false late by target = declare_checks by target
+conflict_case true true true by target = late_checks
+conflict_case true true false by target = if target.herself then own_checks by else other_checks by target
 
--- conflict: the caller's standing at the paper, whether the paper is there, the role of the user named, if there is
--- one, whether it is the caller, whether she is an author, and whether it is turned on
-abbrev pub conflict_checks : Standing → Bool → Option Role → Bool → Bool → Bool → List Check
-conflict_checks by found target herself author on =
-    not found breaks rules.NoPaper
+-- on: by the phase
+abbrev pub on_checks : Standing → Target → List Check
+on_checks by target = conflict_case true (is_from Bidding by.phase) (is_from Notification by.phase) by target
+
+-- conflict: the caller's standing at the paper, the paper, the user named, if there is one, and whether it is turned on
+abbrev pub conflict_checks : Standing → NamedPaper → Option Target → Bool → List Check
+conflict_checks by paper target on =
+    not paper.there breaks rules.NoPaper
     ∷ is_none target breaks rules.NoUser
-    ∷ conflict_case on (is_from Bidding by.phase) (is_from Notification by.phase) herself by target author
+    ∷ about target (λ (user : Target). conflict_case on (is_from Bidding by.phase) (is_from Notification by.phase) by user)

@@ -53,12 +53,12 @@ abbrev pub is_author : Option ℕ → ℕ → History → Bool
 is_author u p H = list_any (is_number u) (authors_of p H)
 
 -- the last entry on the user's conflict with the paper turns it on
-abbrev pub is_declared : Option ℕ → ℕ → History → Bool
-is_declared u p H = last_or false (all_told (conflict_told u p) H)
+abbrev pub is_conflict_on : Option ℕ → ℕ → History → Bool
+is_conflict_on u p H = last_or false (all_told (conflict_told u p) H)
 
 -- each author is in conflict with her paper, and so is whoever is declared so
 abbrev pub is_conflicted : Option ℕ → ℕ → History → Bool
-is_conflicted u p H = is_author u p H || is_declared u p H
+is_conflicted u p H = is_author u p H || is_conflict_on u p H
 
 -- whom the paper's authors named in conflict with it
 abbrev pub declared_by_authors : ℕ → History → List ℕ

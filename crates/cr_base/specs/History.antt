@@ -1,6 +1,6 @@
 -- Histories, and what one entry tells: each definition gives the values that the entry adds to one fact, at
 -- most one.
-use Rattle.std.specs.Prelude.{ℕ, Bool, List, [], ◌∷◌, Option, ◌&&◌, ◌==◌}
+use Rattle.std.specs.Prelude.{ℕ, Bool, false, List, [], ◌∷◌, Option, ◌&&◌, ◌==◌}
 use Rattle.std.specs.List.{flat_map}
 use Rattle.std.specs.Str.{bytes_eq}
 use Rattle.cr_base.specs.declared.entry.Entry.{Entry}
@@ -10,6 +10,7 @@ use Rattle.cr_base.specs.declared.words.Phase.{Phase}
 use Rattle.cr_base.specs.declared.words.Mode.{Mode}
 use Rattle.cr_base.specs.declared.words.Role.{Role}
 use Rattle.cr_base.specs.Lists.{given, is_number}
+use Rattle.cr_base.specs.Phases.{is_phase}
 
 -- History: the entries of the accepted commands, in order. Those of one command stand together, and all of them
 -- but the last have the mark `more`.
@@ -37,6 +38,11 @@ phase_told _ = []
 abbrev pub mode_told : Entry → List Mode
 mode_told (ModeSet mode) = mode ∷ []
 mode_told _ = []
+
+-- whether it opens this phase
+abbrev pub opens : Phase → Entry → Bool
+opens first (PhaseSet phase) = is_phase phase first
+opens first _ = false
 
 -- the paper that it makes
 abbrev pub paper_told : Entry → List ℕ

@@ -1,6 +1,8 @@
 pub mod Accounts
+pub mod Answering
 pub mod Bounds
 pub mod Checks
+pub mod Drawn
 pub mod Facts
 pub mod History
 pub mod Judging
@@ -13,6 +15,7 @@ pub mod Phases
 pub mod Rows
 pub mod Shapes
 pub mod Short
+pub mod Sources
 pub mod Stage
 pub mod Tables
 pub mod Texts

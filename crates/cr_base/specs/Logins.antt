@@ -1,22 +1,66 @@
--- Which commands and queries want a login, so that nobody may give them.
+-- What a command or a query asks for, and who must be logged in for it: all by one table of what can be asked for.
 use Rattle.std.specs.Prelude.{Bool, true, false}
+use Rattle.cr_base.specs.declared.ask.Ask.{Ask}
+use Rattle.cr_base.specs.declared.ask.Ask.TheVariants as asks
 use Rattle.cr_base.specs.declared.command.Command.{Command}
-use Rattle.cr_base.specs.declared.command.Command.TheVariants.{Register, SetPhase, Submit, Name, SetMode, SetConflict}
+use Rattle.cr_base.specs.declared.command.Command.TheVariants as commands
 use Rattle.cr_base.specs.declared.command.Query.{Query}
-use Rattle.cr_base.specs.declared.command.Query.TheVariants.{Me, Accounts, Phase, Page}
+use Rattle.cr_base.specs.declared.command.Query.TheVariants as queries
 
--- every command but a registration is a registered user's
+-- ---- the two tables
+
+-- nobody may register, and be told the accounts and the state of the conference; all else is a registered user's
+abbrev pub ask_wants_login : Ask → Bool
+ask_wants_login asks.Register = false
+ask_wants_login asks.Accounts = false
+ask_wants_login asks.Phase = false
+ask_wants_login asks.Name = true
+ask_wants_login asks.SetMode = true
+ask_wants_login asks.SetPhase = true
+ask_wants_login asks.Submit = true
+ask_wants_login asks.Page = true
+ask_wants_login asks.SetConflict = true
+ask_wants_login asks.Me = true
+
+-- whether a request for this reads the field Authorization: a table of its own, since a request may be told who calls
+-- though it wants no login
+abbrev pub ask_reads_credentials : Ask → Bool
+ask_reads_credentials asks.Register = false
+ask_reads_credentials asks.Accounts = false
+ask_reads_credentials asks.Phase = false
+ask_reads_credentials asks.Name = true
+ask_reads_credentials asks.SetMode = true
+ask_reads_credentials asks.SetPhase = true
+ask_reads_credentials asks.Submit = true
+ask_reads_credentials asks.Page = true
+ask_reads_credentials asks.SetConflict = true
+ask_reads_credentials asks.Me = true
+
+-- ---- commands and queries
+
+-- the request by which a command is given, and by which a query is asked
+abbrev pub command_ask : Command → Ask
+command_ask (commands.Register name digest) = asks.Register
+command_ask (commands.SetPhase phase) = asks.SetPhase
+command_ask (commands.Submit title abstract) = asks.Submit
+command_ask (commands.Name user role) = asks.Name
+command_ask (commands.SetMode mode) = asks.SetMode
+command_ask (commands.SetConflict paper user on) = asks.SetConflict
+
+abbrev pub query_ask : Query → Ask
+query_ask queries.Me = asks.Me
+query_ask queries.Accounts = asks.Accounts
+query_ask queries.Phase = asks.Phase
+query_ask (queries.Page paper) = asks.Page
+
+-- each wants the login that its request does
 abbrev pub command_wants_login : Command → Bool
-command_wants_login (Register name digest) = false
-command_wants_login (SetPhase phase) = true
-command_wants_login (Submit title abstract) = true
-command_wants_login (Name user role) = true
-command_wants_login (SetMode mode) = true
-command_wants_login (SetConflict paper user on) = true
+command_wants_login command = ask_wants_login (command_ask command)
 
--- accounts and the state of the conference are everybody's to know
 abbrev pub query_wants_login : Query → Bool
-query_wants_login Accounts = false
-query_wants_login Phase = false
-query_wants_login Me = true
-query_wants_login (Page paper) = true
+query_wants_login query = ask_wants_login (query_ask query)
+
+-- what has to be so where a login is wanted
+abbrev pub IfWanted : Bool → Type 0 → Type 0
+IfWanted false A = Unit {0}
+IfWanted true A = A

@@ -4,7 +4,7 @@ use Rattle.cr_base.specs.declared.words.Phase.TheVariants.{Setup}
 use Rattle.cr_base.specs.declared.words.Mode.{Mode}
 use Rattle.cr_base.specs.declared.words.Mode.TheVariants.{Blind}
 use Rattle.cr_base.specs.declared.entry.Entry.{Entry}
-use Rattle.cr_base.specs.declared.entry.Entry.TheVariants.{Registered, Named, PhaseSet, ModeSet, Submitted, Conflict}
+use Rattle.cr_base.specs.declared.entry.Entry.TheVariants.{PhaseSet, ModeSet}
 
 -- the phase and the mode
 pub record StageState : Type 0 where
@@ -17,9 +17,6 @@ first_stage = record { phase = Setup; mode = Blind }
 
 -- the stage after one more entry
 abbrev pub stage_after : StageState → Entry → StageState
-stage_after stage (Registered user name digest) = stage
-stage_after stage (Named user role) = stage
 stage_after stage (PhaseSet phase) = record stage { phase = phase }
 stage_after stage (ModeSet mode) = record stage { mode = mode }
-stage_after stage (Submitted paper title abstract) = stage
-stage_after stage (Conflict paper user on) = stage
+stage_after stage _ = stage

@@ -57,13 +57,13 @@ ties_after ties maker _ = ties
 -- ---- what is read
 
 -- whether the user is declared in conflict with the paper
-abbrev pub is_declared_in : TiesState → Option ℕ → ℕ → Bool
-is_declared_in ties None p = false
-is_declared_in ties (Some user) p = has_pair (pair_of p user) ties.conflicts
+abbrev pub is_conflict_on_in : TiesState → Option ℕ → ℕ → Bool
+is_conflict_on_in ties None p = false
+is_conflict_on_in ties (Some user) p = has_pair (pair_of p user) ties.conflicts
 
 -- whether the user is in conflict with the paper: as an author, or declared so
 abbrev pub is_conflicted_in : TiesState → Option ℕ → ℕ → Bool
-is_conflicted_in ties u p = is_author_in ties u p || is_declared_in ties u p
+is_conflicted_in ties u p = is_author_in ties u p || is_conflict_on_in ties u p
 
 -- ---- which entry may come next
 

@@ -1,7 +1,8 @@
 //! Commands and queries: what a request may ask for.
 ghost use Rattle.std.specs.Prelude.{◌≡◌};
-ghost use Rattle.cr_base.specs.Logins.{command_wants_login, query_wants_login};
+ghost use Rattle.cr_base.specs.Logins.{command_ask, command_wants_login, query_ask, query_wants_login};
 
+use crate::ask::Ask;
 use crate::entry::Digest;
 use crate::numbers::PaperNo;
 use crate::texts::{Short, Text};
@@ -69,28 +70,46 @@ pub enum Query {
 }
 
 impl Command {
-    /// Whether it is a registered user's: every command but a registration.
+    /// The request by which it is given.
+    pub fn ask(&self) -> Ask
+        ensures { result ≡ command_ask self.now }
+    {
+        match self {
+            Command::Register { .. } => Ask::Register,
+            Command::SetPhase { .. } => Ask::SetPhase,
+            Command::Submit { .. } => Ask::Submit,
+            Command::Name { .. } => Ask::Name,
+            Command::SetMode { .. } => Ask::SetMode,
+            Command::SetConflict { .. } => Ask::SetConflict,
+        }
+    }
+
+    /// Whether it is a registered user's, as its request tells: every command but a registration.
     pub fn wants_login(&self) -> bool
         ensures { result ≡ command_wants_login self.now }
     {
-        match self {
-            Command::Register { .. } => false,
-            Command::SetPhase { .. } | Command::Submit { .. } => true,
-            Command::Name { .. } | Command::SetMode { .. } => true,
-            Command::SetConflict { .. } => true,
-        }
+        self.ask().wants_login()
     }
 }
 
 impl Query {
-    /// Whether it is a registered user's: every query but the list of accounts and the state of the
+    /// The request by which it is asked.
+    pub fn ask(&self) -> Ask
+        ensures { result ≡ query_ask self.now }
+    {
+        match self {
+            Query::Me => Ask::Me,
+            Query::Accounts => Ask::Accounts,
+            Query::Phase => Ask::Phase,
+            Query::Page { .. } => Ask::Page,
+        }
+    }
+
+    /// Whether it is a registered user's, as its request tells: every query but the list of accounts and the state of the
     /// conference.
     pub fn wants_login(&self) -> bool
         ensures { result ≡ query_wants_login self.now }
     {
-        match self {
-            Query::Accounts | Query::Phase => false,
-            Query::Me | Query::Page { .. } => true,
-        }
+        self.ask().wants_login()
     }
 }

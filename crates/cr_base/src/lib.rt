@@ -2,6 +2,7 @@
 //! replies. The definitions over histories and tables stand in this crate's specs.
 #![tactic(auto)]
 
+mod ask;
 mod command;
 mod entry;
 mod me;
@@ -14,11 +15,13 @@ mod row;
 mod shape;
 mod spelling;
 mod standing;
+mod target;
 #[cfg(test)]
 mod tests;
 mod texts;
 mod words;
 
+pub use ask::Ask;
 pub use command::{Command, Query};
 pub use entry::{Account, Digest, Entry, EntryKind, Stamped};
 pub use me::{Me, PaperNos};
@@ -29,5 +32,6 @@ pub use paper::Paper;
 pub use reply::{AccountLine, AccountLines, Conference, Receipt, Reply, Rule};
 pub use row::Row;
 pub use standing::Standing;
+pub use target::Target;
 pub use texts::{Blob, Short, Text, is_abstract, is_name, is_title};
 pub use words::{Mode, Phase, Role};

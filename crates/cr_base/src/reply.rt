@@ -15,27 +15,27 @@ pub enum Rule {
     NameTaken,
     /// 9,999 accounts are registered.
     FullAccounts,
+    /// There is no such user.
+    NoUser,
     /// The caller is no chair.
     NotChair,
     /// The phase is another than the one that is wanted.
     WrongPhase,
+    /// The user has that role, or a greater one.
+    AlreadyNamed,
     /// 9,999 papers were submitted.
     FullPapers,
     /// The caller has submitted 20 papers.
     QuotaPapers,
     /// There is no such paper.
     NoPaper,
-    /// The caller is no member of the committee, and declares a conflict of her own; or she is no author
-    /// of the paper either, and asks for its page.
-    NotMember,
-    /// There is no such user.
-    NoUser,
-    /// The user has that role, or a greater one.
-    AlreadyNamed,
     /// The caller is no author of the paper.
     NotAuthor,
     /// The user named is no member of the committee.
     NotAMember,
+    /// The caller is no member of the committee, and declares a conflict of her own; or she is no author
+    /// of the paper either, and asks for its page.
+    NotMember,
     /// The caller is in conflict with the paper.
     Conflict,
     /// The user named is an author of the paper, and stays in conflict with it.
@@ -73,7 +73,7 @@ pub enum Receipt {
         mode: Mode,
     },
     /// The paper with which a conflict was turned on or off.
-    Noted {
+    Conflict {
         /// Its number.
         paper: PaperNo,
     },

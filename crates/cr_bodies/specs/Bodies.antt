@@ -5,8 +5,8 @@ use Rattle.cr_base.specs.declared.command.Command.{Command}
 use Rattle.cr_base.specs.declared.command.Command.TheVariants as commands
 use Rattle.cr_bodies.specs.Field.{◌>>=◌, abstract_at, digest_at, flag_at, mode_at, name_at, phase_at, role_at, title_at, user_at}
 use Rattle.cr_bodies.specs.Json.{json_of}
-use Rattle.cr_routes.specs.declared.ask.Ask.{Ask}
-use Rattle.cr_routes.specs.declared.ask.Ask.TheVariants as asks
+use Rattle.cr_base.specs.declared.ask.Ask.{Ask}
+use Rattle.cr_base.specs.declared.ask.Ask.TheVariants as asks
 
 -- the command that a JSON value tells a request, with the paper that its path tells: a line for each member that must be
 -- there. None is a bad body; a query has none

@@ -10,8 +10,7 @@ ghost use Rattle.cr_bodies.specs.Bodies.{command_in as command_in_text, command_
 ghost use Rattle.cr_bodies.specs.Outcome.{Reads, ReadsSeen};
 
 use crate::field::{Grammar, digest, flag, mode, name, phase, role, tested, user};
-use cr_base::{Command, PaperNo, Text};
-use cr_routes::Ask;
+use cr_base::{Ask, Command, PaperNo, Text};
 use serde_json::Value;
 use std::alloc::{AllocError, Global};
 

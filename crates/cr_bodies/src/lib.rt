@@ -6,8 +6,6 @@ mod bytes;
 mod credentials;
 mod field;
 mod secret;
-#[cfg(test)]
-mod tests;
 
 pub use body::{BodyError, read_command};
 pub use bytes::before_first;

@@ -8,7 +8,9 @@ use Rattle.cr_base.specs.Accounts.{number_at, caller_at}
 use Rattle.cr_base.specs.Facts.{number_of, caller_of}
 use Rattle.cr_base.specs.declared.command.Query.{Query}
 use Rattle.cr_base.specs.declared.command.Query.TheVariants as queries
-use Rattle.cr_base.specs.Judging.{Drawn, judge_by_role, answer_by_role}
+use Rattle.cr_base.specs.Answering.{answer_by_role}
+use Rattle.cr_base.specs.Drawn.{Drawn}
+use Rattle.cr_base.specs.Judging.{judge_by_role}
 use Rattle.cr_base.specs.Logins.{query_wants_login}
 use Rattle.cr_base.specs.Rows.{rows_of}
 use Rattle.cr_base.specs.Tables.{Tables, tables_of, tables_from}
@@ -16,7 +18,7 @@ use Rattle.cr_policy.specs.Judge.{judge, answer}
 use Rattle.cr_policy.specs.View.{view}
 use Rattle.cr_policy.specs.Legal.{Legal, MayAsk}
 use Rattle.cr_policy.proofs.LegalLaws.{Legal-judge, Legal-answer, Legal-number_of, Legal-caller_of}
-use Rattle.cr_policy.proofs.TableTies.{tables_of-append, rows_of-append}
+use Rattle.cr_history.proofs.TableTies.{tables_of-append, rows_of-append}
 use Rattle.cr_ports.specs.Keeping.{and_rows}
 use Rattle.cr_view.specs.Callers.{HasAsker}
 use Rattle.cr_book.specs.Sound.{IsSound}

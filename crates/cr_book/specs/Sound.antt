@@ -4,7 +4,7 @@ use Rattle.cr_base.specs.declared.command.Command.{Command}
 use Rattle.cr_base.specs.declared.row.Row.{Row}
 use Rattle.cr_base.specs.declared.reply.Receipt.{Receipt}
 use Rattle.cr_base.specs.History.{History}
-use Rattle.cr_base.specs.Judging.{Drawn}
+use Rattle.cr_base.specs.Drawn.{Drawn}
 use Rattle.cr_base.specs.Rows.{rows_of}
 use Rattle.cr_base.specs.Tables.{Tables, tables_of}
 use Rattle.cr_policy.specs.Judge.{judge}

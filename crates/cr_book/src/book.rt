@@ -13,7 +13,7 @@ ghost use Rattle.cr_ports.specs.Writing.{outlet_of};
 ghost use Rattle.cr_sights.specs.Lines.{lines_text};
 ghost use Rattle.cr_sights.specs.Walks.{WritesView};
 ghost use Rattle.cr_view.specs.Draws.{drawn_by};
-ghost use Rattle.cr_view.specs.Replies.{Answers};
+ghost use Rattle.cr_view.specs.Replies.{AnswersAsDue};
 ghost use Rattle.cr_book.specs.Sound.{IsKept, Accepts};
 
 use crate::rows::{copies_of, rows_of};
@@ -176,7 +176,7 @@ impl<K: Keeper> Book<K> {
     /// over her own papers and conflicts, `Query::Phase` nothing that grows.
     pub fn answer(&self, caller: &Option<UserNo>, query: &Query) -> Result<Reply, AnswerError>
         requires { MayAsk self.now.log (query_wants_login query.now) caller.now }
-        ensures answered { Answers result (answer caller.now (view caller.now self.now.log) query.now) }
+        ensures answered { AnswersAsDue result (answer caller.now (view caller.now self.now.log) query.now) }
         ensures sure { OnErr result (query.now ≢ queries.Phase) }
     {
         self.live.answer(self.alloc, caller, query)

@@ -2,7 +2,7 @@
 ghost use Rattle.std.specs.Prelude.{◌≡◌, ℕ, Option};
 ghost use Rattle.cr_base.specs.Facts.{standing_of};
 ghost use Rattle.cr_base.specs.History.{History};
-ghost use Rattle.cr_base.specs.Judging.{standing_at};
+ghost use Rattle.cr_base.specs.Sources.{standing_at};
 ghost use Rattle.cr_base.specs.Tables.{tables_of};
 ghost use Rattle.cr_policy.specs.Legal.{Legal};
 

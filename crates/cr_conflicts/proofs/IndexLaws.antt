@@ -1,5 +1,5 @@
 -- What the authors by paper and by user are after one more submission, and how they are read.
-use Rattle.std.proofs.Common.{ℕ, Bool, true, false, ◌≡◌, ◌≤◌, ◌∙◌, ◌||◌, ◌&&◌, List, [], ◌∷◌, ◌++◌, eqb, arith, refl, sym, ap, subst, Some}
+use Rattle.std.proofs.Common.{ℕ, Bool, true, ◌≡◌, ◌≤◌, ◌∙◌, ◌||◌, ◌&&◌, [], ◌∷◌, ◌++◌, eqb, arith, refl, sym, ap, subst, Some}
 use Rattle.std.specs.Prelude.{nat_le, nat_lt, not}
 use Rattle.std.specs.Cmp.Derive.{both_true}
 use Rattle.std.specs.List.{list_any, list_all}
@@ -10,14 +10,14 @@ use Rattle.cr_base.specs.declared.pairs.Order.TheVariants.{ByPaper, ByUser}
 use Rattle.cr_base.specs.declared.pairs.Pair.{Pair}
 use Rattle.cr_base.specs.declared.pairs.Tie.{Tie}
 use Rattle.cr_base.specs.Lists.{IsRising, is_number}
-use Rattle.cr_base.specs.Pairs.{same_pair, leads, follows, is_tied, stands, IsSortedBy, IsAscending, has_pair, with_tie, users_of, papers_of}
+use Rattle.cr_base.specs.Pairs.{same_pair, leads, follows, stands, IsSortedBy, IsAscending, has_pair, with_tie, users_of, papers_of}
 use Rattle.cr_base.specs.Ties.{BareTies, pair_of, bare_tie, are_before}
 use Rattle.cr_base.proofs.PairLaws.{IsAscending-with_tie, has_pair-with_tie, list_any-others_of}
 use Rattle.cr_base.proofs.RisingLists.{rising-sorted, rising-others_of, others_of-same}
 use Rattle.cr_base.proofs.TieLaws.{has_pair-push, all-push}
 use Rattle.cr_pairs.specs.Places.{RisesBy}
 use Rattle.cr_pairs.proofs.Searches.{leads-rise}
-use Rattle.cr_conflicts.specs.Index.{is_told_before, IsIndexed}
+use Rattle.cr_conflicts.specs.Index.{is_told_before, AuthorsIndexed}
 
 -- ---- what is read
 
@@ -33,7 +33,7 @@ authors-rise authors told = leads-rise ByPaper is_told_before (λ p q h. least p
     least n m same h = grind (arith, nat_tests)
 
 -- a user's papers are the same by paper and by user
-module _ (authors : BareTies) (users : Order) (authored : BareTies) (declared : Order) (index : IsIndexed authors users authored declared) (u : ℕ) where
+module _ (authors : BareTies) (users : Order) (authored : BareTies) (declared : Order) (index : AuthorsIndexed authors users authored declared) (u : ℕ) where
   rises : (p q : Pair) → eqb u (leads ByUser p) ≡ true → eqb u (leads ByUser q) ≡ true → is_told_before p q ≡ true → nat_lt (follows ByUser p) (follows ByUser q) ≡ true
   rises p q here there before = grind (arith, nat_tests)
 
@@ -60,7 +60,7 @@ told-before paper maker (t ∷ ts) all =
     earlier : (n m : ℕ) (same : Bool) → nat_lt n m ≡ true → (nat_le n m && not (eqb n m && same)) ≡ true
     earlier n m same h = grind (arith, nat_tests)
 
-pub indexed-push : (authors : BareTies) (users : Order) (authored : BareTies) (declared : Order) (paper maker : ℕ) (users' : Order) (authors' authored' : BareTies) → users' ≡ users → authors' ≡ authors ++ bare_tie paper maker ∷ [] → authored' ≡ with_tie users (bare_tie paper maker) authored → are_before paper authors ≡ true → IsIndexed authors users authored declared → IsIndexed authors' users' authored' declared
+pub indexed-push : (authors : BareTies) (users : Order) (authored : BareTies) (declared : Order) (paper maker : ℕ) (users' : Order) (authors' authored' : BareTies) → users' ≡ users → authors' ≡ authors ++ bare_tie paper maker ∷ [] → authored' ≡ with_tie users (bare_tie paper maker) authored → are_before paper authors ≡ true → AuthorsIndexed authors users authored declared → AuthorsIndexed authors' users' authored' declared
 indexed-push authors users authored declared paper maker users' authors' authored' same pushed put before index =
     let put_so : authored' ≡ with_tie ByUser (bare_tie paper maker) authored = put ∙ ap (λ (o : Order). with_tie o (bare_tie paper maker) authored) index.by_user in
     record {

@@ -12,7 +12,7 @@ is_told_before p q = nat_le p.paper q.paper && not (same_pair p q)
 
 -- authors were told paper by paper, none of them twice; by user there are the same, in ascending order; and whom authors
 -- named is in the order of papers
-pub record IsIndexed (authors : BareTies) (users : Order) (authored : BareTies) (declared : Order) : Type 0 where
+pub record AuthorsIndexed (authors : BareTies) (users : Order) (authored : BareTies) (declared : Order) : Type 0 where
   pub told : IsSortedBy is_told_before authors
   pub by_user : users ≡ ByUser
   pub ascending : IsAscending ByUser authored

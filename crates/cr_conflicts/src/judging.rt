@@ -1,18 +1,17 @@
 //! The rules of turning a conflict on and off, a function a list of checks.
-ghost use Rattle.std.specs.Prelude.{◌≡◌, false, true, Some};
-ghost use Rattle.cr_base.specs.Checks.{judged, conflict_case, declare_checks, own_checks, other_checks, off_checks};
-ghost use Rattle.cr_base.specs.Phases.{is_from};
+ghost use Rattle.std.specs.Prelude.{◌≡◌};
+ghost use Rattle.cr_base.specs.Checks.{judged, declare_checks, own_checks, other_checks, on_checks, off_checks};
 
-use cr_base::{Phase, Role, Rule, Standing};
+use cr_base::{Phase, Rule, Standing, Target};
 
 /// In setup and submission: an author declares a member.
-fn declared(by: &Standing, role: Role) -> Result<(), Rule>
-    ensures { result ≡ judged (declare_checks by.now (Some role)) tt }
+fn declared(by: &Standing, target: &Target) -> Result<(), Rule>
+    ensures { result ≡ judged (declare_checks by.now target.now) tt }
 {
     if !by.author {
         return Err(Rule::NotAuthor);
     }
-    if !role.is_member() {
+    if !target.role.is_member() {
         return Err(Rule::NotAMember);
     }
     Ok(())
@@ -29,8 +28,8 @@ fn own(by: &Standing) -> Result<(), Rule>
 }
 
 /// From bidding to discussion: a clear chair declares another member.
-fn other(by: &Standing, role: Role) -> Result<(), Rule>
-    ensures { result ≡ judged (other_checks by.now (Some role)) tt }
+fn other(by: &Standing, target: &Target) -> Result<(), Rule>
+    ensures { result ≡ judged (other_checks by.now target.now) tt }
 {
     if !by.role.is_chair() {
         return Err(Rule::NotChair);
@@ -38,31 +37,31 @@ fn other(by: &Standing, role: Role) -> Result<(), Rule>
     if by.conflicted {
         return Err(Rule::Conflict);
     }
-    if !role.is_member() {
+    if !target.role.is_member() {
         return Err(Rule::NotAMember);
     }
     Ok(())
 }
 
 /// On: by the phase, and whether the caller names herself.
-pub(crate) fn on(by: &Standing, role: Role, herself: bool) -> Result<(), Rule>
-    ensures { result ≡ judged (conflict_case true (is_from Phase.Bidding by.now.phase) (is_from Phase.Notification by.now.phase) herself by.now (Some role) false) tt }
+pub(crate) fn on(by: &Standing, target: &Target) -> Result<(), Rule>
+    ensures { result ≡ judged (on_checks by.now target.now) tt }
 {
     if !by.phase.is_from(Phase::Bidding) {
-        return declared(by, role);
+        return declared(by, target);
     }
     if by.phase.is_from(Phase::Notification) {
         return Err(Rule::WrongPhase);
     }
-    if herself {
+    if target.herself {
         return own(by);
     }
-    other(by, role)
+    other(by, target)
 }
 
 /// Off: a clear chair, of a member who is no author of the paper.
-pub(crate) fn off(by: &Standing, role: Role, author: bool) -> Result<(), Rule>
-    ensures { result ≡ judged (off_checks by.now (Some role) author) tt }
+pub(crate) fn off(by: &Standing, target: &Target) -> Result<(), Rule>
+    ensures { result ≡ judged (off_checks by.now target.now) tt }
 {
     if !by.role.is_chair() {
         return Err(Rule::NotChair);
@@ -73,10 +72,10 @@ pub(crate) fn off(by: &Standing, role: Role, author: bool) -> Result<(), Rule>
     if !by.phase.is_from(Phase::Bidding) || by.phase.is_from(Phase::Notification) {
         return Err(Rule::WrongPhase);
     }
-    if !role.is_member() {
+    if !target.role.is_member() {
         return Err(Rule::NotAMember);
     }
-    if author {
+    if target.author {
         return Err(Rule::AuthorConflict);
     }
     Ok(())

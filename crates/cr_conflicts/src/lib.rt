@@ -3,8 +3,6 @@
 #![tactic(auto)]
 
 mod judging;
-#[cfg(test)]
-mod tests;
 mod ties;
 
 pub use ties::Ties;

@@ -1,13 +1,13 @@
 //! The ties of users to papers, by paper and by user.
 ghost use Rattle.std.specs.Prelude.{◌≡◌, ◌≤◌, ◌<◌, ◌+◌, OnOk, Some, length, map, is_some, if◌then◌else◌};
-ghost use Rattle.std.specs.Option.{option_map};
 ghost use Rattle.cr_base.specs.Checks.{judged, conflict_checks};
-ghost use Rattle.cr_base.specs.Lists.{IsRising, at_some, is_number};
+ghost use Rattle.cr_base.specs.Lists.{IsRising};
 ghost use Rattle.cr_base.specs.Pairs.{with_tie, users_of, papers_of};
 ghost use Rattle.cr_base.specs.Ties.{no_ties, ties_after, switched, bare_tie, authors_in, is_author_in, is_conflicted_in, TiesFit};
+ghost use Rattle.cr_conflicts.specs.Targets.{target_of};
 
 use crate::judging;
-use cr_base::{Entry, Order, Pair, PaperNo, Role, Rule, Stamped, Standing, Tie, UserNo};
+use cr_base::{Entry, Order, Pair, PaperNo, Role, Rule, Stamped, Standing, Target, Tie, UserNo};
 use cr_pairs::{IndexedPairs, PairMap, run_of};
 use std::alloc::{AllocError, Global};
 use std::marker::Model;
@@ -31,7 +31,7 @@ pub struct Ties {
 
 impl Model for Ties {
     ghost use Rattle.std.specs.Prelude.{◌-◌, min, vec_len, vec_capacity};
-    ghost use Rattle.cr_conflicts.specs.Index.{IsIndexed};
+    ghost use Rattle.cr_conflicts.specs.Index.{AuthorsIndexed};
     ghost use Rattle.cr_conflicts.specs.Seen.{SeenTies};
 
     ghost Value = { SeenTies };
@@ -41,7 +41,7 @@ impl Model for Ties {
       room = min (vec_capacity t.authors - vec_len t.authors) (min t.authored.room (min t.conflicts.room t.declared.room));
     } };
 
-    ghost invariant = { λ t. IsIndexed t.authors.items t.authored.order t.authored.ties t.declared.order };
+    ghost invariant = { λ t. AuthorsIndexed t.authors.items t.authored.order t.authored.ties t.declared.order };
 }
 
 /// A paper and a user who are tied.
@@ -168,7 +168,7 @@ impl Ties {
         target: &Option<(UserNo, Role)>,
         on: bool,
     ) -> Result<(), Rule>
-        ensures { result ≡ judged (conflict_checks by.now (is_some paper.now) (option_map (λ t. t.1) target.now) (is_number (option_map (λ t. t.0) target.now) maker) (at_some (is_author_in self.now.ties (option_map (λ t. t.0) target.now)) paper.now) on) tt }
+        ensures { result ≡ judged (conflict_checks by.now (record { there = is_some paper.now }) (target_of self.now.ties maker paper.now target.now) on) tt }
     {
         let Some(paper) = paper else {
             return Err(Rule::NoPaper);
@@ -176,10 +176,15 @@ impl Ties {
         let Some((user, role)) = target else {
             return Err(Rule::NoUser);
         };
+        let target = Target {
+            role: *role,
+            herself: user.number() == maker.number(),
+            author: self.is_author(*user, *paper),
+        };
         if on {
-            judging::on(by, *role, user.number() == maker.number())
+            judging::on(by, &target)
         } else {
-            judging::off(by, *role, self.is_author(*user, *paper))
+            judging::off(by, &target)
         }
     }
 }

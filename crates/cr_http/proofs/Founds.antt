@@ -5,7 +5,7 @@ use Rattle.std.proofs.lemmas.List.{drop-append-le, take-append-le}
 use Rattle.cr_http.specs.declared.framing.Framing.{Framing}
 use Rattle.cr_http.specs.declared.framing.Framing.TheVariants.{Body, Refuse}
 use Rattle.cr_http.specs.declared.refusal.Refusal.TheVariants.{HeadTooLarge}
-use Rattle.cr_http.specs.Place.{blank_end_from, head_at}
+use Rattle.cr_http.specs.HeadRange.{blank_end_from, head_at}
 use Rattle.cr_http.specs.Head.{HeadText, head_text, framing_of}
 use Rattle.cr_http.specs.Found.{Found, whole, refused, clean, cut, without_head, with_body, line_feeds, StandsAfter, StandsFrom, StandsAt, IsFinal, found_and}
 use Rattle.cr_http.specs.Reading.{IsSettled}
@@ -54,23 +54,23 @@ slice_range-append text more from to lt le =
     let l : to - from ≤ length (drop from text) = let d = length-drop from text in omega (arith, d) in
     rw (drop-append-le from text more f) (take-append-le (to - from) (drop from text) more l)
 
-from-append : (text more : List ℕ) (place : Option (ℕ × ℕ)) (found : Found) → head_at text ≡ place → IsFinal found
-    → StandsFrom text place found → StandsAt (text ++ more) (found_and found more)
+from-append : (text more : List ℕ) (range : Option (ℕ × ℕ)) (found : Found) → head_at text ≡ range → IsFinal found
+    → StandsFrom text range found → StandsAt (text ++ more) (found_and found more)
 from-append text more None found at final is =
     let full = without_head-append text more found is final in
     let none : head_at (text ++ more) ≡ None = head_at-full text more full.0 ∙ at in
     subst (λ (o : Option (ℕ × ℕ)). StandsFrom (text ++ more) o (found_and found more)) (sym none) full.1
-from-append text more (Some place) found at final is =
-    let some = head_at-append text more place at in
-    let b = head_at_bounds text place at in
+from-append text more (Some range) found at final is =
+    let some = head_at-append text more range at in
+    let b = head_at_bounds text range at in
     subst (λ (o : Option (ℕ × ℕ)). StandsFrom (text ++ more) o (found_and found more)) (sym some)
-    (rw (slice_range-append text more place.0 place.1 b.0 b.1) (rw (drop-append-le place.1 text more b.1)
-    (many (nat_lt 66 (line_feeds (slice_range text place.0 place.1))) is)))
+    (rw (slice_range-append text more range.0 range.1 b.0 b.1) (rw (drop-append-le range.1 text more b.1)
+    (many (nat_lt 66 (line_feeds (slice_range text range.0 range.1))) is)))
   where
-    many : (t : Bool) → MatchBool t (found ≡ refused HeadTooLarge false) (StandsAfter (slice_range text place.0 place.1) (drop place.1 text) found)
-        → MatchBool t (found_and found more ≡ refused HeadTooLarge false) (StandsAfter (slice_range text place.0 place.1) (drop place.1 text ++ more) (found_and found more))
+    many : (t : Bool) → MatchBool t (found ≡ refused HeadTooLarge false) (StandsAfter (slice_range text range.0 range.1) (drop range.1 text) found)
+        → MatchBool t (found_and found more ≡ refused HeadTooLarge false) (StandsAfter (slice_range text range.0 range.1) (drop range.1 text ++ more) (found_and found more))
     many true is = ap (λ f. found_and f more) is
-    many false is = after-append (slice_range text place.0 place.1) (drop place.1 text) more found final is
+    many false is = after-append (slice_range text range.0 range.1) (drop range.1 text) more found final is
 
 -- the main fact: what was read of the bytes that came is what stands in the whole text
 pub StandsAt-append : (text more : List ℕ) (found : Found) → IsFinal found → StandsAt text found → StandsAt (text ++ more) (found_and found more)

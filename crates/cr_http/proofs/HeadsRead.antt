@@ -6,51 +6,51 @@ use Rattle.cr_http.specs.declared.framing.Framing.TheVariants.{Body, Refuse}
 use Rattle.cr_http.specs.declared.refusal.Refusal.TheVariants.{HeadTooLarge}
 use Rattle.cr_http.specs.Found.{Found, whole, refused, clean, cut, with_body, line_feeds, StandsAfter, StandsFrom, StandsAt, IsFramed}
 use Rattle.cr_http.specs.Head.{HeadText, head_text, framing_of, is_head_method}
-use Rattle.cr_http.specs.Place.{blank_end_from, head_at}
+use Rattle.cr_http.specs.HeadRange.{blank_end_from, head_at}
 use Rattle.cr_http.specs.ToHead.{IsToHead, IsToHeadBy, IsToHeadFrom}
 
 -- a request or a refusal tells it; an end tells nothing
 abbrev pub TellsHead : Found → Bool → Type 0
-TellsHead (whole h body rest) to_head = to_head ≡ is_head_method h
-TellsHead (refused why head) to_head = to_head ≡ head
-TellsHead clean to_head = ⊥
-TellsHead cut to_head = ⊥
+TellsHead (whole h body rest) is_head = is_head ≡ is_head_method h
+TellsHead (refused why head) is_head = is_head ≡ head
+TellsHead clean is_head = ⊥
+TellsHead cut is_head = ⊥
 
-by_body : (h : HeadText) (framing : Framing) (rest : List ℕ) (found : Found) (to_head : Bool) → found ≡ with_body h framing rest → TellsHead found to_head
-    → to_head ≡ is_head_method h
-by_body h (Refuse why) rest found to_head e tells = subst (λ (f : Found). TellsHead f to_head) e tells
-by_body h (Body n) rest found to_head e tells = fits (nat_le n (length rest)) e
+by_body : (h : HeadText) (framing : Framing) (rest : List ℕ) (found : Found) (is_head : Bool) → found ≡ with_body h framing rest → TellsHead found is_head
+    → is_head ≡ is_head_method h
+by_body h (Refuse why) rest found is_head e tells = subst (λ (f : Found). TellsHead f is_head) e tells
+by_body h (Body n) rest found is_head e tells = fits (nat_le n (length rest)) e
   where
-    fits : (t : Bool) → found ≡ (if t then whole h (take n rest) (drop n rest) else cut) → to_head ≡ is_head_method h
-    fits true e = subst (λ (f : Found). TellsHead f to_head) e tells
-    fits false e = absurd (subst (λ (f : Found). TellsHead f to_head) e tells)
+    fits : (t : Bool) → found ≡ (if t then whole h (take n rest) (drop n rest) else cut) → is_head ≡ is_head_method h
+    fits true e = subst (λ (f : Found). TellsHead f is_head) e tells
+    fits false e = absurd (subst (λ (f : Found). TellsHead f is_head) e tells)
 
-by_after : (bytes rest : List ℕ) (found : Found) (to_head : Bool) → StandsAfter bytes rest found → TellsHead found to_head → IsToHeadBy bytes to_head
-by_after bytes rest found to_head (inl is) tells = inl (is.0, is.1, by_body (head_text is.0) (framing_of (head_text is.0)) rest found to_head is.2 tells)
-by_after bytes rest found to_head (inr is) tells = inr (is.0, subst (λ (f : Found). TellsHead f to_head) is.1 tells)
+by_after : (bytes rest : List ℕ) (found : Found) (is_head : Bool) → StandsAfter bytes rest found → TellsHead found is_head → IsToHeadBy bytes is_head
+by_after bytes rest found is_head (inl is) tells = inl (is.0, is.1, by_body (head_text is.0) (framing_of (head_text is.0)) rest found is_head is.2 tells)
+by_after bytes rest found is_head (inr is) tells = inr (is.0, subst (λ (f : Found). TellsHead f is_head) is.1 tells)
 
-by_place : (text : List ℕ) (place : Option (ℕ × ℕ)) (found : Found) (to_head : Bool) → StandsFrom text place found → TellsHead found to_head → IsToHeadFrom text place to_head
-by_place text None found to_head is tells = without (nat_lt (length text) 16384) (blank_end_from 0 text == length text) is
+by_place : (text : List ℕ) (range : Option (ℕ × ℕ)) (found : Found) (is_head : Bool) → StandsFrom text range found → TellsHead found is_head → IsToHeadFrom text range is_head
+by_place text None found is_head is tells = without (nat_lt (length text) 16384) (blank_end_from 0 text == length text) is
   where
-    without : (t u : Bool) → found ≡ (if t then (if u then clean else cut) else refused HeadTooLarge false) → to_head ≡ false
-    without true true e = absurd (subst (λ (f : Found). TellsHead f to_head) e tells)
-    without true false e = absurd (subst (λ (f : Found). TellsHead f to_head) e tells)
-    without false u e = subst (λ (f : Found). TellsHead f to_head) e tells
-by_place text (Some place) found to_head is tells = many (nat_lt 66 (line_feeds (slice_range text place.0 place.1))) is
+    without : (t u : Bool) → found ≡ (if t then (if u then clean else cut) else refused HeadTooLarge false) → is_head ≡ false
+    without true true e = absurd (subst (λ (f : Found). TellsHead f is_head) e tells)
+    without true false e = absurd (subst (λ (f : Found). TellsHead f is_head) e tells)
+    without false u e = subst (λ (f : Found). TellsHead f is_head) e tells
+by_place text (Some range) found is_head is tells = many (nat_lt 66 (line_feeds (slice_range text range.0 range.1))) is
   where
-    many : (t : Bool) → MatchBool t (found ≡ refused HeadTooLarge false) (StandsAfter (slice_range text place.0 place.1) (drop place.1 text) found)
-        → MatchBool t (to_head ≡ false) (IsToHeadBy (slice_range text place.0 place.1) to_head)
-    many true e = subst (λ (f : Found). TellsHead f to_head) e tells
-    many false after = by_after (slice_range text place.0 place.1) (drop place.1 text) found to_head after tells
+    many : (t : Bool) → MatchBool t (found ≡ refused HeadTooLarge false) (StandsAfter (slice_range text range.0 range.1) (drop range.1 text) found)
+        → MatchBool t (is_head ≡ false) (IsToHeadBy (slice_range text range.0 range.1) is_head)
+    many true e = subst (λ (f : Found). TellsHead f is_head) e tells
+    many false after = by_after (slice_range text range.0 range.1) (drop range.1 text) found is_head after tells
 
 -- where a request or a refusal stands
-pub to_head_of : (text : List ℕ) (found : Found) (to_head : Bool) → StandsAt text found → TellsHead found to_head → IsToHead text to_head
-to_head_of text found to_head is tells = by_place text (head_at text) found to_head is tells
+pub to_head_of : (text : List ℕ) (found : Found) (is_head : Bool) → StandsAt text found → TellsHead found is_head → IsToHead text is_head
+to_head_of text found is_head is tells = by_place text (head_at text) found is_head is tells
 
 -- where a head was read, whose body hasn't come yet
-pub to_head_framed : (text : List ℕ) (start end : ℕ) (head : HeadText) (len : ℕ) (to_head : Bool) → IsFramed text start end head len → to_head ≡ is_head_method head
-    → IsToHead text to_head
-to_head_framed text start end head len to_head f is =
-    subst (λ (o : Option (ℕ × ℕ)). IsToHeadFrom text o to_head) (sym f.place)
-    (subst (λ (b : Bool). MatchBool b (to_head ≡ false) (IsToHeadBy (slice_range text start end) to_head)) (sym f.few)
+pub to_head_framed : (text : List ℕ) (start end : ℕ) (head : HeadText) (len : ℕ) (is_head : Bool) → IsFramed text start end head len → is_head ≡ is_head_method head
+    → IsToHead text is_head
+to_head_framed text start end head len is_head f is =
+    subst (λ (o : Option (ℕ × ℕ)). IsToHeadFrom text o is_head) (sym f.range)
+    (subst (λ (b : Bool). MatchBool b (is_head ≡ false) (IsToHeadBy (slice_range text start end) is_head)) (sym f.few)
     (inl (f.tree, f.reads, is ∙ ap is_head_method f.head_is)))

@@ -8,10 +8,10 @@ use Rattle.cr_http.specs.Extent.{spans_head}
 use Rattle.cr_http.specs.declared.framing.Framing.TheVariants.{Body}
 use Rattle.cr_http.specs.declared.refusal.Refusal.TheVariants.{HeadTooLarge, BadHttp}
 use Rattle.std.proofs.lemmas.List.{drop-drop}
-use Rattle.cr_http.specs.declared.place.Place.{Place}
+use Rattle.cr_http.specs.declared.head_range.HeadRange.{HeadRange}
 use Rattle.cr_http.specs.declared.read.RequestRead.TheVariants as reads
 use Rattle.cr_http.specs.Reading.{IsSettled, IsUnsettled, Lies}
-use Rattle.cr_http.specs.Place.{blank_end_from, head_at}
+use Rattle.cr_http.specs.HeadRange.{blank_end_from, head_at}
 use Rattle.cr_http.proofs.Unique.{StandsAt-unique}
 use Rattle.cr_http.specs.Head.{HeadText, framing_of}
 use Rattle.cr_http.specs.Filling.{IsStill, Moves, NeedsHead, ReadsWhile}
@@ -28,11 +28,11 @@ le_false m n lt = grind arith
 
 -- where the head lies, what stands there is what stands after it
 at_place : (text : List ℕ) (start end : ℕ) (found : Found) → head_at text ≡ Some (start, end) → StandsFrom text (Some (start, end)) found → StandsAt text found
-at_place text start end found place is = subst (λ (o : Option (ℕ × ℕ)). StandsFrom text o found) (sym place) is
+at_place text start end found range is = subst (λ (o : Option (ℕ × ℕ)). StandsFrom text o found) (sym range) is
 
 stands_few : (text : List ℕ) (start end : ℕ) (found : Found) → head_at text ≡ Some (start, end) → nat_lt 66 (line_feeds (slice_range text start end)) ≡ false
     → StandsAfter (slice_range text start end) (drop end text) found → StandsAt text found
-stands_few text start end found place few is = at_place text start end found place
+stands_few text start end found range few is = at_place text start end found range
     (subst (λ (b : Bool). MatchBool b (found ≡ refused HeadTooLarge false) (StandsAfter (slice_range text start end) (drop end text) found)) (sym few) is)
 
 few_is : (n : ℕ) → n ≤ 66 → nat_lt 66 n ≡ false
@@ -40,20 +40,20 @@ few_is n le = grind arith
 
 pub stands_no_head : (text : List ℕ) (start end : ℕ) → head_at text ≡ Some (start, end) → line_feeds (slice_range text start end) ≤ 66
     → IsNoHead (slice_range text start end) → StandsAt text (refused BadHttp false)
-stands_no_head text start end place few none = stands_few text start end (refused BadHttp false) place (few_is _ few) (inr (none, refl))
+stands_no_head text start end range few none = stands_few text start end (refused BadHttp false) range (few_is _ few) (inr (none, refl))
 
 pub framed_stands : (text : List ℕ) (start end : ℕ) (head : HeadText) (len : ℕ) → IsFramed text start end head len
     → StandsAt text (with_body head (Body len) (drop end text))
 framed_stands text start end head len f =
-    stands_few text start end (with_body head (Body len) (drop end text)) f.place f.few
+    stands_few text start end (with_body head (Body len) (drop end text)) f.range f.few
     (inl (f.tree, f.reads, ap (λ k. with_body head k (drop end text)) (sym f.framing) ∙ ap (λ h. with_body h (framing_of h) (drop end text)) f.head_is))
 
 pub IsFramed-append : (text more : List ℕ) (start end : ℕ) (head : HeadText) (len : ℕ) → IsFramed text start end head len → IsFramed (text ++ more) start end head len
 IsFramed-append text more start end head len f =
-    let b = head_at_bounds text (start, end) f.place in
+    let b = head_at_bounds text (start, end) f.range in
     let same : slice_range (text ++ more) start end ≡ slice_range text start end = slice_range-append text more start end b.0 b.1 in
     record {
-      place = head_at-append text more (start, end) f.place;
+      range = head_at-append text more (start, end) f.range;
       few = rw same f.few;
       tree = f.tree;
       reads = (f.reads.0, same ∙ f.reads.1);
@@ -70,7 +70,7 @@ framed_whole text start end head len f le =
 
 pub framed_cut : (text : List ℕ) (start end : ℕ) (head : HeadText) (len : ℕ) → IsFramed text start end head len → length text < end + len → StandsAt text cut
 framed_cut text start end head len f lt =
-    let b = head_at_bounds text (start, end) f.place in
+    let b = head_at_bounds text (start, end) f.range in
     let d = length-drop end text in
     let short : nat_le len (length (drop end text)) ≡ false = le_false len (length (drop end text)) (omega (arith, d, b, lt)) in
     subst (StandsAt text) (ap (λ b. if b then whole head (take len (drop end text)) (drop len (drop end text)) else cut) short) (framed_stands text start end head len f)
@@ -82,14 +82,14 @@ framed_moved left left' text moved start end head len m f =
     subst (λ (t : List ℕ). IsFramed t start end head len) (sym m.kept) (IsFramed-append text m.got start end head len f)
 
 -- the request that lies in the text once its body has come
-pub request_lies : (left left' : Option (List ℕ)) (old text : List ℕ) (headers : List HeaderSpan) (place : Place) (spans : RequestSpans) (len : ℕ)
-    → Moves left left' old text → IsFramed old place.start place.end (spans_head (slice_range old place.start place.end) headers spans) len
-    → IsRequestWithin (slice_range old place.start place.end) headers spans → place.end + len ≤ length text
-    → Lies reads.Whole text headers (Some (record { place = place; spans = spans; end = place.end + len }))
-request_lies left left' old text headers place spans len m f within full =
-    let s = place.start in
-    let e = place.end in
-    let b = head_at_bounds old (s, e) f.place in
+pub request_lies : (left left' : Option (List ℕ)) (old text : List ℕ) (headers : List HeaderSpan) (range : HeadRange) (spans : RequestSpans) (len : ℕ)
+    → Moves left left' old text → IsFramed old range.start range.end (spans_head (slice_range old range.start range.end) headers spans) len
+    → IsRequestWithin (slice_range old range.start range.end) headers spans → range.end + len ≤ length text
+    → Lies reads.Whole text headers (Some (record { range = range; spans = spans; end = range.end + len }))
+request_lies left left' old text headers range spans len m f within full =
+    let s = range.start in
+    let e = range.end in
+    let b = head_at_bounds old (s, e) f.range in
     let same : slice_range text s e ≡ slice_range old s e = ap (λ t. slice_range t s e) m.kept ∙ slice_range-append old m.got s e b.0 b.1 in
     let head : spans_head (slice_range old s e) headers spans ≡ spans_head (slice_range text s e) headers spans = ap (λ t. spans_head t headers spans) (sym same) in
     let n : len ≡ e + len - e = omega arith in
@@ -101,10 +101,10 @@ request_lies left left' old text headers place spans len m f within full =
     )
 
 -- the text ends before the body does
-pub body_cut : (left left' : Option (List ℕ)) (old text : List ℕ) (place : Place) (head : HeadText) (len : ℕ)
-    → Moves left left' old text → IsFramed old place.start place.end head len → length text < place.end + len → StandsAt text cut
-body_cut left left' old text place head len m f short =
-    framed_cut text place.start place.end head len (framed_moved left left' old text place.start place.end head len m f) short
+pub body_cut : (left left' : Option (List ℕ)) (old text : List ℕ) (range : HeadRange) (head : HeadText) (len : ℕ)
+    → Moves left left' old text → IsFramed old range.start range.end head len → length text < range.end + len → StandsAt text cut
+body_cut left left' old text range head len m f short =
+    framed_cut text range.start range.end head len (framed_moved left left' old text range.start range.end head len m f) short
 
 short_is : (m n : ℕ) → m < n → nat_lt m n ≡ true
 short_is m n lt = grind arith

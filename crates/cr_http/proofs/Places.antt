@@ -3,7 +3,7 @@ use Rattle.std.proofs.Common.{◌≡◌, ℕ, ◌+◌, ◌≤◌, List, [], ◌�
 use Rattle.std.proofs.lemmas.List.{drop-drop, take_rest}
 use Rattle.std.proofs.Math.ListN.{drop_of_length-le}
 use Rattle.std.specs.Prelude.{◌==◌, ◌&&◌, if◌then◌else◌}
-use Rattle.cr_http.specs.Place.{empty_line_len, blank_end_from}
+use Rattle.cr_http.specs.HeadRange.{empty_line_len, blank_end_from}
 
 pub blank_end_from-step : (at : ℕ) (bytes : List ℕ)
     → blank_end_from at bytes ≡ (if empty_line_len bytes == 0 then at else blank_end_from (at + empty_line_len bytes) (drop (empty_line_len bytes) bytes))

@@ -4,14 +4,14 @@ use Rattle.std.proofs.Math.Seq.{drop-cons}
 use Rattle.std.proofs.Math.ListN.{drop_of_length-le}
 use Rattle.std.proofs.lemmas.List.{drop-append-le, drop-drop}
 use Rattle.std.specs.Prelude.{◌==◌}
-use Rattle.cr_http.specs.Place.{empty_line_len, blank_end_from, head_end_from, or_later, starting_at, window, head_at}
+use Rattle.cr_http.specs.HeadRange.{empty_line_len, blank_end_from, head_end_from, or_later, starting_at, window, head_at}
 use Rattle.cr_http.specs.Search.{IsLine, reached, found_from, LeadsTo, Looks, StandsThere}
-use Rattle.cr_http.specs.declared.place.Line.{Line}
-use Rattle.cr_http.specs.declared.place.Line.TheVariants as lines
-use Rattle.cr_http.specs.declared.place.Search.{Search}
-use Rattle.cr_http.specs.declared.place.Search.TheVariants as searches
-use Rattle.cr_http.specs.declared.place.Look.{Look}
-use Rattle.cr_http.specs.declared.place.Look.TheVariants as looks
+use Rattle.cr_http.specs.declared.range.Line.{Line}
+use Rattle.cr_http.specs.declared.range.Line.TheVariants as lines
+use Rattle.cr_http.specs.declared.range.Search.{Search}
+use Rattle.cr_http.specs.declared.range.Search.TheVariants as searches
+use Rattle.cr_http.specs.declared.range.Look.{Look}
+use Rattle.cr_http.specs.declared.range.Look.TheVariants as looks
 use Rattle.cr_http.proofs.Places.{blank_end_from-goes_on, blank_end_from-stops}
 use Rattle.cr_http.proofs.Windows.{front_grows}
 
@@ -21,7 +21,7 @@ found_now bytes from to l = subst (λ (t : List ℕ). found_from from t ≡ foun
 
 -- a look from the later state says the same of the earlier one
 pub looks_on : (bytes : List ℕ) (from to : Search) (look : Look) → LeadsTo bytes from to → Looks bytes to look → Looks bytes from look
-looks_on bytes from to (looks.Found place) l is = found_now bytes from to l ∙ is
+looks_on bytes from to (looks.Found range) l is = found_now bytes from to l ∙ is
 looks_on bytes from to (looks.NotYet next) l is =
     (found_now bytes from to l ∙ is.0, record { within = is.1.within; same = λ more. l.same more ∙ is.1.same more })
 

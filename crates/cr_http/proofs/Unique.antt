@@ -3,7 +3,7 @@ use Rattle.std.proofs.Common.{◌≡◌, ℕ, ◌+◌, List, [], ◌∷◌, Opti
 use Rattle.std.specs.Prelude.{nat_lt, slice_range, MatchBool}
 use Rattle.httparse.proofs.GrammarLemmas.{request_unique}
 use Rattle.cr_http.specs.declared.refusal.Refusal.TheVariants.{HeadTooLarge}
-use Rattle.cr_http.specs.Place.{head_at}
+use Rattle.cr_http.specs.HeadRange.{head_at}
 use Rattle.cr_http.specs.Head.{head_text, framing_of}
 use Rattle.cr_http.specs.Found.{Found, whole, refused, clean, cut, with_body, line_feeds, StandsAfter, StandsFrom, StandsAt}
 use Rattle.cr_http.specs.Requests.{RequestText, End, SpellsFrom, EndsBy, asked}
@@ -16,14 +16,14 @@ after-unique bytes rest f g (inl x) (inr y) = absurd (y.0 x.0 x.1)
 after-unique bytes rest f g (inr x) (inl y) = absurd (x.0 y.0 y.1)
 after-unique bytes rest f g (inr x) (inr y) = x.1 ∙ sym y.1
 
-from-unique : (text : List ℕ) (place : Option (ℕ × ℕ)) (f g : Found) → StandsFrom text place f → StandsFrom text place g → f ≡ g
+from-unique : (text : List ℕ) (range : Option (ℕ × ℕ)) (f g : Found) → StandsFrom text range f → StandsFrom text range g → f ≡ g
 from-unique text None f g x y = x ∙ sym y
-from-unique text (Some place) f g x y = many (nat_lt 66 (line_feeds (slice_range text place.0 place.1))) x y
+from-unique text (Some range) f g x y = many (nat_lt 66 (line_feeds (slice_range text range.0 range.1))) x y
   where
-    many : (t : Bool) → MatchBool t (f ≡ refused HeadTooLarge false) (StandsAfter (slice_range text place.0 place.1) (drop place.1 text) f)
-        → MatchBool t (g ≡ refused HeadTooLarge false) (StandsAfter (slice_range text place.0 place.1) (drop place.1 text) g) → f ≡ g
+    many : (t : Bool) → MatchBool t (f ≡ refused HeadTooLarge false) (StandsAfter (slice_range text range.0 range.1) (drop range.1 text) f)
+        → MatchBool t (g ≡ refused HeadTooLarge false) (StandsAfter (slice_range text range.0 range.1) (drop range.1 text) g) → f ≡ g
     many true x y = x ∙ sym y
-    many false x y = after-unique (slice_range text place.0 place.1) (drop place.1 text) f g x y
+    many false x y = after-unique (slice_range text range.0 range.1) (drop range.1 text) f g x y
 
 pub StandsAt-unique : (text : List ℕ) (f g : Found) → StandsAt text f → StandsAt text g → f ≡ g
 StandsAt-unique text f g x y = from-unique text (head_at text) f g x y

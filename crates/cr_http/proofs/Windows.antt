@@ -2,7 +2,7 @@
 use Rattle.std.proofs.Common.{◌≡◌, ℕ, ◌+◌, ◌-◌, ◌<◌, ◌≤◌, List, [], ◌∷◌, ◌++◌, length, take, drop, Option, Some, None, Bool, true, false, refl, sym, ap, arith, suc, zero, length-take, length-drop}
 use Rattle.std.specs.Prelude.{◌==◌, ◌&&◌, if◌then◌else◌}
 use Rattle.std.proofs.lemmas.List.{drop-append-le, take-append-le}
-use Rattle.cr_http.specs.Place.{empty_line_len, blank_end_from, head_end_from, or_later, starting_at, head_within, head_at}
+use Rattle.cr_http.specs.HeadRange.{empty_line_len, blank_end_from, head_end_from, or_later, starting_at, head_within, head_at}
 
 -- the empty line behind an LF stays, or its absence, where a head ends
 same_empty : (at : ℕ) (bytes more : List ℕ) (end : ℕ) → or_later at (empty_line_len bytes) (head_end_from (at + 1) bytes) ≡ Some end
@@ -141,31 +141,31 @@ head_end_bounds at (a ∷ bytes) end is = first (a == 10) (empty_line_len bytes 
     first false z le go is = let h : (at + 1 < end) × (end ≤ at + 1 + length bytes) = go is in (omega arith, omega arith)
 
 -- where a head begins and ends, as its two places
-pub head_within_is : (bytes : List ℕ) (place : ℕ × ℕ) → head_within bytes ≡ Some place
-    → (place.0 ≡ blank_end_from 0 bytes) × (head_end_from (blank_end_from 0 bytes) (drop (blank_end_from 0 bytes) bytes) ≡ Some place.1)
-head_within_is bytes place is = found (head_end_from (blank_end_from 0 bytes) (drop (blank_end_from 0 bytes) bytes)) is
+pub head_within_is : (bytes : List ℕ) (range : ℕ × ℕ) → head_within bytes ≡ Some range
+    → (range.0 ≡ blank_end_from 0 bytes) × (head_end_from (blank_end_from 0 bytes) (drop (blank_end_from 0 bytes) bytes) ≡ Some range.1)
+head_within_is bytes range is = found (head_end_from (blank_end_from 0 bytes) (drop (blank_end_from 0 bytes) bytes)) is
   where
-    found : (end : Option ℕ) → starting_at (blank_end_from 0 bytes) end ≡ Some place → (place.0 ≡ blank_end_from 0 bytes) × (end ≡ Some place.1)
+    found : (end : Option ℕ) → starting_at (blank_end_from 0 bytes) end ≡ Some range → (range.0 ≡ blank_end_from 0 bytes) × (end ≡ Some range.1)
     found None is = absurd (cc)
-    found (Some end) is = let e : (blank_end_from 0 bytes, end) ≡ place = cc in (sym (ap (λ (p : ℕ × ℕ). p.0) e), ap (λ (p : ℕ × ℕ). Some p.1) e)
+    found (Some end) is = let e : (blank_end_from 0 bytes, end) ≡ range = cc in (sym (ap (λ (p : ℕ × ℕ). p.0) e), ap (λ (p : ℕ × ℕ). Some p.1) e)
 
-pub head_within_bounds : (bytes : List ℕ) (place : ℕ × ℕ) → head_within bytes ≡ Some place → (place.0 < place.1) × (place.1 ≤ length bytes)
-head_within_bounds bytes place is =
-    let at = head_within_is bytes place is in
+pub head_within_bounds : (bytes : List ℕ) (range : ℕ × ℕ) → head_within bytes ≡ Some range → (range.0 < range.1) × (range.1 ≤ length bytes)
+head_within_bounds bytes range is =
+    let at = head_within_is bytes range is in
     let le : blank_end_from 0 bytes ≤ 0 + length bytes = blank_end_le 0 bytes in
-    let b = head_end_bounds (blank_end_from 0 bytes) (drop (blank_end_from 0 bytes) bytes) place.1 at.1 in
+    let b = head_end_bounds (blank_end_from 0 bytes) (drop (blank_end_from 0 bytes) bytes) range.1 at.1 in
     let l = length-drop (blank_end_from 0 bytes) bytes in
     (omega (arith, at.0, b), omega (arith, at.0, b))
 
-pub head_within-append : (bytes more : List ℕ) (place : ℕ × ℕ) → head_within bytes ≡ Some place → head_within (bytes ++ more) ≡ Some place
-head_within-append bytes more place is =
-    let at = head_within_is bytes place is in
+pub head_within-append : (bytes more : List ℕ) (range : ℕ × ℕ) → head_within bytes ≡ Some range → head_within (bytes ++ more) ≡ Some range
+head_within-append bytes more range is =
+    let at = head_within_is bytes range is in
     let le : blank_end_from 0 bytes ≤ length bytes = let h = blank_end_le 0 bytes in omega (arith, h) in
     let same : blank_end_from 0 (bytes ++ more) ≡ blank_end_from 0 bytes =
-    blank_end_from-append 0 bytes more place.1 (let z : blank_end_from 0 bytes - 0 ≡ blank_end_from 0 bytes = omega arith in rw z at.1) in
-    let end : head_end_from (blank_end_from 0 bytes) (drop (blank_end_from 0 bytes) (bytes ++ more)) ≡ Some place.1 =
-    rw (drop-append-le (blank_end_from 0 bytes) bytes more le) (head_end_from-append (blank_end_from 0 bytes) (drop (blank_end_from 0 bytes) bytes) more place.1 at.1) in
-    rw same (rw end (ap Some (λ i. (sym at.0 i, place.1))))
+    blank_end_from-append 0 bytes more range.1 (let z : blank_end_from 0 bytes - 0 ≡ blank_end_from 0 bytes = omega arith in rw z at.1) in
+    let end : head_end_from (blank_end_from 0 bytes) (drop (blank_end_from 0 bytes) (bytes ++ more)) ≡ Some range.1 =
+    rw (drop-append-le (blank_end_from 0 bytes) bytes more le) (head_end_from-append (blank_end_from 0 bytes) (drop (blank_end_from 0 bytes) bytes) more range.1 at.1) in
+    rw same (rw end (ap Some (λ i. (sym at.0 i, range.1))))
 
 -- a front of a longer text is a front of the text, and maybe more
 pub front_grows : (n : ℕ) (text more : List ℕ) → (other : List ℕ) × (take n (text ++ more) ≡ take n text ++ other)
@@ -173,32 +173,32 @@ front_grows zero text more = ([], refl)
 front_grows (suc n) [] more = (take (suc n) more, refl)
 front_grows (suc n) (a ∷ text) more = let h = front_grows n text more in (h.0, ap (λ l. a ∷ l) h.1)
 
-head_in_front-append : (n : ℕ) (text more : List ℕ) (place : ℕ × ℕ) → head_within (take n text) ≡ Some place → head_within (take n (text ++ more)) ≡ Some place
-head_in_front-append n text more place is =
+head_in_front-append : (n : ℕ) (text more : List ℕ) (range : ℕ × ℕ) → head_within (take n text) ≡ Some range → head_within (take n (text ++ more)) ≡ Some range
+head_in_front-append n text more range is =
     let grows = front_grows n text more in
-    rw grows.1 (head_within-append (take n text) grows.0 place is)
+    rw grows.1 (head_within-append (take n text) grows.0 range is)
 
-pub head_at-append : (text more : List ℕ) (place : ℕ × ℕ) → head_at text ≡ Some place → head_at (text ++ more) ≡ Some place
-head_at-append text more place is = head_in_front-append 16384 text more place is
+pub head_at-append : (text more : List ℕ) (range : ℕ × ℕ) → head_at text ≡ Some range → head_at (text ++ more) ≡ Some range
+head_at-append text more range is = head_in_front-append 16384 text more range is
 
 -- where the window is full, more bytes change nothing
 pub head_at-full : (text more : List ℕ) → 16384 ≤ length text → head_at (text ++ more) ≡ head_at text
 head_at-full text more full = ap head_within (take-append-le 16384 text more full)
 
-front_bounds : (n : ℕ) (text : List ℕ) (place : ℕ × ℕ) → head_within (take n text) ≡ Some place → (place.0 < place.1) × (place.1 ≤ length text)
-front_bounds n text place is =
-    let b = head_within_bounds (take n text) place is in
+front_bounds : (n : ℕ) (text : List ℕ) (range : ℕ × ℕ) → head_within (take n text) ≡ Some range → (range.0 < range.1) × (range.1 ≤ length text)
+front_bounds n text range is =
+    let b = head_within_bounds (take n text) range is in
     let l = length-take n text in
     (b.0, omega (arith, b, l))
 
-pub head_at_bounds : (text : List ℕ) (place : ℕ × ℕ) → head_at text ≡ Some place → (place.0 < place.1) × (place.1 ≤ length text)
-head_at_bounds text place is = front_bounds 16384 text place is
+pub head_at_bounds : (text : List ℕ) (range : ℕ × ℕ) → head_at text ≡ Some range → (range.0 < range.1) × (range.1 ≤ length text)
+head_at_bounds text range is = front_bounds 16384 text range is
 
-front_end_le : (n : ℕ) (text : List ℕ) (place : ℕ × ℕ) → head_within (take n text) ≡ Some place → place.1 ≤ n
-front_end_le n text place is =
-    let b = head_within_bounds (take n text) place is in
+front_end_le : (n : ℕ) (text : List ℕ) (range : ℕ × ℕ) → head_within (take n text) ≡ Some range → range.1 ≤ n
+front_end_le n text range is =
+    let b = head_within_bounds (take n text) range is in
     let l = length-take n text in
     omega (arith, b, l)
 
-pub head_at_end_le : (text : List ℕ) (place : ℕ × ℕ) → head_at text ≡ Some place → place.1 ≤ 16384
-head_at_end_le text place is = front_end_le 16384 text place is
+pub head_at_end_le : (text : List ℕ) (range : ℕ × ℕ) → head_at text ≡ Some range → range.1 ≤ 16384
+head_at_end_le text range is = front_end_le 16384 text range is

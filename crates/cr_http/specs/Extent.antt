@@ -20,8 +20,8 @@ spans_head bytes headers s = record {
 -- the request that lies there
 abbrev pub extent_text : List ℕ → List HeaderSpan → Extent → RequestText
 extent_text text headers e = record {
-  head = spans_head (slice_range text e.place.start e.place.end) headers e.spans;
-  body = slice_range text e.place.end e.end;
+  head = spans_head (slice_range text e.range.start e.range.end) headers e.spans;
+  body = slice_range text e.range.end e.end;
 }
 
 -- how many bytes a request takes with the empty lines before it
@@ -31,10 +31,10 @@ used (Some e) = e.end
 
 -- The request lies in the text, and its spans in its head.
 pub record IsExtent (text : List ℕ) (headers : List HeaderSpan) (e : Extent) : Type 0 where
-  pub head : e.place.start ≤ e.place.end
-  pub body : e.place.end ≤ e.end
+  pub head : e.range.start ≤ e.range.end
+  pub body : e.range.end ≤ e.end
   pub within : e.end ≤ length text
-  pub spans : IsRequestWithin (slice_range text e.place.start e.place.end) headers e.spans
+  pub spans : IsRequestWithin (slice_range text e.range.start e.range.end) headers e.spans
 
 -- an inbox: the request that was read last, and the bytes that were read and not used
 pub record InboxText : Type 0 where

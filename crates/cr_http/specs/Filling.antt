@@ -5,7 +5,7 @@ use Rattle.cr_http.specs.declared.buffer.Fill.{Fill}
 use Rattle.cr_http.specs.declared.buffer.Fill.TheVariants as fills
 use Rattle.cr_http.specs.declared.fill.HeadFill.{HeadFill}
 use Rattle.cr_http.specs.declared.fill.HeadFill.TheVariants as heads
-use Rattle.cr_http.specs.Place.{head_at}
+use Rattle.cr_http.specs.HeadRange.{head_at}
 
 -- The source gave these bytes, and the buffer has them behind its own.
 pub record Moves (left left' : Option (List ℕ)) (old new : List ℕ) : Type 0 where
@@ -26,7 +26,7 @@ Grows fills.OutOfMemory old new = new ≡ old
 
 -- what the inbox has when a search for a head's end is over
 abbrev pub FindsHead : HeadFill → List ℕ → Type 0
-FindsHead (heads.Found place) bytes = head_at bytes ≡ Some (place.start, place.end)
+FindsHead (heads.Found range) bytes = head_at bytes ≡ Some (range.start, range.end)
 FindsHead heads.Full bytes = (head_at bytes ≡ None) × (16384 ≤ length bytes)
 FindsHead heads.Ended bytes = (head_at bytes ≡ None) × (length bytes < 16384)
 FindsHead heads.Failed bytes = (head_at bytes ≡ None) × (length bytes < 16384)

@@ -5,7 +5,7 @@ use Rattle.cr_http.specs.declared.framing.Framing.{Framing}
 use Rattle.cr_http.specs.declared.framing.Framing.TheVariants.{Body, Refuse}
 use Rattle.cr_http.specs.declared.refusal.Refusal.{Refusal}
 use Rattle.cr_http.specs.declared.refusal.Refusal.TheVariants.{HeadTooLarge, BadHttp}
-use Rattle.cr_http.specs.Place.{blank_end_from, head_at}
+use Rattle.cr_http.specs.HeadRange.{blank_end_from, head_at}
 use Rattle.cr_http.specs.Head.{HeadText, head_text, framing_of, is_head_method}
 
 pub data Found : Type 0 where
@@ -42,10 +42,10 @@ StandsAfter bytes rest found =
 
 abbrev pub StandsFrom : List ℕ → Option (ℕ × ℕ) → Found → Type 0
 StandsFrom text None found = found ≡ without_head text
-StandsFrom text (Some place) found =
-    MatchBool (nat_lt 66 (line_feeds (slice_range text place.0 place.1)))
+StandsFrom text (Some range) found =
+    MatchBool (nat_lt 66 (line_feeds (slice_range text range.0 range.1)))
     (found ≡ refused HeadTooLarge false)
-    (StandsAfter (slice_range text place.0 place.1) (drop place.1 text) found)
+    (StandsAfter (slice_range text range.0 range.1) (drop range.1 text) found)
 
 -- what stands at the front of the text
 abbrev pub StandsAt : List ℕ → Found → Type 0
@@ -67,7 +67,7 @@ found_and cut more = cut
 
 -- The head between these two places was read, and its body is to have so many bytes.
 pub record IsFramed (text : List ℕ) (start end : ℕ) (head : HeadText) (len : ℕ) : Type 0 where
-  pub place : head_at text ≡ Some (start, end)
+  pub range : head_at text ≡ Some (start, end)
   pub few : nat_lt 66 (line_feeds (slice_range text start end)) ≡ false
   pub tree : RequestHead
   pub reads : ReadsRequest (slice_range text start end) tree []

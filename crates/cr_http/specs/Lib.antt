@@ -1,4 +1,4 @@
-pub mod Place
+pub mod HeadRange
 pub mod Search
 pub mod Buffer
 pub mod Filling

@@ -4,11 +4,11 @@ use Rattle.httparse.specs.declared.spans.HeaderSpan.{HeaderSpan}
 use Rattle.httparse.specs.Spans.{IsRequestWithin}
 use Rattle.cr_ports.specs.Stream.{and_left}
 use Rattle.cr_http.specs.declared.inbox.Extent.{Extent}
-use Rattle.cr_http.specs.declared.place.Place.{Place}
+use Rattle.cr_http.specs.declared.head_range.HeadRange.{HeadRange}
 use Rattle.cr_http.specs.declared.read.RequestRead.{RequestRead}
 use Rattle.cr_http.specs.declared.read.RequestRead.TheVariants as reads
-use Rattle.cr_http.specs.declared.judge.Judged.{Judged}
-use Rattle.cr_http.specs.declared.judge.Judged.TheVariants as judged
+use Rattle.cr_http.specs.declared.judge.Judged.{HeadJudgement}
+use Rattle.cr_http.specs.declared.judge.HeadJudgement.TheVariants as judged
 use Rattle.cr_http.specs.Extent.{spans_head, extent_text, IsExtent, InboxText}
 use Rattle.cr_http.specs.Filling.{IsAtEnd, ReadsWhile}
 use Rattle.cr_http.specs.Found.{Found, whole, refused, clean, cut, StandsAt, IsFinal, IsFramed}
@@ -33,29 +33,29 @@ abbrev pub KeepsAll : List ℕ → InboxText → Type 0
 KeepsAll text inbox = (inbox.request ≡ None) × (inbox.rest ≡ text)
 
 -- what the answer says of the text that came so far, and what of it is kept
-abbrev pub Answers : RequestRead → List ℕ → InboxText → Type 0
-Answers reads.Whole text inbox = IsSomeAnd inbox.request (λ r. StandsWhole text r inbox.rest)
-Answers (reads.Refused why to_head) text inbox = StandsAt text (refused why to_head) × KeepsAll text inbox
-Answers reads.Clean text inbox = StandsAt text clean × KeepsAll text inbox
-Answers reads.Cut text inbox = StandsAt text cut × KeepsAll text inbox
-Answers reads.ReadFault text inbox = (StandsAt text clean ⊎ StandsAt text cut) × KeepsAll text inbox
-Answers (reads.OutOfMemory to_head) text inbox = (StandsAt text clean ⊎ StandsAt text cut) × IsToHead text to_head × KeepsAll text inbox
+abbrev pub SaysOf : RequestRead → List ℕ → InboxText → Type 0
+SaysOf reads.Whole text inbox = IsSomeAnd inbox.request (λ r. StandsWhole text r inbox.rest)
+SaysOf (reads.Refused why is_head) text inbox = StandsAt text (refused why is_head) × KeepsAll text inbox
+SaysOf reads.Clean text inbox = StandsAt text clean × KeepsAll text inbox
+SaysOf reads.Cut text inbox = StandsAt text cut × KeepsAll text inbox
+SaysOf reads.ReadFault text inbox = (StandsAt text clean ⊎ StandsAt text cut) × KeepsAll text inbox
+SaysOf (reads.OutOfMemory is_head) text inbox = (StandsAt text clean ⊎ StandsAt text cut) × IsToHead text is_head × KeepsAll text inbox
 
 -- the answer is one for a stream that has ended
 abbrev pub AtEndIfEnded : RequestRead → Option (List ℕ) → Type 0
 AtEndIfEnded reads.Whole left = ⊤
-AtEndIfEnded (reads.Refused why to_head) left = ⊤
+AtEndIfEnded (reads.Refused why is_head) left = ⊤
 AtEndIfEnded reads.Clean left = IsAtEnd left
 AtEndIfEnded reads.Cut left = IsAtEnd left
 AtEndIfEnded reads.ReadFault left = ⊤
-AtEndIfEnded (reads.OutOfMemory to_head) left = ⊤
+AtEndIfEnded (reads.OutOfMemory is_head) left = ⊤
 
 -- The source gave these bytes; behind those of the inbox they are a text at whose front the answer stands. No read was
 -- made once that was settled.
 pub record Reads {S : Type 0} (left : S → Option (List ℕ)) (gives : S → S → List ℕ → Type 0) (source source' : S) (inbox inbox' : InboxText) (answer : RequestRead) : Type 0 where
   pub got : List ℕ
   pub given : left source ≡ and_left got (left source')
-  pub answers : Answers answer (inbox.rest ++ got) inbox'
+  pub answers : SaysOf answer (inbox.rest ++ got) inbox'
   pub ended : AtEndIfEnded answer (left source')
   pub needed : ReadsWhile left gives IsUnsettled source source' inbox.rest (inbox.rest ++ got)
 
@@ -63,16 +63,16 @@ pub record Reads {S : Type 0} (left : S → Option (List ℕ)) (gives : S → S 
 abbrev pub Lies : RequestRead → List ℕ → List HeaderSpan → Option Extent → Type 0
 Lies reads.Whole text headers None = ⊥
 Lies reads.Whole text headers (Some e) = IsExtent text headers e × StandsWhole text (extent_text text headers e) (drop e.end text)
-Lies (reads.Refused why to_head) text headers request = (request ≡ None) × StandsAt text (refused why to_head)
+Lies (reads.Refused why is_head) text headers request = (request ≡ None) × StandsAt text (refused why is_head)
 Lies reads.Clean text headers request = (request ≡ None) × StandsAt text clean
 Lies reads.Cut text headers request = (request ≡ None) × StandsAt text cut
 Lies reads.ReadFault text headers request = (request ≡ None) × (StandsAt text clean ⊎ StandsAt text cut)
-Lies (reads.OutOfMemory to_head) text headers request = (request ≡ None) × (StandsAt text clean ⊎ StandsAt text cut) × IsToHead text to_head
+Lies (reads.OutOfMemory is_head) text headers request = (request ≡ None) × (StandsAt text clean ⊎ StandsAt text cut) × IsToHead text is_head
 
 -- what is known once a head was looked at
-abbrev pub Judges : List ℕ → Place → List HeaderSpan → Judged → Type 0
-Judges text place headers (judged.Framed spans len to_head) =
-    IsFramed text place.start place.end (spans_head (slice_range text place.start place.end) headers spans) len × (len ≤ 4194304)
-    × IsRequestWithin (slice_range text place.start place.end) headers spans
-    × (to_head ≡ is_head_method (spans_head (slice_range text place.start place.end) headers spans))
-Judges text place headers (judged.Refused why to_head) = StandsAt text (refused why to_head)
+abbrev pub JudgesHead : List ℕ → HeadRange → List HeaderSpan → HeadJudgement → Type 0
+JudgesHead text range headers (judged.Framed spans len is_head) =
+    IsFramed text range.start range.end (spans_head (slice_range text range.start range.end) headers spans) len × (len ≤ 4194304)
+    × IsRequestWithin (slice_range text range.start range.end) headers spans
+    × (is_head ≡ is_head_method (spans_head (slice_range text range.start range.end) headers spans))
+JudgesHead text range headers (judged.Refused why is_head) = StandsAt text (refused why is_head)

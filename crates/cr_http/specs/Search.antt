@@ -1,12 +1,12 @@
 -- Where the search for the end of a head stands, and what it says of however the bytes go on.
 use Rattle.std.specs.Prelude.{◌≡◌, ℕ, ◌<◌, ◌≤◌, List, ◌++◌, length, drop, Option, Some, None}
-use Rattle.cr_http.specs.Place.{empty_line_len, blank_end_from, head_end_from, starting_at, window, head_at}
-use Rattle.cr_http.specs.declared.place.Line.{Line}
-use Rattle.cr_http.specs.declared.place.Line.TheVariants as lines
-use Rattle.cr_http.specs.declared.place.Search.{Search}
-use Rattle.cr_http.specs.declared.place.Search.TheVariants as searches
-use Rattle.cr_http.specs.declared.place.Look.{Look}
-use Rattle.cr_http.specs.declared.place.Look.TheVariants as looks
+use Rattle.cr_http.specs.HeadRange.{empty_line_len, blank_end_from, head_end_from, starting_at, window, head_at}
+use Rattle.cr_http.specs.declared.range.Line.{Line}
+use Rattle.cr_http.specs.declared.range.Line.TheVariants as lines
+use Rattle.cr_http.specs.declared.range.Search.{Search}
+use Rattle.cr_http.specs.declared.range.Search.TheVariants as searches
+use Rattle.cr_http.specs.declared.range.Look.{Look}
+use Rattle.cr_http.specs.declared.range.Look.TheVariants as looks
 
 -- what the bytes at a place say of whether an empty line begins there
 abbrev pub IsLine : Line → List ℕ → Type 0
@@ -32,7 +32,7 @@ pub record LeadsTo (bytes : List ℕ) (from to : Search) : Type 0 where
 
 -- what a look at these bytes says, from this state of the search
 abbrev pub Looks : List ℕ → Search → Look → Type 0
-Looks bytes from (looks.Found place) = found_from from bytes ≡ Some (place.start, place.end)
+Looks bytes from (looks.Found range) = found_from from bytes ≡ Some (range.start, range.end)
 Looks bytes from (looks.NotYet to) = (found_from from bytes ≡ None) × LeadsTo bytes from to
 
 -- The search stands there for a text that begins so, however it goes on.

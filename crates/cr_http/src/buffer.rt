@@ -4,7 +4,7 @@ ghost use Rattle.cr_ports.specs.Count.{Rises};
 ghost use Rattle.cr_ports.specs.Stream.{FillsWithin, and_left, given};
 ghost use Rattle.cr_http.specs.Filling.{Moves, IsAtEnd, Grows, ReadsWhile};
 
-use crate::place::WINDOW;
+use crate::head_range::WINDOW;
 use cr_ports::{ReadStep, Source};
 use std::alloc::{AllocError, Global};
 

@@ -3,17 +3,17 @@ ghost use Rattle.std.specs.Prelude.{◌≡◌, ◌≤◌, ◌<◌, ◌≢◌, le
 ghost use Rattle.cr_ports.specs.Count.{Rises};
 ghost use Rattle.cr_http.specs.Buffer.{text_of};
 ghost use Rattle.cr_http.specs.Filling.{Moves, IsAtEnd, FindsHead, NeedsHead, ReadsWhile};
-ghost use Rattle.cr_http.specs.Place.{window};
+ghost use Rattle.cr_http.specs.HeadRange.{window};
 
 use crate::buffer::{Buffer, Fill};
-use crate::place::{Look, Place, Search, WINDOW, look_on};
+use crate::head_range::{HeadRange, Look, Search, WINDOW, look_on};
 use cr_ports::Source;
 
 /// How the search for a head ended.
 #[derive(Clone, Copy, Debug, PartialEq, Eq)]
 pub enum HeadFill {
     /// A head lies here.
-    Found(Place),
+    Found(HeadRange),
     /// As many bytes as may be looked at have none.
     Full,
     /// The stream has ended before.
@@ -56,7 +56,7 @@ pub fn fill_head<S: Source>(source: &mut S, buffer: &mut Buffer) -> HeadFill
     let mut search = Search::Skipping(0);
     'reading: loop {
         match look_on(window(buffer.as_slice()), search) {
-            Look::Found(place) => return HeadFill::Found(place),
+            Look::Found(range) => return HeadFill::Found(range),
             Look::NotYet(next) => search = next,
         }
         if buffer.len() >= WINDOW {

@@ -5,7 +5,7 @@ ghost use Rattle.cr_http.specs.Extent.{InboxText, IsExtent, inbox_text};
 
 use crate::buffer::Buffer;
 use crate::head::{Head, MAX_FIELDS};
-use crate::place::Place;
+use crate::head_range::HeadRange;
 use httparse::spans::{EMPTY_HEADER_SPAN, HeaderSpan, RequestSpans};
 use std::alloc::Global;
 use std::marker::Model;
@@ -14,7 +14,7 @@ use std::marker::Model;
 #[derive(Clone, Copy, Debug, PartialEq, Eq)]
 pub struct Extent {
     /// Its head.
-    pub place: Place,
+    pub range: HeadRange,
     /// The parts of its head, counted from the head's first byte.
     pub spans: RequestSpans,
     /// The end of its body, which begins where the head ends.
@@ -73,10 +73,10 @@ impl Inbox {
             unreachable!()
         };
         let text = self.buffer.as_slice();
-        let head = &text[extent.place.start..extent.place.end];
+        let head = &text[extent.range.start..extent.range.end];
         Request {
             head: Head::new(head, extent.spans, &self.headers),
-            body: &text[extent.place.end..extent.end],
+            body: &text[extent.range.end..extent.end],
         }
     }
 }

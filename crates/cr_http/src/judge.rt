@@ -1,12 +1,12 @@
 //! From the place of a head to its parts and the length of its body.
 ghost use Rattle.std.specs.Prelude.{◌≡◌, ◌≤◌, length, slice_range};
-ghost use Rattle.cr_http.specs.Place.{head_at};
+ghost use Rattle.cr_http.specs.HeadRange.{head_at};
 ghost use Rattle.cr_http.specs.Found.{line_feeds};
-ghost use Rattle.cr_http.specs.Reading.{Judges};
+ghost use Rattle.cr_http.specs.Reading.{JudgesHead};
 
 use crate::framing::{Framing, framing_of};
 use crate::head::{Head, parse_spans};
-use crate::place::Place;
+use crate::head_range::HeadRange;
 use crate::refusal::Refusal;
 use httparse::spans::{HeaderSpan, RequestSpans};
 
@@ -15,7 +15,7 @@ const MAX_LINES: usize = 66;
 
 /// What a head says of the request.
 #[derive(Clone, Copy, Debug, PartialEq, Eq)]
-pub enum Judged {
+pub enum HeadJudgement {
     /// The head is read.
     Framed {
         /// Where its parts lie.
@@ -23,23 +23,23 @@ pub enum Judged {
         /// How many bytes its body is to have.
         len: usize,
         /// Whether the method is HEAD.
-        to_head: bool,
+        is_head: bool,
     },
     /// The request is refused.
     Refused {
         /// Why.
         why: Refusal,
         /// Whether the method is HEAD, where that is known.
-        to_head: bool,
+        is_head: bool,
     },
 }
 
-fn between(text: &[u8], place: Place) -> &[u8]
-    requires ordered { place.start ≤ place.end }
-    requires within { place.end ≤ length text.now }
-    ensures { result.now ≡ slice_range text.now place.start place.end }
+fn between(text: &[u8], range: HeadRange) -> &[u8]
+    requires ordered { range.start ≤ range.end }
+    requires within { range.end ≤ length text.now }
+    ensures { result.now ≡ slice_range text.now range.start range.end }
 {
-    &text[place.start..place.end]
+    &text[range.start..range.end]
 }
 
 fn count_lines(bytes: &[u8]) -> usize
@@ -49,32 +49,32 @@ fn count_lines(bytes: &[u8]) -> usize
 }
 
 /// Looks at the head that lies there. Where its fields lie is written to the front of `headers`.
-pub fn judge_head(text: &[u8], place: Place, headers: &mut [HeaderSpan]) -> Judged
-    requires place { head_at text.now ≡ Some (place.start, place.end) }
+pub fn judge_head(text: &[u8], range: HeadRange, headers: &mut [HeaderSpan]) -> HeadJudgement
+    requires range { head_at text.now ≡ Some (range.start, range.end) }
     requires room { length headers.old ≡ 64 }
-    ensures { Judges text.now place headers.new result }
+    ensures { JudgesHead text.now range headers.new result }
 {
-    let bytes = between(text, place);
+    let bytes = between(text, range);
     if count_lines(bytes) > MAX_LINES {
-        return Judged::Refused {
+        return HeadJudgement::Refused {
             why: Refusal::HeadTooLarge,
-            to_head: false,
+            is_head: false,
         };
     }
     let Some(spans) = parse_spans(bytes, headers) else {
-        return Judged::Refused {
+        return HeadJudgement::Refused {
             why: Refusal::BadHttp,
-            to_head: false,
+            is_head: false,
         };
     };
     let head = Head::new(bytes, spans, headers);
-    let to_head = head.is_head();
+    let is_head = head.is_head();
     match framing_of(&head) {
-        Framing::Body(len) => Judged::Framed {
+        Framing::Body(len) => HeadJudgement::Framed {
             spans,
             len,
-            to_head,
+            is_head,
         },
-        Framing::Refuse(why) => Judged::Refused { why, to_head },
+        Framing::Refuse(why) => HeadJudgement::Refused { why, is_head },
     }
 }

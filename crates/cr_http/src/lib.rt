@@ -13,10 +13,10 @@ mod digits;
 mod fill;
 mod framing;
 mod head;
+mod head_range;
 mod inbox;
 mod judge;
 mod laws;
-mod place;
 mod read;
 mod refusal;
 mod values;
@@ -24,12 +24,9 @@ mod values;
 pub use digits::{all_digits, number_of};
 pub use framing::MAX_BODY;
 pub use head::{Head, MAX_FIELDS, Version};
+pub use head_range::WINDOW;
 pub use inbox::{Inbox, Request};
 pub use laws::{law_final_stays, law_one_reading};
-pub use place::WINDOW;
 pub use read::{RequestRead, read_request};
 pub use refusal::Refusal;
 pub use values::{AllValues, Values};
-
-#[cfg(test)]
-mod tests;

@@ -5,14 +5,14 @@ ghost use Rattle.cr_http.specs.Buffer.{text_of};
 ghost use Rattle.cr_http.specs.Extent.{used};
 ghost use Rattle.cr_http.specs.Filling.{Moves, ReadsWhile};
 ghost use Rattle.cr_http.specs.Found.{StandsAt, clean, cut};
-ghost use Rattle.cr_http.specs.Place.{head_at};
+ghost use Rattle.cr_http.specs.HeadRange.{head_at};
 ghost use Rattle.cr_http.specs.Reading.{AtEndIfEnded, IsSettled, IsUnsettled, Lies, Reads};
 
 use crate::buffer::{Buffer, Fill};
 use crate::fill::{HeadFill, fill_head, fill_to};
+use crate::head_range::{HeadRange, blank_end};
 use crate::inbox::{Extent, Inbox};
-use crate::judge::{Judged, judge_head};
-use crate::place::{Place, blank_end};
+use crate::judge::{HeadJudgement, judge_head};
 use crate::refusal::Refusal;
 use cr_ports::Source;
 use httparse::spans::HeaderSpan;
@@ -28,7 +28,7 @@ pub enum RequestRead {
         why: Refusal,
         /// Whether the refusal answers HEAD, so that its content is left out. False where the head
         /// wasn't read so far.
-        to_head: bool,
+        is_head: bool,
     },
     /// The stream ended between requests.
     Clean,
@@ -39,7 +39,7 @@ pub enum RequestRead {
     /// There was no memory for more bytes, before a whole request was read.
     OutOfMemory {
         /// Whether what is answered is HEAD. False where the head wasn't read so far.
-        to_head: bool,
+        is_head: bool,
     },
 }
 
@@ -93,14 +93,14 @@ fn read_into<S: Source>(
     ensures steady { result ≢ RequestRead.ReadFault → S.faults source.new ≡ S.faults source.old }
 {
     match fill_head(source, buffer) {
-        HeadFill::Found(place) => read_framed(source, buffer, headers, request, place),
+        HeadFill::Found(range) => read_framed(source, buffer, headers, request, range),
         HeadFill::Full => RequestRead::Refused {
             why: Refusal::HeadTooLarge,
-            to_head: false,
+            is_head: false,
         },
         HeadFill::Ended => at_end(buffer.as_slice()),
         HeadFill::Failed => RequestRead::ReadFault,
-        HeadFill::OutOfMemory => RequestRead::OutOfMemory { to_head: false },
+        HeadFill::OutOfMemory => RequestRead::OutOfMemory { is_head: false },
     }
 }
 
@@ -110,9 +110,9 @@ fn read_framed<S: Source>(
     buffer: &mut Buffer,
     headers: &mut [HeaderSpan],
     request: &mut Option<Extent>,
-    place: Place,
+    range: HeadRange,
 ) -> RequestRead
-    requires place { head_at (text_of buffer.old) ≡ Some (place.start, place.end) }
+    requires range { head_at (text_of buffer.old) ≡ Some (range.start, range.end) }
     requires room { length headers.old ≡ 64 }
     requires none { request.old ≡ None }
     ensures moves { Moves (S.left source.old) (S.left source.new) (text_of buffer.old) (text_of buffer.new) }
@@ -123,23 +123,23 @@ fn read_framed<S: Source>(
     ensures fault { result ≡ RequestRead.ReadFault → Rises (S.faults source.old) (S.faults source.new) }
     ensures steady { result ≢ RequestRead.ReadFault → S.faults source.new ≡ S.faults source.old }
 {
-    let (spans, len, to_head) = match judge_head(buffer.as_slice(), place, headers) {
-        Judged::Framed {
+    let (spans, len, is_head) = match judge_head(buffer.as_slice(), range, headers) {
+        HeadJudgement::Framed {
             spans,
             len,
-            to_head,
-        } => (spans, len, to_head),
-        Judged::Refused { why, to_head } => return RequestRead::Refused { why, to_head },
+            is_head,
+        } => (spans, len, is_head),
+        HeadJudgement::Refused { why, is_head } => return RequestRead::Refused { why, is_head },
     };
-    let end = place.end + len;
+    let end = range.end + len;
     match fill_to(source, buffer, end) {
         Fill::Grew => {
-            *request = Some(Extent { place, spans, end });
+            *request = Some(Extent { range, spans, end });
             RequestRead::Whole
         }
         Fill::Ended => RequestRead::Cut,
         Fill::Failed => RequestRead::ReadFault,
-        Fill::OutOfMemory => RequestRead::OutOfMemory { to_head },
+        Fill::OutOfMemory => RequestRead::OutOfMemory { is_head },
     }
 }
 

@@ -5,8 +5,6 @@
 mod indexed_pairs;
 mod pair_map;
 mod run;
-#[cfg(test)]
-mod tests;
 
 pub use indexed_pairs::IndexedPairs;
 pub use pair_map::PairMap;

@@ -4,7 +4,5 @@
 
 mod counts;
 mod papers;
-#[cfg(test)]
-mod tests;
 
 pub use papers::{MOST_OWN_PAPERS, Papers};

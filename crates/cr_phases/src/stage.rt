@@ -93,10 +93,7 @@ impl Stage {
         match &stamped.entry {
             Entry::PhaseSet { phase } => self.phase = *phase,
             Entry::ModeSet { mode } => self.mode = *mode,
-            Entry::Registered { .. }
-            | Entry::Named { .. }
-            | Entry::Submitted { .. }
-            | Entry::Conflict { .. } => {}
+            _ => {}
         }
     }
 }

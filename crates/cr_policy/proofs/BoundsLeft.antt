@@ -13,13 +13,13 @@ use Rattle.cr_base.specs.declared.words.Role.TheVariants.{Account}
 use Rattle.cr_base.specs.Lists.{given, last_or, is_number}
 use Rattle.cr_base.specs.History.{History, all_told, role_told}
 use Rattle.cr_base.specs.Facts.{mode_of, phase_of, role_of, authors_of, is_author}
+use Rattle.cr_history.proofs.LineTies.{stamp}
 use Rattle.cr_policy.specs.Sighting.{Sighting, blank}
 use Rattle.cr_policy.specs.View.{view}
 use Rattle.cr_policy.specs.ShownTo.{is_on_committee, leads_committee, is_past_submission, hides_authors, serves, handles, oversees, has_conflict, is_told, where_known, is_replaced, each_told, kind_for, paper_for}
 use Rattle.cr_policy.specs.ViewBounds.{IsLeft, OutsidersShown, IsPublic, names_her, IsStranger, StrangersShown, NobodyShown}
 use Rattle.cr_policy.proofs.BoundsParts.{IsWriters}
 use Rattle.cr_policy.proofs.BoundsWalk.{shown_to, writers-all, view-told}
-use Rattle.cr_policy.proofs.Tells.{stamp}
 use Rattle.cr_policy.proofs.Walk.{list_any-nobody}
 
 -- ---- each sighting
@@ -55,10 +55,6 @@ maker-hidden a h leads hides ha hh = grind (arith, ha, hh)
 
 module _ (u : Option ℕ) (p : ℕ) (H : History) (out : (is_author u p H || handles u p H) ≡ false) where
   left-one : (later : History) (maker : ℕ) (more : Bool) (e : Entry) → IsWriters u H maker e → is_told u H maker e ≡ true → is_number (paper_for u H later maker e) p ≡ true → IsLeft u (serves u H) (kind_for u H later maker e) (shown_to u H later maker e)
-  left-one later maker more (Registered user name digest) writes told on_it = absurd (false≢true on_it)
-  left-one later maker more (Named user role) writes told on_it = absurd (false≢true on_it)
-  left-one later maker more (PhaseSet phase) writes told on_it = absurd (false≢true on_it)
-  left-one later maker more (ModeSet mode) writes told on_it = absurd (false≢true on_it)
   left-one later maker more (Conflict paper user on) writes told on_it = (named, refl)
     where
       hers : (named own a w o : Bool) → a ≡ false → o ≡ false → (named || own || (a && w) || o) ≡ true → (own || named) ≡ true
@@ -107,6 +103,7 @@ module _ (u : Option ℕ) (p : ℕ) (H : History) (out : (is_author u p H || han
       titled : (served : Bool) → where_known (is_author u paper H || (not (is_replaced paper later) && served)) title ≡ cond served (where_known (is_author u paper H || (not (is_replaced paper later) && served)) title) None
       titled true = refl
       titled false = known-not _ title (text-hidden (is_author u paper H) (not (is_replaced paper later)) false wrote refl)
+  left-one later maker more e writes told on_it = absurd (false≢true on_it)
 
 pub outsiders-shown : OutsidersShown
 outsiders-shown u p H out =

@@ -14,11 +14,11 @@ use Rattle.cr_base.specs.History.{History, all_told, title_told}
 use Rattle.cr_base.specs.Facts.{phase_of, mode_of, role_of, is_author}
 use Rattle.cr_base.specs.Phases.{is_from}
 use Rattle.cr_base.specs.Words.{is_anonymous, is_member, is_chair}
+use Rattle.cr_history.proofs.LineTies.{stamp}
 use Rattle.cr_policy.specs.Sighting.{Sighting, where_shown}
 use Rattle.cr_policy.specs.Triggers.{Reader, reader, Place, none_in}
 use Rattle.cr_policy.specs.View.{is_seen, joined}
 use Rattle.cr_policy.specs.ShownTo.{is_on_committee, leads_committee, is_past_submission, hides_authors, is_told, where_known, is_replaced, gives_texts, kind_for, mark_for, paper_for, user_for, name_for, digest_for, role_for, phase_for, mode_for, maker_for, title_for, abstract_for, switch_for}
-use Rattle.cr_policy.proofs.Tells.{stamp}
 
 -- ---- the words of the table, and those of the bounds
 
@@ -100,24 +100,25 @@ module _ (u : Option ℕ) (H : History) (at : Place) (maker : ℕ) (more : Bool)
       grind (arith, chair, on_it, from)
   seen-told e = refl
 
-  pub kind-one : (e : Entry) → (seen e).kind ≡ kind_for u H at.after maker e
-  kind-one (Registered user name digest) = refl
-  kind-one e = refl
+  -- the parts that are shown to all who are told of the entry
+  pub record AreShown (e : Entry) : Type 0 where
+    pub kind : (seen e).kind ≡ kind_for u H at.after maker e
+    pub paper : (seen e).paper ≡ paper_for u H at.after maker e
+    pub name : (seen e).name ≡ name_for u H at.after maker e
+    pub role : (seen e).role ≡ role_for u H at.after maker e
+    pub phase : (seen e).phase ≡ phase_for u H at.after maker e
+    pub mode : (seen e).mode ≡ mode_for u H at.after maker e
+
+  pub shown-one : (e : Entry) → AreShown e
+  shown-one (Registered user name digest) = record { kind = refl; paper = refl; name = refl; role = refl; phase = refl; mode = refl }
+  shown-one e = record { kind = refl; paper = refl; name = refl; role = refl; phase = refl; mode = refl }
 
   pub mark-one : (e : Entry) → (seen e).mine ≡ mark_for u H at.after maker e
   mark-one e = refl
 
-  pub paper-one : (e : Entry) → (seen e).paper ≡ paper_for u H at.after maker e
-  paper-one (Registered user name digest) = refl
-  paper-one e = refl
-
   pub user-one : (e : Entry) → is_told u H maker e ≡ true → (seen e).user ≡ user_for u H at.after maker e
   user-one (Conflict paper user on) told = ap (λ b. where_known b user) (seen-told (Conflict paper user on) ∙ told)
   user-one e told = refl
-
-  pub name-one : (e : Entry) → (seen e).name ≡ name_for u H at.after maker e
-  name-one (Registered user name digest) = refl
-  name-one e = refl
 
   pub digest-one : (e : Entry) → (seen e).digest ≡ digest_for u H at.after maker e
   digest-one (Registered user name digest) = known-same _ (is_number u maker) digest (own (is_number u maker))
@@ -126,18 +127,6 @@ module _ (u : Option ℕ) (H : History) (at : Place) (maker : ℕ) (more : Bool)
       own true = refl
       own false = refl
   digest-one e = refl
-
-  pub role-one : (e : Entry) → (seen e).role ≡ role_for u H at.after maker e
-  role-one (Registered user name digest) = refl
-  role-one e = refl
-
-  pub phase-one : (e : Entry) → (seen e).phase ≡ phase_for u H at.after maker e
-  phase-one (Registered user name digest) = refl
-  phase-one e = refl
-
-  pub mode-one : (e : Entry) → (seen e).mode ≡ mode_for u H at.after maker e
-  mode-one (Registered user name digest) = refl
-  mode-one e = refl
 
   pub switch-one : (e : Entry) → is_told u H maker e ≡ true → (seen e).on ≡ switch_for u H at.after maker e
   switch-one (Conflict paper user on) told = ap (λ b. where_known b on) (seen-told (Conflict paper user on) ∙ told)

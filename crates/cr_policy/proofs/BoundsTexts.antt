@@ -14,7 +14,7 @@ use Rattle.cr_policy.specs.Sighting.{Sighting}
 use Rattle.cr_policy.specs.View.{view}
 use Rattle.cr_policy.specs.ViewFacts.{only}
 use Rattle.cr_policy.specs.ShownTo.{serves, handles, is_told, where_known, gives_texts, is_replaced, each_told, paper_for, title_for, abstract_for}
-use Rattle.cr_policy.specs.ViewBounds.{OneTitle, OneAbstract}
+use Rattle.cr_policy.specs.ViewBounds.{text_shown, OneTitle, OneAbstract}
 use Rattle.cr_policy.proofs.BoundsWalk.{shown_to, view-told}
 use Rattle.cr_policy.proofs.Walk.{only-true, only-false, flat_map-given}
 
@@ -87,13 +87,10 @@ module _ (u : Option ℕ) (p : ℕ) (H : History) (may : ℕ → Bool) (pick : L
   text_for later _ = None
 
   module _ (text : Sighting → Option (List ℕ)) (same : (later : History) (maker : ℕ) (e : Entry) → text (shown_to u H later maker e) ≡ text_for later e) (stranger : is_author u p H ≡ false) where
-    abbrev text_seen : Sighting → List (List ℕ)
-    text_seen s = only (is_number s.paper p) (listed (text s))
-
     abbrev text_told : History → ℕ → Entry → List (List ℕ)
     text_told later maker e = only (is_number (paper_for u H later maker e) p) (listed (text_for later e))
 
-    text-same : (later : History) (maker : ℕ) (e : Entry) → text_seen (shown_to u H later maker e) ≡ text_told later maker e
+    text-same : (later : History) (maker : ℕ) (e : Entry) → text_shown text p (shown_to u H later maker e) ≡ text_told later maker e
     text-same later maker e = ap (λ (o : Option (List ℕ)). only (is_number (paper_for u H later maker e) p) (listed o)) (same later maker e)
 
     few : (later : History) (maker : ℕ) (e : Entry) → length (text_told later maker e) ≤ 1
@@ -111,8 +108,8 @@ module _ (u : Option ℕ) (p : ℕ) (H : History) (may : ℕ → Bool) (pick : L
         (ap (λ n. is_author u n H) e ∙ stranger, ap (λ n. not (is_replaced n later)) e ∙ ap not more))
     late later maker e more = refl
 
-    one-text : length (flat_map text_seen (view u H)) ≤ 1
-    one-text = one-view u p H text_seen (record {
+    one-text : length (flat_map (text_shown text p) (view u H)) ≤ 1
+    one-text = one-view u p H (text_shown text p) (record {
       few = λ later maker e. subst (λ (xs : List (List ℕ)). length xs ≤ 1) (sym (text-same later maker e)) (few later maker e);
       other = λ later maker e h. text-same later maker e ∙ other later maker e h;
       late = λ later maker e more. text-same later maker e ∙ late later maker e more;

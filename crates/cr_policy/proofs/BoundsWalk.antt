@@ -5,20 +5,20 @@ use Rattle.std.specs.List.{list_any, AllByRecursion}
 use Rattle.std.proofs.lemmas.Bool.{eq-eqb}
 use Rattle.std.proofs.lemmas.List.{map-append}
 use Rattle.std.proofs.lemmas.List.Concat.{flat_map-append}
+use Rattle.std.proofs.lemmas.List.Folds.{list_any-append}
 use Rattle.cr_base.specs.declared.entry.Entry.{Entry}
 use Rattle.cr_base.specs.declared.entry.Entry.TheVariants.{Submitted}
 use Rattle.cr_base.specs.declared.entry.Stamped.{Stamped}
 use Rattle.cr_base.specs.Lists.{given, is_number}
 use Rattle.cr_base.specs.History.{History, author_told}
 use Rattle.cr_base.specs.Facts.{authors_of, is_author}
+use Rattle.cr_history.proofs.LineTies.{stamp}
 use Rattle.cr_policy.specs.Sighting.{Sighting}
 use Rattle.cr_policy.specs.Triggers.{reader, Place}
 use Rattle.cr_policy.specs.View.{sight, sights, view, is_seen, joined}
 use Rattle.cr_policy.specs.ShownTo.{PartFor, is_told, each_told, kind_for, mark_for, paper_for, user_for, name_for, digest_for, role_for, phase_for, mode_for, maker_for, title_for, abstract_for, switch_for}
 use Rattle.cr_policy.specs.ViewBounds.{EntriesShown, MarksShown, PapersShown, UsersShown, NamesShown, DigestsShown, RolesShown, PhasesShown, ModesShown, MakersShown, TitlesShown, AbstractsShown, SwitchesShown}
-use Rattle.cr_policy.proofs.BoundsParts.{IsWriters, seen-told, kind-one, mark-one, paper-one, user-one, name-one, digest-one, role-one, phase-one, mode-one, maker-one, title-one, abstract-one, switch-one}
-use Rattle.cr_policy.proofs.Tells.{stamp}
-use Rattle.cr_policy.proofs.Walk.{list_any-append}
+use Rattle.cr_policy.proofs.BoundsParts.{IsWriters, seen-told, shown-one, mark-one, user-one, digest-one, maker-one, title-one, abstract-one, switch-one}
 
 -- ---- one entry
 
@@ -50,15 +50,15 @@ module _ (u : Option ℕ) (H : History) where
 
   joined-one : (at : Place) (maker : ℕ) (more : Bool) (e : Entry) → IsWriters u H maker e → is_told u H maker e ≡ true → joined (reader u H) at (stamp maker more e) ≡ shown_to u H at.after maker e
   joined-one at maker more e writes told = λ i. record {
-    kind = kind-one u H at maker more e i;
+    kind = (shown-one u H at maker more e).kind i;
     mine = mark-one u H at maker more e i;
-    paper = paper-one u H at maker more e i;
+    paper = (shown-one u H at maker more e).paper i;
     user = user-one u H at maker more e told i;
-    name = name-one u H at maker more e i;
+    name = (shown-one u H at maker more e).name i;
     digest = digest-one u H at maker more e i;
-    role = role-one u H at maker more e i;
-    phase = phase-one u H at maker more e i;
-    mode = mode-one u H at maker more e i;
+    role = (shown-one u H at maker more e).role i;
+    phase = (shown-one u H at maker more e).phase i;
+    mode = (shown-one u H at maker more e).mode i;
     by = maker-one u H at maker more e i;
     title = title-one u H at maker more e writes i;
     abstract = abstract-one u H at maker more e writes i;

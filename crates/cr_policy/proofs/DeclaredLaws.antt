@@ -8,27 +8,28 @@ use Rattle.cr_base.specs.declared.entry.Entry.TheVariants.{PhaseSet, Conflict}
 use Rattle.cr_base.specs.declared.entry.Stamped.{Stamped}
 use Rattle.cr_base.specs.declared.words.Phase.TheVariants.{Bidding}
 use Rattle.cr_base.specs.Lists.{given, listed, is_number, until, since}
-use Rattle.cr_base.specs.History.{History, declared_told}
-use Rattle.cr_base.specs.Facts.{authors_of, is_author, is_declared, declared_by_authors}
+use Rattle.cr_base.specs.History.{History, opens, declared_told}
+use Rattle.cr_base.specs.Facts.{authors_of, is_author, is_conflict_on, declared_by_authors}
 use Rattle.cr_base.specs.Words.{is_chair}
-use Rattle.cr_policy.specs.Invariants.{opens, is_opening, ByAuthor, ByHerselfOrOther, Early, Late, DeclaresInTime}
+use Rattle.cr_history.specs.Invariants.{is_opening, ByAuthor, ByHerselfOrOther, Early, Late, DeclaresInTime}
 use Rattle.cr_policy.specs.Part as part
 use Rattle.cr_policy.specs.Sighting.{Sighting, where_shown}
 use Rattle.cr_policy.specs.Triggers.{Reader, reader, Place, user_named, clear_chairs, from}
 use Rattle.cr_policy.specs.View.{view, sight, is_seen, joined}
 use Rattle.cr_policy.specs.ViewFacts.{only, is_user, conflict_user_seen, own_or_other_seen, bidding_seen, declared_in_view}
 use Rattle.cr_policy.proofs.Cuts.{CutsAt, sights-until, sights-since, kept_until-each, kept_since-each, flat_map-cut}
-use Rattle.cr_policy.proofs.Tells.{stamp, passes, silent, told_where, paper_value}
+use Rattle.cr_history.proofs.LineTies.{stamp}
+use Rattle.cr_policy.proofs.Tells.{passes, silent, told_where, paper_value}
 use Rattle.cr_policy.proofs.Walk.{only-false, list_any-nobody, Tells}
 
 -- ---- everyone sees the bidding opened
 
 module _ (r : Reader) (at : Place) (maker : ℕ) (more : Bool) where
-  opening-one : (e : Entry) → opens e ≡ true → (s : Sighting) × ((sight r at (stamp maker more e) ≡ s ∷ []) × (bidding_seen s ≡ true))
+  opening-one : (e : Entry) → opens Bidding e ≡ true → (s : Sighting) × ((sight r at (stamp maker more e) ≡ s ∷ []) × (bidding_seen s ≡ true))
   opening-one (PhaseSet phase) h = (joined r at (stamp maker more (PhaseSet phase)), (refl, h))
   opening-one e h = absurd (false≢true h)
 
-  opening-other : (e : Entry) → opens e ≡ false → list_any bidding_seen (sight r at (stamp maker more e)) ≡ false
+  opening-other : (e : Entry) → opens Bidding e ≡ false → list_any bidding_seen (sight r at (stamp maker more e)) ≡ false
   opening-other (PhaseSet phase) h = ap (λ b. b || false) h
   opening-other e h = by (is_seen r at (stamp maker more e)) (joined r at (stamp maker more e)) refl
     where
@@ -137,7 +138,7 @@ module _ (u p : ℕ) (H : History) (author : is_author (Some u) p H ≡ true) wh
       (λ same. let e : paper ≡ p = eqb-true paper p same in
       let a : r.author paper ≡ true = ap r.author e ∙ author in
       late_shown (eqb u user) (r.wrote maker paper) (r.author paper) (clear_chairs r paper) (from r Bidding) (eqb u maker) a
-      (not_clear (is_chair r.rank) (r.author paper) (is_declared (Some u) paper H) a)
+      (not_clear (is_chair r.rank) (r.author paper) (is_conflict_on (Some u) paper H) a)
       (λ own. ap (λ m. is_author (Some m) paper H) (sym (eqb-true u maker own)) ∙ a)
       (λ other named. h (ap (λ n. eqb n maker) (sym (eqb-true u user named)) ∙ other))
       ∙ ap (λ n. is_author (Some maker) n H) e)
@@ -146,7 +147,7 @@ module _ (u p : ℕ) (H : History) (author : is_author (Some u) p H ≡ true) wh
       not_clear chair a d h = grind arith
   late_at at maker more e h = refl
 
-  opening-silent : (wrote : Bool) (e : Entry) → opens e ≡ true → declared_told wrote p e ≡ []
+  opening-silent : (wrote : Bool) (e : Entry) → opens Bidding e ≡ true → declared_told wrote p e ≡ []
   opening-silent wrote (Conflict paper user on) h = absurd (false≢true h)
   opening-silent wrote e h = refl
 

@@ -4,15 +4,16 @@ use Rattle.std.specs.Prelude.{is_some}
 use Rattle.std.specs.List.{AllByRecursion}
 use Rattle.std.proofs.lemmas.Bool.{false≢true}
 use Rattle.cr_base.specs.declared.entry.Entry.{Entry}
-use Rattle.cr_base.specs.declared.entry.Entry.TheVariants.{Registered, Named, PhaseSet, ModeSet, Submitted, Conflict}
+use Rattle.cr_base.specs.declared.entry.Entry.TheVariants.{Registered}
 use Rattle.cr_base.specs.History.{History}
 use Rattle.cr_base.specs.Lists.{given, is_number}
-use Rattle.cr_policy.specs.Invariants.{IsMadeByUser, IsInOrder, InTurn, IsOwnDigest}
+use Rattle.cr_history.specs.Invariants.{IsMadeByUser, IsInOrder, InTurn}
+use Rattle.cr_history.proofs.ListCuts.{AllByRecursion-append}
+use Rattle.cr_history.proofs.LineTies.{stamp}
+use Rattle.cr_policy.specs.Laws.{IsOwnDigest}
 use Rattle.cr_policy.specs.Sighting.{where_shown}
 use Rattle.cr_policy.specs.Triggers.{Reader, Place}
 use Rattle.cr_policy.specs.View.{sight, sights, is_seen, joined}
-use Rattle.cr_policy.proofs.Cuts.{AllByRecursion-append}
-use Rattle.cr_policy.proofs.Tells.{stamp}
 
 -- the digest of a registration is shown to its maker alone
 to_maker : (u : Option ℕ) (maker user : ℕ) (digest : List ℕ) → maker ≡ user → is_some (where_shown (is_number u maker || false) (Some digest)) ≡ true → is_number u user ≡ true
@@ -26,11 +27,7 @@ module _ (r : Reader) (at : Place) (maker : ℕ) (more : Bool) where
   -- of any one sighting; no other kind of entry has a digest
   own_digest : (H : History) (e : Entry) → IsMadeByUser H maker e → IsOwnDigest r.number (joined r at (stamp maker more e))
   own_digest H (Registered user name digest) made = λ shown. to_maker r.number maker user digest made shown
-  own_digest H (Named user role) made = λ shown. absurd (false≢true shown)
-  own_digest H (PhaseSet phase) made = λ shown. absurd (false≢true shown)
-  own_digest H (ModeSet mode) made = λ shown. absurd (false≢true shown)
-  own_digest H (Submitted paper title abstract) made = λ shown. absurd (false≢true shown)
-  own_digest H (Conflict paper user on) made = λ shown. absurd (false≢true shown)
+  own_digest H e made = λ shown. absurd (false≢true shown)
 
 given-all : {A : Type 0} (P : A → Type 0) (b : Bool) (x : A) → P x → AllByRecursion P (given b x)
 given-all P true x h = (h, tt)

@@ -1,35 +1,29 @@
 -- Histories that grow by allowed calls.
-use Rattle.std.proofs.Common.{ℕ, ◌≡◌, List, [], ◌∷◌, ◌++◌, refl, sym, ap, subst, ◌∙◌, Option, Some, Result, Ok, Err}
-use Rattle.std.specs.List.{All}
-use Rattle.std.proofs.lemmas.List.Elements.{All-nil, All-append}
+use Rattle.std.proofs.Common.{ℕ, ◌≡◌, List, [], ◌∷◌, ◌++◌, refl, sym, ap, subst, Option, Some, Result, Ok, Err}
 use Rattle.cr_base.specs.declared.command.Command.{Command}
 use Rattle.cr_base.specs.declared.command.Query.{Query}
 use Rattle.cr_base.specs.declared.reply.Rule.{Rule}
 use Rattle.cr_base.specs.Accounts.{number_at, caller_at}
 use Rattle.cr_base.specs.Facts.{number_of, caller_of}
 use Rattle.cr_base.specs.History.{History}
-use Rattle.cr_base.specs.Judging.{Drawn, judge_by_role, answer_by_role}
-use Rattle.cr_base.specs.Rows.{IsBoundedEntry}
+use Rattle.cr_base.specs.Answering.{answer_by_role}
+use Rattle.cr_base.specs.Drawn.{Drawn}
+use Rattle.cr_base.specs.Judging.{judge_by_role}
 use Rattle.cr_base.specs.Tables.{no_tables, tables_of, FitInTurn}
+use Rattle.cr_history.specs.Invariants.{Invariants, DeclaresInTime}
+use Rattle.cr_history.proofs.CallerLaws.{caller-registered}
+use Rattle.cr_history.proofs.NumberTies.{number_of-tables, caller_of-tables}
+use Rattle.cr_history.proofs.GrowthLaws.{growth_keeps}
 use Rattle.cr_policy.specs.View.{view}
 use Rattle.cr_policy.specs.Judge.{judge, answer}
 use Rattle.cr_policy.specs.Legal.{Call, IsUser, IsAllowed, followed_by, step, LeadsTo, Legal}
-use Rattle.cr_policy.specs.Invariants.{DeclaresInTime, IsInOrder, InTurn, IsWhole}
 use Rattle.cr_policy.specs.Laws.{ViewSuffices, DeclaredFromView, LegalKeeps, DigestsAreOwn}
 use Rattle.cr_policy.specs.Triggers.{reader}
-use Rattle.cr_base.proofs.RowLaws.{stamped-row_of}
-use Rattle.cr_policy.proofs.CallerLaws.{caller-makes, caller-registered}
-use Rattle.cr_policy.proofs.NumberTies.{number_of-tables, caller_of-tables}
+use Rattle.cr_policy.proofs.AcceptedLaws.{accepted-adds, accepted-fits}
 use Rattle.cr_policy.proofs.DeclaredLaws.{declared-seen_by_author}
 use Rattle.cr_policy.proofs.DigestLaws.{own_digests}
-use Rattle.cr_policy.proofs.InOrder.{in_order-append, whole-added}
-use Rattle.cr_policy.proofs.InTime.{in_time-nil, in_time-append}
-use Rattle.cr_policy.proofs.RuleLaws.{Adds, accepted-adds}
-use Rattle.cr_policy.proofs.SizeTies.{sized-tables}
 use Rattle.cr_policy.proofs.JudgeTies.{judge-tables}
 use Rattle.cr_policy.proofs.PageTies.{answer-tables}
-use Rattle.cr_policy.proofs.TableTies.{FitInTurn-append}
-use Rattle.cr_policy.proofs.GroupLaws.{accepted-good}
 
 -- ---- calls one after another
 
@@ -54,59 +48,32 @@ Legal-accepted H caller command drawn legal allowed accepted =
 
 -- ---- what a legal history keeps
 
--- each entry fits in its turn, has a row and is in order; no command's are cut off; and conflicts are declared in time
-record IsSound (H : History) : Type 0 where
-  fits : FitInTurn no_tables H
-  bounded : All IsBoundedEntry H
-  in_order : InTurn IsInOrder [] H
-  whole : IsWhole H
-  in_time : DeclaresInTime H
+-- what the invariants say of a history stays so as it is followed by what a command adds
+followed-keeps : (H : History) (call : Call) → Invariants H → IsAllowed H call → (r : Result Drawn Rule) → judge call.caller (view call.caller H) call.command ≡ r → Invariants (followed_by H r)
+followed-keeps H call kept allowed (Err rule) is = kept
+followed-keeps H call kept allowed (Ok drawn) is =
+    let fits = accepted-fits H call.caller call.command drawn kept.fits allowed.caller is in
+    growth_keeps.more H drawn.group kept (accepted-adds H call.caller call.command drawn allowed.bounded allowed.caller is) fits
 
-followed-sound : (H : History) (call : Call) → IsSound H → IsAllowed H call → (r : Result Drawn Rule) → judge call.caller (view call.caller H) call.command ≡ r → IsSound (followed_by H r)
-followed-sound H call sound allowed (Err rule) is = sound
-followed-sound H call sound allowed (Ok drawn) is =
-    let maker = caller-makes H call.caller call.command sound.fits allowed.caller in
-    let good = accepted-good (tables_of H) call.caller call.command drawn allowed.bounded maker (sized-tables H sound.fits) (sym (judge-tables call.caller H call.command sound.fits) ∙ is) in
-    let adds : Adds H drawn.group = accepted-adds H call.caller call.command drawn allowed.caller is in
-    record {
-      fits = FitInTurn-append no_tables H drawn.group sound.fits good.fits;
-      bounded = All-append IsBoundedEntry H drawn.group sound.bounded good.bounded;
-      in_order = in_order-append H drawn.group sound.fits adds good.fits sound.in_order;
-      whole = whole-added H drawn.group adds sound.whole;
-      in_time = in_time-append H drawn.group adds sound.in_time;
-    }
-
-leads-sound : (from to : History) (calls : List Call) → IsSound from → LeadsTo from calls to → IsSound to
-leads-sound from to [] sound leads = subst (λ (H : History). IsSound H) leads sound
-leads-sound from to (call ∷ calls) sound leads = leads-sound (step from call) to calls (followed-sound from call sound leads.0 (judge call.caller (view call.caller from) call.command) refl) leads.1
-
-legal-sound : (H : History) → Legal H → IsSound H
-legal-sound H legal = leads-sound [] H legal.0 (record { fits = tt; bounded = All-nil IsBoundedEntry; in_order = tt; whole = tt; in_time = in_time-nil }) legal.1
-
--- each entry of a legal history fits in its turn
-pub Legal-fits : (H : History) → Legal H → FitInTurn no_tables H
-Legal-fits H legal = (legal-sound H legal).fits
-
--- before the bidding of a legal history authors alone declare conflicts, and from it on no author declares another user
-pub Legal-in_time : (H : History) → Legal H → DeclaresInTime H
-Legal-in_time H legal = (legal-sound H legal).in_time
+leads-keeps : (from to : History) (calls : List Call) → Invariants from → LeadsTo from calls to → Invariants to
+leads-keeps from to [] kept leads = subst (λ (H : History). Invariants H) leads kept
+leads-keeps from to (call ∷ calls) kept leads = leads-keeps (step from call) to calls (followed-keeps from call kept leads.0 (judge call.caller (view call.caller from) call.command) refl) leads.1
 
 -- all that a legal history keeps
 pub legal_invariants : LegalKeeps
-legal_invariants H legal =
-    let sound = legal-sound H legal in
-    record {
-      bounded = sound.bounded;
-      spelled = λ k d within. stamped-row_of _ (sound.bounded k d within);
-      fits = sound.fits;
-      in_order = sound.in_order;
-      whole = sound.whole;
-      in_time = sound.in_time;
-    }
+legal_invariants H legal = leads-keeps [] H legal.0 growth_keeps.first legal.1
+
+-- each entry of a legal history fits in its turn
+pub Legal-fits : (H : History) → Legal H → FitInTurn no_tables H
+Legal-fits H legal = (legal_invariants H legal).fits
+
+-- before the bidding of a legal history authors alone declare conflicts, and from it on no author declares another user
+pub Legal-in_time : (H : History) → Legal H → DeclaresInTime H
+Legal-in_time H legal = (legal_invariants H legal).in_time
 
 -- a reader sees no digest but her own
 pub digests-own : DigestsAreOwn
-digests-own u H legal = own_digests (reader u H) [] H (legal-sound H legal).in_order
+digests-own u H legal = own_digests (reader u H) [] H (legal_invariants H legal).in_order
 
 -- ---- views and tables of a legal history
 

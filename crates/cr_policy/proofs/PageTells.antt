@@ -7,12 +7,12 @@ use Rattle.cr_base.specs.declared.entry.Stamped.{Stamped}
 use Rattle.cr_base.specs.declared.words.Phase.TheVariants.{Bidding}
 use Rattle.cr_base.specs.Lists.{given, is_nothing}
 use Rattle.cr_base.specs.History.{History, author_told, title_told, abstract_told}
-use Rattle.cr_base.specs.Facts.{standing_of, is_author, is_declared, title_of, abstract_of, authors_of}
+use Rattle.cr_base.specs.Facts.{standing_of, is_author, is_conflict_on, title_of, abstract_of, authors_of}
 use Rattle.cr_base.specs.Page.{gets_title, gets_abstract, shows_author, gets_conflicts}
 use Rattle.cr_policy.specs.Part as part
 use Rattle.cr_policy.specs.Triggers.{reader, user_named, members, clear_members, clear_chairs, unless_anonymous, from, none_in}
 use Rattle.cr_policy.specs.View.{view}
-use Rattle.cr_policy.specs.ViewFacts.{author_seen, title_seen, abstract_seen, title_in_view, abstract_in_view, authors_in_view, is_declared_in_view}
+use Rattle.cr_policy.specs.ViewFacts.{author_seen, title_seen, abstract_seen, title_in_view, abstract_in_view, authors_in_view, is_conflict_on_in_view}
 use Rattle.cr_policy.proofs.StandingLaws.{declared-seen_where}
 use Rattle.cr_policy.proofs.Walk.{fold_last, fold_all}
 use Rattle.cr_policy.proofs.Tells.{passes, author_tells, title_tells, abstract_tells, author_value, title_value, abstract_value}
@@ -73,6 +73,6 @@ third : (n w c own : Bool) → c ≡ true → (n || (w || (c || (own || false)))
 third n w c own h = grind arith
 
 -- a clear chair sees each entry on a conflict with the paper from the bidding on
-pub conflicts-seen : (u : Option ℕ) (p : ℕ) (H : History) → gets_conflicts (standing_of u (Some p) H) ≡ true → (v : Option ℕ) → is_declared_in_view v p (view u H) ≡ is_declared v p H
+pub conflicts-seen : (u : Option ℕ) (p : ℕ) (H : History) → gets_conflicts (standing_of u (Some p) H) ≡ true → (v : Option ℕ) → is_conflict_on_in_view v p (view u H) ≡ is_conflict_on v p H
 conflicts-seen u p H told v =
     declared-seen_where u v p H (λ at maker more user on _. third (user_named (reader u H) user) (is_author (Some maker) p H && is_author u p H) (clear_chairs (reader u H) p && from (reader u H) Bidding) (user_named (reader u H) maker) told)

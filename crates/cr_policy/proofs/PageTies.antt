@@ -14,19 +14,21 @@ use Rattle.cr_base.specs.History.{History}
 use Rattle.cr_base.specs.Facts.{standing_of}
 use Rattle.cr_base.specs.Page.{PaperTexts, page_of, where_told, gets_title, gets_abstract, shows_author, gets_conflict, gets_conflicts, gets_declared, bare_keys}
 use Rattle.cr_base.specs.Tables.{Tables, no_tables, tables_of, FitInTurn}
-use Rattle.cr_base.specs.Judging.{Facts, Shown, standing_at, facts_of_tables, shown_in_tables, names_in, query_checks, page_by, reply_or_rule, answer_by, answer_by_role}
+use Rattle.cr_base.specs.Answering.{query_checks, page_by, reply_or_rule, answer_by, answer_by_role}
+use Rattle.cr_base.specs.Sources.{Facts, Shown, standing_at, facts_of_tables, shown_in_tables, names_in}
 use Rattle.cr_policy.specs.View.{view}
-use Rattle.cr_policy.specs.ViewFacts.{is_declared_in_view, declared_in_view, users_where, shown_in_view}
+use Rattle.cr_policy.specs.ViewFacts.{is_conflict_on_in_view, declared_in_view, users_where, shown_in_view}
 use Rattle.cr_policy.specs.Judge.{answer}
-use Rattle.cr_policy.proofs.ConflictTies.{is_among, is_declared-tables, declared_by_authors-tables}
+use Rattle.cr_history.proofs.ConflictTies.{is_among, is_conflict_on-tables, declared_by_authors-tables}
 use Rattle.cr_policy.proofs.DeclaredLaws.{declared-seen_by_author}
-use Rattle.cr_policy.specs.Invariants.{DeclaresInTime}
-use Rattle.cr_policy.proofs.OrderTies.{has_order-tables, users-users_of}
+use Rattle.cr_history.specs.Invariants.{DeclaresInTime}
+use Rattle.cr_history.proofs.OrderTies.{has_order-tables, users-users_of}
 use Rattle.cr_policy.proofs.StandingLaws.{accounts-seen}
 use Rattle.cr_policy.proofs.PageTells.{title-seen, abstract-seen, conflicts-seen}
-use Rattle.cr_policy.proofs.LineTies.{accounts_of-tables}
-use Rattle.cr_policy.proofs.PaperTies.{title_of-tables, abstract_of-tables}
-use Rattle.cr_policy.proofs.TableTies.{standing_of-tables, facts_in_view-tables, authors-tables}
+use Rattle.cr_history.proofs.LineTies.{accounts_of-tables}
+use Rattle.cr_history.proofs.PaperTies.{title_of-tables, abstract_of-tables}
+use Rattle.cr_history.proofs.TableTies.{standing_of-tables}
+use Rattle.cr_policy.proofs.FactTies.{facts_in_view-tables, authors-tables}
 
 -- ---- users by number
 
@@ -38,9 +40,9 @@ users-tables u H test fits = ap (λ (lines : List AccountLine). filter test (map
 conflicts-tables : (u : Option ℕ) (H : History) (p : ℕ) → FitInTurn no_tables H → gets_conflicts (standing_of u (Some p) H) ≡ true → (shown_in_view u (view u H)).conflicts p ≡ (shown_in_tables (tables_of H)).conflicts p
 conflicts-tables u H p fits told =
     let t : Tables = tables_of H in
-    let test : ℕ → Bool = λ v. is_declared_in_view (Some v) p (view u H) in
+    let test : ℕ → Bool = λ v. is_conflict_on_in_view (Some v) p (view u H) in
     users-tables u H test fits
-    ∙ users-users_of test p t.accounts t.ties.conflicts (has_order-tables H fits).conflicts (λ v. conflicts-seen u p H told (Some v) ∙ is_declared-tables (Some v) p H)
+    ∙ users-users_of test p t.accounts t.ties.conflicts (has_order-tables H fits).conflicts (λ v. conflicts-seen u p H told (Some v) ∙ is_conflict_on-tables (Some v) p H)
 
 -- whom the paper's authors declared, as the view of one of them shows it
 declared-tables : (u : Option ℕ) (H : History) (p : ℕ) → FitInTurn no_tables H → DeclaresInTime H → gets_declared (standing_of u (Some p) H) ≡ true → (shown_in_view u (view u H)).declared p ≡ (shown_in_tables (tables_of H)).declared p

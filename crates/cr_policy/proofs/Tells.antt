@@ -1,5 +1,5 @@
 -- What each entry shows of one fact: one lemma a fact, one line a kind of entry that tells of it.
-use Rattle.std.proofs.Common.{◌≡◌, ℕ, Bool, true, false, List, [], ◌∷◌, refl, sym, ap, subst, ◌∙◌, ◌||◌, ◌&&◌, Option, Some, append-nil, eqb, arith}
+use Rattle.std.proofs.Common.{◌≡◌, ℕ, Bool, true, false, List, [], ◌∷◌, refl, sym, ap, ◌∙◌, ◌||◌, ◌&&◌, Option, Some, append-nil, eqb, arith}
 use Rattle.std.specs.List.{flat_map}
 use Rattle.std.specs.Str.{bytes_eq}
 use Rattle.std.proofs.lemmas.Bool.{eqb-true, or_parts, and_parts}
@@ -8,16 +8,14 @@ use Rattle.cr_base.specs.declared.entry.Entry.TheVariants.{Registered, Named, Ph
 use Rattle.cr_base.specs.declared.entry.Stamped.{Stamped}
 use Rattle.cr_base.specs.Lists.{given, listed, is_number}
 use Rattle.cr_base.specs.History.{phase_told, mode_told, paper_told, own_paper_told, author_told, conflict_told, title_told, abstract_told, registration_told, role_told, number_told}
+use Rattle.cr_history.proofs.LineTies.{stamp}
 use Rattle.cr_policy.specs.Part as part
-use Rattle.cr_policy.specs.Part.{Part, names}
+use Rattle.cr_policy.specs.Part.{Part}
 use Rattle.cr_policy.specs.Sighting.{Sighting, where_shown}
 use Rattle.cr_policy.specs.Triggers.{Reader, Place, TriggerRow, applies_any, shows}
 use Rattle.cr_policy.specs.View.{sight, is_seen, joined, rows_at}
 use Rattle.cr_policy.specs.ViewFacts.{only, is_user, phase_seen, mode_seen, paper_seen, own_paper_seen, author_seen, conflict_seen, title_seen, abstract_seen, registration_seen, role_seen, number_seen}
 use Rattle.cr_policy.proofs.Walk.{only-true, only-false, flat_map-given, Tells, TellsAll}
-
-abbrev pub stamp : ℕ → Bool → Entry → Stamped
-stamp maker more entry = record { maker = maker; more = more; entry = entry }
 
 -- whether a part of an entry is shown
 abbrev pub passes : Part → Reader → Place → Stamped → Bool
@@ -46,7 +44,7 @@ hidden : (rows : List TriggerRow) (p : Part) → applies_any rows ≡ false → 
 hidden [] p h = refl
 hidden (row ∷ rows) p h =
     let parts = or_parts row.applies (applies_any rows) h in
-    neither (names row.parts p) row.applies (shows rows p) parts.0 (hidden rows p parts.1)
+    neither (row.parts p) row.applies (shows rows p) parts.0 (hidden rows p parts.1)
   where
     neither : (n a rest : Bool) → a ≡ false → rest ≡ false → ((n && a) || rest) ≡ false
     neither n a rest ha hr = grind arith

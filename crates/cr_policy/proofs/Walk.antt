@@ -3,6 +3,7 @@ use Rattle.std.proofs.Common.{◌≡◌, ℕ, Bool, true, false, List, [], ◌�
 use Rattle.std.specs.List.{flat_map, list_any}
 use Rattle.std.proofs.lemmas.Bool.{or_parts, true≢false}
 use Rattle.std.proofs.lemmas.List.Concat.{flat_map-append}
+use Rattle.std.proofs.lemmas.List.Folds.{list_any-append}
 use Rattle.cr_base.specs.declared.entry.Stamped.{Stamped}
 use Rattle.cr_base.specs.Lists.{given, is_number, last, last_from, is_nothing}
 use Rattle.cr_base.specs.History.{History}
@@ -62,14 +63,6 @@ sights-kept r seen told passes tells before (e ∷ after) =
 pub list_any-nobody : (xs : List ℕ) → list_any (is_number None) xs ≡ false
 list_any-nobody [] = refl
 list_any-nobody (x ∷ xs) = list_any-nobody xs
-
-or_step : (b x y z : Bool) → x ≡ (y || z) → (b || x) ≡ ((b || y) || z)
-or_step true x y z h = refl
-or_step false x y z h = h
-
-pub list_any-append : {A : Type 0} (test : A → Bool) (xs ys : List A) → list_any test (xs ++ ys) ≡ (list_any test xs || list_any test ys)
-list_any-append test [] ys = refl
-list_any-append test (x ∷ xs) ys = or_step (test x) (list_any test (xs ++ ys)) (list_any test xs) (list_any test ys) (list_any-append test xs ys)
 
 list_any-only : {A : Type 0} (test : A → Bool) (b : Bool) (xs : List A) → list_any test xs ≡ false → list_any test (only b xs) ≡ false
 list_any-only test true xs h = ap (list_any test) (only-true xs) ∙ h

@@ -1,5 +1,5 @@
 -- What each reader sees of the small conference, before the bidding and in it: the whole of her view, a line an entry.
-use Rattle.std.specs.Prelude.{ℕ, Bool, true, false, List, [], ◌∷◌, ◌++◌, Some, codes}
+use Rattle.std.specs.Prelude.{ℕ, Bool, true, false, List, [], ◌∷◌, ◌++◌, Some, codes, ◌==◌, if◌then◌else◌}
 use Rattle.cr_base.specs.declared.entry.EntryKind.TheVariants as kinds
 use Rattle.cr_base.specs.declared.words.Mode.{Mode}
 use Rattle.cr_base.specs.declared.words.Mode.TheVariants.{Anonymous}
@@ -73,106 +73,29 @@ opening_to_nobody mode =
     ∷ phase_set Submission
     ∷ []
 
-abbrev pub opening_to_erin : Digests → Mode → View
-opening_to_erin d mode =
-    account alice (codes "alice")
-    ∷ role_given alice Chair
-    ∷ account bob (codes "bob")
-    ∷ account carol (codes "carol")
-    ∷ account dave (codes "dave")
-    ∷ own_account erin (codes "erin") d.erin
-    ∷ account fay (codes "fay")
-    ∷ account gus (codes "gus")
-    ∷ role_given carol Member
-    ∷ role_given dave Member
-    ∷ role_given fay Chair
-    ∷ mode_set mode
-    ∷ phase_set Submission
-    ∷ []
+-- the reader's own account is shown with its digest
+abbrev pub account_to : ℕ → ℕ → List ℕ → List ℕ → Sighting
+account_to reader user name digest = if reader == user then own_account user name digest else account user name
 
-abbrev pub opening_to_bob : Digests → Mode → View
-opening_to_bob d mode =
-    account alice (codes "alice")
-    ∷ role_given alice Chair
-    ∷ own_account bob (codes "bob") d.bob
-    ∷ account carol (codes "carol")
-    ∷ account dave (codes "dave")
-    ∷ account erin (codes "erin")
-    ∷ account fay (codes "fay")
-    ∷ account gus (codes "gus")
-    ∷ role_given carol Member
-    ∷ role_given dave Member
-    ∷ role_given fay Chair
-    ∷ mode_set mode
-    ∷ phase_set Submission
-    ∷ []
+-- what alice did
+abbrev pub of_alice_to : ℕ → Sighting → Sighting
+of_alice_to reader line = if reader == alice then mine line else line
 
-abbrev pub opening_to_dave : Digests → Mode → View
-opening_to_dave d mode =
-    account alice (codes "alice")
-    ∷ role_given alice Chair
-    ∷ account bob (codes "bob")
-    ∷ account carol (codes "carol")
-    ∷ own_account dave (codes "dave") d.dave
-    ∷ account erin (codes "erin")
-    ∷ account fay (codes "fay")
-    ∷ account gus (codes "gus")
-    ∷ role_given carol Member
-    ∷ role_given dave Member
-    ∷ role_given fay Chair
-    ∷ mode_set mode
-    ∷ phase_set Submission
-    ∷ []
-
-abbrev pub opening_to_carol : Digests → Mode → View
-opening_to_carol d mode =
-    account alice (codes "alice")
-    ∷ role_given alice Chair
-    ∷ account bob (codes "bob")
-    ∷ own_account carol (codes "carol") d.carol
-    ∷ account dave (codes "dave")
-    ∷ account erin (codes "erin")
-    ∷ account fay (codes "fay")
-    ∷ account gus (codes "gus")
-    ∷ role_given carol Member
-    ∷ role_given dave Member
-    ∷ role_given fay Chair
-    ∷ mode_set mode
-    ∷ phase_set Submission
-    ∷ []
-
-abbrev pub opening_to_alice : Digests → Mode → View
-opening_to_alice d mode =
-    own_account alice (codes "alice") d.alice
-    ∷ mine (role_given alice Chair)
-    ∷ account bob (codes "bob")
-    ∷ account carol (codes "carol")
-    ∷ account dave (codes "dave")
-    ∷ account erin (codes "erin")
-    ∷ account fay (codes "fay")
-    ∷ account gus (codes "gus")
-    ∷ mine (role_given carol Member)
-    ∷ mine (role_given dave Member)
-    ∷ mine (role_given fay Chair)
-    ∷ mine (mode_set mode)
-    ∷ mine (phase_set Submission)
-    ∷ []
-
-abbrev pub opening_to_fay : Digests → Mode → View
-opening_to_fay d mode =
-    account alice (codes "alice")
-    ∷ role_given alice Chair
-    ∷ account bob (codes "bob")
-    ∷ account carol (codes "carol")
-    ∷ account dave (codes "dave")
-    ∷ account erin (codes "erin")
-    ∷ own_account fay (codes "fay") d.fay
-    ∷ account gus (codes "gus")
-    ∷ role_given carol Member
-    ∷ role_given dave Member
-    ∷ role_given fay Chair
-    ∷ mode_set mode
-    ∷ phase_set Submission
+abbrev pub opening_to : ℕ → Digests → Mode → View
+opening_to reader d mode =
+    account_to reader alice (codes "alice") d.alice
+    ∷ of_alice_to reader (role_given alice Chair)
+    ∷ account_to reader bob (codes "bob") d.bob
+    ∷ account_to reader carol (codes "carol") d.carol
+    ∷ account_to reader dave (codes "dave") d.dave
+    ∷ account_to reader erin (codes "erin") d.erin
+    ∷ account_to reader fay (codes "fay") d.fay
+    ∷ account_to reader gus (codes "gus") d.gus
+    ∷ of_alice_to reader (role_given carol Member)
+    ∷ of_alice_to reader (role_given dave Member)
+    ∷ of_alice_to reader (role_given fay Chair)
+    ∷ of_alice_to reader (mode_set mode)
+    ∷ of_alice_to reader (phase_set Submission)
     ∷ []
 
 -- ---- before the bidding
@@ -182,12 +105,12 @@ abbrev pub nobody_before : Mode → View
 nobody_before mode = opening_to_nobody mode ++ paper_alone 1 ∷ paper_alone 2 ∷ []
 
 abbrev pub erin_before : Digests → Mode → View
-erin_before d mode = opening_to_erin d mode ++ paper_alone 1 ∷ paper_alone 2 ∷ []
+erin_before d mode = opening_to erin d mode ++ paper_alone 1 ∷ paper_alone 2 ∷ []
 
 -- an author: her own paper whole, and whom she declared; of the other paper that it is there
 abbrev pub bob_before : Digests → Mode → View
 bob_before d mode =
-    opening_to_bob d mode
+    opening_to bob d mode
     ++ mine (texts_by bob 1 proofs we_prove)
     ∷ paper_alone 2
     ∷ mine (conflict 1 carol true)
@@ -196,18 +119,18 @@ bob_before d mode =
 
 -- a member: no more than anybody
 abbrev pub dave_before : Digests → Mode → View
-dave_before d mode = opening_to_dave d mode ++ paper_alone 1 ∷ paper_alone 2 ∷ []
+dave_before d mode = opening_to dave d mode ++ paper_alone 1 ∷ paper_alone 2 ∷ []
 
 -- a member who is declared in conflict: that she is
 abbrev pub carol_before : Digests → Mode → View
-carol_before d mode = opening_to_carol d mode ++ paper_alone 1 ∷ paper_alone 2 ∷ conflict 1 carol true ∷ []
+carol_before d mode = opening_to carol d mode ++ paper_alone 1 ∷ paper_alone 2 ∷ conflict 1 carol true ∷ []
 
 -- a chair: no more than anybody; and one who is declared in conflict: that she is
 abbrev pub alice_before : Digests → Mode → View
-alice_before d mode = opening_to_alice d mode ++ paper_alone 1 ∷ paper_alone 2 ∷ []
+alice_before d mode = opening_to alice d mode ++ paper_alone 1 ∷ paper_alone 2 ∷ []
 
 abbrev pub fay_before : Digests → Mode → View
-fay_before d mode = opening_to_fay d mode ++ paper_alone 1 ∷ paper_alone 2 ∷ conflict 1 fay true ∷ []
+fay_before d mode = opening_to fay d mode ++ paper_alone 1 ∷ paper_alone 2 ∷ conflict 1 fay true ∷ []
 
 -- ---- in the bidding
 
@@ -216,12 +139,12 @@ abbrev pub nobody_in_bidding : Mode → View
 nobody_in_bidding mode = opening_to_nobody mode ++ paper_alone 1 ∷ paper_alone 2 ∷ phase_set Bidding ∷ []
 
 abbrev pub erin_in_bidding : Digests → Mode → View
-erin_in_bidding d mode = opening_to_erin d mode ++ paper_alone 1 ∷ paper_alone 2 ∷ phase_set Bidding ∷ []
+erin_in_bidding d mode = opening_to erin d mode ++ paper_alone 1 ∷ paper_alone 2 ∷ phase_set Bidding ∷ []
 
 -- an author: as before, and not what the committee declares
 abbrev pub bob_in_bidding : Digests → Mode → View
 bob_in_bidding d mode =
-    opening_to_bob d mode
+    opening_to bob d mode
     ++ mine (texts_by bob 1 proofs we_prove)
     ∷ paper_alone 2
     ∷ mine (conflict 1 carol true)
@@ -232,7 +155,7 @@ bob_in_bidding d mode =
 -- a member in no conflict: both papers, and unless the mode is anonymous who wrote them; of the conflicts her own
 abbrev pub dave_in_bidding : Digests → Mode → View
 dave_in_bidding d Anonymous =
-    opening_to_dave d Anonymous
+    opening_to dave d Anonymous
     ++ texts 1 proofs we_prove
     ∷ texts 2 types we_type
     ∷ phase_set Bidding
@@ -240,7 +163,7 @@ dave_in_bidding d Anonymous =
     ∷ conflict 2 dave false
     ∷ []
 dave_in_bidding d mode =
-    opening_to_dave d mode
+    opening_to dave d mode
     ++ texts_by bob 1 proofs we_prove
     ∷ texts_by gus 2 types we_type
     ∷ phase_set Bidding
@@ -251,14 +174,14 @@ dave_in_bidding d mode =
 -- a member in conflict with paper 1: its title alone; of the other paper what any member sees
 abbrev pub carol_in_bidding : Digests → Mode → View
 carol_in_bidding d Anonymous =
-    opening_to_carol d Anonymous
+    opening_to carol d Anonymous
     ++ title_alone 1 proofs
     ∷ texts 2 types we_type
     ∷ conflict 1 carol true
     ∷ phase_set Bidding
     ∷ []
 carol_in_bidding d mode =
-    opening_to_carol d mode
+    opening_to carol d mode
     ++ title_alone 1 proofs
     ∷ texts_by gus 2 types we_type
     ∷ conflict 1 carol true
@@ -268,7 +191,7 @@ carol_in_bidding d mode =
 -- a chair in no conflict: both papers, who wrote them whatever the mode, and every conflict, but not who declared it
 abbrev pub alice_in_bidding : Digests → Mode → View
 alice_in_bidding d mode =
-    opening_to_alice d mode
+    opening_to alice d mode
     ++ texts_by bob 1 proofs we_prove
     ∷ texts_by gus 2 types we_type
     ∷ conflict 1 carol true
@@ -283,7 +206,7 @@ alice_in_bidding d mode =
 -- a chair in conflict with paper 1: its title alone, and of its conflicts her own; of the other paper what any chair sees
 abbrev pub fay_in_bidding : Digests → Mode → View
 fay_in_bidding d mode =
-    opening_to_fay d mode
+    opening_to fay d mode
     ++ title_alone 1 proofs
     ∷ texts_by gus 2 types we_type
     ∷ conflict 1 fay true

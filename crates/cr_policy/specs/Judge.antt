@@ -4,7 +4,9 @@ use Rattle.cr_base.specs.declared.command.Command.{Command}
 use Rattle.cr_base.specs.declared.command.Query.{Query}
 use Rattle.cr_base.specs.declared.reply.Reply.{Reply}
 use Rattle.cr_base.specs.declared.reply.Rule.{Rule}
-use Rattle.cr_base.specs.Judging.{Drawn, judge_by, answer_by}
+use Rattle.cr_base.specs.Answering.{answer_by}
+use Rattle.cr_base.specs.Drawn.{Drawn}
+use Rattle.cr_base.specs.Judging.{judge_by}
 use Rattle.cr_policy.specs.View.{View}
 use Rattle.cr_policy.specs.ViewFacts.{facts_in_view, shown_in_view}
 

@@ -1,5 +1,5 @@
 -- The laws of views.
-use Rattle.std.specs.Prelude.{ℕ, ◌≡◌, List, [], ◌∷◌, length, Option, Some, None, IsTrue, codes}
+use Rattle.std.specs.Prelude.{ℕ, ◌≡◌, List, [], ◌∷◌, length, Option, Some, None, is_some, IsTrue, codes}
 use Rattle.std.specs.List.{AllByRecursion}
 use Rattle.cr_base.specs.declared.command.Command.{Command}
 use Rattle.cr_base.specs.declared.command.Query.{Query}
@@ -7,13 +7,15 @@ use Rattle.cr_base.specs.declared.words.Role.TheVariants.{Chair}
 use Rattle.cr_base.specs.History.{History}
 use Rattle.cr_base.specs.Facts.{standing_of, role_of, is_author, is_conflicted, declared_by_authors, accounts_of, papers_of, own_papers_of, number_of}
 use Rattle.cr_base.specs.Tables.{tables_of}
-use Rattle.cr_base.specs.Judging.{judge_by_role, answer_by_role}
+use Rattle.cr_base.specs.Answering.{answer_by_role}
+use Rattle.cr_base.specs.Judging.{judge_by_role}
 use Rattle.cr_base.specs.Logins.{command_wants_login, query_wants_login}
-use Rattle.cr_policy.specs.Invariants.{Invariants, IsOwnDigest}
+use Rattle.cr_history.specs.Invariants.{IsRegistered, Invariants}
+use Rattle.cr_policy.specs.Sighting.{Sighting}
 use Rattle.cr_policy.specs.View.{view}
-use Rattle.cr_policy.specs.ViewFacts.{standing_in_view, accounts_in_view, papers_in_view, own_papers_in_view, number_in_view, declared_in_view, authors_in_view, title_in_view, abstract_in_view}
+use Rattle.cr_policy.specs.ViewFacts.{is_user, standing_in_view, accounts_in_view, papers_in_view, own_papers_in_view, number_in_view, declared_in_view, authors_in_view, title_in_view, abstract_in_view}
 use Rattle.cr_policy.specs.Judge.{judge, answer}
-use Rattle.cr_policy.specs.Legal.{Legal, IsRegistered, MayAsk}
+use Rattle.cr_policy.specs.Legal.{Legal, MayAsk}
 use Rattle.cr_policy.specs.Witness.{two_registrations, seen_by_nobody, seen_by_alice, one_submission, submission_seen_by_alice, submission_seen_by_bob, bidding_opened}
 
 -- StandingFromView: how a user stands, to any paper too, can be read off what she sees, whatever the history
@@ -42,6 +44,10 @@ DeclaredFromView = (u : Option ℕ) (p : ℕ) (H : History) → Legal H → IsTr
 -- a legal history keeps the invariants
 abbrev pub LegalKeeps : Type 0
 LegalKeeps = (H : History) → Legal H → Invariants H
+
+-- a digest that is shown stands beside the reader's own number; nobody has one
+abbrev pub IsOwnDigest : Option ℕ → Sighting → Type 0
+IsOwnDigest u s = IsTrue (is_some s.digest) → IsTrue (is_user u s.user)
 
 -- so a digest is its user's alone: of the digests in a legal history a user is shown her own, and nobody is shown any
 abbrev pub DigestsAreOwn : Type 0

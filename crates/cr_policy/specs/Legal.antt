@@ -1,20 +1,16 @@
 -- Legal: which histories come of commands.
-use Rattle.std.specs.Prelude.{ℕ, Bool, ◌≡◌, ◌==◌, List, [], ◌∷◌, ◌++◌, Option, Some, None, Result, Ok, Err, IsTrue, IsFalse}
-use Rattle.std.specs.List.{list_any}
+use Rattle.std.specs.Prelude.{ℕ, Bool, true, false, ◌≡◌, List, [], ◌∷◌, ◌++◌, Option, Some, None, Result, Ok, Err, IsFalse}
 use Rattle.cr_base.specs.declared.command.Command.{Command}
-use Rattle.cr_base.specs.declared.command.Command.TheVariants.{Register, SetPhase, Submit, Name, SetMode, SetConflict}
 use Rattle.cr_base.specs.declared.reply.Rule.{Rule}
-use Rattle.cr_base.specs.History.{History, Registration, all_told, registration_told}
-use Rattle.cr_base.specs.Judging.{Drawn}
+use Rattle.cr_base.specs.History.{History}
+use Rattle.cr_base.specs.Drawn.{Drawn}
+use Rattle.cr_base.specs.Logins.{command_wants_login}
 use Rattle.cr_base.specs.Bounds.{IsBoundedCommand}
+use Rattle.cr_history.specs.Invariants.{IsRegistered}
 use Rattle.cr_policy.specs.View.{view}
 use Rattle.cr_policy.specs.Judge.{judge}
 
 -- ---- who calls
-
--- the user has registered
-abbrev pub IsRegistered : History → ℕ → Type 0
-IsRegistered H user = IsTrue (list_any (λ (r : Registration). r.user == user) (all_told registration_told H))
 
 -- a user who has registered, or nobody where no login is wanted
 abbrev pub MayAsk : History → Bool → Option ℕ → Type 0
@@ -26,14 +22,14 @@ abbrev pub IsUser : History → Option ℕ → Type 0
 IsUser H None = ⊥
 IsUser H (Some user) = IsRegistered H user
 
+-- a user who has registered where a login is wanted, else nobody
+abbrev pub CallsAs : History → Bool → Option ℕ → Type 0
+CallsAs H false caller = caller ≡ None
+CallsAs H true caller = IsUser H caller
+
 -- whose command it is: nobody registers, and every other command is a registered user's
 abbrev pub IsCaller : History → Option ℕ → Command → Type 0
-IsCaller H caller (Register name digest) = caller ≡ None
-IsCaller H caller (SetPhase phase) = IsUser H caller
-IsCaller H caller (Submit title abstract) = IsUser H caller
-IsCaller H caller (Name user role) = IsUser H caller
-IsCaller H caller (SetMode mode) = IsUser H caller
-IsCaller H caller (SetConflict paper user on) = IsUser H caller
+IsCaller H caller command = CallsAs H (command_wants_login command) caller
 
 -- ---- one call
 

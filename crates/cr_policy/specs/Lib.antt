@@ -1,7 +1,6 @@
 pub mod Conference
 pub mod ConferenceLaws
 pub mod ConferenceViews
-pub mod Invariants
 pub mod Judge
 pub mod Laws
 pub mod Legal

@@ -1,5 +1,5 @@
 -- The parts of an entry that a reader may be shown.
-use Rattle.std.specs.Prelude.{ℕ, Bool, List, [], ◌∷◌, ◌==◌}
+use Rattle.std.specs.Prelude.{ℕ, Bool, true, false, List, ◌==◌, ◌||◌}
 use Rattle.std.specs.List.{list_any}
 
 -- the parts that an entry may have beside its kind and its paper, which are never hidden; `by` is who made it
@@ -22,16 +22,29 @@ part_number name = 1
 part_number digest = 2
 part_number role = 3
 part_number phase = 4
-part_number by = 5
-part_number title = 6
-part_number abstract = 7
-part_number mode = 8
+part_number mode = 5
+part_number by = 6
+part_number title = 7
+part_number abstract = 8
 part_number on = 9
 
--- the numbers and bytes of an entry, whatever its kind: not who made it, and no mark
-abbrev pub whole : List Part
-whole = user ∷ name ∷ digest ∷ role ∷ phase ∷ mode ∷ title ∷ abstract ∷ on ∷ []
-
 -- the part is one of these
-abbrev pub names : List Part → Part → Bool
-names parts part = list_any (λ p. part_number p == part_number part) parts
+abbrev pub these : List Part → Part → Bool
+these parts part = list_any (λ p. part_number p == part_number part) parts
+
+-- the part belongs to the whole of an entry, whatever its kind: to its numbers and bytes, so it isn't who made it, and no mark
+abbrev pub whole : Part → Bool
+whole user = true
+whole name = true
+whole digest = true
+whole role = true
+whole phase = true
+whole mode = true
+whole by = false
+whole title = true
+whole abstract = true
+whole on = true
+
+-- it does, or is one of these besides
+abbrev pub whole_and : List Part → Part → Bool
+whole_and parts part = whole part || these parts part

@@ -18,7 +18,7 @@ use Rattle.cr_base.specs.declared.words.Role.{Role}
 use Rattle.cr_base.specs.declared.words.Role.TheVariants.{Account, Member, Chair}
 use Rattle.cr_base.specs.Lists.{given, is_number}
 use Rattle.cr_base.specs.History.{History}
-use Rattle.cr_base.specs.Facts.{phase_of, mode_of, role_of, is_author, is_declared}
+use Rattle.cr_base.specs.Facts.{phase_of, mode_of, role_of, is_author, is_conflict_on}
 use Rattle.cr_base.specs.Rows.{kind_of}
 
 -- ---- who reads
@@ -52,7 +52,7 @@ hides_authors Anonymous = true
 
 -- she wrote the paper, or is declared in conflict with it
 abbrev pub has_conflict : Option ℕ → ℕ → History → Bool
-has_conflict u p H = is_author u p H || is_declared u p H
+has_conflict u p H = is_author u p H || is_conflict_on u p H
 
 -- she is on the committee, and it is bidding or later
 abbrev pub serves : Option ℕ → History → Bool

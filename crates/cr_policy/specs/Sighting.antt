@@ -54,8 +54,8 @@ entire by (Registered user name digest) = record (blank kinds.Registered) { user
 entire by (Named user role) = record (blank kinds.Named) { user = Some user; role = Some role }
 entire by (PhaseSet phase) = record (blank kinds.PhaseSet) { phase = Some phase }
 entire by (ModeSet mode) = record (blank kinds.ModeSet) { mode = Some mode }
-entire by (Conflict paper user on) = record (blank kinds.Conflict) { paper = Some paper; user = Some user; on = Some on }
 entire by (Submitted paper title abstract) = record (blank kinds.Submitted) { paper = Some paper; by = Some by; title = Some title; abstract = Some abstract }
+entire by (Conflict paper user on) = record (blank kinds.Conflict) { paper = Some paper; user = Some user; on = Some on }
 
 -- ---- the parts that are shown
 

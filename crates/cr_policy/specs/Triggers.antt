@@ -5,16 +5,17 @@ use Rattle.std.specs.List.{list_any}
 use Rattle.cr_base.specs.declared.entry.Entry.{Entry}
 use Rattle.cr_base.specs.declared.entry.Entry.TheVariants.{Registered, Named, PhaseSet, ModeSet, Submitted, Conflict}
 use Rattle.cr_base.specs.declared.words.Phase.{Phase}
-use Rattle.cr_base.specs.declared.words.Phase.TheVariants.{Bidding}
+use Rattle.cr_base.specs.declared.entry.Stamped.{Stamped}
+use Rattle.cr_base.specs.declared.words.Phase.TheVariants.{Bidding, Discussion}
 use Rattle.cr_base.specs.declared.words.Mode.{Mode}
 use Rattle.cr_base.specs.declared.words.Role.{Role}
-use Rattle.cr_base.specs.Lists.{is_nothing, is_number}
-use Rattle.cr_base.specs.History.{History, all_told, title_told}
+use Rattle.cr_base.specs.Lists.{is_nothing, is_number, until}
+use Rattle.cr_base.specs.History.{History, all_told, opens, title_told}
 use Rattle.cr_base.specs.Facts.{phase_of, mode_of, role_of, is_author, is_conflicted}
 use Rattle.cr_base.specs.Phases.{is_from}
 use Rattle.cr_base.specs.Words.{is_anonymous, is_member, is_chair}
 use Rattle.cr_policy.specs.Part as part
-use Rattle.cr_policy.specs.Part.{Part, whole, names}
+use Rattle.cr_policy.specs.Part.{Part, these, whole, whole_and}
 
 -- what the table asks at the end of the history: who reads, the phase, the mode, the reader's role, her ties to each
 -- paper, and which user is an author of which paper
@@ -39,7 +40,7 @@ reader u H = record {
   wrote = λ v p. is_author (Some v) p H;
 }
 
--- where an entry stands: what comes before it and what after it
+-- what comes before an entry and what after it
 pub record Place : Type 0 where
   pub before : History
   pub after : History
@@ -87,32 +88,49 @@ none_alike (Registered user name digest) H = true
 none_alike (Named user role) H = true
 none_alike (PhaseSet phase) H = true
 none_alike (ModeSet mode) H = true
-none_alike (Conflict paper user on) H = true
 none_alike (Submitted paper title abstract) H = none_in (title_told paper) H
+none_alike (Conflict paper user on) H = true
 
--- the entry is the last of its matter
-abbrev pub is_last : Place → Entry → Bool
-is_last at e = none_alike e at.after
+-- what a row may ask of where an entry stands: whether it is the first of its matter; the last; the last of those before the
+-- discussion was opened; and whether it was made when the discussion was opened already
+pub record Position : Type 0 where
+  pub first : Bool
+  pub last : Bool
+  pub last_before_discussion : Bool
+  pub from_discussion : Bool
+
+-- the entry opens the discussion
+abbrev pub opens_discussion : Stamped → Bool
+opens_discussion e = opens Discussion e.entry
+
+-- the position of an entry that stands there
+abbrev pub position_of : Place → Entry → Position
+position_of at e = record {
+  first = none_alike e at.before;
+  last = none_alike e at.after;
+  last_before_discussion = not (list_any opens_discussion at.before) && none_alike e (until opens_discussion at.after);
+  from_discussion = list_any opens_discussion at.before;
+}
 
 -- ---- the table
 
 -- one row: whether it applies to the reader, and the parts that it shows then
 pub record TriggerRow : Type 0 where
   pub applies : Bool
-  pub parts : List Part
+  pub parts : Part → Bool
 
 infix 90 ◌see◌
-abbrev pub ◌see◌ : Bool → List Part → TriggerRow
+abbrev pub ◌see◌ : Bool → (Part → Bool) → TriggerRow
 applies see parts = record { applies = applies; parts = parts }
 
 -- no part beside the kind and the paper
-abbrev pub paper_alone : List Part
-paper_alone = []
+abbrev pub paper_alone : Part → Bool
+paper_alone = these []
 
 -- the rows for each kind of entry; `by` is its maker
-abbrev pub rows : Reader → Place → ℕ → Entry → List TriggerRow
+abbrev pub rows : Reader → Position → ℕ → Entry → List TriggerRow
 rows r at by (Registered user name digest) =
-    everyone see (part.user ∷ part.name ∷ [])
+    everyone see these (part.user ∷ part.name ∷ [])
     ∷ []
 rows r at by (Named user role) =
     everyone see whole
@@ -123,18 +141,18 @@ rows r at by (PhaseSet phase) =
 rows r at by (ModeSet mode) =
     everyone see whole
     ∷ []
+rows r at by (Submitted paper title abstract) =
+    everyone see paper_alone
+    ∷ authors r paper see whole_and (part.by ∷ [])
+    ∷ (at.last && members r && from r Bidding) see these (part.title ∷ [])
+    ∷ (at.last && clear_members r paper && from r Bidding) see these (part.abstract ∷ [])
+    ∷ (clear_chairs r paper && from r Bidding) see these (part.by ∷ [])
+    ∷ (clear_members r paper && unless_anonymous r && from r Bidding) see these (part.by ∷ [])
+    ∷ []
 rows r at by (Conflict paper user on) =
     user_named r user see whole
     ∷ (r.wrote by paper && authors r paper) see whole
     ∷ (clear_chairs r paper && from r Bidding) see whole
-    ∷ []
-rows r at by (Submitted paper title abstract) =
-    everyone see paper_alone
-    ∷ authors r paper see (part.by ∷ whole)
-    ∷ (is_last at (Submitted paper title abstract) && members r && from r Bidding) see (part.title ∷ [])
-    ∷ (is_last at (Submitted paper title abstract) && clear_members r paper && from r Bidding) see (part.abstract ∷ [])
-    ∷ (clear_chairs r paper && from r Bidding) see (part.by ∷ [])
-    ∷ (clear_members r paper && unless_anonymous r && from r Bidding) see (part.by ∷ [])
     ∷ []
 
 -- whether a row applies
@@ -143,4 +161,4 @@ applies_any rows = list_any (λ (row : TriggerRow). row.applies) rows
 
 -- whether a row that applies shows the part
 abbrev pub shows : List TriggerRow → Part → Bool
-shows rows p = list_any (λ (row : TriggerRow). names row.parts p && row.applies) rows
+shows rows p = list_any (λ (row : TriggerRow). row.parts p && row.applies) rows

@@ -5,11 +5,11 @@ use Rattle.cr_base.specs.Lists.{given}
 use Rattle.cr_base.specs.History.{History}
 use Rattle.cr_policy.specs.Part.{whole}
 use Rattle.cr_policy.specs.Sighting.{Sighting, sighting}
-use Rattle.cr_policy.specs.Triggers.{Reader, reader, Place, TriggerRow, rows, user_named, ◌see◌, applies_any, shows}
+use Rattle.cr_policy.specs.Triggers.{Reader, reader, Place, position_of, TriggerRow, rows, user_named, ◌see◌, applies_any, shows}
 
 -- the rows of the table, and last the entry's own maker's, who sees it whole
 abbrev pub rows_at : Reader → Place → Stamped → List TriggerRow
-rows_at r at e = rows r at e.maker e.entry ++ user_named r e.maker see whole ∷ []
+rows_at r at e = rows r (position_of at e.entry) e.maker e.entry ++ user_named r e.maker see whole ∷ []
 
 -- whether a row applies, and the parts of those that do, joined; the maker's own has the mark `mine`
 abbrev pub is_seen : Reader → Place → Stamped → Bool

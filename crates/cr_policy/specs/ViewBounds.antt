@@ -1,18 +1,18 @@
 -- The bounds of a view: of each part of the entries who is shown it, neither more nor less, and what that leaves for those
 -- who should know little. They hold of every history, legal or not, of every user and of nobody.
-use Rattle.std.specs.Prelude.{ℕ, Bool, false, ◌≡◌, ◌≤◌, ◌||◌, length, map, Option, None, All, IsTrue, IsFalse, if◌then◌else◌}
+use Rattle.std.specs.Prelude.{ℕ, Bool, false, ◌≡◌, ◌≤◌, ◌||◌, List, length, map, Option, None, All, IsTrue, IsFalse, if◌then◌else◌}
 use Rattle.std.specs.List.{flat_map, list_any}
 use Rattle.cr_base.specs.declared.entry.Entry.{Entry}
 use Rattle.cr_base.specs.declared.entry.Entry.TheVariants.{Conflict}
 use Rattle.cr_base.specs.declared.entry.EntryKind.{EntryKind}
 use Rattle.cr_base.specs.declared.entry.EntryKind.TheVariants as kinds
 use Rattle.cr_base.specs.declared.entry.Stamped.{Stamped}
-use Rattle.cr_base.specs.Lists.{is_number}
+use Rattle.cr_base.specs.Lists.{listed, is_number}
 use Rattle.cr_base.specs.History.{History}
 use Rattle.cr_base.specs.Facts.{is_author}
 use Rattle.cr_policy.specs.Sighting.{Sighting, blank}
 use Rattle.cr_policy.specs.View.{view}
-use Rattle.cr_policy.specs.ViewFacts.{is_user, title_seen, abstract_seen}
+use Rattle.cr_policy.specs.ViewFacts.{only, is_user}
 use Rattle.cr_policy.specs.ShownTo.{PartFor, each_told, serves, handles, kind_for, mark_for, paper_for, user_for, name_for, digest_for, role_for, phase_for, mode_for, maker_for, title_for, abstract_for, switch_for}
 
 -- ---- each part
@@ -65,12 +65,16 @@ SwitchesShown = Shows (λ (s : Sighting). s.on) switch_for
 
 -- ---- earlier texts
 
+-- the text that a sighting shows of the paper, whatever kind of entry it is of
+abbrev pub text_shown : (Sighting → Option (List ℕ)) → ℕ → Sighting → List (List ℕ)
+text_shown text p s = only (is_number s.paper p) (listed (text s))
+
 -- of a paper's titles others than its authors are shown one at most, and of its abstracts too
 abbrev pub OneTitle : Type 0
-OneTitle = (u : Option ℕ) (p : ℕ) (H : History) → IsFalse (is_author u p H) → length (flat_map (title_seen p) (view u H)) ≤ 1
+OneTitle = (u : Option ℕ) (p : ℕ) (H : History) → IsFalse (is_author u p H) → length (flat_map (text_shown (λ (s : Sighting). s.title) p) (view u H)) ≤ 1
 
 abbrev pub OneAbstract : Type 0
-OneAbstract = (u : Option ℕ) (p : ℕ) (H : History) → IsFalse (is_author u p H) → length (flat_map (abstract_seen p) (view u H)) ≤ 1
+OneAbstract = (u : Option ℕ) (p : ℕ) (H : History) → IsFalse (is_author u p H) → length (flat_map (text_shown (λ (s : Sighting). s.abstract) p) (view u H)) ≤ 1
 
 -- ---- who neither wrote a paper nor handles it
 

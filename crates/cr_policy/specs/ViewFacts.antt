@@ -14,8 +14,9 @@ use Rattle.cr_base.specs.declared.reply.AccountLine.{AccountLine}
 use Rattle.cr_base.specs.declared.standing.Standing.{Standing}
 use Rattle.cr_base.specs.Lists.{listed, last, last_or, is_number, at_some, until, since}
 use Rattle.cr_base.specs.Phases.{is_phase}
+use Rattle.cr_base.specs.Shapes.{kind_number}
 use Rattle.cr_base.specs.History.{Registration}
-use Rattle.cr_base.specs.Judging.{Facts, Shown}
+use Rattle.cr_base.specs.Sources.{Facts, Shown}
 use Rattle.cr_policy.specs.Sighting.{Sighting}
 use Rattle.cr_policy.specs.View.{View}
 
@@ -34,93 +35,84 @@ abbrev pub is_text : List ℕ → Option (List ℕ) → Bool
 is_text text None = false
 is_text text (Some shown) = bytes_eq shown text
 
--- ---- what one sighting tells
-
--- the phase, the mode that it sets
-abbrev pub phase_seen : Sighting → List Phase
-phase_seen s = listed s.phase
-
-abbrev pub mode_seen : Sighting → List Mode
-mode_seen s = listed s.mode
-
--- the paper that it makes
-abbrev pub paper_by_kind : EntryKind → Sighting → List ℕ
-paper_by_kind kinds.Submitted s = listed s.paper
-paper_by_kind _ s = []
-
-abbrev pub paper_seen : Sighting → List ℕ
-paper_seen s = paper_by_kind s.kind s
-
--- the same, where it is the reader's own
-abbrev pub own_paper_seen : Sighting → List ℕ
-own_paper_seen s = only s.mine (paper_by_kind s.kind s)
-
--- the author whom it gives the paper
-abbrev pub authors_by_kind : EntryKind → Sighting → List ℕ
-authors_by_kind kinds.Submitted s = listed s.by
-authors_by_kind _ s = []
-
-abbrev pub author_seen : ℕ → Sighting → List ℕ
-author_seen p s = only (is_number s.paper p) (authors_by_kind s.kind s)
-
--- whether it turns the user's declared conflict with the paper on or off
-abbrev pub conflict_by_kind : EntryKind → Sighting → List Bool
-conflict_by_kind kinds.Conflict s = listed s.on
-conflict_by_kind _ s = []
-
-abbrev pub conflict_seen : Option ℕ → ℕ → Sighting → List Bool
-conflict_seen u p s = only (is_number s.paper p && is_user u s.user) (conflict_by_kind s.kind s)
-
--- whom it names in a conflict with the paper
-abbrev pub conflict_user_by_kind : EntryKind → Sighting → List ℕ
-conflict_user_by_kind kinds.Conflict s = listed s.user
-conflict_user_by_kind _ s = []
-
-abbrev pub conflict_user_seen : ℕ → Sighting → List ℕ
-conflict_user_seen p s = only (is_number s.paper p) (conflict_user_by_kind s.kind s)
-
--- the same, where it is the reader's own or names another than her
-abbrev pub own_or_other_seen : Option ℕ → ℕ → Sighting → List ℕ
-own_or_other_seen u p s = only (is_number s.paper p && (s.mine || not (is_user u s.user))) (conflict_user_by_kind s.kind s)
-
--- whether it opens the bidding
+-- the phase that is shown is the bidding
 abbrev pub opens_bidding : Option Phase → Bool
 opens_bidding None = false
 opens_bidding (Some phase) = is_phase phase Bidding
 
-abbrev pub bidding_seen : Sighting → Bool
-bidding_seen s = opens_bidding s.phase
-
--- the title, the abstract that it gives the paper
-abbrev pub title_seen : ℕ → Sighting → List (List ℕ)
-title_seen p s = only (is_number s.paper p) (listed s.title)
-
-abbrev pub abstract_seen : ℕ → Sighting → List (List ℕ)
-abstract_seen p s = only (is_number s.paper p) (listed s.abstract)
-
--- the account that it makes
+-- the account whose user and name are shown
 abbrev pub registration_shown : Option ℕ → Option (List ℕ) → List Registration
 registration_shown (Some user) (Some name) = record { user = user; name = name } ∷ []
 registration_shown _ _ = []
 
-abbrev pub registration_by_kind : EntryKind → Sighting → List Registration
-registration_by_kind kinds.Registered s = registration_shown s.user s.name
-registration_by_kind _ s = []
+-- the text that is shown, of the kinds of entry that give a paper its texts
+abbrev pub text_by_kind : EntryKind → Option (List ℕ) → List (List ℕ)
+text_by_kind kinds.Submitted text = listed text
+text_by_kind _ text = []
 
+-- ---- what one sighting tells: each tells the facts of its kind of entry, and nothing of others
+
+-- the entry is of this kind
+abbrev pub is_kind : EntryKind → Sighting → Bool
+is_kind kind s = kind_number s.kind == kind_number kind
+
+-- the values, where it is
+abbrev pub of_kind : {A : Type 0} → EntryKind → Sighting → List A → List A
+of_kind kind s xs = if is_kind kind s then xs else []
+
+-- the phase, the mode that it sets
+abbrev pub phase_seen : Sighting → List Phase
+phase_seen s = of_kind kinds.PhaseSet s (listed s.phase)
+
+abbrev pub mode_seen : Sighting → List Mode
+mode_seen s = of_kind kinds.ModeSet s (listed s.mode)
+
+-- the paper that it makes
+abbrev pub paper_seen : Sighting → List ℕ
+paper_seen s = of_kind kinds.Submitted s (listed s.paper)
+
+-- the same, where it is the reader's own
+abbrev pub own_paper_seen : Sighting → List ℕ
+own_paper_seen s = only s.mine (paper_seen s)
+
+-- the author whom it gives the paper
+abbrev pub author_seen : ℕ → Sighting → List ℕ
+author_seen p s = only (is_number s.paper p) (of_kind kinds.Submitted s (listed s.by))
+
+-- whether it turns the user's declared conflict with the paper on or off
+abbrev pub conflict_seen : Option ℕ → ℕ → Sighting → List Bool
+conflict_seen u p s = only (is_number s.paper p && is_user u s.user) (of_kind kinds.Conflict s (listed s.on))
+
+-- whom it names in a conflict with the paper
+abbrev pub conflict_user_seen : ℕ → Sighting → List ℕ
+conflict_user_seen p s = only (is_number s.paper p) (of_kind kinds.Conflict s (listed s.user))
+
+-- the same, where it is the reader's own or names another than her
+abbrev pub own_or_other_seen : Option ℕ → ℕ → Sighting → List ℕ
+own_or_other_seen u p s = only (is_number s.paper p && (s.mine || not (is_user u s.user))) (of_kind kinds.Conflict s (listed s.user))
+
+-- whether it opens the bidding
+abbrev pub bidding_seen : Sighting → Bool
+bidding_seen s = is_kind kinds.PhaseSet s && opens_bidding s.phase
+
+-- the title, the abstract that it gives the paper
+abbrev pub title_seen : ℕ → Sighting → List (List ℕ)
+title_seen p s = only (is_number s.paper p) (text_by_kind s.kind s.title)
+
+abbrev pub abstract_seen : ℕ → Sighting → List (List ℕ)
+abstract_seen p s = only (is_number s.paper p) (text_by_kind s.kind s.abstract)
+
+-- the account that it makes
 abbrev pub registration_seen : Sighting → List Registration
-registration_seen s = registration_by_kind s.kind s
+registration_seen s = of_kind kinds.Registered s (registration_shown s.user s.name)
 
 -- the role to which it names the user
 abbrev pub role_seen : Option ℕ → Sighting → List Role
-role_seen u s = only (is_user u s.user) (listed s.role)
+role_seen u s = only (is_user u s.user) (of_kind kinds.Named s (listed s.role))
 
 -- the user whom it registers under this name
-abbrev pub number_by_kind : EntryKind → Sighting → List ℕ
-number_by_kind kinds.Registered s = listed s.user
-number_by_kind _ s = []
-
 abbrev pub number_seen : List ℕ → Sighting → List ℕ
-number_seen name s = only (is_text name s.name) (number_by_kind s.kind s)
+number_seen name s = only (is_text name s.name) (of_kind kinds.Registered s (listed s.user))
 
 -- ---- the facts
 
@@ -158,11 +150,11 @@ abbrev pub is_author_in_view : Option ℕ → ℕ → View → Bool
 is_author_in_view u p V = list_any (is_number u) (authors_in_view p V)
 
 -- ConflictsOf: the last entry shown on the user's conflict with the paper turns it on
-abbrev pub is_declared_in_view : Option ℕ → ℕ → View → Bool
-is_declared_in_view u p V = last_or false (flat_map (conflict_seen u p) V)
+abbrev pub is_conflict_on_in_view : Option ℕ → ℕ → View → Bool
+is_conflict_on_in_view u p V = last_or false (flat_map (conflict_seen u p) V)
 
 abbrev pub is_conflicted_in_view : Option ℕ → ℕ → View → Bool
-is_conflicted_in_view u p V = is_author_in_view u p V || is_declared_in_view u p V
+is_conflicted_in_view u p V = is_author_in_view u p V || is_conflict_on_in_view u p V
 
 -- DeclaredOf, for an author: whom the conflicts name that are her own, or name another than her, or stand before the
 -- bidding was opened; in a legal history these are the ones that an author made
@@ -213,6 +205,6 @@ shown_in_view u V = record {
   title = λ p. title_in_view p V;
   abstract_ = λ p. abstract_in_view p V;
   authors = λ p. authors_in_view p V;
-  conflicts = λ p. users_where (λ v. is_declared_in_view (Some v) p V) V;
+  conflicts = λ p. users_where (λ v. is_conflict_on_in_view (Some v) p V) V;
   declared = λ p. users_where (λ v. list_any (λ w. w == v) (declared_in_view u p V)) V;
 }

@@ -1,9 +1,9 @@
 //! Which parts of the history a user sees, and the laws of what follows from them.
 //!
 //! The definitions stand in this crate's specs: the trigger table, the view that it selects, the
-//! facts of a view, judgement and answer by a view alone, legal histories and what these keep, and a
-//! small conference with the whole view of each reader. The functions here do nothing: each has a law
-//! as its contract.
+//! facts of a view, judgement and answer by a view alone, legal histories, and a small conference with
+//! the whole view of each reader. What legal histories keep stands in `cr_history`. The functions here
+//! do nothing: each has a law as its contract.
 #![tactic(auto)]
 
 ghost use Rattle.std.specs.Prelude.{ℕ, Option};

@@ -3,7 +3,7 @@ use Rattle.std.specs.Prelude.{ℕ, List, ◌++◌, Some, codes, decimal}
 use Rattle.json.specs.Print.{quoted}
 use Rattle.cr_base.specs.Words.{phase_name, mode_name, role_name}
 use Rattle.cr_base.specs.declared.reply.Receipt.{Receipt}
-use Rattle.cr_base.specs.declared.reply.Receipt.TheVariants.{User, Phase, Paper, Named, Mode, Noted}
+use Rattle.cr_base.specs.declared.reply.Receipt.TheVariants.{User, Phase, Paper, Named, Mode, Conflict}
 use Rattle.cr_print.specs.declared.status.Status.{Status}
 use Rattle.cr_print.specs.declared.status.Status.TheVariants.{Okay, Created}
 use Rattle.cr_print.specs.Json.{Member, told, object_text}
@@ -14,7 +14,7 @@ receipt_status (Phase phase) = Okay
 receipt_status (Paper paper) = Created
 receipt_status (Named name role) = Okay
 receipt_status (Mode mode) = Okay
-receipt_status (Noted paper) = Okay
+receipt_status (Conflict paper) = Okay
 
 -- the keys in the order of their bytes
 unfoldable pub receipt_members : Receipt → List Member
@@ -23,7 +23,7 @@ receipt_members (Phase phase) = told (codes "phase") (Some (quoted (phase_name p
 receipt_members (Paper paper) = told (codes "paper") (Some (decimal paper))
 receipt_members (Named name role) = told (codes "name") (Some (quoted name)) ++ told (codes "role") (Some (quoted (role_name role)))
 receipt_members (Mode mode) = told (codes "mode") (Some (quoted (mode_name mode)))
-receipt_members (Noted paper) = told (codes "paper") (Some (decimal paper))
+receipt_members (Conflict paper) = told (codes "paper") (Some (decimal paper))
 
 abbrev pub receipt_content : Receipt → List ℕ
 receipt_content receipt = object_text (receipt_members receipt)

@@ -36,7 +36,7 @@ pub(crate) fn print_brief(into: &mut Vec<u8>, start: usize, head: Head, form: Fo
     ensures within { vec_len into.new ≤ start + 512 }
     ensures capacity { vec_capacity into.old ≤ vec_capacity into.new }
 {
-    let mut content: ArrayVec<u8, 288> = ArrayVec::new();
+    let mut content: ArrayVec<u8, CONTENT_ROOM> = ArrayVec::new();
     content.try_extend_from_slice(&into[start..]).unwrap();
     into.truncate(start);
     print_head(into, head, content.len(), form.closes);

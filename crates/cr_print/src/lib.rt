@@ -32,6 +32,3 @@ pub use object::Object;
 pub use receipt::print_receipt;
 pub use refused::{Refused, print_refusal};
 pub use reply::print_reply;
-
-#[cfg(test)]
-mod tests;

@@ -24,7 +24,7 @@ fn receipt_status(receipt: &Receipt) -> Status
         Receipt::Phase { .. }
         | Receipt::Named { .. }
         | Receipt::Mode { .. }
-        | Receipt::Noted { .. } => Status::Okay,
+        | Receipt::Conflict { .. } => Status::Okay,
     }
 }
 
@@ -70,7 +70,7 @@ fn append_receipt(into: &mut Vec<u8>, receipt: &Receipt) -> Result<(), AllocErro
         Receipt::Paper { paper } => append_number_alone(into, "paper", paper.number())?,
         Receipt::Named { name, role } => append_named(into, name, *role)?,
         Receipt::Mode { mode } => append_word_alone(into, "mode", mode.name())?,
-        Receipt::Noted { paper } => append_number_alone(into, "paper", paper.number())?,
+        Receipt::Conflict { paper } => append_number_alone(into, "paper", paper.number())?,
     }
     Ok(())
 }

@@ -5,8 +5,8 @@ use Rattle.cr_routes.specs.declared.place.Place.{Place}
 use Rattle.cr_routes.specs.declared.place.Place.TheVariants as at
 use Rattle.cr_routes.specs.declared.method.Method.{Method}
 use Rattle.cr_routes.specs.declared.method.Method.TheVariants.{Get, Head, Post}
-use Rattle.cr_routes.specs.declared.ask.Ask.{Ask}
-use Rattle.cr_routes.specs.declared.ask.Ask.TheVariants as asks
+use Rattle.cr_base.specs.declared.ask.Ask.{Ask}
+use Rattle.cr_base.specs.declared.ask.Ask.TheVariants as asks
 
 -- one line for each route, HEAD aside
 abbrev pub route_at : Place → Method → Option Ask
@@ -32,11 +32,11 @@ abbrev pub ask_at : Place → Method → Option Ask
 ask_at place method = route_at place (as_get method)
 
 -- texts with a comma and a space between them
-abbrev pub listed : List (List ℕ) → List ℕ
-listed [] = []
-listed (t ∷ []) = t
-listed (t ∷ u ∷ us) = t ++ codes ", " ++ listed (u ∷ us)
+abbrev pub joined_by_commas : List (List ℕ) → List ℕ
+joined_by_commas [] = []
+joined_by_commas (t ∷ []) = t
+joined_by_commas (t ∷ u ∷ us) = t ++ codes ", " ++ joined_by_commas (u ∷ us)
 
 -- the names of the methods that ask for something at a path, in alphabetical order
 abbrev pub allow_text : Place → List ℕ
-allow_text place = listed (map name_of (filter (λ m. is_some (ask_at place m)) methods))
+allow_text place = joined_by_commas (map name_of (filter (λ m. is_some (ask_at place m)) methods))

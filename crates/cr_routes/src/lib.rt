@@ -5,16 +5,12 @@
 //! stands in `specs/Parts.antt`, without a router; `Routes::find` finds just that with one.
 #![tactic(auto)]
 
-mod ask;
 mod found;
 mod laws;
 mod method;
 mod place;
 mod routes;
-#[cfg(test)]
-mod tests;
 
-pub use ask::Ask;
 pub use found::Found;
 pub use laws::law_paths;
 pub use method::Method;

@@ -1,8 +1,8 @@
 //! The paths by name.
 ghost use Rattle.std.specs.Prelude.{◌≡◌, ◌≤◌, length};
 
-use crate::ask::Ask;
 use crate::method::Method;
+use cr_base::Ask;
 
 /// A path that the server knows.
 #[derive(Clone, Copy, PartialEq, Eq, Debug)]

@@ -9,8 +9,8 @@ use Rattle.cr_print.specs.Answers.{closing_text, no_memory_text}
 use Rattle.cr_session.specs.declared.serve.Ending.{Ending}
 use Rattle.cr_session.specs.declared.serve.Ending.TheVariants as endings
 use Rattle.cr_session.specs.declared.serve.Why.TheVariants as whys
-use Rattle.cr_session.specs.Replay.{Judged, Replays, answers, answer_to, wishes_of}
-use Rattle.cr_session.specs.Serving.{World, EndsAs, CountsReads, Connection, GoesOn, Notes, ReadsNoFurther}
+use Rattle.cr_session.specs.Replay.{JudgedWish, Replays, answers, answer_to, wishes_of}
+use Rattle.cr_session.specs.Serving.{World, EndsAs, CountsReads, Connection, GoesOn, TellsWantOfMemory, ReadsNoFurther}
 use Rattle.cr_session.specs.Wishes.{Spells, Begins, Reaches}
 use Rattle.cr_ports.specs.Writing.{Outlet, Writes, BreaksOff}
 use Rattle.cr_session.proofs.NoFurther.{no_further-append, no_further-still}
@@ -21,37 +21,37 @@ use Rattle.cr_ports.proofs.WritingLaws.{writes-nil, writes-append, breaks_behind
 -- ---- what the sink took
 
 -- the answers, and more behind them
-answers_on : (n : ℕ) (js ks : List Judged) (more : List ℕ) → answers n js ++ (answers (n + length js) ks ++ more) ≡ answers n (js ++ ks) ++ more
+answers_on : (n : ℕ) (js ks : List JudgedWish) (more : List ℕ) → answers n js ++ (answers (n + length js) ks ++ more) ≡ answers n (js ++ ks) ++ more
 answers_on n js ks more = sym (append_assoc (answers n js) (answers (n + length js) ks) more) ∙ ap (λ a. a ++ more) (sym (answers-append n js ks))
 
-wrote_on : (n : ℕ) (js ks : List Judged) (more : List ℕ) (s t u : Outlet) → Writes (answers n js) s t → Writes (answers (n + length js) ks ++ more) t u
+wrote_on : (n : ℕ) (js ks : List JudgedWish) (more : List ℕ) (s t u : Outlet) → Writes (answers n js) s t → Writes (answers (n + length js) ks ++ more) t u
     → Writes (answers n (js ++ ks) ++ more) s u
 wrote_on n js ks more s t u x y =
     subst (λ (b : List ℕ). Writes b s u) (answers_on n js ks more) (writes-append (answers n js) (answers (n + length js) ks ++ more) s t u x y)
 
-wrote_all : (n : ℕ) (js ks : List Judged) (s t u : Outlet) → Writes (answers n js) s t → Writes (answers (n + length js) ks) t u → Writes (answers n (js ++ ks)) s u
+wrote_all : (n : ℕ) (js ks : List JudgedWish) (s t u : Outlet) → Writes (answers n js) s t → Writes (answers (n + length js) ks) t u → Writes (answers n (js ++ ks)) s u
 wrote_all n js ks s t u x y =
     subst (λ (b : List ℕ). Writes b s u) (sym (answers-append n js ks)) (writes-append (answers n js) (answers (n + length js) ks) s t u x y)
 
-broke_off : (n : ℕ) (js ks : List Judged) (bytes : List ℕ) (s t u : Outlet) → Writes (answers n js) s t → BreaksOff (answers (n + length js) ks) bytes t u
+broke_off : (n : ℕ) (js ks : List JudgedWish) (bytes : List ℕ) (s t u : Outlet) → Writes (answers n js) s t → BreaksOff (answers (n + length js) ks) bytes t u
     → BreaksOff (answers n (js ++ ks)) bytes s u
 broke_off n js ks bytes s t u x y =
     subst (λ (b : List ℕ). BreaksOff b bytes s u) (sym (answers-append n js ks)) (breaks_behind (answers n js) (answers (n + length js) ks) bytes s t u x y)
 
-noted : (n : ℕ) (js ks : List Judged) (head : Bool) (s t u : Outlet) → Writes (answers n js) s t → Notes (answers (n + length js) ks) head t u
-    → Notes (answers n (js ++ ks)) head s u
+noted : (n : ℕ) (js ks : List JudgedWish) (head : Bool) (s t u : Outlet) → Writes (answers n js) s t → TellsWantOfMemory (answers (n + length js) ks) head t u
+    → TellsWantOfMemory (answers n (js ++ ks)) head s u
 noted n js ks head s t u x (inl is) = inl (wrote_on n js ks (no_memory_text head) s t u x is)
 noted n js ks head s t u x (inr is) = inr (broke_off n js ks (no_memory_text head) s t u x is)
 
 -- ---- by the ending
 
-ends_on : (ending : Ending) (n : ℕ) (text rest : List ℕ) (js ks : List Judged) (failed : Option Judged) (H : History) (s t u : Outlet)
+ends_on : (ending : Ending) (n : ℕ) (text rest : List ℕ) (js ks : List JudgedWish) (failed : Option JudgedWish) (H : History) (s t u : Outlet)
     → Reaches n text (wishes_of js) rest → Writes (answers n js) s t
     → EndsAs ending (n + length js) rest rest ks failed H t u → EndsAs ending n text text (js ++ ks) failed H s u
 ends_on ending n text rest js ks (Some j) H s t u reach first e =
     let number : n + length js + length ks ≡ n + length (js ++ ks) = let l = length-append js ks in omega (arith, l) in (
       e.0,
-      subst (λ (all : List Judged). Begins n text (wishes_of all)) (sym (append_assoc js ks (j ∷ []))) (begins_on n text rest js (ks ++ j ∷ []) reach e.1),
+      subst (λ (all : List JudgedWish). Begins n text (wishes_of all)) (sym (append_assoc js ks (j ∷ []))) (begins_on n text rest js (ks ++ j ∷ []) reach e.1),
       broke_off n js ks (answer_to (n + length (js ++ ks)) j) s t u first (subst (λ (k : ℕ). BreaksOff (answers (n + length js) ks) (answer_to k j) t u) number e.2),
     )
 ends_on endings.Clean n text rest js ks None H s t u reach first e =
@@ -78,15 +78,15 @@ counts_on ending f g h same c = subst (λ (x : ℕ). CountsReads ending x h) sam
 
 -- ---- one part behind another
 
-reach_now : (n : ℕ) (a g k : List ℕ) (js : List Judged) (i : List ℕ) → Reaches n (a ++ g) (wishes_of js) i → Reaches n (a ++ (g ++ k)) (wishes_of js) (i ++ k)
+reach_now : (n : ℕ) (a g k : List ℕ) (js : List JudgedWish) (i : List ℕ) → Reaches n (a ++ g) (wishes_of js) i → Reaches n (a ++ (g ++ k)) (wishes_of js) (i ++ k)
 reach_now n a g k js i is = subst (λ (t : List ℕ). Reaches n t (wishes_of js) (i ++ k)) (append_assoc a g k) (Reaches-more n (a ++ g) k (wishes_of js) i is)
 
-number_of : (c : ℕ) (js : List Judged) → length js ≡ c → c ≡ 0 + length js
+number_of : (c : ℕ) (js : List JudgedWish) → length js ≡ c → c ≡ 0 + length js
 number_of c js e = omega (arith, e)
 
 module _ {S : Type 0} (left : S → Option (List ℕ)) (gives : S → S → List ℕ → Type 0) where
   -- reads from a request's number on, however the number is told
-  from_number : (c k : ℕ) (ks : List Judged) (p q : S) (old new : List ℕ) → c ≡ k → ReadsNoFurther left gives c ks p q old new → ReadsNoFurther left gives k ks p q old new
+  from_number : (c k : ℕ) (ks : List JudgedWish) (p q : S) (old new : List ℕ) → c ≡ k → ReadsNoFurther left gives c ks p q old new → ReadsNoFurther left gives k ks p q old new
   from_number c k ks p q old new e x = subst (λ (m : ℕ). ReadsNoFurther left gives m ks p q old new) e x
 
   -- what a connection did up to its end, behind what it did before
@@ -99,7 +99,7 @@ module _ {S : Type 0} (left : S → Option (List ℕ)) (gives : S → S → List
         given = x.given ∙ ap (and_left x.got) y.given ∙ and_left-append x.got y.got (left u.source);
         answered = x.answered ++ y.answered;
         failed = y.failed;
-        replays = subst (λ (all : List Judged). Replays all w.ledger u.ledger) (sym (append_assoc x.answered y.answered (listed y.failed)))
+        replays = subst (λ (all : List JudgedWish). Replays all w.ledger u.ledger) (sym (append_assoc x.answered y.answered (listed y.failed)))
             (replays-append x.answered (y.answered ++ listed y.failed) w.ledger v.ledger u.ledger x.replays y.replays);
         ends = ends_on ending 0 (a ++ (x.got ++ y.got)) (b ++ y.got) x.answered y.answered y.failed u.ledger.history w.sink v.sink u.sink
             (reach_now 0 a x.got y.got x.answered b x.reaches) x.writes

@@ -6,7 +6,7 @@ use Rattle.cr_http.specs.Filling.{ReadsWhile}
 use Rattle.cr_http.specs.Reading.{IsUnsettled}
 use Rattle.cr_http.proofs.Moving.{reads_on, reads_for}
 use Rattle.cr_wire.specs.declared.what.Wish.{Wish}
-use Rattle.cr_session.specs.Replay.{Judged, wishes_of}
+use Rattle.cr_session.specs.Replay.{JudgedWish, wishes_of}
 use Rattle.cr_session.specs.Serving.{WantsBehind, ReadsNoFurther}
 use Rattle.cr_session.specs.Wishes.{Reaches}
 use Rattle.cr_session.proofs.WishRuns.{Reaches-more, reaches_wishes, wishes_of-append, counted_wishes}
@@ -23,7 +23,7 @@ wants-first n ws text unsettled = record {
 }
 
 -- what is wanted behind some of fewer wishes
-wants-wider : (n : ℕ) (js ks : List Judged) (text : List ℕ) → WantsBehind n (wishes_of js) text → WantsBehind n (wishes_of (js ++ ks)) text
+wants-wider : (n : ℕ) (js ks : List JudgedWish) (text : List ℕ) → WantsBehind n (wishes_of js) text → WantsBehind n (wishes_of (js ++ ks)) text
 wants-wider n js ks text w = record {
   first = w.first;
   others = w.others ++ wishes_of ks;
@@ -34,7 +34,7 @@ wants-wider n js ks text w = record {
 }
 
 -- what is wanted behind wishes that come behind others
-wants-later : (n : ℕ) (js ks : List Judged) (text rest : List ℕ) → Reaches n text (wishes_of js) rest → WantsBehind (n + length js) (wishes_of ks) rest
+wants-later : (n : ℕ) (js ks : List JudgedWish) (text rest : List ℕ) → Reaches n text (wishes_of js) rest → WantsBehind (n + length js) (wishes_of ks) rest
     → WantsBehind n (wishes_of (js ++ ks)) text
 wants-later n js ks text rest reach w = record {
   first = wishes_of js ++ w.first;
@@ -66,17 +66,17 @@ module _ {S : Type 0} (left : S → Option (List ℕ)) (gives : S → S → List
       })
 
   -- of one reading
-  pub no_further-one : (n : ℕ) (answered : List Judged) (p q : S) (old new : List ℕ) → ReadsWhile left gives IsUnsettled p q old new
+  pub no_further-one : (n : ℕ) (answered : List JudgedWish) (p q : S) (old new : List ℕ) → ReadsWhile left gives IsUnsettled p q old new
       → ReadsNoFurther left gives n answered p q old new
   no_further-one n answered p q old new x =
       reads_for left gives IsUnsettled (WantsBehind n (wishes_of answered)) p q old new (λ text left' moves. wants-first n (wishes_of answered) text) x
 
   -- nothing was read
-  pub no_further-still : (n : ℕ) (answered : List Judged) (p : S) (old : List ℕ) → ReadsNoFurther left gives n answered p p old old
+  pub no_further-still : (n : ℕ) (answered : List JudgedWish) (p : S) (old : List ℕ) → ReadsNoFurther left gives n answered p p old old
   no_further-still n answered p old = inl (refl, refl)
 
   -- of what came before, and of what came then
-  pub no_further-append : (n : ℕ) (js ks : List Judged) (p q r : S) (a b got more : List ℕ) → left p ≡ and_left got (left q) → Reaches n (a ++ got) (wishes_of js) b
+  pub no_further-append : (n : ℕ) (js ks : List JudgedWish) (p q r : S) (a b got more : List ℕ) → left p ≡ and_left got (left q) → Reaches n (a ++ got) (wishes_of js) b
       → ReadsNoFurther left gives n js p q a (a ++ got) → ReadsNoFurther left gives (n + length js) ks q r b (b ++ more)
       → ReadsNoFurther left gives n (js ++ ks) p r a (a ++ (got ++ more))
   no_further-append n js ks p q r a b got more given reach x y =

@@ -7,10 +7,10 @@ use Rattle.cr_session.specs.declared.turn.Turn.TheVariants as turns
 use Rattle.cr_session.specs.declared.serve.Served.{Served}
 use Rattle.cr_session.specs.declared.serve.Served.TheVariants as served
 use Rattle.cr_session.specs.Told.{form_of, told, unkept, step}
-use Rattle.cr_session.specs.Replay.{Judged, Ledger, answer_to, history_after}
+use Rattle.cr_session.specs.Replay.{JudgedWish, Ledger, answer_to, history_after}
 use Rattle.cr_wire.specs.Wishes.{closes}
 use Rattle.cr_ports.specs.Writing.{Outlet, Writes, BreaksOff}
-use Rattle.cr_session.specs.Turning.{Turns, Answers, turn_text, MayWantToPrint, MayWantMemory, Sends, Judges, Serves}
+use Rattle.cr_session.specs.Turning.{Turns, AnswersWish, turn_text, MayWantToPrint, MayWantMemory, Sends, JudgesInTurn, ServesRequest}
 
 -- ---- what was judged
 
@@ -32,12 +32,12 @@ history_after-lost w old = refl
 
 -- a turn came to this, and the request was judged with that answer
 record WasJudged (turn : Turn) (n : ℕ) (w : Wish) (b b' : Ledger) : Type 0 where
-  judges : Judges w b b'
+  judges : JudgesInTurn w b b'
   text : turn_text turn (form_of w (closes n w)) ≡ answer_to n judges.judged
 
-kept-judged : (turn : Turn) (n : ℕ) (w : Wish) (b b' : Ledger) → Answers turn w b b' → WasJudged turn n w b b'
+kept-judged : (turn : Turn) (n : ℕ) (w : Wish) (b b' : Ledger) → AnswersWish turn w b b' → WasJudged turn n w b b'
 kept-judged turn n w b b' a =
-    let j : Judged = record { wish = w; seen = b.history; lost = false } in
+    let j : JudgedWish = record { wish = w; seen = b.history; lost = false } in
     record {
       judges = record {
         judged = j;
@@ -52,7 +52,7 @@ was_judged (turns.Refused refused) n w b b' memory t = kept-judged (turns.Refuse
 was_judged (turns.Accepted receipt) n w b b' memory t = kept-judged (turns.Accepted receipt) n w b b' t
 was_judged (turns.Answered reply) n w b b' memory t = kept-judged (turns.Answered reply) n w b b' t.0
 was_judged turns.Lost n w b b' memory t =
-    let j : Judged = record { wish = w; seen = b.history; lost = true } in
+    let j : JudgedWish = record { wish = w; seen = b.history; lost = true } in
     record {
       judges = record {
         judged = j;
@@ -67,7 +67,7 @@ was_judged turns.OutOfMemory n w b b' memory t = absurd (memory refl)
 
 -- the answer was sent
 pub serves_sent : (turn : Turn) (sent : Served) (n : ℕ) (w : Wish) (close : Bool) (reply : List ℕ) (b b' : Ledger) (s s' : Outlet) → (turn ≡ turns.OutOfMemory → ⊥)
-    → Turns turn w b b' → close ≡ closes n w → reply ≡ turn_text turn (form_of w close) → Sends sent close reply s s' → Serves sent n w b b' s s'
+    → Turns turn w b b' → close ≡ closes n w → reply ≡ turn_text turn (form_of w close) → Sends sent close reply s s' → ServesRequest sent n w b b' s s'
 serves_sent turn sent n w close reply b b' s s' memory t closing is sends = by sent sends
   where
     j : WasJudged turn n w b b'
@@ -76,7 +76,7 @@ serves_sent turn sent n w close reply b b' s s' memory t closing is sends = by s
     text : reply ≡ answer_to n j.judges.judged
     text = is ∙ ap (λ (b : Bool). turn_text turn (form_of w b)) closing ∙ j.text
 
-    by : (x : Served) → Sends x close reply s s' → Serves x n w b b' s s'
+    by : (x : Served) → Sends x close reply s s' → ServesRequest x n w b b' s s'
     by served.Goes x = (j.judges, sym closing ∙ x.0, subst (λ (r : List ℕ). Writes r s s') text x.1)
     by served.Closes x = (j.judges, sym closing ∙ x.0, subst (λ (r : List ℕ). Writes r s s') text x.1)
     by served.WriteFault x = (j.judges, subst (λ (r : List ℕ). BreaksOff [] r s s') text x)

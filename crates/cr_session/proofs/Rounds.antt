@@ -8,15 +8,16 @@ use Rattle.cr_ports.specs.Stream.{and_left}
 use Rattle.cr_print.specs.Answers.{closing_text}
 use Rattle.cr_wire.specs.declared.what.Wish.{Wish}
 use Rattle.cr_wire.specs.Wish.{wish_text}
+use Rattle.cr_session.specs.declared.reading.WishRead.{WishRead}
 use Rattle.cr_session.specs.declared.reading.WishRead.TheVariants as reads
 use Rattle.cr_session.specs.declared.serve.Ending.{Ending}
 use Rattle.cr_session.specs.declared.serve.Ending.TheVariants as endings
 use Rattle.cr_session.specs.declared.serve.Served.TheVariants as served
 use Rattle.cr_session.specs.declared.serve.Why.TheVariants as whys
 use Rattle.cr_session.specs.Reading.{ReadsWish, StandsWish}
-use Rattle.cr_session.specs.Replay.{Judged, Ledger, answer_to, wishes_of}
-use Rattle.cr_session.specs.Serving.{World, Connection, GoesOn, Refuses, Notes, MayLackMemory, CountsReads, ReadsNoFurther}
-use Rattle.cr_session.specs.Turning.{Serves}
+use Rattle.cr_session.specs.Replay.{JudgedWish, Ledger, answer_to, wishes_of}
+use Rattle.cr_session.specs.Serving.{World, Connection, GoesOn, WritesRefusal, TellsWantOfMemory, MayLackMemory, EndsAs, EndsSource, CountsReads, ReadsNoFurther}
+use Rattle.cr_session.specs.Turning.{ServesRequest}
 use Rattle.cr_session.specs.Wishes.{Spells}
 use Rattle.cr_ports.specs.Writing.{Outlet, Writes, BreaksOff}
 use Rattle.cr_wire.specs.Wishes.{closes, closes_behind}
@@ -36,7 +37,7 @@ unfolding closes_behind
 closes-behind n r w b is e = ap (closes n) (sym is) ∙ e
 
 -- one wish, by its request
-one_wish : (j : Judged) (w : Wish) (r : RequestText) → j.wish ≡ w → w ≡ wish_text r → wishes_of (j ∷ []) ≡ map wish_text (r ∷ [])
+one_wish : (j : JudgedWish) (w : Wish) (r : RequestText) → j.wish ≡ w → w ≡ wish_text r → wishes_of (j ∷ []) ≡ map wish_text (r ∷ [])
 one_wish j w r a b = ap (λ (x : Wish). x ∷ []) (a ∙ b)
 
 last-closes : (n : ℕ) (rest : List ℕ) (b : Bool) → b ≡ true → MatchBool b (◌≡◌ {A = List RequestText} [] [] × (asked ≡ asked)) (SpellsFrom closes_behind (n + 1) rest [] asked)
@@ -64,7 +65,7 @@ module _ {S : Type 0} (left : S → Option (List ℕ)) (gives : S → S → List
   -- ---- a whole request
 
   pub round_goes : (n : ℕ) (wish : Wish) (i i' : List ℕ) (w w' : World S) → ReadsWish left gives w.source w'.source i i' (reads.Wish wish)
-      → Serves served.Goes n wish w.ledger w'.ledger w.sink w'.sink → w'.read_faults ≡ w.read_faults → GoesOn left gives 1 n i i' w w'
+      → ServesRequest served.Goes n wish w.ledger w'.ledger w.sink w'.sink → w'.read_faults ≡ w.read_faults → GoesOn left gives 1 n i i' w w'
   round_goes n wish i i' w w' x y counts = record {
     got = x.got;
     given = x.given;
@@ -82,7 +83,7 @@ module _ {S : Type 0} (left : S → Option (List ℕ)) (gives : S → S → List
   }
 
   pub round_closes : (n : ℕ) (wish : Wish) (i i' : List ℕ) (w w' : World S) → ReadsWish left gives w.source w'.source i i' (reads.Wish wish)
-      → Serves served.Closes n wish w.ledger w'.ledger w.sink w'.sink → w'.read_faults ≡ w.read_faults → Connection left gives (endings.Closed whys.Asked) n i w w'
+      → ServesRequest served.Closes n wish w.ledger w'.ledger w.sink w'.sink → w'.read_faults ≡ w.read_faults → Connection left gives (endings.Closed whys.Asked) n i w w'
   round_closes n wish i i' w w' x y counts = record {
     got = x.got;
     given = x.given;
@@ -103,7 +104,7 @@ module _ {S : Type 0} (left : S → Option (List ℕ)) (gives : S → S → List
   }
 
   pub round_write_fault : (n : ℕ) (wish : Wish) (i i' : List ℕ) (w w' : World S) → ReadsWish left gives w.source w'.source i i' (reads.Wish wish)
-      → Serves served.WriteFault n wish w.ledger w'.ledger w.sink w'.sink → w'.read_faults ≡ w.read_faults → Connection left gives endings.WriteFault n i w w'
+      → ServesRequest served.WriteFault n wish w.ledger w'.ledger w.sink w'.sink → w'.read_faults ≡ w.read_faults → Connection left gives endings.WriteFault n i w w'
   round_write_fault n wish i i' w w' x y counts = record {
     got = x.got;
     given = x.given;
@@ -127,7 +128,7 @@ module _ {S : Type 0} (left : S → Option (List ℕ)) (gives : S → S → List
   -- ---- no memory
 
   no_memory : (n : ℕ) (i got : List ℕ) (head : Bool) (w w' : World S) → IsToHead (i ++ got) head → MayLackMemory w'.ledger.history (i ++ got)
-      → left w.source ≡ and_left got (left w'.source) → w'.ledger ≡ w.ledger → Notes [] head w.sink w'.sink → w'.read_faults ≡ w.read_faults
+      → left w.source ≡ and_left got (left w'.source) → w'.ledger ≡ w.ledger → TellsWantOfMemory [] head w.sink w'.sink → w'.read_faults ≡ w.read_faults
       → ReadsNoFurther left gives n [] w.source w'.source i (i ++ got) → Connection left gives endings.OutOfMemory n i w w'
   no_memory n i got head w w' to may given same notes counts needed = record {
     got = got;
@@ -143,22 +144,22 @@ module _ {S : Type 0} (left : S → Option (List ℕ)) (gives : S → S → List
 
   -- a request was read, and memory was wanting in its turn
   pub round_no_memory : (n : ℕ) (wish : Wish) (i i' : List ℕ) (w w' : World S) (b : Ledger) (s : Outlet) → ReadsWish left gives w.source w'.source i i' (reads.Wish wish)
-      → Serves served.OutOfMemory n wish w.ledger b w.sink s → w'.ledger ≡ b → Notes [] wish.is_head s w'.sink → w'.read_faults ≡ w.read_faults → Connection left gives endings.OutOfMemory n i w w'
+      → ServesRequest served.OutOfMemory n wish w.ledger b w.sink s → w'.ledger ≡ b → TellsWantOfMemory [] wish.is_head s w'.sink → w'.read_faults ≡ w.read_faults → Connection left gives endings.OutOfMemory n i w w'
   round_no_memory n wish i i' w w' b s x y same notes counts =
       let stood : w'.ledger ≡ w.ledger = same ∙ y.0 in
       no_memory n i x.got wish.is_head w w' (to_wish (i ++ x.got) wish i' x.says)
       (subst (λ (l : Ledger). MayLackMemory l.history (i ++ x.got)) (sym stood) (inr (wish, i', x.says, y.2)))
-      x.given stood (subst (λ (o : Outlet). Notes [] wish.is_head o w'.sink) y.1 notes) counts
+      x.given stood (subst (λ (o : Outlet). TellsWantOfMemory [] wish.is_head o w'.sink) y.1 notes) counts
       (no_further-one left gives n [] w.source w'.source i (i ++ x.got) x.needed)
 
   -- memory was wanting in reading
   pub round_unread : (n : ℕ) (head : Bool) (i i' : List ℕ) (w w' : World S) → ReadsWish left gives w.source w'.source i i' (reads.OutOfMemory head) → w'.ledger ≡ w.ledger
-      → Notes [] head w.sink w'.sink → w'.read_faults ≡ w.read_faults → Connection left gives endings.OutOfMemory n i w w'
+      → TellsWantOfMemory [] head w.sink w'.sink → w'.read_faults ≡ w.read_faults → Connection left gives endings.OutOfMemory n i w w'
   round_unread n head i i' w w' x same notes counts =
       no_memory n i x.got head w w' x.says.0 (inl x.says.1) x.given same notes counts (no_further-one left gives n [] w.source w'.source i (i ++ x.got) x.needed)
 
   -- memory was wanting before anything was read
-  pub round_unbegun : (n : ℕ) (w w' : World S) → w'.source ≡ w.source → w'.ledger ≡ w.ledger → Notes [] false w.sink w'.sink → w'.read_faults ≡ w.read_faults
+  pub round_unbegun : (n : ℕ) (w w' : World S) → w'.source ≡ w.source → w'.ledger ≡ w.ledger → TellsWantOfMemory [] false w.sink w'.sink → w'.read_faults ≡ w.read_faults
       → Connection left gives endings.OutOfMemory n [] w w'
   round_unbegun n w w' source same notes counts =
       no_memory n [] [] false w w' refl (inl (inl (inl refl))) (sym (ap left source) ∙ sym (and_left-nil (left w'.source))) same notes counts
@@ -166,81 +167,59 @@ module _ {S : Type 0} (left : S → Option (List ℕ)) (gives : S → S → List
 
   -- ---- no request
 
+  -- no wish was judged: what stands there, or a fault, ended the connection
+  unanswered : (ending : Ending) (n : ℕ) (i i' : List ℕ) (w w' : World S) (read : WishRead) (x : ReadsWish left gives w.source w'.source i i' read)
+      → EndsAs ending n (i ++ x.got) (i ++ x.got) [] None w'.ledger.history w.sink w'.sink → EndsSource ending (left w'.source)
+      → CountsReads ending w.read_faults w'.read_faults → w'.ledger ≡ w.ledger → Connection left gives ending n i w w'
+  unanswered ending n i i' w w' read x ends ended counts same = record {
+    got = x.got;
+    given = x.given;
+    answered = [];
+    failed = None;
+    replays = same;
+    ends = ends;
+    ended = ended;
+    counts = counts;
+    needed = no_further-one left gives n [] w.source w'.source i (i ++ x.got) x.needed;
+  }
+
   pub round_refused : (ending : Ending) (n : ℕ) (why : Refusal) (head : Bool) (i i' : List ℕ) (w w' : World S) → ReadsWish left gives w.source w'.source i i' (reads.Malformed why head)
-      → Refuses ending why head w.sink w'.sink → w'.ledger ≡ w.ledger → w'.read_faults ≡ w.read_faults → Connection left gives ending n i w w'
+      → WritesRefusal ending why head w.sink w'.sink → w'.ledger ≡ w.ledger → w'.read_faults ≡ w.read_faults → Connection left gives ending n i w w'
   round_refused endings.Clean n why head i i' w w' x y same counts = absurd y
   round_refused endings.Cut n why head i i' w w' x y same counts = absurd y
   round_refused endings.ReadFault n why head i i' w w' x y same counts = absurd y
   round_refused endings.OutOfMemory n why head i i' w w' x y same counts = absurd y
   round_refused (endings.Closed whys.Asked) n why head i i' w w' x y same counts = absurd y
-  round_refused (endings.Closed (whys.Refused said)) n why head i i' w w' x y same counts = record {
-    got = x.got;
-    given = x.given;
-    answered = [];
-    failed = None;
-    replays = same;
-    ends = (
-      head,
-      spells-none n (i ++ x.got) (closed said head) (refused why head, x.says, ap (λ (v : Refusal). closed v head) y.0),
-      subst (λ (v : Refusal). Writes (closing_text v head) w.sink w'.sink) (sym y.0) y.1,
-    );
-    ended = tt;
-    counts = counts;
-    needed = no_further-one left gives n [] w.source w'.source i (i ++ x.got) x.needed;
-  }
-  round_refused endings.WriteFault n why head i i' w w' x y same counts = record {
-    got = x.got;
-    given = x.given;
-    answered = [];
-    failed = None;
-    replays = same;
-    ends = (why, head, spells-none n (i ++ x.got) (closed why head) (refused why head, x.says, refl), y);
-    ended = tt;
-    counts = counts;
-    needed = no_further-one left gives n [] w.source w'.source i (i ++ x.got) x.needed;
-  }
+  round_refused (endings.Closed (whys.Refused said)) n why head i i' w w' x y same counts =
+      unanswered (endings.Closed (whys.Refused said)) n i i' w w' (reads.Malformed why head) x (
+        head,
+        spells-none n (i ++ x.got) (closed said head) (refused why head, x.says, ap (λ (v : Refusal). closed v head) y.0),
+        subst (λ (v : Refusal). Writes (closing_text v head) w.sink w'.sink) (sym y.0) y.1,
+      )
+      tt counts same
+  round_refused endings.WriteFault n why head i i' w w' x y same counts =
+      unanswered endings.WriteFault n i i' w w' (reads.Malformed why head) x
+      (why, head, spells-none n (i ++ x.got) (closed why head) (refused why head, x.says, refl), y)
+      tt counts same
 
   pub round_cut : (n : ℕ) (i i' : List ℕ) (w w' : World S) → ReadsWish left gives w.source w'.source i i' reads.Cut → w'.ledger ≡ w.ledger → w'.sink ≡ w.sink
       → w'.read_faults ≡ w.read_faults → Connection left gives endings.Cut n i w w'
-  round_cut n i i' w w' x same sink counts = record {
-    got = x.got;
-    given = x.given;
-    answered = [];
-    failed = None;
-    replays = same;
-    ends = (spells-none n (i ++ x.got) ended_cut (cut, x.says, refl), unwritten w.sink w'.sink sink);
-    ended = x.ended;
-    counts = counts;
-    needed = no_further-one left gives n [] w.source w'.source i (i ++ x.got) x.needed;
-  }
+  round_cut n i i' w w' x same sink counts =
+      unanswered endings.Cut n i i' w w' reads.Cut x
+      (spells-none n (i ++ x.got) ended_cut (cut, x.says, refl), unwritten w.sink w'.sink sink)
+      x.ended counts same
 
   pub round_clean : (n : ℕ) (i i' : List ℕ) (w w' : World S) → ReadsWish left gives w.source w'.source i i' reads.Clean → w'.ledger ≡ w.ledger → w'.sink ≡ w.sink
       → w'.read_faults ≡ w.read_faults → Connection left gives endings.Clean n i w w'
-  round_clean n i i' w w' x same sink counts = record {
-    got = x.got;
-    given = x.given;
-    answered = [];
-    failed = None;
-    replays = same;
-    ends = (spells-none n (i ++ x.got) ended_clean (clean, x.says, refl), unwritten w.sink w'.sink sink);
-    ended = x.ended;
-    counts = counts;
-    needed = no_further-one left gives n [] w.source w'.source i (i ++ x.got) x.needed;
-  }
+  round_clean n i i' w w' x same sink counts =
+      unanswered endings.Clean n i i' w w' reads.Clean x
+      (spells-none n (i ++ x.got) ended_clean (clean, x.says, refl), unwritten w.sink w'.sink sink)
+      x.ended counts same
 
   pub round_read_fault : (n : ℕ) (i i' : List ℕ) (w w' : World S) → ReadsWish left gives w.source w'.source i i' reads.ReadFault → CountsReads endings.ReadFault w.read_faults w'.read_faults
       → w'.ledger ≡ w.ledger → w'.sink ≡ w.sink → Connection left gives endings.ReadFault n i w w'
-  round_read_fault n i i' w w' x rises same sink = record {
-    got = x.got;
-    given = x.given;
-    answered = [];
-    failed = None;
-    replays = same;
-    ends = (which x.says, unwritten w.sink w'.sink sink);
-    ended = tt;
-    counts = rises;
-    needed = no_further-one left gives n [] w.source w'.source i (i ++ x.got) x.needed;
-  }
+  round_read_fault n i i' w w' x rises same sink =
+      unanswered endings.ReadFault n i i' w w' reads.ReadFault x (which x.says, unwritten w.sink w'.sink sink) tt rises same
     where
       which : StandsAt (i ++ x.got) clean ⊎ StandsAt (i ++ x.got) cut → Spells n (i ++ x.got) [] ended_clean ⊎ Spells n (i ++ x.got) [] ended_cut
       which (inl is) = inl (spells-none n (i ++ x.got) ended_clean (clean, is, refl))
@@ -255,7 +234,7 @@ module _ {S : Type 0} (left : S → Option (List ℕ)) (gives : S → S → List
       or_true true q e f = cc
       or_true false q e f = cc
 
-      one : (js : List Judged) (rs : List RequestText) → length js ≡ 1 → wishes_of js ≡ map wish_text rs → ReachesFrom closes_behind n (i ++ x.got) rs i' → ⊥
+      one : (js : List JudgedWish) (rs : List RequestText) → length js ≡ 1 → wishes_of js ≡ map wish_text rs → ReachesFrom closes_behind n (i ++ x.got) rs i' → ⊥
       one [] rs e f r = omega arith
       one (j ∷ js) [] e f r = cc
       one (j ∷ js) (q ∷ rs) e f r = or_true (wish_text q).asks_close (n == 1048575) (ap (λ k. k == 1048575) last) (sym (closes_behind-is n q) ∙ r.2)

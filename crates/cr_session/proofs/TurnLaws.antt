@@ -1,14 +1,14 @@
 -- What one turn does is what Told and Step say.
 use Rattle.std.proofs.Common.{◌≡◌, ◌∙◌, ℕ, Bool, true, false, cond, Option, Some, None, Result, Ok, Err, refl, sym, ap, subst, IsSome, IsOk}
 use Rattle.cr_base.specs.declared.command.Command.TheVariants.{Register, SetPhase, Submit, Name, SetMode, SetConflict}
-use Rattle.cr_routes.specs.declared.ask.Ask.{Ask}
+use Rattle.cr_base.specs.declared.ask.Ask.{Ask}
 use Rattle.cr_routes.specs.declared.place.Place.{Place}
 use Rattle.cr_policy.specs.Legal.{IsCaller, IsUser, MayAsk}
 use Rattle.cr_base.specs.declared.command.Command.{Command}
 use Rattle.cr_base.specs.declared.command.Query.{Query}
 use Rattle.cr_base.specs.declared.reply.Rule.{Rule}
 use Rattle.cr_base.specs.History.{History}
-use Rattle.cr_base.specs.Judging.{Drawn}
+use Rattle.cr_base.specs.Drawn.{Drawn}
 use Rattle.cr_base.specs.Logins.{query_wants_login}
 use Rattle.cr_policy.specs.Judge.{judge, answer}
 use Rattle.cr_policy.specs.View.{view}
@@ -25,7 +25,7 @@ use Rattle.cr_session.specs.declared.turn.Turn.{Turn}
 use Rattle.cr_session.specs.declared.turn.Turn.TheVariants as turns
 use Rattle.cr_session.specs.Told.{form_of, told, told_to, served_to, is_unauthorized, reply_of, drawn, drawn_for, drawn_of, accepted, and_drawn, step}
 use Rattle.cr_session.specs.Replay.{Ledger}
-use Rattle.cr_session.specs.Turning.{Turns, Answers, JudgesCommand, AnswersQuery, WantsRoom, MayWantFor, MayWantMemory}
+use Rattle.cr_session.specs.Turning.{Turns, AnswersWish, JudgesCommand, AnswersQuery, WantsRoom, MayWantFor, MayWantMemory}
 use Rattle.cr_print.specs.Answers.{IsBrief}
 use Rattle.cr_base.specs.declared.reply.Reply.{Reply}
 use Rattle.cr_base.specs.declared.reply.Reply.TheVariants as replies
@@ -52,7 +52,7 @@ may-want H w u what is by may wants =
 
 -- ---- nobody, where a login is wanted
 
-pub unauthorized : (w : Wish) (b : Ledger) (u : Option ℕ) → u ≡ caller b.history w → is_unauthorized u w.what ≡ true → Answers (turns.Refused refused.Unauthorized) w b b
+pub unauthorized : (w : Wish) (b : Ledger) (u : Option ℕ) → u ≡ caller b.history w → is_unauthorized u w.what ≡ true → AnswersWish (turns.Refused refused.Unauthorized) w b b
 unfolding told drawn
 unauthorized w b u by is =
     let old : History = b.history in
@@ -68,20 +68,20 @@ unauthorized w b u by is =
 -- a wish that is told a refusal, and adds nothing
 refused-turn : (r : Refused) (w : Wish) (u : Option ℕ) (what : What) (b : Ledger) → w.what ≡ what → u ≡ caller b.history w → is_unauthorized u what ≡ false
     → ((close : Bool) → refusal_text r (form_of w close) ≡ served_to u (view u b.history) (form_of w close) what) → drawn_of u (view u b.history) what ≡ None
-    → Answers (turns.Refused r) w b b
+    → AnswersWish (turns.Refused r) w b b
 refused-turn r w u what b is by may text none = record {
   told_is = λ close. text close ∙ sym (told-by b.history w u what close is by may);
   stepped = sym (ap (and_drawn b.history) (drawn-by b.history w u what is by may ∙ none));
   steady = refl;
 }
 
-pub no_route : (w : Wish) (u : Option ℕ) (b : Ledger) → w.what ≡ whats.NoRoute → u ≡ caller b.history w → is_unauthorized u whats.NoRoute ≡ false → Answers (turns.Refused refused.NoRoute) w b b
+pub no_route : (w : Wish) (u : Option ℕ) (b : Ledger) → w.what ≡ whats.NoRoute → u ≡ caller b.history w → is_unauthorized u whats.NoRoute ≡ false → AnswersWish (turns.Refused refused.NoRoute) w b b
 no_route w u b is by may = refused-turn refused.NoRoute w u whats.NoRoute b is by may (λ close. refl) refl
 
-pub wrong_method : (w : Wish) (u : Option ℕ) (b : Ledger) (place : Place) → w.what ≡ whats.WrongMethod place → u ≡ caller b.history w → is_unauthorized u (whats.WrongMethod place) ≡ false → Answers (turns.Refused (refused.WrongMethod place)) w b b
+pub wrong_method : (w : Wish) (u : Option ℕ) (b : Ledger) (place : Place) → w.what ≡ whats.WrongMethod place → u ≡ caller b.history w → is_unauthorized u (whats.WrongMethod place) ≡ false → AnswersWish (turns.Refused (refused.WrongMethod place)) w b b
 wrong_method w u b place is by may = refused-turn (refused.WrongMethod place) w u (whats.WrongMethod place) b is by may (λ close. refl) refl
 
-pub bad_body : (w : Wish) (u : Option ℕ) (b : Ledger) (ask : Ask) → w.what ≡ whats.BadBody ask → u ≡ caller b.history w → is_unauthorized u (whats.BadBody ask) ≡ false → Answers (turns.Refused refused.BadBody) w b b
+pub bad_body : (w : Wish) (u : Option ℕ) (b : Ledger) (ask : Ask) → w.what ≡ whats.BadBody ask → u ≡ caller b.history w → is_unauthorized u (whats.BadBody ask) ≡ false → AnswersWish (turns.Refused refused.BadBody) w b b
 bad_body w u b ask is by may = refused-turn refused.BadBody w u (whats.BadBody ask) b is by may (λ close. refl) refl
 
 -- ---- commands

@@ -1,8 +1,8 @@
 -- Wishes that are judged one after another.
 use Rattle.std.proofs.Common.{◌≡◌, ◌∙◌, ◌≤◌, ◌<◌, ◌^◌, ◌-◌, ℕ, ◌+◌, List, [], ◌∷◌, ◌++◌, length, Bool, true, false, cond, refl, sym, ap, subst, append_assoc, arith, zero, suc}
-use Rattle.cr_session.specs.Replay.{Judged, Ledger, Turned, CountsLoss, answer_to, answers, lost_count, Replays}
+use Rattle.cr_session.specs.Replay.{JudgedWish, Ledger, Turned, CountsLoss, answer_to, answers, lost_count, Replays}
 
-pub answers-append : (n : ℕ) (js ks : List Judged) → answers n (js ++ ks) ≡ answers n js ++ answers (n + length js) ks
+pub answers-append : (n : ℕ) (js ks : List JudgedWish) → answers n (js ++ ks) ≡ answers n js ++ answers (n + length js) ks
 answers-append n [] ks = let e : n ≡ n + zero = omega arith in ap (λ k. answers k ks) e
 answers-append n (j ∷ js) ks =
     let e : n + 1 + length js ≡ n + suc (length js) = omega arith in
@@ -11,12 +11,12 @@ answers-append n (j ∷ js) ks =
     ∙ ap (λ k. answer_to n j ++ answers (n + 1) js ++ answers k ks) e
 
 -- what was judged then, behind what was judged before
-pub replays-append : (js ks : List Judged) (a b c : Ledger) → Replays js a b → Replays ks b c → Replays (js ++ ks) a c
+pub replays-append : (js ks : List JudgedWish) (a b c : Ledger) → Replays js a b → Replays ks b c → Replays (js ++ ks) a c
 replays-append [] ks a b c first then = subst (λ (x : Ledger). Replays ks x c) first then
 replays-append (j ∷ js) ks a b c first then = (first.0, first.1, replays-append js ks first.0 b c first.2 then)
 
 -- one wish was judged
-pub replays-one : (j : Judged) (a b : Ledger) → Turned j a b → Replays (j ∷ []) a b
+pub replays-one : (j : JudgedWish) (a b : Ledger) → Turned j a b → Replays (j ∷ []) a b
 replays-one j a b turned = (b, turned, refl)
 
 -- ---- the keeper's count of faults
@@ -25,7 +25,7 @@ counts-one : (lost : Bool) (f g : ℕ) → CountsLoss lost f g → (f ≤ g) × 
 counts-one true f g c = (c.0, λ below. let r = c.1 below in omega (arith, r))
 counts-one false f g c = (omega (arith, c), λ below. omega (arith, c))
 
-counts : (js : List Judged) (a b : Ledger) → Replays js a b → (a.faults ≤ b.faults) × (b.faults < 2 ^ 64 - 1 → a.faults + lost_count js ≤ b.faults)
+counts : (js : List JudgedWish) (a b : Ledger) → Replays js a b → (a.faults ≤ b.faults) × (b.faults < 2 ^ 64 - 1 → a.faults + lost_count js ≤ b.faults)
 counts [] a b r = let e = ap (λ (x : Ledger). x.faults) r in (omega (arith, e), λ below. omega (arith, e))
 counts (j ∷ js) a b r =
     let first = counts-one j.lost a.faults r.0.faults r.1.counted in
@@ -35,7 +35,7 @@ counts (j ∷ js) a b r =
     (omega (arith, p, q), λ below. let x = first.1 (omega (arith, below, q)) in let y = then.1 below in omega (arith, x, y))
 
 -- at most as many were lost as the count rose by
-pub counted : (js : List Judged) (a b : Ledger) → Replays js a b → b.faults < 2 ^ 64 - 1 → a.faults + lost_count js ≤ b.faults
+pub counted : (js : List JudgedWish) (a b : Ledger) → Replays js a b → b.faults < 2 ^ 64 - 1 → a.faults + lost_count js ≤ b.faults
 counted js a b r = (counts js a b r).1
 
 stands-one : (lost : Bool) (n f g : ℕ) → CountsLoss lost f g → cond lost 1 0 + n ≡ 0 → (g ≡ f) × (n ≡ 0)
@@ -43,7 +43,7 @@ stands-one true n f g c e = absurd (omega (arith, e))
 stands-one false n f g c e = (c, omega (arith, e))
 
 -- where nothing was lost, it stands
-pub stands : (js : List Judged) (a b : Ledger) → Replays js a b → lost_count js ≡ 0 → b.faults ≡ a.faults
+pub stands : (js : List JudgedWish) (a b : Ledger) → Replays js a b → lost_count js ≡ 0 → b.faults ≡ a.faults
 stands [] a b r none = ap (λ (x : Ledger). x.faults) r
 stands (j ∷ js) a b r none =
     let one = stands-one j.lost (lost_count js) a.faults r.0.faults r.1.counted none in

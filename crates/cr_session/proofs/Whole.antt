@@ -9,7 +9,7 @@ use Rattle.cr_http.specs.Requests.{End, ended_clean, ended_cut, asked, closed}
 use Rattle.cr_session.specs.declared.serve.Ending.{Ending}
 use Rattle.cr_session.specs.declared.serve.Ending.TheVariants as endings
 use Rattle.cr_session.specs.declared.serve.Why.TheVariants as whys
-use Rattle.cr_session.specs.Replay.{Judged, wishes_of}
+use Rattle.cr_session.specs.Replay.{JudgedWish, wishes_of}
 use Rattle.cr_session.specs.Serving.{World, EndsAs, EndsSource, CountsReads, Connection, WholeText}
 use Rattle.cr_ports.specs.Writing.{Outlet}
 use Rattle.cr_wire.specs.declared.what.Wish.{Wish}
@@ -35,7 +35,7 @@ spells_closed came b rest ws end is closing s = subst (λ (t : List ℕ). Spells
 begins_all : (came b rest : List ℕ) (ws : List Wish) → b ≡ came ++ rest → Begins 0 came ws → Begins 0 b ws
 begins_all came b rest ws is s = subst (λ (t : List ℕ). Begins 0 t ws) (sym is) (Begins-more 0 came rest ws s)
 
-ends_whole : (ending : Ending) (came b rest : List ℕ) (left' : Option (List ℕ)) (answered : List Judged) (failed : Option Judged) (H : History) (s s' : Outlet)
+ends_whole : (ending : Ending) (came b rest : List ℕ) (left' : Option (List ℕ)) (answered : List JudgedWish) (failed : Option JudgedWish) (H : History) (s s' : Outlet)
     → left' ≡ Some rest → b ≡ came ++ rest → EndsSource ending left' → EndsAs ending 0 came came answered failed H s s' → EndsAs ending 0 came b answered failed H s s'
 ends_whole ending came b rest left' answered (Some j) H s s' told is end e = (e.0, begins_all came b rest (wishes_of (answered ++ j ∷ [])) is e.1, e.2)
 ends_whole endings.Clean came b rest left' answered None H s s' told is end e = (spells_all came b rest left' (wishes_of answered) ended_clean told is end e.0, e.1)
@@ -48,11 +48,11 @@ ends_whole endings.WriteFault came b rest left' answered None H s s' told is end
     (e.0, e.1, spells_closed came b rest (wishes_of answered) (closed e.0 e.1) is tt e.2, e.3)
 ends_whole endings.OutOfMemory came b rest left' answered None H s s' told is end e = e
 
-begins_judged : (ending : Ending) (came : List ℕ) (answered : List Judged) (failed : Option Judged) (H : History) (s s' : Outlet)
+begins_judged : (ending : Ending) (came : List ℕ) (answered : List JudgedWish) (failed : Option JudgedWish) (H : History) (s s' : Outlet)
     → EndsAs ending 0 came came answered failed H s s' → Begins 0 came (wishes_of (answered ++ listed failed))
 begins_judged ending came answered (Some j) H s s' e = e.1
 begins_judged ending came answered None H s s' e =
-    subst (λ (all : List Judged). Begins 0 came (wishes_of all)) (sym (append-nil answered)) (by ending e)
+    subst (λ (all : List JudgedWish). Begins 0 came (wishes_of all)) (sym (append-nil answered)) (by ending e)
   where
     either : Spells 0 came (wishes_of answered) ended_clean ⊎ Spells 0 came (wishes_of answered) ended_cut → Begins 0 came (wishes_of answered)
     either (inl is) = Spells-begins 0 came (wishes_of answered) ended_clean is
@@ -91,6 +91,6 @@ module _ {S : Type 0} (left : S → Option (List ℕ)) (gives : S → S → List
   write_rises ending n i w w' c is =
       by c.failed (subst (λ (e : Ending). EndsAs e n (i ++ c.got) (i ++ c.got) c.answered c.failed w'.ledger.history w.sink w'.sink) is c.ends)
     where
-      by : (failed : Option Judged) → EndsAs endings.WriteFault n (i ++ c.got) (i ++ c.got) c.answered failed w'.ledger.history w.sink w'.sink → Rises w.sink.faults w'.sink.faults
+      by : (failed : Option JudgedWish) → EndsAs endings.WriteFault n (i ++ c.got) (i ++ c.got) c.answered failed w'.ledger.history w.sink w'.sink → Rises w.sink.faults w'.sink.faults
       by (Some j) e = e.2.rises
       by None e = e.3.rises

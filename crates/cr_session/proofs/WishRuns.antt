@@ -4,7 +4,7 @@ use Rattle.std.proofs.lemmas.List.{map-append, length-map}
 use Rattle.cr_http.specs.Requests.{RequestText, End, SpellsFrom, BeginsFrom, ReachesFrom}
 use Rattle.cr_wire.specs.declared.what.Wish.{Wish}
 use Rattle.cr_wire.specs.Wish.{wish_text}
-use Rattle.cr_session.specs.Replay.{Judged, wishes_of}
+use Rattle.cr_session.specs.Replay.{JudgedWish, wishes_of}
 use Rattle.cr_session.specs.Wishes.{Spells, Begins, Reaches}
 use Rattle.cr_wire.specs.Wishes.{closes_behind}
 use Rattle.cr_session.proofs.Runs.{spells_after, begins_after, reaches_after, reaches_more, spells_more, begins_more, spells_begins, reaches_begins, IsClosing}
@@ -47,25 +47,25 @@ reaches_wishes n text ws rest vs rest' a b = record {
 
 -- ---- the same of what was judged
 
-pub counted_wishes : (n : ℕ) (js : List Judged) → n + length js ≡ n + length (wishes_of js)
-counted_wishes n js = ap (λ k. n + k) (sym (length-map js (λ (j : Judged). j.wish)))
+pub counted_wishes : (n : ℕ) (js : List JudgedWish) → n + length js ≡ n + length (wishes_of js)
+counted_wishes n js = ap (λ k. n + k) (sym (length-map js (λ (j : JudgedWish). j.wish)))
 
-pub wishes_of-append : (js ks : List Judged) → wishes_of js ++ wishes_of ks ≡ wishes_of (js ++ ks)
-wishes_of-append js ks = sym (map-append (λ (j : Judged). j.wish) js ks)
+pub wishes_of-append : (js ks : List JudgedWish) → wishes_of js ++ wishes_of ks ≡ wishes_of (js ++ ks)
+wishes_of-append js ks = sym (map-append (λ (j : JudgedWish). j.wish) js ks)
 
-pub spells_on : (n : ℕ) (text rest : List ℕ) (js ks : List Judged) (end : End) → Reaches n text (wishes_of js) rest
+pub spells_on : (n : ℕ) (text rest : List ℕ) (js ks : List JudgedWish) (end : End) → Reaches n text (wishes_of js) rest
     → Spells (n + length js) rest (wishes_of ks) end → Spells n text (wishes_of (js ++ ks)) end
 spells_on n text rest js ks end reach spells =
     subst (λ (ws : List Wish). Spells n text ws end) (wishes_of-append js ks)
     (spells_wishes n text (wishes_of js) rest end (wishes_of ks) reach (subst (λ (k : ℕ). Spells k rest (wishes_of ks) end) (counted_wishes n js) spells))
 
-pub begins_on : (n : ℕ) (text rest : List ℕ) (js ks : List Judged) → Reaches n text (wishes_of js) rest
+pub begins_on : (n : ℕ) (text rest : List ℕ) (js ks : List JudgedWish) → Reaches n text (wishes_of js) rest
     → Begins (n + length js) rest (wishes_of ks) → Begins n text (wishes_of (js ++ ks))
 begins_on n text rest js ks reach begins =
     subst (λ (ws : List Wish). Begins n text ws) (wishes_of-append js ks)
     (begins_wishes n text (wishes_of js) rest (wishes_of ks) reach (subst (λ (k : ℕ). Begins k rest (wishes_of ks)) (counted_wishes n js) begins))
 
-pub reaches_on : (n : ℕ) (text rest rest' : List ℕ) (js ks : List Judged) → Reaches n text (wishes_of js) rest
+pub reaches_on : (n : ℕ) (text rest rest' : List ℕ) (js ks : List JudgedWish) → Reaches n text (wishes_of js) rest
     → Reaches (n + length js) rest (wishes_of ks) rest' → Reaches n text (wishes_of (js ++ ks)) rest'
 reaches_on n text rest rest' js ks reach reaches =
     subst (λ (ws : List Wish). Reaches n text ws rest') (wishes_of-append js ks)

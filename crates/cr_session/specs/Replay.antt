@@ -19,17 +19,17 @@ ledger_of faults book = record { history = book.log; faults = faults book.keeper
 -- ---- one turn
 
 -- a wish that was judged: the history at its turn, and whether what it added was lost, since the keeper failed to keep it
-pub record Judged : Type 0 where
+pub record JudgedWish : Type 0 where
   pub wish : Wish
   pub seen : History
   pub lost : Bool
 
 -- the history after a turn
-unfoldable pub history_after : Judged → History
+unfoldable pub history_after : JudgedWish → History
 history_after j = if j.lost then j.seen else step j.seen j.wish
 
 -- the bytes of the answer to a wish that came as request number n
-unfoldable pub answer_to : ℕ → Judged → List ℕ
+unfoldable pub answer_to : ℕ → JudgedWish → List ℕ
 answer_to n j = if j.lost then unkept j.wish (closes n j.wish) else told j.seen j.wish (closes n j.wish)
 
 -- the keeper's count of faults over a turn: it rose, its last value aside, where something was lost, and stands elsewhere
@@ -38,7 +38,7 @@ CountsLoss true faults faults' = (faults ≤ faults') × Rises faults faults'
 CountsLoss false faults faults' = faults' ≡ faults
 
 -- The turn saw the history that was there; only what Judge accepts can be lost.
-pub record Turned (j : Judged) (b b' : Ledger) : Type 0 where
+pub record Turned (j : JudgedWish) (b b' : Ledger) : Type 0 where
   pub seen : j.seen ≡ b.history
   pub lost : MatchBool j.lost (IsSome (drawn j.seen j.wish)) (Unit {0})
   pub history : b'.history ≡ history_after j
@@ -46,20 +46,20 @@ pub record Turned (j : Judged) (b b' : Ledger) : Type 0 where
 
 -- ---- one turn after another
 
-abbrev pub wishes_of : List Judged → List Wish
-wishes_of judged = map (λ (j : Judged). j.wish) judged
+abbrev pub wishes_of : List JudgedWish → List Wish
+wishes_of judged = map (λ (j : JudgedWish). j.wish) judged
 
 -- the answers to wishes of which the first came as request number n
-abbrev pub answers : ℕ → List Judged → List ℕ
+abbrev pub answers : ℕ → List JudgedWish → List ℕ
 answers n [] = []
 answers n (j ∷ js) = answer_to n j ++ answers (n + 1) js
 
 -- Replay: what was judged leads from the one ledger to the other, each turn from where the turn before left it
-abbrev pub Replays : List Judged → Ledger → Ledger → Type 0
+abbrev pub Replays : List JudgedWish → Ledger → Ledger → Type 0
 Replays [] b b' = b' ≡ b
 Replays (j ∷ js) b b' = (next : Ledger) × Turned j b next × Replays js next b'
 
 -- how many were lost
-abbrev pub lost_count : List Judged → ℕ
+abbrev pub lost_count : List JudgedWish → ℕ
 lost_count [] = 0
 lost_count (j ∷ js) = (if j.lost then 1 else 0) + lost_count js

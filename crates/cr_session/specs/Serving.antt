@@ -15,7 +15,7 @@ use Rattle.cr_session.specs.declared.serve.Ending.{Ending}
 use Rattle.cr_session.specs.declared.serve.Ending.TheVariants as endings
 use Rattle.cr_session.specs.declared.serve.Why.TheVariants as whys
 use Rattle.cr_session.specs.Reading.{StandsWish, MayWantToRead}
-use Rattle.cr_session.specs.Replay.{Judged, Ledger, ledger_of, Replays, answers, answer_to, wishes_of}
+use Rattle.cr_session.specs.Replay.{JudgedWish, Ledger, ledger_of, Replays, answers, answer_to, wishes_of}
 use Rattle.cr_session.specs.Turning.{MayWantMemory}
 use Rattle.cr_session.specs.Wishes.{Spells, Begins, Reaches}
 use Rattle.cr_ports.specs.Writing.{Outlet, outlet_of, Writes, BreaksOff}
@@ -44,14 +44,14 @@ abbrev pub MayLackMemory : History → List ℕ → Type 0
 MayLackMemory H rest = MayWantToRead rest ⊎ ((w : Wish) × (after : List ℕ) × StandsWish rest w after × MayWantMemory H w)
 
 -- the note of it was written behind the answers, or its write broke off
-abbrev pub Notes : List ℕ → Bool → Outlet → Outlet → Type 0
-Notes before head s s' = Writes (before ++ no_memory_text head) s s' ⊎ BreaksOff before (no_memory_text head) s s'
+abbrev pub TellsWantOfMemory : List ℕ → Bool → Outlet → Outlet → Type 0
+TellsWantOfMemory before head s s' = Writes (before ++ no_memory_text head) s s' ⊎ BreaksOff before (no_memory_text head) s s'
 
 -- ---- by the ending
 
 -- From request number n on, where these bytes came of this text: which wishes were answered whole, which one was judged
 -- and its answer's write failed, and what the sink took.
-abbrev pub EndsAs : Ending → ℕ → List ℕ → List ℕ → List Judged → Option Judged → History → Outlet → Outlet → Type 0
+abbrev pub EndsAs : Ending → ℕ → List ℕ → List ℕ → List JudgedWish → Option JudgedWish → History → Outlet → Outlet → Type 0
 EndsAs ending n came text answered (Some failed) H s s' =
     (ending ≡ endings.WriteFault) × Begins n text (wishes_of (answered ++ failed ∷ []))
     × BreaksOff (answers n answered) (answer_to (n + length answered) failed) s s'
@@ -71,7 +71,7 @@ EndsAs endings.WriteFault n came text answered None H s s' =
     × BreaksOff (answers n answered) (closing_text why head) s s'
 EndsAs endings.OutOfMemory n came text answered None H s s' =
     (rest : List ℕ) × Reaches n came (wishes_of answered) rest × MayLackMemory H rest
-    × (head : Bool) × IsToHead rest head × Notes (answers n answered) head s s'
+    × (head : Bool) × IsToHead rest head × TellsWantOfMemory (answers n answered) head s s'
 
 -- the source is at its end where the stream ended
 abbrev pub EndsSource : Ending → Option (List ℕ) → Type 0
@@ -105,7 +105,7 @@ pub record WantsBehind (n : ℕ) (wishes : List Wish) (text : List ℕ) : Type 0
 
 -- Each read was made at a text that wants more behind wishes that were answered: so what stands behind them, a wish whose
 -- answer failed and a refusal among it, wasn't settled when the last byte was asked for.
-abbrev pub ReadsNoFurther : {S : Type 0} → (S → Option (List ℕ)) → (S → S → List ℕ → Type 0) → ℕ → List Judged → S → S → List ℕ → List ℕ → Type 0
+abbrev pub ReadsNoFurther : {S : Type 0} → (S → Option (List ℕ)) → (S → S → List ℕ → Type 0) → ℕ → List JudgedWish → S → S → List ℕ → List ℕ → Type 0
 ReadsNoFurther left gives n answered source source' old new = ReadsWhile left gives (WantsBehind n (wishes_of answered)) source source' old new
 
 -- ---- a whole connection
@@ -116,8 +116,8 @@ pub record Connection {S : Type 0} (left : S → Option (List ℕ)) (gives : S �
   pub got : List ℕ
   pub given : left w.source ≡ and_left got (left w'.source)
   -- the wishes that were judged, in order: those answered whole, and the one whose answer's write failed
-  pub answered : List Judged
-  pub failed : Option Judged
+  pub answered : List JudgedWish
+  pub failed : Option JudgedWish
   pub replays : Replays (answered ++ listed failed) w.ledger w'.ledger
   pub ends : EndsAs ending n (inbox ++ got) (inbox ++ got) answered failed w'.ledger.history w.sink w'.sink
   pub ended : EndsSource ending (left w'.source)
@@ -128,7 +128,7 @@ pub record Connection {S : Type 0} (left : S → Option (List ℕ)) (gives : S �
 pub record GoesOn {S : Type 0} (left : S → Option (List ℕ)) (gives : S → S → List ℕ → Type 0) (count n : ℕ) (inbox inbox' : List ℕ) (w w' : World S) : Type 0 where
   pub got : List ℕ
   pub given : left w.source ≡ and_left got (left w'.source)
-  pub answered : List Judged
+  pub answered : List JudgedWish
   pub counted : length answered ≡ count
   pub replays : Replays answered w.ledger w'.ledger
   pub reaches : Reaches n (inbox ++ got) (wishes_of answered) inbox'
@@ -137,19 +137,19 @@ pub record GoesOn {S : Type 0} (left : S → Option (List ℕ)) (gives : S → S
   pub needed : ReadsNoFurther left gives n answered w.source w'.source inbox (inbox ++ got)
 
 -- what one round of the loop did
-abbrev pub Rounds : {S : Type 0} → (S → Option (List ℕ)) → (S → S → List ℕ → Type 0) → Option Ending → ℕ → List ℕ → List ℕ → World S → World S → Type 0
-Rounds left gives None n inbox inbox' w w' = GoesOn left gives 1 n inbox inbox' w w'
-Rounds left gives (Some ending) n inbox inbox' w w' = Connection left gives ending n inbox w w'
+abbrev pub OneRound : {S : Type 0} → (S → Option (List ℕ)) → (S → S → List ℕ → Type 0) → Option Ending → ℕ → List ℕ → List ℕ → World S → World S → Type 0
+OneRound left gives None n inbox inbox' w w' = GoesOn left gives 1 n inbox inbox' w w'
+OneRound left gives (Some ending) n inbox inbox' w w' = Connection left gives ending n inbox w w'
 
 -- what writing a closing refusal did
-abbrev pub Refuses : Ending → Refusal → Bool → Outlet → Outlet → Type 0
-Refuses (endings.Closed (whys.Refused said)) why head s s' = (said ≡ why) × Writes (closing_text why head) s s'
-Refuses (endings.Closed whys.Asked) why head s s' = ⊥
-Refuses endings.WriteFault why head s s' = BreaksOff [] (closing_text why head) s s'
-Refuses endings.Clean why head s s' = ⊥
-Refuses endings.Cut why head s s' = ⊥
-Refuses endings.ReadFault why head s s' = ⊥
-Refuses endings.OutOfMemory why head s s' = ⊥
+abbrev pub WritesRefusal : Ending → Refusal → Bool → Outlet → Outlet → Type 0
+WritesRefusal (endings.Closed (whys.Refused said)) why head s s' = (said ≡ why) × Writes (closing_text why head) s s'
+WritesRefusal (endings.Closed whys.Asked) why head s s' = ⊥
+WritesRefusal endings.WriteFault why head s s' = BreaksOff [] (closing_text why head) s s'
+WritesRefusal endings.Clean why head s s' = ⊥
+WritesRefusal endings.Cut why head s s' = ⊥
+WritesRefusal endings.ReadFault why head s s' = ⊥
+WritesRefusal endings.OutOfMemory why head s s' = ⊥
 
 -- ---- the whole text that the source had left
 
@@ -159,8 +159,8 @@ pub record WholeText {S : Type 0} (left : S → Option (List ℕ)) (ending : End
   pub rest : List ℕ
   pub parts : b ≡ came ++ rest
   pub left_is : left w'.source ≡ Some rest
-  pub answered : List Judged
-  pub failed : Option Judged
+  pub answered : List JudgedWish
+  pub failed : Option JudgedWish
   pub replays : Replays (answered ++ listed failed) w.ledger w'.ledger
   pub begins : Begins 0 b (wishes_of (answered ++ listed failed))
   pub ends : EndsAs ending 0 came b answered failed w'.ledger.history w.sink w'.sink

@@ -20,7 +20,7 @@ use Rattle.cr_session.specs.declared.turn.Turn.TheVariants as turns
 use Rattle.cr_session.specs.declared.serve.Served.{Served}
 use Rattle.cr_session.specs.declared.serve.Served.TheVariants as served
 use Rattle.cr_session.specs.Told.{form_of, told, is_unauthorized, drawn, step}
-use Rattle.cr_session.specs.Replay.{Judged, Ledger, Turned, CountsLoss, answer_to}
+use Rattle.cr_session.specs.Replay.{JudgedWish, Ledger, Turned, CountsLoss, answer_to}
 use Rattle.cr_ports.specs.Writing.{Outlet, Writes, BreaksOff}
 use Rattle.cr_wire.specs.Wishes.{closes}
 
@@ -51,16 +51,16 @@ abbrev pub MayWantMemory : History → Wish → Type 0
 MayWantMemory H w = MayWantFor (caller H w) (view (caller H w) H) w.what
 
 -- a wish was judged or answered: its answer is Told's, the history is stepped on, and the keeper's count stands
-pub record Answers (turn : Turn) (w : Wish) (b b' : Ledger) : Type 0 where
+pub record AnswersWish (turn : Turn) (w : Wish) (b b' : Ledger) : Type 0 where
   pub told_is : (close : Bool) → turn_text turn (form_of w close) ≡ told b.history w close
   pub stepped : b'.history ≡ step b.history w
   pub steady : b'.faults ≡ b.faults
 
 -- what one turn did to the history, and to the keeper's count of faults
 abbrev pub Turns : Turn → Wish → Ledger → Ledger → Type 0
-Turns (turns.Refused refused) w b b' = Answers (turns.Refused refused) w b b'
-Turns (turns.Accepted receipt) w b b' = Answers (turns.Accepted receipt) w b b'
-Turns (turns.Answered reply) w b b' = Answers (turns.Answered reply) w b b' × (b' ≡ b) × ((IsBrief reply → ⊥) → MayWantMemory b.history w)
+Turns (turns.Refused refused) w b b' = AnswersWish (turns.Refused refused) w b b'
+Turns (turns.Accepted receipt) w b b' = AnswersWish (turns.Accepted receipt) w b b'
+Turns (turns.Answered reply) w b b' = AnswersWish (turns.Answered reply) w b b' × (b' ≡ b) × ((IsBrief reply → ⊥) → MayWantMemory b.history w)
 Turns turns.Lost w b b' = IsSome (drawn b.history w) × (b'.history ≡ b.history) × CountsLoss true b.faults b'.faults
 Turns turns.OutOfMemory w b b' = (b' ≡ b) × MayWantMemory b.history w
 
@@ -99,15 +99,15 @@ Sends served.WriteFault close reply s s' = BreaksOff [] reply s s'
 Sends served.OutOfMemory close reply s s' = ⊥
 
 -- a wish was judged in one turn
-pub record Judges (w : Wish) (b b' : Ledger) : Type 0 where
-  pub judged : Judged
+pub record JudgesInTurn (w : Wish) (b b' : Ledger) : Type 0 where
+  pub judged : JudgedWish
   pub wish : judged.wish ≡ w
   pub turned : Turned judged b b'
 
 -- what one request did, as number n: it was judged once and answered once, or its answer's write failed, or memory was
 -- wanting where it may be, and then nothing changed
-abbrev pub Serves : Served → ℕ → Wish → Ledger → Ledger → Outlet → Outlet → Type 0
-Serves served.Goes n w b b' s s' = (j : Judges w b b') × (closes n w ≡ false) × Writes (answer_to n j.judged) s s'
-Serves served.Closes n w b b' s s' = (j : Judges w b b') × (closes n w ≡ true) × Writes (answer_to n j.judged) s s'
-Serves served.WriteFault n w b b' s s' = (j : Judges w b b') × BreaksOff [] (answer_to n j.judged) s s'
-Serves served.OutOfMemory n w b b' s s' = (b' ≡ b) × (s' ≡ s) × MayWantMemory b.history w
+abbrev pub ServesRequest : Served → ℕ → Wish → Ledger → Ledger → Outlet → Outlet → Type 0
+ServesRequest served.Goes n w b b' s s' = (j : JudgesInTurn w b b') × (closes n w ≡ false) × Writes (answer_to n j.judged) s s'
+ServesRequest served.Closes n w b b' s s' = (j : JudgesInTurn w b b') × (closes n w ≡ true) × Writes (answer_to n j.judged) s s'
+ServesRequest served.WriteFault n w b b' s s' = (j : JudgesInTurn w b b') × BreaksOff [] (answer_to n j.judged) s s'
+ServesRequest served.OutOfMemory n w b b' s s' = (b' ≡ b) × (s' ≡ s) × MayWantMemory b.history w

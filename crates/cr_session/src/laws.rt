@@ -1,6 +1,6 @@
 //! Laws over the definitions alone.
 ghost use Rattle.std.specs.Prelude.{◌≡◌, ◌≤◌, ◌<◌, ◌+◌, ◌-◌, ◌^◌, List};
-ghost use Rattle.cr_session.specs.Replay.{Judged, Ledger, Replays, lost_count};
+ghost use Rattle.cr_session.specs.Replay.{JudgedWish, Ledger, Replays, lost_count};
 ghost use Rattle.cr_session.specs.TwoRuns.{TwoRuns};
 
 /// Two runs that agree in a user's wishes and in what she sees at each of them agree in every byte that
@@ -14,8 +14,8 @@ pub fn law_two_runs()
 /// Over any turns at most as many commands are lost as the keeper's count of faults rose by, its last value
 /// aside; where none is lost, the count stands.
 pub fn law_counted_faults()
-    ensures few { (judged : List Judged) (b b' : Ledger) → Replays judged b b' → b'.faults < 2 ^ 64 - 1
+    ensures few { (judged : List JudgedWish) (b b' : Ledger) → Replays judged b b' → b'.faults < 2 ^ 64 - 1
         → b.faults + lost_count judged ≤ b'.faults }
-    ensures steady { (judged : List Judged) (b b' : Ledger) → Replays judged b b' → lost_count judged ≡ 0
+    ensures steady { (judged : List JudgedWish) (b b' : Ledger) → Replays judged b b' → lost_count judged ≡ 0
         → b'.faults ≡ b.faults }
 {}

@@ -49,7 +49,7 @@ pub enum WishRead {
         /// Why.
         why: Refusal,
         /// Whether the refusal answers HEAD, so that it has no content.
-        to_head: bool,
+        is_head: bool,
     },
     /// The stream ended between requests.
     Clean,
@@ -60,7 +60,7 @@ pub enum WishRead {
     /// Memory is wanting.
     OutOfMemory {
         /// Whether the request is one to HEAD; false where its head wasn't read so far.
-        to_head: bool,
+        is_head: bool,
     },
 }
 
@@ -82,11 +82,11 @@ pub fn read_wish<S: Source>(alloc: Global, source: &mut S, inbox: &mut Inbox) ->
 {
     match read_request(source, &mut inbox.requests) {
         RequestRead::Whole => {}
-        RequestRead::Refused { why, to_head } => return WishRead::Malformed { why, to_head },
+        RequestRead::Refused { why, is_head } => return WishRead::Malformed { why, is_head },
         RequestRead::Clean => return WishRead::Clean,
         RequestRead::Cut => return WishRead::Cut,
         RequestRead::ReadFault => return WishRead::ReadFault,
-        RequestRead::OutOfMemory { to_head } => return WishRead::OutOfMemory { to_head },
+        RequestRead::OutOfMemory { is_head } => return WishRead::OutOfMemory { is_head },
     }
     wish_at_hand(alloc, &inbox.routes, &inbox.requests)
 }
@@ -101,7 +101,7 @@ fn wish_at_hand(alloc: Global, routes: &Routes, requests: &cr_http::Inbox) -> Wi
     match wish_of(alloc, routes, &request.head, request.body) {
         Ok(wish) => WishRead::Wish(wish),
         Err(_) => WishRead::OutOfMemory {
-            to_head: request.head.is_head(),
+            is_head: request.head.is_head(),
         },
     }
 }

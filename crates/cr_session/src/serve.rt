@@ -4,8 +4,8 @@ ghost use Rattle.cr_ports.specs.Count.{Rises};
 ghost use Rattle.cr_wire.specs.Bounds.{IsBoundedWhat};
 ghost use Rattle.cr_wire.specs.Wishes.{closes};
 ghost use Rattle.cr_session.specs.Replay.{ledger_of};
-ghost use Rattle.cr_session.specs.Serving.{Connection, Notes, Refuses, Rounds, WholeText, world_of};
-ghost use Rattle.cr_session.specs.Turning.{Sends, Serves};
+ghost use Rattle.cr_session.specs.Serving.{Connection, TellsWantOfMemory, WritesRefusal, OneRound, WholeText, world_of};
+ghost use Rattle.cr_session.specs.Turning.{Sends, ServesRequest};
 ghost use Rattle.cr_ports.specs.Writing.{outlet_of};
 
 use crate::reading::{Inbox, WishRead, read_wish};
@@ -76,7 +76,7 @@ fn serve_request<K: Keeper, O: Sink>(
 ) -> Served
     requires bounded { IsBoundedWhat wish.what }
     requires room { 512 ≤ vec_capacity reply.old }
-    ensures serves { Serves result number wish (ledger_of K.faults book.old) (ledger_of K.faults book.new)
+    ensures serves { ServesRequest result number wish (ledger_of K.faults book.old) (ledger_of K.faults book.new)
         (outlet_of O.taken O.faults sink.old) (outlet_of O.taken O.faults sink.new) }
     ensures room { 512 ≤ vec_capacity reply.new }
 {
@@ -108,14 +108,14 @@ fn send<O: Sink>(sink: &mut O, reply: &[u8], close: bool) -> Served
 }
 
 /// Writes the answer to what is no request, in room that was made when the connection began.
-fn refuse<O: Sink>(sink: &mut O, reply: &mut Vec<u8>, why: Refusal, to_head: bool) -> Ending
+fn refuse<O: Sink>(sink: &mut O, reply: &mut Vec<u8>, why: Refusal, is_head: bool) -> Ending
     requires { 512 ≤ vec_capacity reply.old }
-    ensures refuses { Refuses result why to_head (outlet_of O.taken O.faults sink.old) (outlet_of O.taken O.faults sink.new) }
+    ensures refuses { WritesRefusal result why is_head (outlet_of O.taken O.faults sink.old) (outlet_of O.taken O.faults sink.new) }
     ensures room { 512 ≤ vec_capacity reply.new }
 {
     reply.clear();
     let form = Form {
-        is_head: to_head,
+        is_head: is_head,
         closes: true,
     };
     print_refusal(reply, Refused::Closing(why), form);
@@ -126,11 +126,11 @@ fn refuse<O: Sink>(sink: &mut O, reply: &mut Vec<u8>, why: Refusal, to_head: boo
 }
 
 /// Writes that memory is wanting, as far as the sink takes it. Takes no memory.
-fn note_no_memory<O: Sink>(sink: &mut O, to_head: bool) -> Ending
-    ensures notes { Notes [] to_head (outlet_of O.taken O.faults sink.old) (outlet_of O.taken O.faults sink.new) }
+fn note_no_memory<O: Sink>(sink: &mut O, is_head: bool) -> Ending
+    ensures notes { TellsWantOfMemory [] is_head (outlet_of O.taken O.faults sink.old) (outlet_of O.taken O.faults sink.new) }
     ensures ending { result ≡ Ending.OutOfMemory }
 {
-    let _ = write_all(sink, no_memory_text(to_head));
+    let _ = write_all(sink, no_memory_text(is_head));
     Ending::OutOfMemory
 }
 
@@ -146,7 +146,7 @@ fn serve_next<K: Keeper, S: Source, O: Sink>(
 ) -> Option<Ending>
     requires { 512 ≤ vec_capacity reply.old }
     ensures round { let world = world_of K.faults S.faults O.taken O.faults in
-        Rounds S.left S.read_gives result number inbox.old inbox.new (world book.old source.old sink.old) (world book.new source.new sink.new) }
+        OneRound S.left S.read_gives result number inbox.old inbox.new (world book.old source.old sink.old) (world book.new source.new sink.new) }
     ensures room { 512 ≤ vec_capacity reply.new }
 {
     match read_wish(alloc, source, inbox) {
@@ -159,11 +159,11 @@ fn serve_next<K: Keeper, S: Source, O: Sink>(
                 Served::OutOfMemory => Some(note_no_memory(sink, is_head)),
             }
         }
-        WishRead::Malformed { why, to_head } => Some(refuse(sink, reply, why, to_head)),
+        WishRead::Malformed { why, is_head } => Some(refuse(sink, reply, why, is_head)),
         WishRead::Clean => Some(Ending::Clean),
         WishRead::Cut => Some(Ending::Cut),
         WishRead::ReadFault => Some(Ending::ReadFault),
-        WishRead::OutOfMemory { to_head } => Some(note_no_memory(sink, to_head)),
+        WishRead::OutOfMemory { is_head } => Some(note_no_memory(sink, is_head)),
     }
 }
 

@@ -13,7 +13,7 @@ use Rattle.cr_session.specs.declared.serve.Ending.{Ending}
 use Rattle.cr_session.specs.declared.serve.Ending.TheVariants as endings
 use Rattle.cr_session.specs.declared.serve.Why.TheVariants as whys
 use Rattle.cr_session.specs.Told.{told, step}
-use Rattle.cr_session.specs.Replay.{Judged, Ledger, Turned, Replays, wishes_of, answers, answer_to, history_after, lost_count}
+use Rattle.cr_session.specs.Replay.{JudgedWish, Ledger, Turned, Replays, wishes_of, answers, answer_to, history_after, lost_count}
 use Rattle.cr_session.specs.Wishes.{Spells}
 use Rattle.cr_ports.specs.Writing.{Outlet, Writes}
 use Rattle.cr_wire.specs.Wishes.{closes}
@@ -31,19 +31,19 @@ is_zero : (l : Bool) (n : ℕ) → cond l 1 0 + n ≡ 0 → (l ≡ false) × (n 
 is_zero true n h = absurd (omega (arith, h))
 is_zero false n h = (refl, omega (arith, h))
 
-answer_to-told : (n : ℕ) (j : Judged) → j.lost ≡ false → answer_to n j ≡ told j.seen j.wish (closes n j.wish)
+answer_to-told : (n : ℕ) (j : JudgedWish) → j.lost ≡ false → answer_to n j ≡ told j.seen j.wish (closes n j.wish)
 unfolding answer_to
 answer_to-told n j e = rw e refl
 
-history_after-step : (j : Judged) → j.lost ≡ false → history_after j ≡ step j.seen j.wish
+history_after-step : (j : JudgedWish) → j.lost ≡ false → history_after j ≡ step j.seen j.wish
 unfolding history_after
 history_after-step j e = rw e refl
 
 -- the history after a turn that lost nothing
-stepped : (j : Judged) (b b' : Ledger) → Turned j b b' → j.lost ≡ false → b'.history ≡ step b.history j.wish
+stepped : (j : JudgedWish) (b b' : Ledger) → Turned j b b' → j.lost ≡ false → b'.history ≡ step b.history j.wish
 stepped j b b' t kept = t.history ∙ history_after-step j kept ∙ ap (λ (h : History). step h j.wish) t.seen
 
-pub answers-told : (n : ℕ) (b b' : Ledger) (judged : List Judged) → Replays judged b b' → lost_count judged ≡ 0
+pub answers-told : (n : ℕ) (b b' : Ledger) (judged : List JudgedWish) → Replays judged b b' → lost_count judged ≡ 0
     → answers n judged ≡ told_along n b.history (wishes_of judged)
 answers-told n b b' [] r none = refl
 answers-told n b b' (j ∷ js) r none =
@@ -52,7 +52,7 @@ answers-told n b b' (j ∷ js) r none =
     ∙ ap (λ (texts : List ℕ). told b.history j.wish (closes n j.wish) ++ texts)
     (answers-told (n + 1) r.0 b' js r.2 zero.1 ∙ ap (λ (h : History). told_along (n + 1) h (wishes_of js)) (stepped j b r.0 r.1 zero.0))
 
-pub leads-steps : (b b' : Ledger) (judged : List Judged) → Replays judged b b' → lost_count judged ≡ 0 → b'.history ≡ steps_along b.history (wishes_of judged)
+pub leads-steps : (b b' : Ledger) (judged : List JudgedWish) → Replays judged b b' → lost_count judged ≡ 0 → b'.history ≡ steps_along b.history (wishes_of judged)
 leads-steps b b' [] r none = ap (λ (x : Ledger). x.history) r
 leads-steps b b' (j ∷ js) r none =
     let zero = is_zero j.lost (lost_count js) none in
@@ -65,7 +65,7 @@ wishes : (b : List ℕ) (ws : List Wish) (end : End) → Spells 0 b ws end → W
 wishes b ws end s = record { requests = s.requests; spells = s.spells; wished = s.wish }
 
 -- the text ended so, and what it spells was answered
-record Answered (exit : Exit) (b : List ℕ) (judged : List Judged) (s s' : Outlet) : Type 0 where
+record Answered (exit : Exit) (b : List ℕ) (judged : List JudgedWish) (s s' : Outlet) : Type 0 where
   end : End
   spells : Wishes b (wishes_of judged) end
   exit_is : exit ≡ exit_at end
@@ -74,7 +74,7 @@ record Answered (exit : Exit) (b : List ℕ) (judged : List Judged) (s s' : Outl
 bare : (bytes : List ℕ) (s s' : Outlet) → Writes bytes s s' → Writes (bytes ++ []) s s'
 bare bytes s s' w = subst (λ (t : List ℕ). Writes t s s') (sym (append-nil bytes)) w
 
-ended : (ending : Ending) (came b : List ℕ) (answered : List Judged) (failed : Option Judged) (H : History) (s s' : Outlet) (f g : ℕ)
+ended : (ending : Ending) (came b : List ℕ) (answered : List JudgedWish) (failed : Option JudgedWish) (H : History) (s s' : Outlet) (f g : ℕ)
     → (Rises f g → ⊥) → (Rises s.faults s'.faults → ⊥) → CountsReads ending f g → EndsAs ending 0 came b answered failed H s s'
     → (exit_of ending ≡ exits.OutOfMemory) ⊎ (Answered (exit_of ending) b answered s s' × (failed ≡ None))
 ended ending came b answered (Some j) H s s' f g read written counts e = absurd (written e.2.rises)
@@ -91,7 +91,7 @@ ended endings.WriteFault came b answered None H s s' f g read written counts e =
 ended endings.OutOfMemory came b answered None H s s' f g read written counts e = inl refl
 
 module _ {I : Type 0} where
-  answered : (exit : Exit) (b : List ℕ) (judged : List Judged) (o o' : Outside I) (b0 b1 : Ledger) → b0.history ≡ [] → Legal b1.history → Replays judged b0 b1 → lost_count judged ≡ 0
+  answered : (exit : Exit) (b : List ℕ) (judged : List JudgedWish) (o o' : Outside I) (b0 b1 : Ledger) → b0.history ≡ [] → Legal b1.history → Replays judged b0 b1 → lost_count judged ≡ 0
       → Answered exit b judged o.output o'.output → AnswersAll exit b o o'
   answered exit b judged o o' b0 b1 empty legal r none a = record {
     wishes = wishes_of judged;
@@ -115,7 +115,7 @@ below : (m n : ℕ) → nat_lt m n ≡ true → m < n
 below m n e = grind arith
 
 -- where the keeper's count didn't rise, nothing was lost
-pub nothing_lost : (judged : List Judged) (b b' : Ledger) → Replays judged b b' → (Rises b.faults b'.faults → ⊥) → lost_count judged ≡ 0
+pub nothing_lost : (judged : List JudgedWish) (b b' : Ledger) → Replays judged b b' → (Rises b.faults b'.faults → ⊥) → lost_count judged ≡ 0
 nothing_lost judged b b' r idle = last (nat_lt b'.faults (2 ^ 64 - 1)) refl
   where
     count : b'.faults < 2 ^ 64 - 1 → (t : Bool) → nat_lt b.faults b'.faults ≡ t → lost_count judged ≡ 0
@@ -142,9 +142,9 @@ pipe_answers rows faults left gives ending keeper keeper' b o o' p told faultles
     b1 : Ledger
     b1 = record { history = p.history; faults = faults keeper' }
 
-    by : (js : List Judged) (failed : Option Judged) → Replays (js ++ listed failed) b0 b1 → (exit_of ending ≡ exits.OutOfMemory) ⊎ (Answered (exit_of ending) b js o.output o'.output × (failed ≡ None))
+    by : (js : List JudgedWish) (failed : Option JudgedWish) → Replays (js ++ listed failed) b0 b1 → (exit_of ending ≡ exits.OutOfMemory) ⊎ (Answered (exit_of ending) b js o.output o'.output × (failed ≡ None))
         → (exit_of ending ≡ exits.OutOfMemory) ⊎ AnswersAll (exit_of ending) b o o'
     by js failed r (inl e) = inl e
     by js failed r (inr a) =
-        let all : Replays js b0 b1 = subst (λ (xs : List Judged). Replays xs b0 b1) (append-nil js) (subst (λ (x : Option Judged). Replays (js ++ listed x) b0 b1) a.1 r) in
+        let all : Replays js b0 b1 = subst (λ (xs : List JudgedWish). Replays xs b0 b1) (append-nil js) (subst (λ (x : Option JudgedWish). Replays (js ++ listed x) b0 b1) a.1 r) in
         inr (answered (exit_of ending) b js o o' b0 b1 refl p.legal all (nothing_lost js b0 b1 all idle) a.0)

@@ -3,14 +3,14 @@ use Rattle.std.proofs.Common.{◌≡◌, ◌++◌, ℕ, List, [], Option, refl, 
 use Rattle.cr_base.specs.Lists.{listed}
 use Rattle.cr_base.specs.declared.row.Row.{Row}
 use Rattle.cr_session.specs.declared.serve.Ending.{Ending}
-use Rattle.cr_session.specs.Replay.{Judged, Ledger, Replays, lost_count}
+use Rattle.cr_session.specs.Replay.{JudgedWish, Ledger, Replays, lost_count}
 use Rattle.cr_session.proofs.Turns.{counted}
 use Rattle.cr_top.specs.declared.exit.Exit.{Exit}
 use Rattle.cr_top.specs.Exits.{exit_of}
 use Rattle.cr_top.specs.Runs.{Outside, Pipes, ServesPipe}
 
 -- as many were lost at most as the count rose by
-none_lost : (judged : List Judged) (b b' : Ledger) → b.faults ≡ 0 → b'.faults ≡ 0 → Replays judged b b' → lost_count judged ≡ 0
+none_lost : (judged : List JudgedWish) (b b' : Ledger) → b.faults ≡ 0 → b'.faults ≡ 0 → Replays judged b b' → lost_count judged ≡ 0
 none_lost judged b b' first last r =
     let most = counted judged b b' r (omega (arith, last)) in
     omega (arith, first, last, most)

@@ -10,10 +10,3 @@ mod run;
 pub use exit::{Exit, exit_of};
 pub use piping::pipe;
 pub use run::top;
-
-#[cfg(test)]
-mod tests;
-#[cfg(test)]
-mod tests_book;
-#[cfg(test)]
-mod tests_view;

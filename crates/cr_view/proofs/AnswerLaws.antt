@@ -14,7 +14,8 @@ use Rattle.cr_base.specs.declared.reply.Reply.TheVariants as replies
 use Rattle.cr_base.specs.declared.reply.Rule.{Rule}
 use Rattle.cr_base.specs.Accounts.{account_at, lines_of}
 use Rattle.cr_base.specs.Checks.{Check, judged}
-use Rattle.cr_base.specs.Judging.{names_in, query_checks, page_by, reply_or_rule, facts_of_tables, shown_in_tables, answer_by_role}
+use Rattle.cr_base.specs.Answering.{query_checks, page_by, reply_or_rule, answer_by_role}
+use Rattle.cr_base.specs.Sources.{names_in, facts_of_tables, shown_in_tables}
 use Rattle.cr_base.specs.Lists.{listed}
 use Rattle.cr_base.specs.Papers.{paper_count}
 use Rattle.cr_base.specs.Tables.{Tables}
@@ -23,7 +24,7 @@ use Rattle.cr_base.proofs.CheckLaws.{judged-Ok}
 use Rattle.cr_base.proofs.ListLaws.{length-numbers_from, name_in-lines_of}
 use Rattle.cr_view.specs.declared.queries.AnswerError.{AnswerError}
 use Rattle.cr_view.specs.declared.queries.AnswerError.TheVariants as errors
-use Rattle.cr_view.specs.Replies.{IsServed, Answers, Shows}
+use Rattle.cr_view.specs.Replies.{IsServed, AnswersAsDue, ShowsAsDue}
 use Rattle.cr_view.proofs.JudgeLaws.{refused, passed}
 
 -- ---- walks
@@ -85,7 +86,7 @@ module _ (t : Tables) (caller paper : Option ℕ) where
   page-served (Err rule) h ok = cc
 
   -- what is shown of a page is what is answered
-  pub page-answered : (r : Result Page AnswerError) → Shows r (judged checks page) → Answers (page_answer r) due
+  pub page-answered : (r : Result Page AnswerError) → ShowsAsDue r (judged checks page) → AnswersAsDue (page_answer r) due
   page-answered (Ok given) h = (sym (page-due given h), page-served (Ok given) h refl)
   page-answered (Err (errors.Rule rule)) h = ap reply_or_rule (sym (refused checks page (replies.Page page) rule (sym h)))
   page-answered (Err errors.OutOfMemory) h = page-served (judged checks page) refl h

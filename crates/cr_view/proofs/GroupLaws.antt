@@ -5,7 +5,7 @@ use Rattle.cr_base.specs.declared.entry.Entry.{Entry}
 use Rattle.cr_base.specs.declared.entry.Entry.TheVariants.{Registered, Named}
 use Rattle.cr_base.specs.declared.entry.Stamped.{Stamped}
 use Rattle.cr_base.specs.declared.words.Role.TheVariants.{Chair}
-use Rattle.cr_base.specs.Judging.{grouped, registration}
+use Rattle.cr_base.specs.Drawn.{grouped, registration}
 
 -- behind no entry, the next is the only one
 marked-none : (maker : ℕ) (entries : List Entry) (next : Entry) → length (grouped maker entries) ≡ 0 → grouped maker entries ++ record { maker = maker; more = false; entry = next } ∷ [] ≡ grouped maker (entries ++ next ∷ [])

@@ -6,7 +6,8 @@ use Rattle.cr_base.specs.declared.entry.Account.{Account}
 use Rattle.cr_base.specs.declared.me.Me.{Me}
 use Rattle.cr_base.specs.declared.words.Role.{Role}
 use Rattle.cr_base.specs.Accounts.{account_at, role_in}
-use Rattle.cr_base.specs.Judging.{facts_of_tables, me_by}
+use Rattle.cr_base.specs.Answering.{me_by}
+use Rattle.cr_base.specs.Sources.{facts_of_tables}
 use Rattle.cr_base.proofs.ListLaws.{name_in-lines_of}
 use Rattle.cr_base.specs.declared.pairs.Order.TheVariants.{ByPaper, ByUser}
 use Rattle.cr_base.specs.declared.pairs.Tie.{Tie}
@@ -14,7 +15,7 @@ use Rattle.cr_base.specs.Lists.{IsRising, given}
 use Rattle.cr_base.specs.Pairs.{papers_of}
 use Rattle.cr_base.specs.Papers.{paper_count, paper_numbers}
 use Rattle.cr_base.specs.Tables.{Tables}
-use Rattle.cr_base.specs.Ties.{BareTies, pair_of, is_author_in, is_declared_in, is_conflicted_in, AreWithin}
+use Rattle.cr_base.specs.Ties.{BareTies, pair_of, is_author_in, is_conflict_on_in, is_conflicted_in, AreWithin}
 use Rattle.cr_base.proofs.PairLaws.{list_any-others_of}
 use Rattle.cr_base.proofs.RisingLists.{numbers-others_of}
 use Rattle.cr_base.proofs.TieLaws.{within-pair}
@@ -46,11 +47,11 @@ module _ (t : Tables) (user : ℕ) (within : AreWithin (paper_count t.papers) t.
   pub own-conflicts : IsRising (papers_of user t.ties.conflicts) → filter (λ p. not (is_author_in t.ties (Some user) p)) (papers_of user t.ties.conflicts) ≡ filter (λ p. is_conflicted_in t.ties (Some user) p && not (is_author_in t.ties (Some user) p)) (paper_numbers t.papers)
   own-conflicts rising =
       ap (filter (λ p. not (is_author_in t.ties (Some user) p)))
-      (sym (numbers-others_of (λ p. is_declared_in t.ties (Some user) p) ByUser user t.papers.papers t.ties.conflicts rising
+      (sym (numbers-others_of (λ p. is_conflict_on_in t.ties (Some user) p) ByUser user t.papers.papers t.ties.conflicts rising
       (λ p there. within-pair (paper_count t.papers) (pair_of p user) t.ties.conflicts within.conflicts there)
       (λ p. refl)))
-      ∙ filter-twice (λ p. is_declared_in t.ties (Some user) p) (λ p. not (is_author_in t.ties (Some user) p)) (paper_numbers t.papers)
-      ∙ ap (λ (test : ℕ → Bool). filter test (paper_numbers t.papers)) (λ i p. only_declared (is_author_in t.ties (Some user) p) (is_declared_in t.ties (Some user) p) i)
+      ∙ filter-twice (λ p. is_conflict_on_in t.ties (Some user) p) (λ p. not (is_author_in t.ties (Some user) p)) (paper_numbers t.papers)
+      ∙ ap (λ (test : ℕ → Bool). filter test (paper_numbers t.papers)) (λ i p. only_declared (is_author_in t.ties (Some user) p) (is_conflict_on_in t.ties (Some user) p) i)
 
 -- ---- the answer
 

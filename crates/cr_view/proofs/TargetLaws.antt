@@ -2,23 +2,28 @@
 use Rattle.std.proofs.Common.{ℕ, Bool, true, false, cond, ◌≡◌, List, [], ◌∷◌, refl, sym, ap, ◌∙◌, ◌||◌, Option, Some, None, Result, Ok, Err}
 use Rattle.std.specs.Prelude.{is_some, unwrap_or}
 use Rattle.std.specs.List.{list_any}
-use Rattle.std.specs.Option.{option_and_then}
+use Rattle.std.specs.Option.{option_map, option_and_then}
 use Rattle.std.specs.Result.{result_and}
 use Rattle.cr_base.specs.declared.command.Command.TheVariants.{Name, SetConflict}
 use Rattle.cr_base.specs.declared.entry.Account.{Account}
 use Rattle.cr_base.specs.declared.reply.Rule.{Rule}
 use Rattle.cr_base.specs.declared.standing.Standing.{Standing}
+use Rattle.cr_base.specs.declared.target.Target.{Target}
 use Rattle.cr_base.specs.declared.words.Role.{Role}
 use Rattle.cr_base.specs.Accounts.{number_at, role_at, lines_of}
-use Rattle.cr_base.specs.Checks.{Check, judged, name_checks, conflict_checks}
-use Rattle.cr_base.specs.Judging.{Drawn, naming_drawn, conflict_drawn, name_judged, conflict_judged, user_among, has_paper, standing_at, facts_of_tables, shown_in_tables, judge_by_role}
+use Rattle.cr_base.specs.Checks.{Check, judged, of_role, name_checks, conflict_checks}
+use Rattle.cr_base.specs.Drawn.{Drawn, naming_drawn, conflict_drawn}
+use Rattle.cr_base.specs.Judging.{name_judged, conflict_judged, judge_by_role}
+use Rattle.cr_base.specs.Sources.{has_paper, paper_named, user_among, standing_at, facts_of_tables, shown_in_tables}
 use Rattle.cr_base.specs.Lists.{at_some, is_number}
 use Rattle.cr_base.specs.Tables.{Tables}
 use Rattle.cr_base.specs.Ties.{TiesState, authors_in, is_author_in, is_conflicted_in}
 use Rattle.cr_base.proofs.AccountLaws.{number_in-lines_of}
 use Rattle.cr_base.proofs.ListLaws.{role_among-lines_of}
+use Rattle.cr_conflicts.specs.Targets.{target_in, target_of}
 use Rattle.cr_view.specs.declared.draw.Draw.{Draw}
 use Rattle.cr_view.specs.declared.draw.Draw.TheVariants as draws
+use Rattle.cr_view.specs.ByTables.{naming_of, naming_at, asked_at, conflict_at}
 use Rattle.cr_view.specs.Draws.{drawn_by, drawn_or_rule}
 use Rattle.cr_view.specs.Targets.{target_at}
 
@@ -43,31 +48,25 @@ target-among : (accounts : List Account) (name : Option (List ℕ)) → user_amo
 target-among accounts None = refl
 target-among accounts (Some name) = number_in-lines_of accounts name
 
+-- she is asked about alike by the table of ties and by all tables
+target-asked : (t : Tables) (maker : ℕ) (paper : Option ℕ) (target : Option (ℕ × Role)) (user : Option ℕ) → option_map (λ (p : ℕ × Role). p.0) target ≡ user → option_map (λ (p : ℕ × Role). p.1) target ≡ option_and_then (role_at t.accounts) user → target_of t.ties maker paper target ≡ asked_at t maker paper user
+target-asked t maker paper None user known has = ap (asked_at t maker paper) known
+target-asked t maker paper (Some p) user known has =
+    ap (option_map (target_in t.ties maker paper p.0)) (has ∙ sym (ap (option_and_then (role_at t.accounts)) known)) ∙ ap (asked_at t maker paper) known
+
 -- ---- what is judged
 
--- a naming
-abbrev of_naming : Tables → ℕ → Option (List ℕ) → Role → Option ℕ → Result Drawn Rule
-of_naming t maker name role target =
-    judged (name_checks (standing_at t (Some maker) None) (option_and_then (role_at t.accounts) target) role) (naming_drawn maker (unwrap_or target 0) (unwrap_or name []) role)
-
-pub judge-name : (t : Tables) (maker : ℕ) (name : Option (List ℕ)) (role : Role) → judge_by_role t (Some maker) (Name name role) ≡ of_naming t maker name role (target_at t.accounts name)
+pub judge-name : (t : Tables) (maker : ℕ) (name : Option (List ℕ)) (role : Role) → judge_by_role t (Some maker) (Name name role) ≡ naming_at t maker name role
 judge-name t maker name role =
     ap (λ (v : Option ℕ). name_judged (facts_of_tables t (Some maker)) (Some maker) v (unwrap_or name []) role) (target-among t.accounts name)
-    ∙ ap (λ (now : Option Role). judged (name_checks (standing_at t (Some maker) None) now role) (naming_drawn maker (unwrap_or (target_at t.accounts name) 0) (unwrap_or name []) role)) (role_among-lines_of t.accounts (target_at t.accounts name))
+    ∙ ap (λ (now : Option Role). judged (name_checks (standing_at t (Some maker) None) (option_map of_role now) role) (naming_drawn maker (unwrap_or (target_at t.accounts name) 0) (unwrap_or name []) role)) (role_among-lines_of t.accounts (target_at t.accounts name))
 
--- a conflict
-abbrev conflict_checks_at : Tables → ℕ → Option ℕ → Bool → Option ℕ → List Check
-conflict_checks_at t maker paper on target =
-    conflict_checks (standing_at t (Some maker) paper) (has_paper (facts_of_tables t None) paper) (option_and_then (role_at t.accounts) target) (is_number target maker) (at_some (is_author_in t.ties target) paper) on
-
-pub judge-conflict : (t : Tables) (maker : ℕ) (paper : Option ℕ) (name : Option (List ℕ)) (on : Bool)
-    → judge_by_role t (Some maker) (SetConflict paper name on) ≡ judged (conflict_checks_at t maker paper on (target_at t.accounts name)) (conflict_drawn maker (unwrap_or paper 0) (unwrap_or (target_at t.accounts name) 0) on)
+pub judge-conflict : (t : Tables) (maker : ℕ) (paper : Option ℕ) (name : Option (List ℕ)) (on : Bool) → judge_by_role t (Some maker) (SetConflict paper name on) ≡ conflict_at t maker paper name on
 judge-conflict t maker paper name on =
-    let target = target_at t.accounts name in
-    let found : Bool = has_paper (facts_of_tables t None) paper in
-    let judged_by : Option Role → Result Drawn Rule = λ role. judged (conflict_checks (standing_at t (Some maker) paper) found role (is_number target maker) (at_some (is_author_in t.ties target) paper) on) (conflict_drawn maker (unwrap_or paper 0) (unwrap_or target 0) on) in
+    let target : Option ℕ = target_at t.accounts name in
+    let asked : Option Role → Option Target = λ now. option_map (λ (role : Role). record { role = role; herself = is_number target maker; author = at_some (is_author_in t.ties target) paper }) now in
     ap (λ (v : Option ℕ). conflict_judged (facts_of_tables t (Some maker)) (shown_in_tables t) (Some maker) paper v on) (target-among t.accounts name)
-    ∙ ap judged_by (role_among-lines_of t.accounts target)
+    ∙ ap (λ (now : Option Role). judged (conflict_checks (standing_at t (Some maker) paper) (paper_named (facts_of_tables t None) paper) (asked now) on) (conflict_drawn maker (unwrap_or paper 0) (unwrap_or target 0) on)) (role_among-lines_of t.accounts target)
 
 -- ---- what is drawn
 
@@ -89,27 +88,31 @@ drawn-and checks draw kept r judges told = ap drawn_or_rule told ∙ ap (λ (k :
 
 -- a naming, where there is a user of the name
 pub naming-drawn : (t : Tables) (maker : ℕ) (name : Option (List ℕ)) (given : List ℕ) (user : ℕ) (role : Role) (by : Standing) (kept : Result (Unit {0}) Rule) (r : Result Draw Rule)
-    → name ≡ Some given → Some user ≡ number_at t.accounts given → by ≡ standing_at t (Some maker) None → kept ≡ judged (name_checks by (role_at t.accounts user) role) tt → r ≡ result_and kept (Ok (draws.Naming maker user given role))
-    → drawn_or_rule r ≡ of_naming t maker name role (target_at t.accounts name)
+    → name ≡ Some given → Some user ≡ number_at t.accounts given → by ≡ standing_at t (Some maker) None → kept ≡ judged (name_checks by (option_map of_role (role_at t.accounts user)) role) tt → r ≡ result_and kept (Ok (draws.Naming maker user given role))
+    → drawn_or_rule r ≡ naming_at t maker name role
 naming-drawn t maker name given user role by kept r is found stands judges told =
-    drawn-and (name_checks by (role_at t.accounts user) role) (draws.Naming maker user given role) kept r judges told
-    ∙ ap (λ (s : Standing). judged (name_checks s (role_at t.accounts user) role) (naming_drawn maker user given role)) stands
-    ∙ ap (of_naming t maker (Some given) role) found
-    ∙ sym (ap (λ (n : Option (List ℕ)). of_naming t maker n role (target_at t.accounts n)) is)
+    let asked : Option Target = option_map of_role (role_at t.accounts user) in
+    drawn-and (name_checks by asked role) (draws.Naming maker user given role) kept r judges told
+    ∙ ap (λ (s : Standing). judged (name_checks s asked role) (naming_drawn maker user given role)) stands
+    ∙ ap (λ (v : Option ℕ). naming_of t maker v given role) found
+    ∙ sym (ap (λ (n : Option (List ℕ)). naming_at t maker n role) is)
 
 -- a conflict, where there are the paper and a user of the name
-pub conflict-drawn : (t : Tables) (maker : ℕ) (paper : Option ℕ) (number : ℕ) (name : Option (List ℕ)) (on found : Bool) (by : Standing) (target : Option ℕ) (user : ℕ) (role : Option Role) (kept : Result (Unit {0}) Rule) (r : Result Draw Rule)
-    → paper ≡ Some number → found ≡ has_paper (facts_of_tables t None) paper → found ≡ true → by ≡ standing_at t (Some maker) paper → target ≡ Some user → target ≡ target_at t.accounts name → role ≡ option_and_then (role_at t.accounts) (target_at t.accounts name)
-    → kept ≡ judged (conflict_checks by (is_some paper) role (is_number target maker) (at_some (is_author_in t.ties target) paper) on) tt → r ≡ result_and kept (Ok (draws.Conflict maker number user on))
-    → drawn_or_rule r ≡ judged (conflict_checks_at t maker paper on (target_at t.accounts name)) (conflict_drawn maker (unwrap_or paper 0) (unwrap_or (target_at t.accounts name) 0) on)
-conflict-drawn t maker paper number name on found by target user role kept r is there held stands known named has judges told =
-    let checks : Standing → Bool → Option Role → List Check = λ s b now. conflict_checks s b now (is_number target maker) (at_some (is_author_in t.ties target) paper) on in
+pub conflict-drawn : (t : Tables) (maker : ℕ) (paper : Option ℕ) (number : ℕ) (name : Option (List ℕ)) (on found : Bool) (by : Standing) (target : Option (ℕ × Role)) (user : ℕ) (kept : Result (Unit {0}) Rule) (r : Result Draw Rule)
+    → paper ≡ Some number → found ≡ has_paper (facts_of_tables t None) paper → found ≡ true → by ≡ standing_at t (Some maker) paper
+    → option_map (λ (p : ℕ × Role). p.0) target ≡ Some user → option_map (λ (p : ℕ × Role). p.0) target ≡ target_at t.accounts name → option_map (λ (p : ℕ × Role). p.1) target ≡ option_and_then (role_at t.accounts) (target_at t.accounts name)
+    → kept ≡ judged (conflict_checks by (record { there = is_some paper }) (target_of t.ties maker paper target) on) tt → r ≡ result_and kept (Ok (draws.Conflict maker number user on))
+    → drawn_or_rule r ≡ conflict_at t maker paper name on
+conflict-drawn t maker paper number name on found by target user kept r is there held stands known named has judges told =
+    let checks : Standing → Bool → Option Target → List Check = λ s b asked. conflict_checks s (record { there = b }) asked on in
+    let here : Standing = standing_at t (Some maker) paper in
+    let asked : Option Target = target_of t.ties maker paper target in
     let draw : Draw = draws.Conflict maker number user on in
     let same : is_some paper ≡ has_paper (facts_of_tables t None) paper = ap is_some is ∙ sym held ∙ there in
-    drawn-and (checks by (is_some paper) role) draw kept r judges told
-    ∙ ap (λ (s : Standing). judged (checks s (is_some paper) role) (drawn_by draw)) stands
-    ∙ ap (λ (b : Bool). judged (checks (standing_at t (Some maker) paper) b role) (drawn_by draw)) same
-    ∙ ap (λ (now : Option Role). judged (checks (standing_at t (Some maker) paper) (has_paper (facts_of_tables t None) paper) now) (drawn_by draw)) (has ∙ sym (ap (option_and_then (role_at t.accounts)) named))
-    ∙ ap (λ (v : Option ℕ). judged (conflict_checks_at t maker paper on target) (conflict_drawn maker number (unwrap_or v 0) on)) (sym known)
-    ∙ ap (λ (p : Option ℕ). judged (conflict_checks_at t maker paper on target) (conflict_drawn maker (unwrap_or p 0) (unwrap_or target 0) on)) (sym is)
-    ∙ ap (λ (v : Option ℕ). judged (conflict_checks_at t maker paper on v) (conflict_drawn maker (unwrap_or paper 0) (unwrap_or v 0) on)) named
+    let due : Option ℕ → Option ℕ → Result Drawn Rule = λ v p. judged (checks here (has_paper (facts_of_tables t None) paper) (asked_at t maker paper (target_at t.accounts name))) (conflict_drawn maker (unwrap_or p 0) (unwrap_or v 0) on) in
+    drawn-and (checks by (is_some paper) asked) draw kept r judges told
+    ∙ ap (λ (s : Standing). judged (checks s (is_some paper) asked) (drawn_by draw)) stands
+    ∙ ap (λ (b : Bool). judged (checks here b asked) (drawn_by draw)) same
+    ∙ ap (λ (a : Option Target). judged (checks here (has_paper (facts_of_tables t None) paper) a) (drawn_by draw)) (target-asked t maker paper target (target_at t.accounts name) named has)
+    ∙ ap (λ (v : Option ℕ). due v (Some number)) (sym known ∙ named)
+    ∙ ap (due (target_at t.accounts name)) (sym is)

@@ -1,20 +1,16 @@
 -- Whose a command or a query is.
 use Rattle.std.specs.Prelude.{ℕ, Option, IsSome}
 use Rattle.cr_base.specs.declared.command.Command.{Command}
-use Rattle.cr_base.specs.declared.command.Command.TheVariants.{Register, SetPhase, Submit, Name, SetMode, SetConflict}
 use Rattle.cr_base.specs.declared.command.Query.{Query}
 use Rattle.cr_base.specs.declared.command.Query.TheVariants as queries
+use Rattle.cr_base.specs.Logins.{IfWanted, command_wants_login}
 
--- there is a caller, where the command is a user's
+-- there is a caller, where the command wants a login
 abbrev pub HasCaller : Option ℕ → Command → Type 0
-HasCaller caller (Register name digest) = Unit {0}
-HasCaller caller (SetPhase phase) = IsSome caller
-HasCaller caller (Submit title abstract) = IsSome caller
-HasCaller caller (Name name role) = IsSome caller
-HasCaller caller (SetMode mode) = IsSome caller
-HasCaller caller (SetConflict paper name on) = IsSome caller
+HasCaller caller command = IfWanted (command_wants_login command) (IsSome caller)
 
--- there is a caller, where the query is about herself
+-- there is a caller, where the query is about herself: that nobody may ask for a page is no concern of the tables, which
+-- answer it for anybody
 abbrev pub HasAsker : Option ℕ → Query → Type 0
 HasAsker caller queries.Me = IsSome caller
 HasAsker caller queries.Accounts = Unit {0}

@@ -1,7 +1,7 @@
 -- What a draw adds and tells.
 use Rattle.std.specs.Prelude.{Result, Ok, Err}
 use Rattle.cr_base.specs.declared.reply.Rule.{Rule}
-use Rattle.cr_base.specs.Judging.{Drawn, registration_drawn, phase_drawn, submission_drawn, naming_drawn, mode_drawn, conflict_drawn}
+use Rattle.cr_base.specs.Drawn.{Drawn, registration_drawn, phase_drawn, submission_drawn, naming_drawn, mode_drawn, conflict_drawn}
 use Rattle.cr_view.specs.declared.draw.Draw.{Draw}
 use Rattle.cr_view.specs.declared.draw.Draw.TheVariants.{Registration, Phase, Submission, Naming, Mode, Conflict}
 

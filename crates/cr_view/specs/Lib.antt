@@ -1,3 +1,4 @@
+pub mod ByTables
 pub mod Callers
 pub mod Draws
 pub mod Replies

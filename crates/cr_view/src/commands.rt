@@ -1,14 +1,11 @@
 //! What is judged by the tables.
-ghost use Rattle.std.specs.Prelude.{◌≡◌, ◌+◌, [], IfOk, IsSome, Some, None, is_some, length, unwrap_or};
+ghost use Rattle.std.specs.Prelude.{◌≡◌, IfOk, IsSome, Some};
 ghost use Rattle.std.specs.Option.{option_map, option_and_then};
-ghost use Rattle.cr_base.specs.Accounts.{number_at, role_at};
-ghost use Rattle.cr_base.specs.Checks.{judged, register_checks, submit_checks, name_checks, conflict_checks};
-ghost use Rattle.cr_base.specs.Judging.{judge_by_role, standing_at, facts_of_tables, has_paper, registration_drawn, submission_drawn, naming_drawn, conflict_drawn};
-ghost use Rattle.cr_base.specs.Lists.{at_some, is_number};
-ghost use Rattle.cr_base.specs.Papers.{paper_count, own_count};
-ghost use Rattle.cr_base.specs.Ties.{is_author_in};
+ghost use Rattle.cr_base.specs.Accounts.{role_at};
+ghost use Rattle.cr_base.specs.Judging.{judge_by_role};
 ghost use Rattle.cr_base.specs.Tables.{FitInTurn};
 ghost use Rattle.cr_base.specs.declared.command.Command.TheVariants as commands;
+ghost use Rattle.cr_view.specs.ByTables.{registration_at, submission_at, naming_at, conflict_at};
 ghost use Rattle.cr_view.specs.Callers.{HasCaller};
 ghost use Rattle.cr_view.specs.Draws.{drawn_by, drawn_or_rule};
 ghost use Rattle.cr_view.specs.Targets.{target_at};
@@ -54,7 +51,7 @@ impl Live {
     }
 
     fn judge_registration(&self, name: Short, digest: Digest) -> Result<Draw, Rule>
-        ensures { drawn_or_rule result ≡ judged (register_checks (is_some (number_at self.now.tables.accounts name)) (length self.now.tables.accounts)) (registration_drawn (length self.now.tables.accounts + 1) name digest) }
+        ensures { drawn_or_rule result ≡ registration_at self.now.tables name digest }
     {
         let user = self.accounts.register_check(&name)?;
         Ok(Draw::Registration { user, name, digest })
@@ -69,7 +66,7 @@ impl Live {
     }
 
     fn judge_submission(&self, maker: UserNo, title: Text, abstract_: Text) -> Result<Draw, Rule>
-        ensures { drawn_or_rule result ≡ judged (submit_checks (standing_at self.now.tables (Some maker) None) (paper_count self.now.tables.papers) (own_count self.now.tables.papers (Some maker))) (submission_drawn maker (paper_count self.now.tables.papers + 1) title abstract_) }
+        ensures { drawn_or_rule result ≡ submission_at self.now.tables maker title abstract_ }
     {
         let by = self.standing(&Some(maker), &None);
         let paper = self.papers.judge_submit(&by, maker)?;
@@ -82,7 +79,7 @@ impl Live {
     }
 
     fn judge_naming(&self, maker: UserNo, name: &Option<Short>, role: Role) -> Result<Draw, Rule>
-        ensures { let target = target_at self.now.tables.accounts name.now in drawn_or_rule result ≡ judged (name_checks (standing_at self.now.tables (Some maker) None) (option_and_then (role_at self.now.tables.accounts) target) role) (naming_drawn maker (unwrap_or target 0) (unwrap_or name.now []) role) }
+        ensures { drawn_or_rule result ≡ naming_at self.now.tables maker name.now role }
     {
         let Some(name) = name else {
             return Err(Rule::NoUser);
@@ -115,7 +112,7 @@ impl Live {
         name: &Option<Short>,
         on: bool,
     ) -> Result<Draw, Rule>
-        ensures { let target = target_at self.now.tables.accounts name.now in drawn_or_rule result ≡ judged (conflict_checks (standing_at self.now.tables (Some maker) paper.now) (has_paper (facts_of_tables self.now.tables None) paper.now) (option_and_then (role_at self.now.tables.accounts) target) (is_number target maker) (at_some (is_author_in self.now.tables.ties target) paper.now) on) (conflict_drawn maker (unwrap_or paper.now 0) (unwrap_or target 0) on) }
+        ensures { drawn_or_rule result ≡ conflict_at self.now.tables maker paper.now name.now on }
     {
         if !self.has_paper(paper) {
             return Err(Rule::NoPaper);

@@ -83,7 +83,7 @@ impl Draw {
                 role: *role,
             },
             Draw::Mode { mode, .. } => Receipt::Mode { mode: *mode },
-            Draw::Conflict { paper, .. } => Receipt::Noted { paper: *paper },
+            Draw::Conflict { paper, .. } => Receipt::Conflict { paper: *paper },
         }
     }
 

@@ -1,7 +1,7 @@
 //! The entries of one command.
 ghost use Rattle.std.specs.Prelude.{◌≡◌, ◌≤◌, ◌-◌, ℕ, List, [], ◌∷◌, ◌++◌, OnOk, IfOk, false, vec_len, vec_capacity};
 ghost use Rattle.cr_base.specs.declared.entry.Entry.{Entry};
-ghost use Rattle.cr_base.specs.Judging.{grouped, registration};
+ghost use Rattle.cr_base.specs.Drawn.{grouped, registration};
 
 use cr_base::{Digest, Entry, Role, Short, Stamped, UserNo};
 use std::alloc::{AllocError, Global};

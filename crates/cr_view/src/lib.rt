@@ -9,8 +9,6 @@ mod live;
 mod me;
 mod page;
 mod queries;
-#[cfg(test)]
-mod tests;
 
 pub use draw::Draw;
 pub use live::Live;

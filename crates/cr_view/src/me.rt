@@ -2,7 +2,8 @@
 ghost use Rattle.std.specs.Prelude.{◌≡◌, ◌++◌, [], IfOk, OnOk, Some, filter, map, not, unwrap_or};
 ghost use Rattle.std.specs.Option.{option_map};
 ghost use Rattle.cr_base.specs.Accounts.{account_at};
-ghost use Rattle.cr_base.specs.Judging.{facts_of_tables, me_by};
+ghost use Rattle.cr_base.specs.Answering.{me_by};
+ghost use Rattle.cr_base.specs.Sources.{facts_of_tables};
 ghost use Rattle.cr_base.specs.Lists.{given};
 ghost use Rattle.cr_base.specs.Ties.{is_author_in};
 

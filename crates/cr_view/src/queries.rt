@@ -1,17 +1,14 @@
 //! What queries are answered by the tables.
-ghost use Rattle.std.specs.Prelude.{◌≡◌, ◌≢◌, ◌++◌, IfOk, OnOk, OnErr, Ok, Err, Some, map, unwrap_or};
+ghost use Rattle.std.specs.Prelude.{◌≡◌, ◌≢◌, ◌++◌, IfOk, OnOk, OnErr, Some};
 ghost use Rattle.cr_base.specs.Accounts.{lines_of};
-ghost use Rattle.cr_base.specs.Checks.{judged, page_checks};
-ghost use Rattle.cr_base.specs.Judging.{answer_by_role, facts_of_tables, shown_in_tables, query_checks, has_paper, names_in, page_by, standing_at};
+ghost use Rattle.cr_base.specs.Answering.{query_checks, answer_by_role};
+ghost use Rattle.cr_base.specs.Checks.{judged};
 ghost use Rattle.cr_base.specs.Lists.{listed};
-ghost use Rattle.cr_base.specs.Papers.{paper_count};
 ghost use Rattle.cr_base.specs.Page.{where_told};
+ghost use Rattle.cr_base.specs.Sources.{facts_of_tables, has_paper};
 ghost use Rattle.cr_base.specs.declared.command.Query.TheVariants as queries;
-ghost use Rattle.cr_base.specs.declared.reply.Conference.{Conference};
-ghost use Rattle.cr_base.specs.declared.reply.Reply.TheVariants as replies;
-ghost use Rattle.cr_base.specs.declared.reply.Rule.{Rule};
 ghost use Rattle.cr_view.specs.Callers.{HasAsker};
-ghost use Rattle.cr_view.specs.Replies.{Answers, Shows, page_at};
+ghost use Rattle.cr_view.specs.Replies.{AnswersAsDue, ShowsAsDue, conference_at, names_of, page_at, page_due, reader_at};
 
 use crate::commands::maker;
 use crate::live::Live;
@@ -45,7 +42,7 @@ impl Live {
 
     /// How she stands to the paper whose page she may see, or the first broken rule.
     fn reader(&self, user: &Option<UserNo>, paper: &Option<PaperNo>) -> Result<Standing, Rule>
-        ensures { result ≡ judged (page_checks (standing_at self.now.tables user.now paper.now) (has_paper (facts_of_tables self.now.tables user.now) paper.now)) (standing_at self.now.tables user.now paper.now) }
+        ensures { result ≡ reader_at self.now.tables user.now paper.now }
     {
         if !self.has_paper(paper) {
             return Err(Rule::NoPaper);
@@ -102,7 +99,7 @@ impl Live {
         query: &Query,
     ) -> Result<Reply, AnswerError>
         requires caller { HasAsker caller.now query.now }
-        ensures answered { Answers result (answer_by_role self.now.tables caller.now query.now) }
+        ensures answered { AnswersAsDue result (answer_by_role self.now.tables caller.now query.now) }
         ensures sure { OnErr result (query.now ≢ queries.Phase) }
     {
         match query {
@@ -126,7 +123,7 @@ impl Live {
 
     /// The phase, the mode and the number of papers. Takes no memory and reads no account.
     pub fn conference(&self) -> Conference
-        ensures { ◌≡◌ {A = Conference} result (record { mode = self.now.tables.stage.mode; papers = paper_count self.now.tables.papers; phase = self.now.tables.stage.phase }) }
+        ensures { result ≡ conference_at self.now.tables }
     {
         Conference {
             mode: self.stage.mode(),
@@ -144,7 +141,7 @@ impl Live {
         user: &Option<UserNo>,
         paper: &Option<PaperNo>,
     ) -> Result<Page, AnswerError>
-        ensures { Shows result (judged (query_checks (facts_of_tables self.now.tables user.now) (queries.Page paper.now)) (page_by (facts_of_tables self.now.tables user.now) (shown_in_tables self.now.tables) (unwrap_or paper.now 0))) }
+        ensures { ShowsAsDue result (page_due self.now.tables user.now paper.now) }
     {
         let by = match self.reader(user, paper) {
             Ok(by) => by,
@@ -187,7 +184,7 @@ impl Live {
         told: bool,
         ties: &[Tie<()>],
     ) -> Result<Option<Names>, AllocError>
-        ensures { IfOk result (λ names. names ≡ where_told told (Some (names_in (lines_of self.now.tables.accounts) (map (λ tie. tie.pair.user) ties.now)))) }
+        ensures { IfOk result (λ names. names ≡ where_told told (Some (names_of self.now.tables ties.now))) }
     {
         if !told {
             return Ok(None);
@@ -197,7 +194,7 @@ impl Live {
 
     /// The names of the users of these ties, without those whom nobody knows.
     fn names(&self, alloc: Global, ties: &[Tie<()>]) -> Result<Names, AllocError>
-        ensures { IfOk result (λ names. names ≡ names_in (lines_of self.now.tables.accounts) (map (λ tie. tie.pair.user) ties.now)) }
+        ensures { IfOk result (λ names. names ≡ names_of self.now.tables ties.now) }
     {
         let mut names = Vec::with_capacity(alloc, ties.len())?;
         for tie in ties {

@@ -1,3 +1,3 @@
-pub mod Logins
+pub mod AskLaws
 pub mod Utf8
 pub mod Numbers

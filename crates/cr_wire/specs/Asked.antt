@@ -8,8 +8,8 @@ use Rattle.cr_bodies.specs.Bodies.{command_read}
 use Rattle.cr_routes.specs.Asks.{ask_at}
 use Rattle.cr_routes.specs.Parts.{FoundPath, found_at}
 use Rattle.cr_routes.specs.Methods.{method_of}
-use Rattle.cr_routes.specs.declared.ask.Ask.{Ask}
-use Rattle.cr_routes.specs.declared.ask.Ask.TheVariants as asks
+use Rattle.cr_base.specs.declared.ask.Ask.{Ask}
+use Rattle.cr_base.specs.declared.ask.Ask.TheVariants as asks
 use Rattle.cr_wire.specs.Paper.{paper_of}
 use Rattle.cr_wire.specs.declared.what.What.{What}
 use Rattle.cr_wire.specs.declared.what.What.TheVariants.{NoRoute, WrongMethod, BadBody, Command as Commands, Query as Queries}

@@ -11,9 +11,9 @@ ghost use Rattle.cr_wire.specs.Outcome.{Gives};
 
 use crate::paper::paper_of;
 use crate::what::What;
-use cr_base::{Command, Query};
+use cr_base::{Ask, Command, Query};
 use cr_bodies::{BodyError, before_first, read_command};
-use cr_routes::{Ask, Found, Method, Place, Routes};
+use cr_routes::{Found, Method, Place, Routes};
 use std::alloc::{AllocError, Global};
 use std::str::from_utf8;
 

@@ -1,20 +1,19 @@
 //! Laws over the definitions alone.
 ghost use Rattle.std.specs.Prelude.{◌≡◌, ℕ, List, Some};
 ghost use Rattle.cr_http.specs.Requests.{End};
-ghost use Rattle.cr_routes.specs.declared.ask.Ask.{Ask};
+ghost use Rattle.cr_base.specs.declared.ask.Ask.{Ask};
 ghost use Rattle.cr_wire.specs.Asked.{asked};
 ghost use Rattle.cr_routes.specs.Parts.{FoundPath};
-ghost use Rattle.cr_wire.specs.Caller.{ask_of, ask_wants_login, wants_login};
+ghost use Rattle.cr_wire.specs.Caller.{ask_of};
 ghost use Rattle.cr_wire.specs.Wishes.{Wishes};
 ghost use Rattle.cr_wire.specs.declared.what.Wish.{Wish};
 
 use cr_http::law_one_reading;
 
-/// A wish is told by what its request asks for, so by path and method: no body, be it a good or a bad one, changes what is
-/// asked for, and so neither whether a login is wanted nor whether the field Authorization is read.
-pub fn law_login_by_ask()
-    ensures ask { (ask : Ask) (found : FoundPath) (body : List ℕ) → ask_of (asked ask found body) ≡ Some ask }
-    ensures login { (ask : Ask) (found : FoundPath) (body : List ℕ) → wants_login (asked ask found body) ≡ ask_wants_login ask }
+/// What a wish asks for is told by path and method alone: no body, be it a good or a bad one, changes it. So none changes
+/// whether a login is wanted or whether the field Authorization is read, since both go by what is asked for.
+pub fn law_one_ask()
+    ensures { (ask : Ask) (found : FoundPath) (body : List ℕ) → ask_of (asked ask found body) ≡ Some ask }
 {}
 
 /// A text spells one list of wishes, and has one end.

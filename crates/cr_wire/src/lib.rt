@@ -10,9 +10,6 @@ mod paper;
 mod what;
 mod wish;
 
-pub use laws::{law_login_by_ask, law_one_list_of_wishes};
+pub use laws::{law_one_ask, law_one_list_of_wishes};
 pub use what::{What, Wish};
 pub use wish::wish_of;
-
-#[cfg(test)]
-mod tests;

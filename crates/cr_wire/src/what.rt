@@ -1,10 +1,9 @@
 //! What a request wishes.
 ghost use Rattle.std.specs.Prelude.{◌≡◌};
-ghost use Rattle.cr_wire.specs.Caller.{ask_reads_credentials as ask_reads_credentials_text, ask_wants_login as ask_wants_login_text, command_ask as command_ask_text, query_ask as query_ask_text};
 
-use cr_base::{Command, Query};
+use cr_base::{Ask, Command, Query};
 use cr_bodies::Credentials;
-use cr_routes::{Ask, Place};
+use cr_routes::Place;
 
 /// What a whole request wishes, by its path, its method and its body.
 #[derive(Drop, Debug)]
@@ -35,55 +34,6 @@ pub struct Wish {
     pub what: What,
 }
 
-/// Whether what is asked for wants a login.
-fn ask_wants_login(ask: Ask) -> bool
-    ensures { result ≡ ask_wants_login_text ask }
-{
-    match ask {
-        Ask::Register | Ask::Accounts | Ask::Phase => false,
-        Ask::Name | Ask::SetMode | Ask::SetPhase | Ask::Submit => true,
-        Ask::SetConflict | Ask::Page | Ask::Me => true,
-    }
-}
-
-/// Whether a request for this reads the field Authorization: a table of its own, since a request may be told who calls
-/// though it wants no login.
-fn ask_reads_credentials(ask: Ask) -> bool
-    ensures { result ≡ ask_reads_credentials_text ask }
-{
-    match ask {
-        Ask::Register | Ask::Accounts | Ask::Phase => false,
-        Ask::Me | Ask::Page => true,
-        Ask::Name | Ask::SetMode | Ask::SetPhase | Ask::Submit | Ask::SetConflict => true,
-    }
-}
-
-/// The request by which a command is given.
-fn command_ask(command: &Command) -> Ask
-    ensures { result ≡ command_ask_text command.now }
-{
-    match command {
-        Command::Register { .. } => Ask::Register,
-        Command::SetPhase { .. } => Ask::SetPhase,
-        Command::Submit { .. } => Ask::Submit,
-        Command::Name { .. } => Ask::Name,
-        Command::SetMode { .. } => Ask::SetMode,
-        Command::SetConflict { .. } => Ask::SetConflict,
-    }
-}
-
-/// The request by which a query is asked.
-fn query_ask(query: &Query) -> Ask
-    ensures { result ≡ query_ask_text query.now }
-{
-    match query {
-        Query::Me => Ask::Me,
-        Query::Accounts => Ask::Accounts,
-        Query::Phase => Ask::Phase,
-        Query::Page { .. } => Ask::Page,
-    }
-}
-
 impl What {
     ghost use Rattle.cr_wire.specs.Caller.{ask_of, reads_credentials, wants_login};
 
@@ -94,8 +44,8 @@ impl What {
         match self {
             What::NoRoute | What::WrongMethod(_) => None,
             What::BadBody(ask) => Some(*ask),
-            What::Command(command) => Some(command_ask(command)),
-            What::Query(query) => Some(query_ask(query)),
+            What::Command(command) => Some(command.ask()),
+            What::Query(query) => Some(query.ask()),
         }
     }
 
@@ -106,12 +56,7 @@ impl What {
     pub fn wants_login(&self) -> bool
         ensures { result ≡ wants_login self.now }
     {
-        match self {
-            What::NoRoute | What::WrongMethod(_) => false,
-            What::BadBody(ask) => ask_wants_login(*ask),
-            What::Command(command) => command.wants_login(),
-            What::Query(query) => query.wants_login(),
-        }
+        self.ask().is_some_and(Ask::wants_login)
     }
 
     /// Whether its request reads the field Authorization. POST of `/register`, GET and HEAD of `/accounts` and of `/phase`
@@ -119,9 +64,6 @@ impl What {
     pub fn reads_credentials(&self) -> bool
         ensures { result ≡ reads_credentials self.now }
     {
-        match self.ask() {
-            Some(ask) => ask_reads_credentials(ask),
-            None => false,
-        }
+        self.ask().is_some_and(Ask::reads_credentials)
     }
 }

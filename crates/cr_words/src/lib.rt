@@ -12,6 +12,3 @@ mod usage;
 pub use laws::law_pipe;
 pub use read::{Job, WordsError, read_words};
 pub use usage::usage_text;
-
-#[cfg(test)]
-mod tests;

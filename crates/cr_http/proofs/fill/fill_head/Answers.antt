@@ -1,7 +1,7 @@
 use Rattle.std.proofs.Common.{◌≡◌, ◌∙◌, None, arith}
 use Rattle.cr_http.specs.Buffer.{text_of}
 use Rattle.cr_http.specs.Filling.{NeedsHead}
-use Rattle.cr_http.specs.Place.{head_at}
+use Rattle.cr_http.specs.HeadRange.{head_at}
 use Rattle.cr_http.proofs.Moving.{moves_on, reads_once}
 use Rattle.cr_http.proofs.Searching.{found_there, stands_on}
 use Rattle.cr_http.proofs.fill.fill_head.Goals as goal

@@ -38,7 +38,7 @@ pub returns-in-Malformed-clause-round : goal.returns-in-Malformed-clause-round
 returns-in-Malformed-clause-round g c =
     let w = world_of g.K.Keeper.faults g.S.Source.faults g.O.Sink.taken g.O.Sink.faults c.args.book.now c.args.source.now c.args.sink.now in
     let w' = world_of g.K.Keeper.faults g.S.Source.faults g.O.Sink.taken g.O.Sink.faults c.args.book.now c.read_wish.new.source c.refuse.new.sink in
-    round_refused g.S.Source.left g.S.Source.read_gives c.refuse.result c.args.number c.in-Malformed.why c.in-Malformed.to_head c.args.inbox.now c.read_wish.new.inbox w w' c.in-Malformed.ensures.reads
+    round_refused g.S.Source.left g.S.Source.read_gives c.refuse.result c.args.number c.in-Malformed.why c.in-Malformed.is_head c.args.inbox.now c.read_wish.new.inbox w w' c.in-Malformed.ensures.reads
     c.refuse.ensures.refuses refl (c.in-Malformed.ensures.steady (λ is. cc))
 
 pub returns-in-Clean-clause-round : goal.returns-in-Clean-clause-round
@@ -65,5 +65,5 @@ returns-in-OutOfMemory-clause-round g c =
     let w = world_of g.K.Keeper.faults g.S.Source.faults g.O.Sink.taken g.O.Sink.faults c.args.book.now c.args.source.now c.args.sink.now in
     let w' = world_of g.K.Keeper.faults g.S.Source.faults g.O.Sink.taken g.O.Sink.faults c.args.book.now c.read_wish.new.source c.note_no_memory-in-OutOfMemory.new.sink in
     subst (λ (e : Ending). Connection g.S.Source.left g.S.Source.read_gives e c.args.number c.args.inbox.now w w') (sym c.note_no_memory-in-OutOfMemory.ensures.ending)
-    (round_unread g.S.Source.left g.S.Source.read_gives c.args.number c.in-OutOfMemory.to_head c.args.inbox.now c.read_wish.new.inbox w w' c.in-OutOfMemory.ensures.reads refl
+    (round_unread g.S.Source.left g.S.Source.read_gives c.args.number c.in-OutOfMemory.is_head c.args.inbox.now c.read_wish.new.inbox w w' c.in-OutOfMemory.ensures.reads refl
     c.note_no_memory-in-OutOfMemory.ensures.notes (c.in-OutOfMemory.ensures.steady (λ is. cc)))

@@ -1,6 +1,6 @@
 use Rattle.std.proofs.Common.{[], ◌∷◌, ◌∙◌, ap}
 use Rattle.cr_base.specs.declared.entry.Entry.TheVariants.{Registered}
-use Rattle.cr_base.specs.Judging.{grouped}
+use Rattle.cr_base.specs.Drawn.{grouped}
 use Rattle.cr_view.proofs.GroupLaws.{first-registration}
 use Rattle.cr_view.proofs.group.registration.Goals as goal
 

@@ -5,7 +5,7 @@ use Rattle.cr_base.specs.Logins.{query_wants_login}
 use Rattle.cr_policy.specs.Judge.{answer}
 use Rattle.cr_policy.specs.Legal.{MayAsk}
 use Rattle.cr_policy.specs.View.{view}
-use Rattle.cr_view.specs.Replies.{Answers}
+use Rattle.cr_view.specs.Replies.{AnswersAsDue}
 use Rattle.cr_book.specs.Seen.{SeenBook}
 use Rattle.cr_book.proofs.BookLaws.{answered-by_view, asker-there}
 use Rattle.cr_book.proofs.book.Book.answer.Goals as goal
@@ -22,7 +22,7 @@ returns-clause-answered g c =
     let u = c.args.caller.now in
     let q = c.args.query.now in
     let same = ap (λ (v : SeenBook g.row.K.Denot). v.log) c.self.view_is in
-    subst (λ (due : Reply). Answers c.answer.result due)
+    subst (λ (due : Reply). AnswersAsDue c.answer.result due)
     (answered-by_view g.K.Keeper.rows c.self.inside.log.items c.self.inside.live.tables c.self.inside.keeper u q c.self.invariant
     ∙ ap (λ (h : History). answer u (view u h) q) same)
     c.answer.ensures.answered

@@ -2,7 +2,7 @@ use Rattle.std.proofs.Common.{◌≡◌, ◌∙◌, ap, sym, subst, refl, Ok, Er
 use Rattle.std.proofs.lemmas.Result.{IfOk-weaker}
 use Rattle.cr_base.specs.declared.reply.Rule.{Rule}
 use Rattle.cr_base.specs.History.{History}
-use Rattle.cr_base.specs.Judging.{Drawn}
+use Rattle.cr_base.specs.Drawn.{Drawn}
 use Rattle.cr_base.specs.Tables.{Tables, tables_of, FitInTurn}
 use Rattle.cr_policy.specs.Judge.{judge}
 use Rattle.cr_policy.specs.Legal.{Legal}

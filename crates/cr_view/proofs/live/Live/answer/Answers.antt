@@ -1,8 +1,8 @@
 use Rattle.std.proofs.Common.{◌≡◌, ◌∙◌, Ok, Err, sym, subst}
 use Rattle.cr_base.specs.declared.command.Query.{Query}
 use Rattle.cr_base.specs.declared.reply.Reply.TheVariants as replies
-use Rattle.cr_base.specs.Judging.{answer_by_role}
-use Rattle.cr_view.specs.Replies.{Answers}
+use Rattle.cr_base.specs.Answering.{answer_by_role}
+use Rattle.cr_view.specs.Replies.{AnswersAsDue}
 use Rattle.cr_view.proofs.AnswerLaws.{conference-told, page-answered}
 use Rattle.cr_view.proofs.live.Live.answer.Goals as goal
 
@@ -15,10 +15,10 @@ pub returns-in-Ok-clause-answered : goal.returns-in-Ok-clause-answered
 returns-in-Ok-clause-answered c =
     let t = c.args.self.now.tables in
     let u = c.args.caller.now in
-    subst (λ (q : Query). Answers (Ok (replies.Page c.in-Ok.page)) (answer_by_role t u q)) (sym c.in-Page.is) (page-answered t u c.in-Page.paper (Ok c.in-Ok.page) c.in-Ok.ensures)
+    subst (λ (q : Query). AnswersAsDue (Ok (replies.Page c.in-Ok.page)) (answer_by_role t u q)) (sym c.in-Page.is) (page-answered t u c.in-Page.paper (Ok c.in-Ok.page) c.in-Ok.ensures)
 
 pub returns-in-Err-clause-answered : goal.returns-in-Err-clause-answered
 returns-in-Err-clause-answered c =
     let t = c.args.self.now.tables in
     let u = c.args.caller.now in
-    subst (λ (q : Query). Answers (Err c.in-Err.error) (answer_by_role t u q)) (sym c.in-Page.is) (page-answered t u c.in-Page.paper (Err c.in-Err.error) c.in-Err.ensures)
+    subst (λ (q : Query). AnswersAsDue (Err c.in-Err.error) (answer_by_role t u q)) (sym c.in-Page.is) (page-answered t u c.in-Page.paper (Err c.in-Err.error) c.in-Err.ensures)

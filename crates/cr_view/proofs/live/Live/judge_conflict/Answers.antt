@@ -1,10 +1,8 @@
-use Rattle.std.proofs.Common.{ℕ, ◌∙◌, ap, Option}
+use Rattle.std.proofs.Common.{◌∙◌, ap}
 use Rattle.std.specs.Prelude.{is_some}
 use Rattle.std.specs.Option.{option_map}
-use Rattle.cr_base.specs.declared.words.Role.{Role}
 use Rattle.cr_base.specs.Checks.{judged, conflict_checks}
-use Rattle.cr_base.specs.Lists.{at_some, is_number}
-use Rattle.cr_base.specs.Ties.{is_author_in}
+use Rattle.cr_conflicts.specs.Targets.{target_of}
 use Rattle.cr_view.specs.Seen.{SeenTables}
 use Rattle.cr_view.proofs.TargetLaws.{conflict-drawn}
 use Rattle.cr_view.proofs.live.Live.judge_conflict.Goals as goal
@@ -13,8 +11,7 @@ pub returns : goal.returns
 returns c =
     let by = c.standing-by.result in
     let paper = c.args.paper.now in
-    let target : Option ℕ = option_map (λ t. t.0) c.target-target.result in
-    let role : Option Role = option_map (λ t. t.1) c.target-target.result in
-    let kept = c.judge_conflict-kept.ensures ∙ ap (λ (v : SeenTables). judged (conflict_checks by (is_some paper) role (is_number target c.args.maker) (at_some (is_author_in v.tables.ties target) paper) c.args.on) tt) c.self.view_is in
+    let target = c.target-target.result in
+    let kept = c.judge_conflict-kept.ensures ∙ ap (λ (v : SeenTables). judged (conflict_checks by (record { there = is_some paper }) (target_of v.tables.ties c.args.maker paper target) c.args.on) tt) c.self.view_is in
     let known = ap (option_map (λ t. t.0)) c.in-Some-target.is in
-    conflict-drawn c.args.self.now.tables c.args.maker paper c.in-Some.number c.args.name.now c.args.on c.has_paper.result by target c.in-Some-target.user role c.judge_conflict-kept.result c.and.result c.in-Some.is c.has_paper.ensures c.if-not-has_paper.false c.standing-by.ensures known c.target-target.ensures.user c.target-target.ensures.role kept c.and.ensures
+    conflict-drawn c.args.self.now.tables c.args.maker paper c.in-Some.number c.args.name.now c.args.on c.has_paper.result by target c.in-Some-target.user c.judge_conflict-kept.result c.and.result c.in-Some.is c.has_paper.ensures c.if-not-has_paper.false c.standing-by.ensures known c.target-target.ensures.user c.target-target.ensures.role kept c.and.ensures

@@ -2,7 +2,8 @@ use Rattle.std.proofs.Common.{◌∙◌, ap, sym}
 use Rattle.cr_base.specs.declared.command.Query.{Query}
 use Rattle.cr_base.specs.declared.command.Query.TheVariants as queries
 use Rattle.cr_base.specs.Checks.{judged}
-use Rattle.cr_base.specs.Judging.{facts_of_tables, query_checks, standing_at}
+use Rattle.cr_base.specs.Answering.{query_checks}
+use Rattle.cr_base.specs.Sources.{facts_of_tables, standing_at}
 use Rattle.cr_view.proofs.JudgeLaws.{refused}
 use Rattle.cr_view.proofs.live.Live.may.Goals as goal
 

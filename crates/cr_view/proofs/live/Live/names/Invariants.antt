@@ -2,7 +2,7 @@ use Rattle.std.proofs.Common.{◌≡◌, ◌++◌, drop}
 use Rattle.std.specs.Prelude.{map}
 use Rattle.cr_base.specs.declared.pairs.Tie.{Tie}
 use Rattle.cr_base.specs.Accounts.{lines_of}
-use Rattle.cr_base.specs.Judging.{names_in}
+use Rattle.cr_base.specs.Sources.{names_in}
 use Rattle.cr_view.proofs.live.Live.names.Given as goal
 
 abbrev pub invariant-loop-tie : goal.invariant-loop-tie

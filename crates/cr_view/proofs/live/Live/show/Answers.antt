@@ -3,7 +3,8 @@ use Rattle.std.specs.Prelude.{unwrap_or}
 use Rattle.cr_base.specs.declared.command.Query.TheVariants as queries
 use Rattle.cr_base.specs.declared.page.Page.{Page}
 use Rattle.cr_base.specs.declared.standing.Standing.{Standing}
-use Rattle.cr_base.specs.Judging.{facts_of_tables, shown_in_tables, query_checks, page_by, standing_at}
+use Rattle.cr_base.specs.Answering.{query_checks, page_by}
+use Rattle.cr_base.specs.Sources.{facts_of_tables, shown_in_tables, standing_at}
 use Rattle.cr_view.specs.Replies.{page_at}
 use Rattle.cr_view.proofs.AnswerLaws.{reader-is}
 use Rattle.cr_view.proofs.JudgeLaws.{refused, passed}

@@ -1,0 +1,19 @@
+//! Each call that may want memory, once with ample memory, and what no clause says: a digest by its public
+//! example, the answer for want of memory, and the rows of a conference.
+//!
+//! These tests of many crates stand in one, since a crate with tests is proved a second time with them.
+//! Whole runs are cases of the program `conformance`.
+#![tactic(auto)]
+
+#[cfg(test)]
+mod book;
+#[cfg(test)]
+mod bytes;
+#[cfg(test)]
+mod rows;
+#[cfg(test)]
+mod tables;
+#[cfg(test)]
+mod view;
+#[cfg(test)]
+mod words;

@@ -1,0 +1,97 @@
+-- What rules and answers read, over a record of facts and one of what is shown of a paper: filled by a view they make
+-- Judge and Answer, filled by the tables they make RoleAnswer.
+use Rattle.std.specs.Prelude.{ℕ, Bool, ◌==◌, List, Option, find, unwrap_or}
+use Rattle.std.specs.Option.{option_map, option_and_then}
+use Rattle.std.specs.List.{flat_map, list_any}
+use Rattle.std.specs.Str.{bytes_eq}
+use Rattle.cr_base.specs.declared.reply.AccountLine.{AccountLine}
+use Rattle.cr_base.specs.declared.standing.Standing.{Standing}
+use Rattle.cr_base.specs.declared.target.Target.{Target}
+use Rattle.cr_base.specs.declared.words.Role.{Role}
+use Rattle.cr_base.specs.Accounts.{lines_of, role_in}
+use Rattle.cr_base.specs.Checks.{NamedPaper}
+use Rattle.cr_base.specs.Lists.{listed, is_number, at_some}
+use Rattle.cr_base.specs.Pairs.{users_of}
+use Rattle.cr_base.specs.Papers.{paper_numbers, title_at, abstract_at, own_count}
+use Rattle.cr_base.specs.Tables.{Tables}
+use Rattle.cr_base.specs.Ties.{authors_in, is_author_in, is_conflicted_in}
+
+-- what rules and drawn numbers read: how the caller stands, to a paper if one is named; who has registered; the papers;
+-- and how many of them are the caller's
+pub record Facts : Type 0 where
+  pub standing : Option ℕ → Standing
+  pub accounts : List AccountLine
+  pub papers : List ℕ
+  pub own_papers : ℕ
+
+-- what pages, and some rules, tell of a paper beside the standing: its texts, its authors, who is declared in conflict
+-- with it, and whom its authors declared, both by user number
+pub record Shown : Type 0 where
+  pub title : ℕ → Option (List ℕ)
+  pub abstract_ : ℕ → Option (List ℕ)
+  pub authors : ℕ → List ℕ
+  pub conflicts : ℕ → List ℕ
+  pub declared : ℕ → List ℕ
+
+-- how a user stands, by the tables
+abbrev pub standing_at : Tables → Option ℕ → Option ℕ → Standing
+standing_at t u paper = record {
+  phase = t.stage.phase;
+  mode = t.stage.mode;
+  role = role_in t.accounts u;
+  author = at_some (is_author_in t.ties u) paper;
+  conflicted = at_some (is_conflicted_in t.ties u) paper;
+}
+
+-- the facts of the tables
+abbrev pub facts_of_tables : Tables → Option ℕ → Facts
+facts_of_tables t u = record {
+  standing = standing_at t u;
+  accounts = lines_of t.accounts;
+  papers = paper_numbers t.papers;
+  own_papers = own_count t.papers u;
+}
+
+abbrev pub shown_in_tables : Tables → Shown
+shown_in_tables t = record {
+  title = title_at t.papers;
+  abstract_ = abstract_at t.papers;
+  authors = authors_in t.ties;
+  conflicts = λ p. users_of p t.ties.conflicts;
+  declared = λ p. users_of p t.ties.declared;
+}
+
+-- who makes the entries of a caller's command: nobody makes any but a registration
+abbrev pub maker_of : Option ℕ → ℕ
+maker_of caller = unwrap_or caller 0
+
+-- the user of this name among the accounts, and the name of a user
+abbrev pub number_in : List AccountLine → List ℕ → Option ℕ
+number_in accounts name = option_map (λ a. a.user) (find (λ a. bytes_eq a.name name) accounts)
+
+abbrev pub name_in : List AccountLine → ℕ → Option (List ℕ)
+name_in accounts user = option_map (λ a. a.name) (find (λ a. a.user == user) accounts)
+
+-- the user of a name that may be none, and the role of a user who may be nobody
+abbrev pub user_among : List AccountLine → Option (List ℕ) → Option ℕ
+user_among accounts name = option_and_then (number_in accounts) name
+
+abbrev pub role_among : List AccountLine → Option ℕ → Option Role
+role_among accounts user = option_and_then (λ v. option_map (λ a. a.role) (find (λ a. a.user == v) accounts)) user
+
+-- the names of these users
+abbrev pub names_in : List AccountLine → List ℕ → List (List ℕ)
+names_in accounts users = flat_map (λ user. listed (name_in accounts user)) users
+
+-- there is such a paper
+abbrev pub has_paper : Facts → Option ℕ → Bool
+has_paper facts paper = at_some (λ p. list_any (λ q. q == p) facts.papers) paper
+
+-- the paper named, and the user named, if she has registered, as the rules ask of them
+abbrev pub paper_named : Facts → Option ℕ → NamedPaper
+paper_named facts paper = record { there = has_paper facts paper }
+
+abbrev pub target_named : Facts → Shown → Option ℕ → Option ℕ → Option ℕ → Option Target
+target_named facts shown caller paper user =
+    let wrote = at_some (λ p. list_any (is_number user) (shown.authors p)) paper in
+    option_map (λ (role : Role). record { role = role; herself = is_number user (maker_of caller); author = wrote }) (role_among facts.accounts user)

@@ -1,0 +1,54 @@
+//! What a request asks for: the kind of a command or a query.
+ghost use Rattle.std.specs.Prelude.{◌≡◌};
+ghost use Rattle.cr_base.specs.Logins.{ask_reads_credentials, ask_wants_login};
+
+/// What a request asks for, by its path and its method alone.
+#[derive(Clone, Copy, PartialEq, Eq, Debug)]
+pub enum Ask {
+    /// A new account: POST of `/register`.
+    Register,
+    /// The list of accounts: GET or HEAD of `/accounts`.
+    Accounts,
+    /// Another member or chair: POST of `/members`.
+    Name,
+    /// Another mode: POST of `/mode`.
+    SetMode,
+    /// Phase, mode and the count of papers: GET or HEAD of `/phase`.
+    Phase,
+    /// Another phase: POST of `/phase`.
+    SetPhase,
+    /// A new paper: POST of `/papers`.
+    Submit,
+    /// A paper's page: GET or HEAD of `/papers/{p}`.
+    Page,
+    /// Whether a user is in conflict with a paper: POST of `/papers/{p}/conflicts`.
+    SetConflict,
+    /// What the caller is to the conference: GET or HEAD of `/me`.
+    Me,
+}
+
+impl Ask {
+    /// Whether it is a registered user's, so that nobody is answered `unauthorized`: every command but a registration, a
+    /// paper's page, and what the caller is to the conference.
+    pub fn wants_login(self) -> bool
+        ensures { result ≡ ask_wants_login self }
+    {
+        match self {
+            Ask::Register | Ask::Accounts | Ask::Phase => false,
+            Ask::Name | Ask::SetMode | Ask::SetPhase | Ask::Submit => true,
+            Ask::SetConflict | Ask::Page | Ask::Me => true,
+        }
+    }
+
+    /// Whether a request for it reads the field Authorization. This is a table of its own, since a request may be told who
+    /// calls though it wants no login.
+    pub fn reads_credentials(self) -> bool
+        ensures { result ≡ ask_reads_credentials self }
+    {
+        match self {
+            Ask::Register | Ask::Accounts | Ask::Phase => false,
+            Ask::Me | Ask::Page => true,
+            Ask::Name | Ask::SetMode | Ask::SetPhase | Ask::Submit | Ask::SetConflict => true,
+        }
+    }
+}

@@ -1,0 +1,14 @@
+//! The user whom a command names.
+
+use crate::words::Role;
+
+/// What the rules ask about a user whom a command names, where somebody registered the name.
+#[derive(Clone, Copy, Debug, PartialEq, Eq)]
+pub struct Target {
+    /// Her role.
+    pub role: Role,
+    /// Whether she is the caller herself.
+    pub herself: bool,
+    /// Whether she is an author of the paper named; false where none is.
+    pub author: bool,
+}

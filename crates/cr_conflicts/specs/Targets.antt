@@ -1,0 +1,15 @@
+-- The user whom a command names, as the rules ask of her.
+use Rattle.std.specs.Prelude.{ℕ, ◌==◌, Option, Some}
+use Rattle.std.specs.Option.{option_map}
+use Rattle.cr_base.specs.declared.target.Target.{Target}
+use Rattle.cr_base.specs.declared.words.Role.{Role}
+use Rattle.cr_base.specs.Lists.{at_some}
+use Rattle.cr_base.specs.Ties.{TiesState, is_author_in}
+
+-- a user of this role, where `maker` calls and this paper is named
+abbrev pub target_in : TiesState → ℕ → Option ℕ → ℕ → Role → Target
+target_in ties maker paper user role = record { role = role; herself = user == maker; author = at_some (is_author_in ties (Some user)) paper }
+
+-- the same, where there may be no such user
+abbrev pub target_of : TiesState → ℕ → Option ℕ → Option (ℕ × Role) → Option Target
+target_of ties maker paper target = option_map (λ (t : ℕ × Role). target_in ties maker paper t.0 t.1) target

@@ -1,0 +1,46 @@
+-- What every legal history keeps, kept as it grows; and what the tables tell of it.
+use Rattle.std.proofs.Common.{◌++◌}
+use Rattle.std.specs.List.{All}
+use Rattle.std.proofs.lemmas.List.Elements.{All-nil, All-append}
+use Rattle.cr_base.specs.Rows.{IsBoundedEntry}
+use Rattle.cr_base.specs.Tables.{no_tables}
+use Rattle.cr_base.proofs.RowLaws.{stamped-row_of}
+use Rattle.cr_history.specs.Laws.{TablesTell, GrowthKeeps}
+use Rattle.cr_history.proofs.ConflictTies.{is_conflict_on-tables, declared_by_authors-tables}
+use Rattle.cr_history.proofs.GroupLaws.{added-bounded}
+use Rattle.cr_history.proofs.InOrder.{in_order-append, whole-added}
+use Rattle.cr_history.proofs.InTime.{in_time-nil, in_time-append}
+use Rattle.cr_history.proofs.LineTies.{accounts_of-tables}
+use Rattle.cr_history.proofs.NumberTies.{number_of-tables, caller_of-tables}
+use Rattle.cr_history.proofs.PaperTies.{papers_of-tables, own_papers_of-tables, title_of-tables, abstract_of-tables, authors_of-tables}
+use Rattle.cr_history.proofs.TableTies.{FitInTurn-append, standing_of-tables}
+
+pub tables_tell : TablesTell
+tables_tell H fits = record {
+  standing = λ u paper. standing_of-tables u paper H fits;
+  accounts = accounts_of-tables H fits;
+  number = λ name. number_of-tables name H fits;
+  caller = λ name digest. caller_of-tables name digest H fits;
+  papers = papers_of-tables H fits;
+  own_papers = λ u. own_papers_of-tables u H;
+  title = λ p. title_of-tables p H fits;
+  abstract_ = λ p. abstract_of-tables p H fits;
+  authors = λ p. authors_of-tables p H;
+  conflict = λ u p. is_conflict_on-tables u p H;
+  declared = λ p v. declared_by_authors-tables p v H fits;
+}
+
+pub growth_keeps : GrowthKeeps
+growth_keeps = record {
+  first = record { bounded = All-nil IsBoundedEntry; spelled = λ k d within. stamped-row_of _ (All-nil IsBoundedEntry k d within); fits = tt; in_order = tt; whole = tt; in_time = in_time-nil };
+  more = λ H g kept adds fits.
+      let all : All IsBoundedEntry (H ++ g) = All-append IsBoundedEntry H g kept.bounded (added-bounded H kept.fits g adds fits) in
+      record {
+        bounded = all;
+        spelled = λ k d within. stamped-row_of _ (all k d within);
+        fits = FitInTurn-append no_tables H g kept.fits fits;
+        in_order = in_order-append H g kept.fits adds fits kept.in_order;
+        whole = whole-added H g adds kept.whole;
+        in_time = in_time-append H g adds kept.in_time;
+      };
+}

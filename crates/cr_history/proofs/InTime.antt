@@ -1,0 +1,207 @@
+-- Which users make the conflict entries of a legal history, before the bidding and from it on.
+use Rattle.std.proofs.Common.{◌≡◌, ◌≤◌, ℕ, Bool, true, false, cond, List, [], ◌∷◌, ◌++◌, refl, sym, ap, ◌∙◌, subst, ◌||◌, ◌&&◌, Option, Some, eqb, arith, ◌+◌}
+use Rattle.std.specs.Prelude.{not, nat_le}
+use Rattle.std.specs.List.{AllByRecursion, list_any}
+use Rattle.std.proofs.lemmas.Bool.{eqb-true, false≢true, leb-true, le-leb}
+use Rattle.std.proofs.lemmas.Bool.Decides.{nat_tests}
+use Rattle.std.proofs.lemmas.List.Concat.{flat_map-append}
+use Rattle.std.proofs.lemmas.List.Folds.{list_any-append}
+use Rattle.cr_base.specs.declared.entry.Entry.{Entry}
+use Rattle.cr_base.specs.declared.entry.Entry.TheVariants.{PhaseSet, Submitted, Conflict}
+use Rattle.cr_base.specs.declared.entry.Stamped.{Stamped}
+use Rattle.cr_base.specs.declared.words.Phase.{Phase}
+use Rattle.cr_base.specs.declared.words.Phase.TheVariants.{Setup, Submission, Bidding, Reviewing, Discussion, Notification, Closed}
+use Rattle.cr_base.specs.Lists.{last_or, is_number, until, since}
+use Rattle.cr_base.specs.History.{History, all_told, opens, phase_told, author_told}
+use Rattle.cr_base.specs.Facts.{phase_of, authors_of, is_author}
+use Rattle.cr_base.specs.Phases.{phase_place, is_from, is_phase}
+use Rattle.cr_base.specs.Drawn.{grouped}
+use Rattle.cr_base.proofs.LastLaws.{last_or-cons}
+use Rattle.cr_history.specs.Invariants.{is_opening, ByAuthor, ByHerselfOrOther, Early, Late, DeclaresInTime, IsInPhase, IsByRight}
+use Rattle.cr_history.proofs.ListCuts.{AllByRecursion-append, AllByRecursion-map, AllByRecursion-until, until-none, since-none, until-append, since-append, until-before, since-before}
+use Rattle.cr_history.specs.Groups.{IsRuled, Adds, single, first_user}
+
+-- ---- what the rules say of one group
+
+-- what the rules say of an entry, on the history before its group
+abbrev EntryAllowed : History → ℕ → Entry → Type 0
+EntryAllowed H maker (Submitted paper title abstract) = IsInPhase H (Submitted paper title abstract)
+EntryAllowed H maker (Conflict paper user on) = IsByRight H maker (Conflict paper user on)
+EntryAllowed H maker e = Unit {0}
+
+abbrev Allowed : History → Stamped → Type 0
+Allowed H e = EntryAllowed H e.maker e.entry
+
+ruled-allowed : (H : History) (maker : ℕ) (e : Entry) → IsRuled H maker e → EntryAllowed H maker e
+ruled-allowed H maker (Submitted paper title abstract) ruled = ruled.phase
+ruled-allowed H maker (Conflict paper user on) ruled = ruled.right
+ruled-allowed H maker e ruled = tt
+
+added-allowed : (H g : History) → Adds H g → AllByRecursion (Allowed H) g
+added-allowed H g (single maker e made marked ruled) = (ruled-allowed H maker e ruled, tt)
+added-allowed H g (first_user user name digest is texts) = (tt, (tt, tt))
+
+-- a group moves the phase on and does nothing else, or leaves the phase
+data Moves (H : History) : History → Type 0 where
+  moved : (maker : ℕ) (to : Phase) → phase_place to ≡ phase_place (phase_of H) + 1 → Moves H (grouped maker (PhaseSet to ∷ []))
+  stayed : (g : History) → all_told phase_told g ≡ [] → Moves H g
+
+ruled-moves : (H : History) (maker : ℕ) (e : Entry) → IsRuled H maker e → Moves H (grouped maker (e ∷ []))
+ruled-moves H maker (PhaseSet to) ruled = moved maker to (eqb-true (phase_place to) (phase_place (phase_of H) + 1) ruled.phase)
+ruled-moves H maker e ruled = stayed _ refl
+
+added-moves : (H g : History) → Adds H g → Moves H g
+added-moves H g (single maker e made marked ruled) = ruled-moves H maker e ruled
+added-moves H g (first_user user name digest is texts) = stayed _ refl
+
+-- ---- authors of more entries
+
+author-append : (u : Option ℕ) (p : ℕ) (H g : History) → is_author u p (H ++ g) ≡ (is_author u p H || is_author u p g)
+author-append u p H g =
+    ap (list_any (is_number u)) (flat_map-append (λ (e : Stamped). author_told p e.maker e.entry) H g)
+    ∙ list_any-append (is_number u) (authors_of p H) (authors_of p g)
+
+-- who made an early entry stays an author
+early-more : (H g : History) (maker : ℕ) (e : Entry) → ByAuthor H maker e → ByAuthor (H ++ g) maker e
+early-more H g maker (Conflict paper user on) h = author-append (Some maker) paper H g ∙ ap (λ b. b || is_author (Some maker) paper g) h
+early-more H g maker e h = tt
+
+-- who made a late entry becomes no author, where nobody does
+late-more : (H g : History) → ((p : ℕ) → authors_of p g ≡ []) → (maker : ℕ) (e : Entry) → ByHerselfOrOther H maker e → ByHerselfOrOther (H ++ g) maker e
+late-more H g none maker (Conflict paper user on) h = λ other.
+    author-append (Some maker) paper H g
+    ∙ ap (λ b. b || is_author (Some maker) paper g) (h other)
+    ∙ ap (list_any (is_number (Some maker))) (none paper)
+late-more H g none maker e h = tt
+
+early-new : (H : History) → is_from Bidding (phase_of H) ≡ false → (maker : ℕ) (e : Entry) → EntryAllowed H maker e → ByAuthor H maker e
+early-new H soon maker (Conflict paper user on) h = by_author _ _ _ _ soon h
+  where
+    by_author : (begun other author on : Bool) → begun ≡ false → cond begun other (author && on) ≡ true → author ≡ true
+    by_author begun other author on soon h = grind arith
+early-new H soon maker e h = tt
+
+late-new : (H : History) → is_from Bidding (phase_of H) ≡ true → (maker : ℕ) (e : Entry) → EntryAllowed H maker e → ByHerselfOrOther H maker e
+late-new H begun maker (Conflict paper user on) h = by_other _ _ _ _ _ _ begun h
+  where
+    by_other : (begun own on chair author declared : Bool) → begun ≡ true → cond begun ((own && on) || (chair && not (author || declared))) (author && on) ≡ true → own ≡ false → author ≡ false
+    by_other begun own on chair author declared is h other = grind arith
+late-new H begun maker e h = tt
+
+-- papers are submitted before the bidding only
+not_both : (phase : Phase) → is_phase phase Submission ≡ true → is_from Bidding phase ≡ true → ⊥
+not_both Setup h k = false≢true h
+not_both Submission h k = false≢true k
+not_both Bidding h k = false≢true h
+not_both Reviewing h k = false≢true h
+not_both Discussion h k = false≢true h
+not_both Notification h k = false≢true h
+not_both Closed h k = false≢true h
+
+no_author-entry : (H : History) → is_from Bidding (phase_of H) ≡ true → (p maker : ℕ) (e : Entry) → EntryAllowed H maker e → author_told p maker e ≡ []
+no_author-entry H begun p maker (Submitted paper title abstract) h = absurd (not_both (phase_of H) h begun)
+no_author-entry H begun p maker e h = refl
+
+no_authors : (H : History) → is_from Bidding (phase_of H) ≡ true → (p : ℕ) (g : History) → AllByRecursion (Allowed H) g → authors_of p g ≡ []
+no_authors H begun p [] h = refl
+no_authors H begun p (e ∷ g) h = ap (λ xs. xs ++ authors_of p g) (no_author-entry H begun p e.maker e.entry h.0) ∙ no_authors H begun p g h.1
+
+-- ---- the phase after a group
+
+-- a group that leaves the phase doesn't open the bidding
+opens-silent : (e : Entry) → phase_told e ≡ [] → opens Bidding e ≡ false
+opens-silent (PhaseSet phase) h = absurd (filled h)
+  where
+    filled : phase ∷ [] ≡ [] → ⊥
+    filled h = cc
+opens-silent e h = refl
+
+empty_parts : {A : Type 0} (xs ys : List A) → xs ++ ys ≡ [] → (xs ≡ []) × (ys ≡ [])
+empty_parts [] ys h = (refl, h)
+empty_parts (x ∷ xs) ys h = absurd (filled h)
+  where
+    filled : x ∷ (xs ++ ys) ≡ [] → ⊥
+    filled h = cc
+
+no_opening : (g : History) → all_told phase_told g ≡ [] → list_any is_opening g ≡ false
+no_opening [] h = refl
+no_opening (e ∷ g) h =
+    let parts = empty_parts (phase_told e.entry) (all_told phase_told g) h in
+    ap (λ b. b || list_any is_opening g) (opens-silent e.entry parts.0) ∙ no_opening g parts.1
+
+-- nothing stands behind the opening in its group
+group_since : (H g : History) → Moves H g → since is_opening g ≡ []
+group_since H g (moved maker to h) = by (is_phase to Bidding)
+  where
+    by : (b : Bool) → cond {A = History} b [] [] ≡ []
+    by true = refl
+    by false = refl
+group_since H g (stayed k h) = since-none is_opening g (no_opening g h)
+
+phase-append : (H g : History) → phase_of (H ++ g) ≡ last_or (phase_of H) (all_told phase_told g)
+phase-append H g =
+    ap (last_or Setup) (flat_map-append (λ (e : Stamped). phase_told e.entry) H g)
+    ∙ last_or-append Setup (all_told phase_told H) (all_told phase_told g)
+  where
+    last_or-append : (a : Phase) (xs ys : List Phase) → last_or a (xs ++ ys) ≡ last_or (last_or a xs) ys
+    last_or-append a [] ys = refl
+    last_or-append a (x ∷ xs) ys = last_or-cons a x (xs ++ ys) ∙ last_or-append x xs ys ∙ ap (λ b. last_or b ys) (sym (last_or-cons a x xs))
+
+phase_stays : (H g : History) → all_told phase_told g ≡ [] → phase_of (H ++ g) ≡ phase_of H
+phase_stays H g h = phase-append H g ∙ ap (last_or (phase_of H)) h
+
+phase_moves : (H : History) (maker : ℕ) (to : Phase) → phase_of (H ++ grouped maker (PhaseSet to ∷ [])) ≡ to
+phase_moves H maker to = phase-append H (grouped maker (PhaseSet to ∷ []))
+
+later_still : (m n : ℕ) → n ≡ m + 1 → nat_le 2 m ≡ true → nat_le 2 n ≡ true
+later_still m n e h = let k : 2 ≤ m = leb-true 2 m h in le-leb 2 n (omega arith)
+
+begins_now : (m n : ℕ) → n ≡ m + 1 → nat_le 2 m ≡ false → (eqb n 2 || false) ≡ nat_le 2 n
+begins_now m n e h = grind (arith, nat_tests, e, h)
+
+still_begun : (H g : History) → Moves H g → is_from Bidding (phase_of H) ≡ true → is_from Bidding (phase_of (H ++ g)) ≡ true
+still_begun H g (moved maker to e) h = ap (is_from Bidding) (phase_moves H maker to) ∙ later_still (phase_place (phase_of H)) (phase_place to) e h
+still_begun H g (stayed k e) h = ap (is_from Bidding) (phase_stays H g e) ∙ h
+
+just_begun : (H g : History) → Moves H g → is_from Bidding (phase_of H) ≡ false → list_any is_opening g ≡ is_from Bidding (phase_of (H ++ g))
+just_begun H g (moved maker to e) h = begins_now (phase_place (phase_of H)) (phase_place to) e h ∙ ap (is_from Bidding) (sym (phase_moves H maker to))
+just_begun H g (stayed k e) h = no_opening g e ∙ sym h ∙ ap (is_from Bidding) (sym (phase_stays H g e))
+
+-- ---- the step
+
+pub in_time-nil : DeclaresInTime []
+in_time-nil = record { early = tt; late = tt; begun = refl }
+
+-- what is so of a history is so with a group behind it that the rules allow
+pub in_time-append : (H g : History) → Adds H g → DeclaresInTime H → DeclaresInTime (H ++ g)
+in_time-append H g adds kept = by (list_any is_opening H) refl
+  where
+    entries : AllByRecursion (Allowed H) g
+    entries = added-allowed H g adds
+
+    moves : Moves H g
+    moves = added-moves H g adds
+
+    by : (b : Bool) → list_any is_opening H ≡ b → DeclaresInTime (H ++ g)
+    by true h =
+        let begun : is_from Bidding (phase_of H) ≡ true = sym kept.begun ∙ h in
+        let more : (e : Stamped) → Late H e → Late (H ++ g) e = λ (e : Stamped) k. late-more H g (λ p. no_authors H begun p g entries) e.maker e.entry k in
+        record {
+          early = subst (AllByRecursion (Early (H ++ g))) (sym (until-before is_opening H g h)) (AllByRecursion-map (Early H) (Early (H ++ g)) (λ e k. early-more H g e.maker e.entry k) (until is_opening H) kept.early);
+          late = subst (AllByRecursion (Late (H ++ g))) (sym (since-before is_opening H g h))
+              (AllByRecursion-append (Late (H ++ g)) (since is_opening H) g
+              (AllByRecursion-map (Late H) (Late (H ++ g)) more (since is_opening H) kept.late)
+              (AllByRecursion-map (Allowed H) (Late (H ++ g)) (λ e k. more e (late-new H begun e.maker e.entry k)) g entries));
+          begun = list_any-append is_opening H g ∙ ap (λ b. b || list_any is_opening g) h ∙ sym (still_begun H g moves begun);
+        }
+    by false h =
+        let soon : is_from Bidding (phase_of H) ≡ false = sym kept.begun ∙ h in
+        record {
+          early = subst (AllByRecursion (Early (H ++ g))) (sym (until-append is_opening H g h))
+              (AllByRecursion-append (Early (H ++ g)) H (until is_opening g)
+              (AllByRecursion-map (Early H) (Early (H ++ g)) (λ e k. early-more H g e.maker e.entry k) H (subst (AllByRecursion (Early H)) (until-none is_opening H h) kept.early))
+              (AllByRecursion-until (Early (H ++ g)) is_opening g
+              (AllByRecursion-map (Allowed H) (Early (H ++ g)) (λ e k. early-more H g e.maker e.entry (early-new H soon e.maker e.entry k)) g entries)));
+          late = subst (AllByRecursion (Late (H ++ g))) (sym (since-append is_opening H g h ∙ group_since H g moves)) tt;
+          begun = list_any-append is_opening H g ∙ ap (λ b. b || list_any is_opening g) h ∙ just_begun H g moves soon;
+        }

@@ -1,0 +1,17 @@
+pub mod CallerLaws
+pub mod ConflictTies
+pub mod Folds
+pub mod GroupLaws
+pub mod GrowthLaws
+pub mod InOrder
+pub mod InTime
+pub mod LineTies
+pub mod ListCuts
+pub mod NumberTies
+pub mod OrderTies
+pub mod PaperTies
+pub mod RoleTies
+pub mod RuleLaws
+pub mod SizeTies
+pub mod StageTies
+pub mod TableTies

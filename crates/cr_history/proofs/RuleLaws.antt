@@ -1,0 +1,201 @@
+-- What an accepted command adds, by the rules on the history before it.
+use Rattle.std.proofs.Common.{ℕ, Bool, true, false, cond, ◌≡◌, ◌<◌, ◌+◌, List, [], ◌∷◌, length, eqb, refl, sym, ap, subst, ◌∙◌, ◌||◌, ◌&&◌, Option, Some, None, Ok}
+use Rattle.std.specs.Prelude.{not, is_some, is_none, unwrap_or, map}
+use Rattle.std.specs.List.{list_any, find}
+use Rattle.std.specs.Option.{option_map}
+use Rattle.std.proofs.lemmas.Bool.{eqb-true, leb-false, true≢false, and_parts, not-true, not-false, or_left}
+use Rattle.cr_base.specs.declared.command.Command.{Command}
+use Rattle.cr_base.specs.declared.command.Command.TheVariants.{Register, SetPhase, Submit, Name, SetMode, SetConflict}
+use Rattle.cr_base.specs.declared.entry.Entry.TheVariants.{Registered, Named, PhaseSet, ModeSet, Submitted, Conflict}
+use Rattle.cr_base.specs.declared.reply.AccountLine.{AccountLine}
+use Rattle.cr_base.specs.declared.standing.Standing.{Standing}
+use Rattle.cr_base.specs.declared.target.Target.{Target}
+use Rattle.cr_base.specs.declared.words.Phase.{Phase}
+use Rattle.cr_base.specs.declared.words.Phase.TheVariants.{Setup, Submission, Bidding, Reviewing, Discussion, Notification, Closed}
+use Rattle.cr_base.specs.declared.words.Role.{Role}
+use Rattle.cr_base.specs.declared.words.Role.TheVariants.{Account, Chair}
+use Rattle.cr_base.specs.Lists.{is_number}
+use Rattle.cr_base.specs.History.{History, Registration, all_told, registration_told}
+use Rattle.cr_base.specs.Facts.{phase_of, role_of, accounts_of, papers_of, own_papers_of, standing_of}
+use Rattle.cr_base.specs.Phases.{is_from, is_phase, is_next}
+use Rattle.cr_base.specs.Words.{role_number, is_member, is_chair}
+use Rattle.cr_base.specs.Bounds.{IsBoundedCommand}
+use Rattle.cr_base.specs.Texts.{IsName}
+use Rattle.cr_base.specs.Checks.{Check, of_role, target_role, register_checks, phase_checks, submit_checks, name_checks, mode_checks, conflict_case, conflict_checks}
+use Rattle.cr_base.specs.Drawn.{Drawn, grouped, registration_drawn, phase_drawn, submission_drawn, naming_drawn, mode_drawn, conflict_drawn}
+use Rattle.cr_base.specs.Judging.{judge_by}
+use Rattle.cr_base.specs.Sources.{Facts, Shown, number_in, user_among, role_among, paper_named, target_named}
+use Rattle.cr_base.proofs.CheckLaws.{NoneBroken, judged-Ok}
+use Rattle.cr_base.proofs.TargetLaws.{is_none-asked, target_role-of}
+use Rattle.cr_history.specs.Invariants.{IsRegistered, IsByRight}
+use Rattle.cr_history.specs.Groups.{IsRuled, Adds, single, first_user}
+
+-- ---- the facts of a history
+
+abbrev pub facts_of : Option ℕ → History → Facts
+facts_of u H = record { standing = λ paper. standing_of u paper H; accounts = accounts_of H; papers = papers_of H; own_papers = own_papers_of u H }
+
+-- the role of a user named, if there is one, is the one that the history tells
+module _ (H : History) where
+  abbrev line : Registration → AccountLine
+  line r = record { user = r.user; name = r.name; role = role_of (Some r.user) H }
+
+  abbrev role_found : ℕ → List Registration → Option Role
+  role_found v rs = option_map (λ (a : AccountLine). a.role) (find (λ (a : AccountLine). eqb a.user v) (map line rs))
+
+  role-found : (v : ℕ) (rs : List Registration) → is_none (role_found v rs) ≡ false → unwrap_or (role_found v rs) Account ≡ role_of (Some v) H
+  role-found v [] h = absurd (true≢false h)
+  role-found v (r ∷ rs) h = by (eqb r.user v) refl h (role-found v rs)
+    where
+      found : Bool → Option Role
+      found b = option_map (λ (a : AccountLine). a.role) (cond b (Some (line r)) (find (λ (a : AccountLine). eqb a.user v) (map line rs)))
+
+      by : (b : Bool) → eqb r.user v ≡ b → is_none (found b) ≡ false → (is_none (role_found v rs) ≡ false → unwrap_or (role_found v rs) Account ≡ role_of (Some v) H) → unwrap_or (found b) Account ≡ role_of (Some v) H
+      by true same h rest = ap (λ n. role_of (Some n) H) (eqb-true r.user v same)
+      by false same h rest = rest h
+
+  role-among : (target : Option ℕ) → is_none (role_among (accounts_of H) target) ≡ false → unwrap_or (role_among (accounts_of H) target) Account ≡ role_of (Some (unwrap_or target 0)) H
+  role-among None h = absurd (true≢false h)
+  role-among (Some v) h = role-found v (all_told registration_told H) h
+
+-- ---- conflicts
+
+-- before the bidding it isn't the notification yet
+not_late : (phase : Phase) → is_from Bidding phase ≡ false → is_from Notification phase ≡ false
+not_late Setup h = refl
+not_late Submission h = refl
+not_late Bidding h = absurd (true≢false h)
+not_late Reviewing h = absurd (true≢false h)
+not_late Discussion h = absurd (true≢false h)
+not_late Notification h = absurd (true≢false h)
+not_late Closed h = absurd (true≢false h)
+
+clear-right : (begun own on chair conflicted author : Bool) → begun ≡ true → chair ≡ true → conflicted ≡ false → cond begun ((own && on) || (chair && not conflicted)) (author && on) ≡ true
+clear-right true own on true false author hb hc hf = by own on
+  where
+    by : (own on : Bool) → ((own && on) || true) ≡ true
+    by true true = refl
+    by true false = refl
+    by false on = refl
+clear-right true own on true true author hb hc hf = absurd (true≢false hf)
+clear-right true own on false conflicted author hb hc hf = absurd (true≢false (sym hc))
+clear-right false own on chair conflicted author hb hc hf = absurd (true≢false (sym hb))
+
+own-right : (begun own chair conflicted author : Bool) → begun ≡ true → own ≡ true → cond begun ((own && true) || (chair && not conflicted)) (author && true) ≡ true
+own-right true true chair conflicted author hb ho = refl
+own-right true false chair conflicted author hb ho = absurd (true≢false (sym ho))
+own-right false own chair conflicted author hb ho = absurd (true≢false (sym hb))
+
+author-right : (begun own chair conflicted author : Bool) → begun ≡ false → author ≡ true → cond begun ((own && true) || (chair && not conflicted)) (author && true) ≡ true
+author-right true own chair conflicted author hb ha = absurd (true≢false hb)
+author-right false own chair conflicted true hb ha = refl
+author-right false own chair conflicted false hb ha = absurd (true≢false (sym ha))
+
+-- the five lists of rules say who turns which conflict when
+module _ (H : History) (maker paper user : ℕ) where
+  abbrev begun : Bool
+  begun = is_from Bidding (phase_of H)
+
+  abbrev late : Bool
+  late = is_from Notification (phase_of H)
+
+  abbrev by_maker : Standing
+  by_maker = standing_of (Some maker) (Some paper) H
+
+  conflict-ruled : (on : Bool) → late ≡ false → is_member (role_of (Some user) H) ≡ true → IsByRight H maker (Conflict paper user on) → IsRuled H maker (Conflict paper user on)
+  conflict-ruled on early member right = record { phase = early; chair = tt; role = tt; member = member; right = right; texts = tt }
+
+  abbrev named : Role → Bool → Bool → Target
+  named role herself author = record { role = role; herself = herself; author = author }
+
+  case-ruled : (on bidding after : Bool) (role : Role) (herself author : Bool) → begun ≡ bidding → late ≡ after → role ≡ role_of (Some user) H → eqb user maker ≡ herself
+      → NoneBroken (conflict_case on bidding after by_maker (named role herself author)) → IsRuled H maker (Conflict paper user on)
+  case-ruled false bidding after role herself author b l r h none =
+      let now = and_parts begun (not late) (not-false (begun && not late) none.1.1.0) in
+      conflict-ruled false (not-true late now.1) (ap is_member (sym r) ∙ not-false (is_member role) none.1.1.1.0)
+      (clear-right begun (eqb user maker) false (is_chair by_maker.role) by_maker.conflicted by_maker.author now.0 (not-false (is_chair by_maker.role) none.0) none.1.0)
+  case-ruled true false after role herself author b l r h none =
+      conflict-ruled true (not_late (phase_of H) b) (ap is_member (sym r) ∙ not-false (is_member role) none.1.0)
+      (author-right begun (eqb user maker) (is_chair by_maker.role) by_maker.conflicted by_maker.author b (not-false by_maker.author none.0))
+  case-ruled true true true role herself author b l r h none = absurd (true≢false none.0)
+  case-ruled true true false role true author b l r h none =
+      conflict-ruled true l (ap (λ n. is_member (role_of (Some n) H)) (eqb-true user maker h) ∙ not-false (is_member by_maker.role) none.0)
+      (own-right begun (eqb user maker) (is_chair by_maker.role) by_maker.conflicted by_maker.author b h)
+  case-ruled true true false role false author b l r h none =
+      conflict-ruled true l (ap is_member (sym r) ∙ not-false (is_member role) none.1.1.0)
+      (clear-right begun (eqb user maker) true (is_chair by_maker.role) by_maker.conflicted by_maker.author b (not-false (is_chair by_maker.role) none.0) none.1.0)
+
+-- ---- all commands
+
+pub registration-adds : (H : History) (caller : Option ℕ) (facts : Facts) (shown : Shown) (name digest : List ℕ) (drawn : Drawn) → IsName name × (length digest ≡ 32) → judge_by facts shown caller (Register name digest) ≡ Ok drawn → Adds H drawn.group
+registration-adds H caller facts shown name digest drawn bounded accepted =
+    let n : ℕ = length facts.accounts in
+    let k = judged-Ok (register_checks (is_some (number_in facts.accounts name)) n) (registration_drawn (n + 1) name digest) drawn accepted in
+    subst (λ (d : Drawn). Adds H d.group) k.1 (by (n + 1) (eqb (n + 1) 1) refl)
+  where
+    by : (user : ℕ) (b : Bool) → eqb user 1 ≡ b → Adds H (grouped user (cond b (Registered user name digest ∷ Named user Chair ∷ []) (Registered user name digest ∷ [])))
+    by user true is = first_user user name digest (eqb-true user 1 is) bounded
+    by user false is = single user (Registered user name digest) refl (sym is) (record { phase = tt; chair = tt; role = tt; member = tt; right = tt; texts = bounded })
+
+module _ (H : History) (maker : ℕ) (shown : Shown) (registered : IsRegistered H maker) where
+  abbrev facts : Facts
+  facts = facts_of (Some maker) H
+
+  abbrev standing : Standing
+  standing = standing_of (Some maker) None H
+
+  abbrev checks : Option ℕ → Option ℕ → Bool → List Check
+  checks paper target on = conflict_checks (standing_of (Some maker) paper H) (paper_named facts paper) (target_named facts shown (Some maker) paper target) on
+
+  conflict-ruled_for : (paper target : Option ℕ) (on : Bool) → NoneBroken (checks paper target on) → IsRuled H maker (Conflict (unwrap_or paper 0) (unwrap_or target 0) on)
+  conflict-ruled_for None target on none = absurd (true≢false none.0)
+  conflict-ruled_for (Some p) None on none = absurd (true≢false none.1.0)
+  conflict-ruled_for (Some p) (Some v) on none = by (role_among facts.accounts (Some v)) refl none
+    where
+      author : Bool
+      author = list_any (is_number (Some v)) (shown.authors p)
+
+      found : Option Role → Option Target
+      found role = option_map (λ (r : Role). record { role = r; herself = eqb v maker; author = author }) role
+
+      by : (role : Option Role) → role_among facts.accounts (Some v) ≡ role → NoneBroken (conflict_checks (standing_of (Some maker) (Some p) H) (paper_named facts (Some p)) (found role) on) → IsRuled H maker (Conflict p v on)
+      by None is none = absurd (true≢false none.1.0)
+      by (Some role) is none =
+          let held : role ≡ role_of (Some v) H = ap (λ (o : Option Role). unwrap_or o Account) (sym is) ∙ role-among H (Some v) (ap is_none is) in
+          case-ruled H maker p v on (is_from Bidding (phase_of H)) (is_from Notification (phase_of H)) role (eqb v maker) author refl refl held refl none.1.1
+
+  pub command-adds : (command : Command) (drawn : Drawn) → IsBoundedCommand command → judge_by facts shown (Some maker) command ≡ Ok drawn → Adds H drawn.group
+  command-adds (Register name digest) drawn bounded accepted = registration-adds H (Some maker) facts shown name digest drawn bounded accepted
+  command-adds (SetPhase to) drawn bounded accepted =
+      let k = judged-Ok (phase_checks standing (phase_of H) to) (phase_drawn maker to) drawn accepted in
+      subst (λ (d : Drawn). Adds H d.group) k.1
+      (single maker (PhaseSet to) registered refl (record { phase = not-false (is_next (phase_of H) to) k.0.1.0; chair = not-false (is_chair standing.role) k.0.0; role = tt; member = tt; right = tt; texts = tt }))
+  command-adds (Submit title abstract) drawn bounded accepted =
+      let n : ℕ = length facts.papers in
+      let k = judged-Ok (submit_checks standing n facts.own_papers) (submission_drawn maker (n + 1) title abstract) drawn accepted in
+      subst (λ (d : Drawn). Adds H d.group) k.1
+      (single maker (Submitted (n + 1) title abstract) registered refl (record { phase = not-false (is_phase (phase_of H) Submission) k.0.0; chair = tt; role = tt; member = tt; right = tt; texts = bounded }))
+  command-adds (Name name role) drawn bounded accepted =
+      let target : Option ℕ = user_among facts.accounts name in
+      let before : Option Role = role_among facts.accounts target in
+      let asked : Option Target = option_map of_role before in
+      let k = judged-Ok (name_checks standing asked role) (naming_drawn maker (unwrap_or target 0) (unwrap_or name []) role) drawn accepted in
+      let rises : role_number (target_role asked) < role_number role = leb-false (role_number role) (role_number (target_role asked)) k.0.1.1.1.0 in
+      let there : is_none before ≡ false = sym (is_none-asked of_role before) ∙ k.0.0 in
+      subst (λ (d : Drawn). Adds H d.group) k.1
+      (single maker (Named (unwrap_or target 0) role) registered refl (record {
+        phase = k.0.1.1.0;
+        chair = or_left (is_chair standing.role) (eqb (length H) 1) (not-false (is_chair standing.role) k.0.1.0);
+        role = subst (λ (r : Role). role_number r < role_number role) (target_role-of before ∙ role-among H target there) rises;
+        member = tt;
+        right = tt;
+        texts = tt;
+      }))
+  command-adds (SetMode to) drawn bounded accepted =
+      let k = judged-Ok (mode_checks standing (phase_of H)) (mode_drawn maker to) drawn accepted in
+      subst (λ (d : Drawn). Adds H d.group) k.1
+      (single maker (ModeSet to) registered refl (record { phase = not-false (is_phase (phase_of H) Setup) k.0.1.0; chair = not-false (is_chair standing.role) k.0.0; role = tt; member = tt; right = tt; texts = tt }))
+  command-adds (SetConflict paper name on) drawn bounded accepted =
+      let target : Option ℕ = user_among facts.accounts name in
+      let k = judged-Ok (checks paper target on) (conflict_drawn maker (unwrap_or paper 0) (unwrap_or target 0) on) drawn accepted in
+      subst (λ (d : Drawn). Adds H d.group) k.1 (single maker (Conflict (unwrap_or paper 0) (unwrap_or target 0) on) registered refl (conflict-ruled_for paper target on k.0))

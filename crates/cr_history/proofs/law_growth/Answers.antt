@@ -1,0 +1,5 @@
+use Rattle.cr_history.proofs.GrowthLaws.{growth_keeps}
+use Rattle.cr_history.proofs.law_growth.Goals as goal
+
+pub returns : goal.returns
+returns c = growth_keeps

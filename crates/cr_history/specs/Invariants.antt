@@ -1,0 +1,164 @@
+-- Invariants: what is so of each entry of a legal history, on the history before it, and of the history as a whole.
+use Rattle.std.specs.Prelude.{ℕ, Bool, ◌≡◌, ◌==◌, ◌<◌, ◌+◌, ◌&&◌, ◌||◌, not, [], ◌∷◌, ◌++◌, length, Some, None, IsTrue, IsFalse, if◌then◌else◌}
+use Rattle.std.specs.List.{All, AllByRecursion, list_any}
+use Rattle.cr_base.specs.declared.entry.Entry.{Entry}
+use Rattle.cr_base.specs.declared.entry.Entry.TheVariants.{Registered, Named, PhaseSet, ModeSet, Submitted, Conflict}
+use Rattle.cr_base.specs.declared.entry.Stamped.{Stamped}
+use Rattle.cr_base.specs.declared.words.Phase.TheVariants.{Setup, Submission, Bidding, Notification}
+use Rattle.cr_base.specs.Facts.{phase_of, role_of, accounts_of, papers_of, number_of, is_author, is_conflicted}
+use Rattle.cr_base.specs.History.{History, Registration, all_told, registration_told, opens}
+use Rattle.cr_base.specs.Lists.{until, since}
+use Rattle.cr_base.specs.Phases.{is_from, is_phase, is_next}
+use Rattle.cr_base.specs.Rows.{kind_of, row_of, stamped, IsBoundedEntry}
+use Rattle.cr_base.specs.Tables.{no_tables, FitInTurn}
+use Rattle.cr_base.specs.Words.{role_number, is_member, is_chair}
+
+-- the user has registered
+abbrev pub IsRegistered : History → ℕ → Type 0
+IsRegistered H user = IsTrue (list_any (λ (r : Registration). r.user == user) (all_told registration_told H))
+
+-- ---- an entry in its turn: each is said of the history before it
+
+-- who registers makes the entry herself; every other entry is made by a user who has registered before
+abbrev pub IsMadeByUser : History → ℕ → Entry → Type 0
+IsMadeByUser H maker (Registered user name digest) = maker ≡ user
+IsMadeByUser H maker (Named user role) = IsRegistered H maker
+IsMadeByUser H maker (PhaseSet phase) = IsRegistered H maker
+IsMadeByUser H maker (ModeSet mode) = IsRegistered H maker
+IsMadeByUser H maker (Submitted paper title abstract) = IsRegistered H maker
+IsMadeByUser H maker (Conflict paper user on) = IsRegistered H maker
+
+-- of the entries that commands add, the first user's registration alone has another of its command behind it
+abbrev pub IsMarked : Bool → Entry → Type 0
+IsMarked more (Registered user name digest) = more ≡ (user == 1)
+IsMarked more _ = IsFalse more
+
+-- users are numbered from 1 as they register, papers as they are submitted
+abbrev pub HasNextNumber : History → Entry → Type 0
+HasNextNumber H (Registered user name digest) = user ≡ length (accounts_of H) + 1
+HasNextNumber H (Submitted paper title abstract) = paper ≡ length (papers_of H) + 1
+HasNextNumber H _ = Unit {0}
+
+-- nobody has registered under the name before
+abbrev pub HasNewName : History → Entry → Type 0
+HasNewName H (Registered user name digest) = number_of name H ≡ None
+HasNewName H _ = Unit {0}
+
+-- there is such a paper
+abbrev pub IsSubmitted : History → ℕ → Type 0
+IsSubmitted H paper = IsTrue (list_any (λ p. p == paper) (papers_of H))
+
+-- the user and the paper that it is about are there
+abbrev pub IsAboutThose : History → Entry → Type 0
+IsAboutThose H (Named user role) = IsRegistered H user
+IsAboutThose H (Conflict paper user on) = IsSubmitted H paper × IsRegistered H user
+IsAboutThose H _ = Unit {0}
+
+-- the phase goes on by one; the mode is set in setup and papers are submitted in submission; from the notification on
+-- nobody is named a member or a chair, and no conflict is turned on or off
+abbrev pub IsInPhase : History → Entry → Type 0
+IsInPhase H (Registered user name digest) = Unit {0}
+IsInPhase H (Named user role) = IsFalse (is_from Notification (phase_of H))
+IsInPhase H (PhaseSet phase) = IsTrue (is_next (phase_of H) phase)
+IsInPhase H (ModeSet mode) = IsTrue (is_phase (phase_of H) Setup)
+IsInPhase H (Submitted paper title abstract) = IsTrue (is_phase (phase_of H) Submission)
+IsInPhase H (Conflict paper user on) = IsFalse (is_from Notification (phase_of H))
+
+-- chairs set the phase and the mode, and name members and chairs; the first user alone is named otherwise, as she
+-- registers, by the second entry of all
+abbrev pub IsByChair : History → ℕ → Entry → Type 0
+IsByChair H maker (Named user role) = IsTrue (is_chair (role_of (Some maker) H) || length H == 1)
+IsByChair H maker (PhaseSet phase) = IsTrue (is_chair (role_of (Some maker) H))
+IsByChair H maker (ModeSet mode) = IsTrue (is_chair (role_of (Some maker) H))
+IsByChair H maker _ = Unit {0}
+
+-- roles only rise
+abbrev pub RaisesRole : History → Entry → Type 0
+RaisesRole H (Named user role) = role_number (role_of (Some user) H) < role_number role
+RaisesRole H _ = Unit {0}
+
+-- only members are declared in conflict
+abbrev pub IsOfMember : History → Entry → Type 0
+IsOfMember H (Conflict paper user on) = IsTrue (is_member (role_of (Some user) H))
+IsOfMember H _ = Unit {0}
+
+-- before the bidding authors alone declare conflicts with their paper, and turn none off; from the bidding on a user
+-- declares her own, and chairs in no conflict with the paper turn anybody's on and off
+abbrev pub may_turn : History → ℕ → ℕ → ℕ → Bool → Bool
+may_turn H maker paper user on =
+    if is_from Bidding (phase_of H)
+    then (user == maker && on) || (is_chair (role_of (Some maker) H) && not (is_conflicted (Some maker) paper H))
+    else is_author (Some maker) paper H && on
+
+abbrev pub IsByRight : History → ℕ → Entry → Type 0
+IsByRight H maker (Conflict paper user on) = IsTrue (may_turn H maker paper user on)
+IsByRight H maker _ = Unit {0}
+
+-- all of it
+pub record IsInOrder (H : History) (e : Stamped) : Type 0 where
+  pub maker : IsMadeByUser H e.maker e.entry
+  pub mark : IsMarked e.more e.entry
+  pub number : HasNextNumber H e.entry
+  pub name : HasNewName H e.entry
+  pub about : IsAboutThose H e.entry
+  pub phase : IsInPhase H e.entry
+  pub chair : IsByChair H e.maker e.entry
+  pub role : RaisesRole H e.entry
+  pub member : IsOfMember H e.entry
+  pub right : IsByRight H e.maker e.entry
+
+-- it is so of each entry, on what stands before it
+abbrev pub InTurn : (History → Stamped → Type 0) → History → History → Type 0
+InTurn P before [] = Unit {0}
+InTurn P before (e ∷ after) = P before e × InTurn P (before ++ e ∷ []) after
+
+-- ---- a history as a whole
+
+-- no command's entries are cut off: behind an entry with the mark `more` stands another by the same maker
+abbrev pub IsWhole : History → Type 0
+IsWhole [] = Unit {0}
+IsWhole (e ∷ []) = IsFalse e.more
+IsWhole (e ∷ next ∷ after) = (IsTrue e.more → next.maker ≡ e.maker) × IsWhole (next ∷ after)
+
+-- whether the entry opens the bidding
+abbrev pub is_opening : Stamped → Bool
+is_opening e = opens Bidding e.entry
+
+-- of a conflict entry: an author of its paper made it
+abbrev pub ByAuthor : History → ℕ → Entry → Type 0
+ByAuthor H maker (Conflict paper user on) = IsTrue (is_author (Some maker) paper H)
+ByAuthor H maker e = Unit {0}
+
+-- of a conflict entry: its maker is the user whom it names, or else no author of its paper
+abbrev pub ByHerselfOrOther : History → ℕ → Entry → Type 0
+ByHerselfOrOther H maker (Conflict paper user on) = IsFalse (user == maker) → IsFalse (is_author (Some maker) paper H)
+ByHerselfOrOther H maker e = Unit {0}
+
+abbrev pub Early : History → Stamped → Type 0
+Early H e = ByAuthor H e.maker e.entry
+
+abbrev pub Late : History → Stamped → Type 0
+Late H e = ByHerselfOrOther H e.maker e.entry
+
+-- before the bidding each conflict entry is made by an author of its paper; from the bidding on, one whose maker isn't
+-- the user named is made by no author; and an entry opens the bidding exactly where it is that phase or a later one
+pub record DeclaresInTime (H : History) : Type 0 where
+  pub early : AllByRecursion (Early H) (until is_opening H)
+  pub late : AllByRecursion (Late H) (since is_opening H)
+  pub begun : list_any is_opening H ≡ is_from Bidding (phase_of H)
+
+-- ---- all of them
+
+-- the row of the entry spells the entry
+abbrev pub IsSpelled : Stamped → Type 0
+IsSpelled e = stamped (kind_of e.entry) (row_of e) ≡ e
+
+-- what every legal history keeps. Each entry is within its bounds, so that its row spells it; it fits the tables of what
+-- stands before it; and it is in order there. No command's entries are cut off, and conflicts are declared in time
+pub record Invariants (H : History) : Type 0 where
+  pub bounded : All IsBoundedEntry H
+  pub spelled : All IsSpelled H
+  pub fits : FitInTurn no_tables H
+  pub in_order : InTurn IsInOrder [] H
+  pub whole : IsWhole H
+  pub in_time : DeclaresInTime H

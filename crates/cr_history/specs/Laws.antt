@@ -1,0 +1,36 @@
+-- The laws of histories: what the tables tell of them, and what is kept as they grow.
+use Rattle.std.specs.Prelude.{ℕ, ◌≡◌, ◌==◌, List, [], ◌++◌, Option}
+use Rattle.std.specs.List.{list_any}
+use Rattle.cr_base.specs.Accounts.{lines_of, number_at, caller_at}
+use Rattle.cr_base.specs.Facts.{standing_of, accounts_of, number_of, caller_of, papers_of, own_papers_of, title_of, abstract_of, authors_of, is_conflict_on, declared_by_authors}
+use Rattle.cr_base.specs.History.{History}
+use Rattle.cr_base.specs.Sources.{standing_at}
+use Rattle.cr_base.specs.Pairs.{has_pair}
+use Rattle.cr_base.specs.Papers.{paper_numbers, own_count, title_at, abstract_at}
+use Rattle.cr_base.specs.Tables.{no_tables, tables_of, FitInTurn}
+use Rattle.cr_base.specs.Ties.{pair_of, authors_in, is_conflict_on_in}
+use Rattle.cr_history.specs.Groups.{Adds}
+use Rattle.cr_history.specs.Invariants.{Invariants}
+
+-- what a history tells is what its tables have
+pub record AreTold (H : History) : Type 0 where
+  pub standing : (u paper : Option ℕ) → standing_of u paper H ≡ standing_at (tables_of H) u paper
+  pub accounts : accounts_of H ≡ lines_of (tables_of H).accounts
+  pub number : (name : List ℕ) → number_of name H ≡ number_at (tables_of H).accounts name
+  pub caller : (name digest : List ℕ) → caller_of name digest H ≡ caller_at (tables_of H).accounts name digest
+  pub papers : papers_of H ≡ paper_numbers (tables_of H).papers
+  pub own_papers : (u : Option ℕ) → own_papers_of u H ≡ own_count (tables_of H).papers u
+  pub title : (p : ℕ) → title_of p H ≡ title_at (tables_of H).papers p
+  pub abstract_ : (p : ℕ) → abstract_of p H ≡ abstract_at (tables_of H).papers p
+  pub authors : (p : ℕ) → authors_of p H ≡ authors_in (tables_of H).ties p
+  pub conflict : (u : Option ℕ) (p : ℕ) → is_conflict_on u p H ≡ is_conflict_on_in (tables_of H).ties u p
+  pub declared : (p v : ℕ) → list_any (λ w. w == v) (declared_by_authors p H) ≡ has_pair (pair_of p v) (tables_of H).ties.declared
+
+-- TablesTell: it is so where each entry fits in its turn
+abbrev pub TablesTell : Type 0
+TablesTell = (H : History) → FitInTurn no_tables H → AreTold H
+
+-- GrowthKeeps: histories that grow by what the rules let commands add and the tables take keep the invariants
+pub record GrowthKeeps : Type 0 where
+  pub first : Invariants []
+  pub more : (H g : History) → Invariants H → Adds H g → FitInTurn (tables_of H) g → Invariants (H ++ g)

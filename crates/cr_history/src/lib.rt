@@ -1,0 +1,21 @@
+//! What a history tells, tied to the tables, and what is kept as it grows: all that is so of histories whatever anybody sees
+//! of them.
+//!
+//! The definitions stand in this crate's specs: the invariants of legal histories, and what an accepted command may add to
+//! one by the rules. The functions here do nothing: each has a law as its contract.
+#![tactic(auto)]
+
+ghost use Rattle.cr_history.specs.Laws.{TablesTell, GrowthKeeps};
+
+/// The tables tell what the history tells, where each entry fits in its turn: how any user stands to the conference and to
+/// any paper, the accounts with their roles, who has a name, and who has it with a digest, the papers with their titles,
+/// abstracts and authors, how many of them are a user's own, whose conflict with a paper is on, and whom its authors declared.
+pub fn law_tables()
+    ensures { TablesTell }
+{}
+
+/// The empty history keeps the invariants; and so does a history that keeps them with a group behind it that the rules let a
+/// command add, its texts within their bounds, and that fits the tables in its turn.
+pub fn law_growth()
+    ensures { GrowthKeeps }
+{}

@@ -1,9 +1,0 @@
-use Rattle.std.proofs.Common.{◌≡◌, ◌≤◌, length, ◌-◌, drop}
-use Rattle.cr_http.specs.Place.{blank_end_from}
-use Rattle.cr_http.proofs.place.blank_end.Given as goal
-
-abbrev pub invariant-lines : goal.invariant-lines
-invariant-lines l = (blank_end_from l.at (drop l.at l.bytes) ≡ blank_end_from 0 l.bytes) × (l.at ≤ length l.bytes)
-
-abbrev pub decreases-lines : goal.decreases-lines
-decreases-lines l = length l.bytes - l.at

@@ -1,0 +1,49 @@
+-- What an accepted command adds: by the rules and the bounds, and as the tables take it.
+use Rattle.std.proofs.Common.{ℕ, ◌≡◌, sym, ap, ◌∙◌, Option, Some, None, Ok}
+use Rattle.cr_base.specs.declared.command.Command.{Command}
+use Rattle.cr_base.specs.declared.command.Command.TheVariants.{Register}
+use Rattle.cr_base.specs.Bounds.{IsBoundedCommand}
+use Rattle.cr_base.specs.Drawn.{Drawn}
+use Rattle.cr_base.specs.History.{History}
+use Rattle.cr_base.specs.Judging.{judge_by, judge_by_role}
+use Rattle.cr_base.specs.Sources.{Facts, Shown}
+use Rattle.cr_base.specs.Tables.{Tables, no_tables, tables_of, FitInTurn}
+use Rattle.cr_base.proofs.FitLaws.{judged-fits}
+use Rattle.cr_history.specs.Groups.{Adds}
+use Rattle.cr_history.specs.Invariants.{IsRegistered}
+use Rattle.cr_history.proofs.RuleLaws.{facts_of, registration-adds, command-adds}
+use Rattle.cr_history.proofs.SizeTies.{sized-tables}
+use Rattle.cr_policy.specs.Judge.{judge}
+use Rattle.cr_policy.specs.Legal.{IsCaller}
+use Rattle.cr_policy.specs.View.{view}
+use Rattle.cr_policy.specs.ViewFacts.{facts_in_view, shown_in_view}
+use Rattle.cr_policy.proofs.JudgeTies.{judge-tables}
+use Rattle.cr_policy.proofs.StandingLaws.{standing_from_view, accounts-seen, papers-seen, own_papers-seen}
+
+-- any user's view tells the facts of a history
+facts-seen : (u : Option ℕ) (H : History) → facts_in_view u (view u H) ≡ facts_of u H
+facts-seen u H = λ i. record { standing = λ paper. standing_from_view u paper H i; accounts = accounts-seen u H i; papers = papers-seen u H i; own_papers = own_papers-seen u H i }
+
+-- a registered user's command
+user-adds : (H : History) (user : ℕ) (command : Command) (drawn : Drawn) → IsBoundedCommand command → IsRegistered H user → judge (Some user) (view (Some user) H) command ≡ Ok drawn → Adds H drawn.group
+user-adds H user command drawn bounded registered accepted =
+    let shown : Shown = shown_in_view (Some user) (view (Some user) H) in
+    command-adds H user shown registered command drawn bounded (sym (ap (λ (facts : Facts). judge_by facts shown (Some user) command) (facts-seen (Some user) H)) ∙ accepted)
+
+-- the group of an accepted command is one that the rules allow
+pub accepted-adds : (H : History) (caller : Option ℕ) (command : Command) (drawn : Drawn) → IsBoundedCommand command → IsCaller H caller command → judge caller (view caller H) command ≡ Ok drawn → Adds H drawn.group
+accepted-adds H caller (Register name digest) drawn bounded is accepted = registration-adds H caller (facts_in_view caller (view caller H)) (shown_in_view caller (view caller H)) name digest drawn bounded accepted
+accepted-adds H None command drawn bounded is accepted = absurd is
+accepted-adds H (Some user) command drawn bounded is accepted = user-adds H user command drawn bounded is accepted
+
+-- and the tables take it. Nobody's is a registration, which doesn't ask who gives it
+pub accepted-fits : (H : History) (caller : Option ℕ) (command : Command) (drawn : Drawn) → FitInTurn no_tables H → IsCaller H caller command → judge caller (view caller H) command ≡ Ok drawn → FitInTurn (tables_of H) drawn.group
+accepted-fits H caller command drawn fits is accepted = by caller command is (sym (judge-tables caller H command fits) ∙ accepted)
+  where
+    t : Tables
+    t = tables_of H
+
+    by : (caller : Option ℕ) (command : Command) → IsCaller H caller command → judge_by_role t caller command ≡ Ok drawn → FitInTurn t drawn.group
+    by (Some user) command is accepted = judged-fits t (sized-tables H fits).ties user command drawn accepted
+    by None (Register name digest) is accepted = judged-fits t (sized-tables H fits).ties 0 (Register name digest) drawn accepted
+    by None command is accepted = absurd is

@@ -1,0 +1,72 @@
+-- What a wish asks for is what its request does, whatever the body tells.
+use Rattle.std.proofs.Common.{◌≡◌, ℕ, List, Option, Some, None, refl, ap}
+use Rattle.std.specs.Prelude.{codes}
+use Rattle.cr_base.specs.Logins.{command_ask}
+use Rattle.cr_base.specs.declared.ask.Ask.{Ask}
+use Rattle.cr_base.specs.declared.ask.Ask.TheVariants as asks
+use Rattle.cr_base.specs.declared.command.Command.{Command}
+use Rattle.cr_base.specs.declared.command.Command.TheVariants as commands
+use Rattle.cr_bodies.specs.Bodies.{command_in, command_read}
+use Rattle.cr_bodies.specs.Field.{◌>>=◌, abstract_at, digest_at, flag_at, mode_at, name_at, phase_at, role_at, title_at, user_at}
+use Rattle.cr_bodies.specs.Json.{json_of}
+use Rattle.cr_routes.specs.Parts.{FoundPath}
+use Rattle.cr_wire.specs.Asked.{asked, command_of, commanded}
+use Rattle.cr_wire.specs.Caller.{ask_of}
+use Rattle.cr_wire.specs.Paper.{paper_of}
+
+-- what a body tells, if it tells anything, is given by this request
+abbrev GivenBy : Ask → Option Command → Type 0
+GivenBy ask None = Unit {0}
+GivenBy ask (Some command) = command_ask command ≡ ask
+
+-- what is made of a value that may be there
+of_each : {A : Type 0} (ask : Ask) (found : Option A) (made : A → Option Command) → ((x : A) → GivenBy ask (made x)) → GivenBy ask (found >>= made)
+of_each ask None made each = tt
+of_each ask (Some x) made each = each x
+
+given : (ask : Ask) (paper : Option ℕ) (body : List ℕ) → GivenBy ask (command_read ask paper body)
+given asks.Register paper body =
+    of_each asks.Register (json_of body) (command_in asks.Register paper) (λ d.
+    of_each asks.Register (name_at (codes "name") d) _ (λ name.
+    of_each asks.Register (digest_at (codes "secret") d) _ (λ digest. refl)))
+given asks.Name paper body =
+    of_each asks.Name (json_of body) (command_in asks.Name paper) (λ d.
+    of_each asks.Name (user_at (codes "name") d) _ (λ user.
+    of_each asks.Name (role_at (codes "role") d) _ (λ role. refl)))
+given asks.SetMode paper body =
+    of_each asks.SetMode (json_of body) (command_in asks.SetMode paper) (λ d.
+    of_each asks.SetMode (mode_at (codes "mode") d) _ (λ mode. refl))
+given asks.SetPhase paper body =
+    of_each asks.SetPhase (json_of body) (command_in asks.SetPhase paper) (λ d.
+    of_each asks.SetPhase (phase_at (codes "phase") d) _ (λ phase. refl))
+given asks.Submit paper body =
+    of_each asks.Submit (json_of body) (command_in asks.Submit paper) (λ d.
+    of_each asks.Submit (title_at (codes "title") d) _ (λ title.
+    of_each asks.Submit (abstract_at (codes "abstract") d) _ (λ abstract. refl)))
+given asks.SetConflict paper body =
+    of_each asks.SetConflict (json_of body) (command_in asks.SetConflict paper) (λ d.
+    of_each asks.SetConflict (flag_at (codes "on") d) _ (λ on.
+    of_each asks.SetConflict (user_at (codes "user") d) _ (λ user. refl)))
+given asks.Accounts paper body = of_each asks.Accounts (json_of body) (command_in asks.Accounts paper) (λ d. tt)
+given asks.Phase paper body = of_each asks.Phase (json_of body) (command_in asks.Phase paper) (λ d. tt)
+given asks.Page paper body = of_each asks.Page (json_of body) (command_in asks.Page paper) (λ d. tt)
+given asks.Me paper body = of_each asks.Me (json_of body) (command_in asks.Me paper) (λ d. tt)
+
+asks_for : (ask : Ask) (told : Option Command) → GivenBy ask told → ask_of (command_of ask told) ≡ Some ask
+asks_for ask None given = refl
+asks_for ask (Some command) given = ap (λ (a : Ask). Some a) given
+
+by_body : (ask : Ask) (found : FoundPath) (body : List ℕ) → ask_of (commanded ask found body) ≡ Some ask
+by_body ask found body = asks_for ask _ (given ask (paper_of found) body)
+
+pub ask_by_ask : (ask : Ask) (found : FoundPath) (body : List ℕ) → ask_of (asked ask found body) ≡ Some ask
+ask_by_ask asks.Register found body = by_body asks.Register found body
+ask_by_ask asks.Accounts found body = refl
+ask_by_ask asks.Name found body = by_body asks.Name found body
+ask_by_ask asks.SetMode found body = by_body asks.SetMode found body
+ask_by_ask asks.Phase found body = refl
+ask_by_ask asks.SetPhase found body = by_body asks.SetPhase found body
+ask_by_ask asks.Submit found body = by_body asks.Submit found body
+ask_by_ask asks.Page found body = refl
+ask_by_ask asks.SetConflict found body = by_body asks.SetConflict found body
+ask_by_ask asks.Me found body = refl
