@@ -4,7 +4,7 @@ use Rattle.cr_base.specs.declared.row.Row.{Row}
 use Rattle.cr_base.specs.declared.standing.Standing.{Standing}
 use Rattle.cr_base.specs.History.{History}
 use Rattle.cr_base.specs.Facts.{standing_of}
-use Rattle.cr_base.specs.Judging.{standing_at}
+use Rattle.cr_base.specs.Sources.{standing_at}
 use Rattle.cr_base.specs.Tables.{Tables, tables_of}
 use Rattle.cr_policy.specs.Legal.{Legal}
 use Rattle.cr_policy.specs.Triggers.{Reader, reader}
