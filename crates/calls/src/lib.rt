@@ -14,4 +14,6 @@ mod rows;
 #[cfg(test)]
 mod tables;
 #[cfg(test)]
+mod view;
+#[cfg(test)]
 mod words;

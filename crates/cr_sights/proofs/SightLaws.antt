@@ -1,5 +1,5 @@
 -- What a submission and a conflict show, by the tests that the code makes.
-use Rattle.std.proofs.Common.{◌≡◌, ◌∙◌, ℕ, Bool, true, false, ◌||◌, ◌&&◌, List, [], ◌∷◌, refl, sym, ap, subst, arith, Option, Some, option_map}
+use Rattle.std.proofs.Common.{◌≡◌, ◌∙◌, ℕ, Bool, true, false, ◌||◌, ◌&&◌, List, [], ◌∷◌, refl, sym, ap, arith, Option, Some, option_map}
 use Rattle.std.specs.Prelude.{not}
 use Rattle.std.specs.Bool.{then_some}
 use Rattle.cr_base.specs.declared.entry.Entry.{Entry}
@@ -13,7 +13,7 @@ use Rattle.cr_base.specs.Page.{is_clear_chair, is_clear_member}
 use Rattle.cr_base.specs.Phases.{is_from}
 use Rattle.cr_base.specs.Words.{is_anonymous, is_member}
 use Rattle.cr_policy.specs.Sighting.{Sighting, blank, where_shown}
-use Rattle.cr_policy.specs.Triggers.{Reader, Place, authors, clear_chairs, clear_members, from, is_last, members, unless_anonymous, user_named}
+use Rattle.cr_policy.specs.Triggers.{Reader, Place, authors, clear_chairs, clear_members, from, members, none_alike, unless_anonymous, user_named}
 use Rattle.cr_policy.specs.View.{is_seen, sight}
 
 -- how the reader stands to a paper
@@ -41,7 +41,7 @@ mapped-then_some f false x o is = ap (option_map f) is
 
 module _ (r : Reader) (at : Place) (s : Stamped) (paper : ℕ) where
   pub submission : (title abstract : List ℕ) (last own : Bool) (by : Standing) (v : Sighting) (shows_by shows_title shows_abstract : Bool) (maker' : Option ℕ) (title' abstract' : Option (List ℕ))
-      → s.entry ≡ Submitted paper title abstract → is_last at s.entry ≡ last → by ≡ stands r paper
+      → s.entry ≡ Submitted paper title abstract → none_alike s.entry at.after ≡ last → by ≡ stands r paper
       → own ≡ user_named r s.maker → v ≡ record (blank kinds.Submitted) { mine = own }
       → shows_by ≡ (by.author || (is_from Bidding by.phase && (is_clear_chair by || (is_clear_member by && not (is_anonymous by.mode)))))
       → shows_title ≡ (by.author || (((last && is_member by.role) && is_from Bidding by.phase) || own))
@@ -62,17 +62,17 @@ module _ (r : Reader) (at : Place) (s : Stamped) (paper : ℕ) where
       mine : Sighting
       mine = record (blank kinds.Submitted) { mine = own; paper = Some paper }
 
-      ends_so : last ≡ is_last at it
-      ends_so = sym ends ∙ ap (is_last at) is
+      ends_so : last ≡ none_alike it at.after
+      ends_so = sym ends ∙ ap (λ (e : Entry). none_alike e at.after) is
 
       table_by : Bool
       table_by = authors r paper || ((clear_chairs r paper && from r Bidding) || (((clear_members r paper && unless_anonymous r) && from r Bidding) || false))
 
       table_title : Bool → Bool
-      table_title m = authors r paper || (((is_last at it && members r) && from r Bidding) || (m || false))
+      table_title m = authors r paper || (((none_alike it at.after && members r) && from r Bidding) || (m || false))
 
       table_abstract : Bool → Bool
-      table_abstract m = authors r paper || (((is_last at it && clear_members r paper) && from r Bidding) || (m || false))
+      table_abstract m = authors r paper || (((none_alike it at.after && clear_members r paper) && from r Bidding) || (m || false))
 
       shown_by : Option ℕ
       shown_by = where_shown table_by (Some s.maker)
@@ -89,13 +89,13 @@ module _ (r : Reader) (at : Place) (s : Stamped) (paper : ℕ) where
       title_table =
           title_is ∙ ap (λ (b : Standing). b.author || (((last && is_member b.role) && is_from Bidding b.phase) || own)) stands_so
           ∙ ap (λ l. authors r paper || (((l && members r) && from r Bidding) || own)) ends_so
-          ∙ ap (λ o. authors r paper || (((is_last at it && members r) && from r Bidding) || o)) (or_none own)
+          ∙ ap (λ o. authors r paper || (((none_alike it at.after && members r) && from r Bidding) || o)) (or_none own)
 
       abstract_table : shows_abstract ≡ table_abstract own
       abstract_table =
           abstract_is ∙ ap (λ (b : Standing). b.author || (((last && is_clear_member b) && is_from Bidding b.phase) || own)) stands_so
           ∙ ap (λ l. authors r paper || (((l && clear_members r paper) && from r Bidding) || own)) ends_so
-          ∙ ap (λ o. authors r paper || (((is_last at it && clear_members r paper) && from r Bidding) || o)) (or_none own)
+          ∙ ap (λ o. authors r paper || (((none_alike it at.after && clear_members r paper) && from r Bidding) || o)) (or_none own)
 
   -- ---- a conflict
 

@@ -1,7 +1,6 @@
 -- A user's view, entry by entry over the history.
-use Rattle.std.proofs.Common.{◌≡◌, ◌≢◌, ◌∙◌, ℕ, ◌+◌, ◌<◌, ◌≤◌, Bool, List, [], ◌∷◌, ◌++◌, length, take, drop, get_or, refl, sym, ap, subst, arith, append_assoc, append-nil, length-append, Option, Some, None}
+use Rattle.std.proofs.Common.{◌≡◌, ◌∙◌, ℕ, ◌+◌, ◌<◌, ◌≤◌, Bool, List, [], ◌∷◌, ◌++◌, length, take, drop, get_or, refl, sym, ap, subst, arith, append_assoc, append-nil, length-append, Option, Some, None}
 use Rattle.std.specs.Prelude.{IfSome}
-use Rattle.std.specs.List.{slice_get}
 use Rattle.std.proofs.lemmas.Grind.{flat_map-append}
 use Rattle.std.proofs.lemmas.List.{drop_all}
 use Rattle.std.proofs.lemmas.Option.{slice_get-get_or}
@@ -12,7 +11,7 @@ use Rattle.cr_ports.specs.Count.{Rises}
 use Rattle.cr_ports.specs.Stream.{taken_and}
 use Rattle.cr_ports.specs.Writing.{Outlet, Writes, BreaksOff}
 use Rattle.cr_ports.proofs.WritingLaws.{taken_and-append, writes-nil, writes-append}
-use Rattle.cr_policy.specs.Triggers.{Reader, Place, is_last, none_alike}
+use Rattle.cr_policy.specs.Triggers.{Reader, Place, none_alike}
 use Rattle.cr_policy.specs.View.{View, sight, sights}
 use Rattle.cr_sights.specs.Last.{IsLastIn}
 use Rattle.cr_sights.specs.Lines.{line_text, lines_text}
@@ -35,7 +34,7 @@ module _ (r : Reader) (H : History) (at : ℕ) (d : Stamped) (within : at < leng
       ∙ ap (λ (before : History). sights_at r H at (get_or H at d) ++ sights r before (drop (at + 1) H)) (sym (one_more H at d within))
 
   -- what one entry shows, by what is known of it
-  pub seen_here : d ≡ get_or H at d → (seen : View) (last : Bool) → IsLastIn H at last → ((place : Place) → is_last place d.entry ≡ last → seen ≡ sight r place d) → seen ≡ sights_at r H at (get_or H at d)
+  pub seen_here : d ≡ get_or H at d → (seen : View) (last : Bool) → IsLastIn H at last → ((place : Place) → none_alike d.entry place.after ≡ last → seen ≡ sight r place d) → seen ≡ sights_at r H at (get_or H at d)
   seen_here here seen last known is =
       is (record { before = take at H; after = drop (at + 1) H })
       (ap (λ (e : Stamped). none_alike e.entry (drop (at + 1) H)) here

@@ -1,6 +1,5 @@
 -- What the trigger table asks of a reader, by the tables.
 use Rattle.std.specs.Prelude.{ℕ, Option, Some}
-use Rattle.cr_base.specs.declared.standing.Standing.{Standing}
 use Rattle.cr_base.specs.Accounts.{role_in}
 use Rattle.cr_base.specs.Tables.{Tables}
 use Rattle.cr_base.specs.Ties.{is_author_in, is_conflicted_in}

@@ -6,7 +6,7 @@ ghost use Rattle.cr_base.specs.Phases.{is_from};
 ghost use Rattle.cr_base.specs.Words.{is_anonymous, is_member};
 ghost use Rattle.cr_base.specs.declared.words.Phase.TheVariants as phases;
 ghost use Rattle.cr_base.specs.declared.entry.Entry.TheVariants.{Conflict};
-ghost use Rattle.cr_policy.specs.Triggers.{Place, is_last as is_last_at};
+ghost use Rattle.cr_policy.specs.Triggers.{Place, none_alike};
 ghost use Rattle.cr_policy.specs.Sighting.{blank as blank_sighting};
 ghost use Rattle.cr_policy.specs.View.{is_seen, sight as sight_at};
 ghost use Rattle.cr_sights.specs.Readers.{reader_in};
@@ -149,7 +149,7 @@ pub fn sight<'a>(
     stamped: &'a Stamped,
     is_last: bool,
 ) -> Option<Sighting<'a>>
-    ensures { (at : Place) → is_last_at at stamped.now.entry ≡ is_last → listed result ≡ sight_at (reader_in live.now.tables (Some reader)) at stamped.now }
+    ensures { (at : Place) → none_alike stamped.now.entry at.after ≡ is_last → listed result ≡ sight_at (reader_in live.now.tables (Some reader)) at stamped.now }
 {
     let mine = reader == stamped.maker;
     match &stamped.entry {

@@ -1,6 +1,5 @@
-use Rattle.std.proofs.Common.{◌∙◌, ap, ◌+◌, length, arith, Some}
+use Rattle.std.proofs.Common.{arith, Some}
 use Rattle.cr_base.specs.Lists.{listed}
-use Rattle.cr_policy.specs.View.{View, sights}
 use Rattle.cr_sights.specs.Readers.{reader_in}
 use Rattle.cr_sights.proofs.WalkLaws.{counted, listed-short, seen_here}
 use Rattle.cr_sights.proofs.walk.view_len.Goals as goal

@@ -1,4 +1,4 @@
-use Rattle.std.proofs.Common.{◌∙◌, ap, Some}
+use Rattle.std.proofs.Common.{◌∙◌, Some}
 use Rattle.cr_base.specs.Lists.{listed}
 use Rattle.cr_ports.specs.Writing.{outlet_of}
 use Rattle.cr_sights.specs.Readers.{reader_in}
