@@ -101,10 +101,8 @@ pub fn add_answer(
 ) -> Result<(), LineError> {
     let (code, rest) = text.split_once(' ').ok_or(LineError::NoForm)?;
     let phrase = phrase(code).ok_or(LineError::NoForm)?;
-    add_parts(
-        into,
-        &["HTTP/1.1 ", code, " ", phrase, "\r\n", challenge(code)],
-    )?;
+    add_parts(into, &["HTTP/1.1 ", code, " "])?;
+    add_parts(into, &[phrase, "\r\n", challenge(code)])?;
     let rest = add_allow(into, rest)?;
     add_content(alloc, into, rest, closes)
 }

@@ -14,4 +14,3 @@ pub use cr_sights::ViewError;
 pub use cr_view::AnswerError;
 pub use laws::law_standing_by_tables;
 pub use opening::OpenError;
-

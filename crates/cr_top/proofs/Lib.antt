@@ -1,3 +1,3 @@
 mod Serving
 mod Answering
-mod Storing
+mod Stored

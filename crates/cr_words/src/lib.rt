@@ -12,4 +12,3 @@ mod usage;
 pub use laws::{law_attached, law_pipe, law_pipe_store, law_view};
 pub use read::{Job, WordsError, read_words};
 pub use usage::usage_text;
-
