@@ -6,12 +6,12 @@ use Rattle.std.proofs.lemmas.List.{drop-append-le, drop-drop}
 use Rattle.std.specs.Prelude.{◌==◌}
 use Rattle.cr_http.specs.HeadRange.{empty_line_len, blank_end_from, head_end_from, or_later, starting_at, window, head_at}
 use Rattle.cr_http.specs.Search.{IsLine, reached, found_from, LeadsTo, Looks, StandsThere}
-use Rattle.cr_http.specs.declared.range.Line.{Line}
-use Rattle.cr_http.specs.declared.range.Line.TheVariants as lines
-use Rattle.cr_http.specs.declared.range.Search.{Search}
-use Rattle.cr_http.specs.declared.range.Search.TheVariants as searches
-use Rattle.cr_http.specs.declared.range.Look.{Look}
-use Rattle.cr_http.specs.declared.range.Look.TheVariants as looks
+use Rattle.cr_http.specs.declared.head_range.Line.{Line}
+use Rattle.cr_http.specs.declared.head_range.Line.TheVariants as lines
+use Rattle.cr_http.specs.declared.head_range.Search.{Search}
+use Rattle.cr_http.specs.declared.head_range.Search.TheVariants as searches
+use Rattle.cr_http.specs.declared.head_range.Look.{Look}
+use Rattle.cr_http.specs.declared.head_range.Look.TheVariants as looks
 use Rattle.cr_http.proofs.Places.{blank_end_from-goes_on, blank_end_from-stops}
 use Rattle.cr_http.proofs.Windows.{front_grows}
 

@@ -7,7 +7,7 @@ use Rattle.cr_http.specs.declared.inbox.Extent.{Extent}
 use Rattle.cr_http.specs.declared.head_range.HeadRange.{HeadRange}
 use Rattle.cr_http.specs.declared.read.RequestRead.{RequestRead}
 use Rattle.cr_http.specs.declared.read.RequestRead.TheVariants as reads
-use Rattle.cr_http.specs.declared.judge.Judged.{HeadJudgement}
+use Rattle.cr_http.specs.declared.judge.HeadJudgement.{HeadJudgement}
 use Rattle.cr_http.specs.declared.judge.HeadJudgement.TheVariants as judged
 use Rattle.cr_http.specs.Extent.{spans_head, extent_text, IsExtent, InboxText}
 use Rattle.cr_http.specs.Filling.{IsAtEnd, ReadsWhile}

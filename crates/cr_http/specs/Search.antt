@@ -1,12 +1,12 @@
 -- Where the search for the end of a head stands, and what it says of however the bytes go on.
 use Rattle.std.specs.Prelude.{◌≡◌, ℕ, ◌<◌, ◌≤◌, List, ◌++◌, length, drop, Option, Some, None}
 use Rattle.cr_http.specs.HeadRange.{empty_line_len, blank_end_from, head_end_from, starting_at, window, head_at}
-use Rattle.cr_http.specs.declared.range.Line.{Line}
-use Rattle.cr_http.specs.declared.range.Line.TheVariants as lines
-use Rattle.cr_http.specs.declared.range.Search.{Search}
-use Rattle.cr_http.specs.declared.range.Search.TheVariants as searches
-use Rattle.cr_http.specs.declared.range.Look.{Look}
-use Rattle.cr_http.specs.declared.range.Look.TheVariants as looks
+use Rattle.cr_http.specs.declared.head_range.Line.{Line}
+use Rattle.cr_http.specs.declared.head_range.Line.TheVariants as lines
+use Rattle.cr_http.specs.declared.head_range.Search.{Search}
+use Rattle.cr_http.specs.declared.head_range.Search.TheVariants as searches
+use Rattle.cr_http.specs.declared.head_range.Look.{Look}
+use Rattle.cr_http.specs.declared.head_range.Look.TheVariants as looks
 
 -- what the bytes at a place say of whether an empty line begins there
 abbrev pub IsLine : Line → List ℕ → Type 0

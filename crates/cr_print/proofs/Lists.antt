@@ -27,5 +27,4 @@ module _ {X : Type 0} (text_of : X → List ℕ) where
 module _ {X : Type 0} (text_of : X → List ℕ) where
   pub record Listed (start now : Bytes) (is_first : Bool) (xs : List X) (i : ℕ) : Type 0 where
     pub rest : now.items ++ separated is_first (map text_of (drop i xs)) ≡ start.items ++ separated true (map text_of xs)
-
-  -- a comma unless it is the first, and the item
+    -- a comma unless it is the first, and the item

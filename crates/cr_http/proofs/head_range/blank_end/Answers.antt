@@ -1,6 +1,6 @@
 use Rattle.std.proofs.lemmas.List.{take_rest}
 use Rattle.cr_http.proofs.Searching.{skips_blank, stops_blank}
-use Rattle.cr_http.proofs.range.blank_end.Goals as goal
+use Rattle.cr_http.proofs.head_range.blank_end.Goals as goal
 
 pub lines-preserved : goal.lines-preserved
 lines-preserved c = skips_blank c.args.bytes.now c.lines.at c.in-Empty.len c.lines.invariant (rw take_rest at c.in-Empty.ensures)

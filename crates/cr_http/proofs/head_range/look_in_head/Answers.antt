@@ -1,6 +1,6 @@
 use Rattle.std.proofs.lemmas.List.{take_rest}
 use Rattle.cr_http.proofs.Searching.{ends, waits_at_lf, waits_at_end}
-use Rattle.cr_http.proofs.range.look_in_head.Goals as goal
+use Rattle.cr_http.proofs.head_range.look_in_head.Goals as goal
 
 pub returns-in-Empty : goal.returns-in-Empty
 returns-in-Empty c =

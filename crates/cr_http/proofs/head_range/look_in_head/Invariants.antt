@@ -1,7 +1,7 @@
 use Rattle.std.proofs.Common.{length, ◌-◌}
 use Rattle.cr_http.specs.Search.{LeadsTo}
-use Rattle.cr_http.specs.declared.range.Search.TheVariants as searches
-use Rattle.cr_http.proofs.range.look_in_head.Given as goal
+use Rattle.cr_http.specs.declared.head_range.Search.TheVariants as searches
+use Rattle.cr_http.proofs.head_range.look_in_head.Given as goal
 
 abbrev pub invariant-bytes : goal.invariant-bytes
 invariant-bytes l = LeadsTo l.bytes (searches.InHead l.start l.from) (searches.InHead l.start l.at)

@@ -1,7 +1,7 @@
 use Rattle.std.proofs.lemmas.List.{take_rest}
-use Rattle.cr_http.specs.declared.range.Search.TheVariants as searches
+use Rattle.cr_http.specs.declared.head_range.Search.TheVariants as searches
 use Rattle.cr_http.proofs.Searching.{skips, begins, looks_on, waits}
-use Rattle.cr_http.proofs.range.skip.Goals as goal
+use Rattle.cr_http.proofs.head_range.skip.Goals as goal
 
 pub lines-preserved : goal.lines-preserved
 lines-preserved c = skips c.args.bytes.now c.args.from c.lines.at c.in-Empty.len c.lines.invariant (rw take_rest at c.in-Empty.ensures)

@@ -1,7 +1,7 @@
 use Rattle.std.proofs.Common.{length, ◌-◌}
 use Rattle.cr_http.specs.Search.{LeadsTo}
-use Rattle.cr_http.specs.declared.range.Search.TheVariants as searches
-use Rattle.cr_http.proofs.range.skip.Given as goal
+use Rattle.cr_http.specs.declared.head_range.Search.TheVariants as searches
+use Rattle.cr_http.proofs.head_range.skip.Given as goal
 
 abbrev pub invariant-lines : goal.invariant-lines
 invariant-lines l = LeadsTo l.bytes (searches.Skipping l.from) (searches.Skipping l.at)
