@@ -8,7 +8,7 @@ use Rattle.cr_base.specs.Sources.{standing_at}
 use Rattle.cr_base.specs.Tables.{Tables, tables_of}
 use Rattle.cr_policy.specs.Legal.{Legal}
 use Rattle.cr_policy.specs.Triggers.{Reader, reader}
-use Rattle.cr_policy.specs.View.{View, sights, view}
+use Rattle.cr_policy.specs.View.{sights, view}
 use Rattle.cr_policy.proofs.LegalLaws.{Legal-fits}
 use Rattle.cr_history.proofs.TableTies.{standing_of-tables}
 use Rattle.cr_sights.specs.Readers.{reader_in}

@@ -1,4 +1,4 @@
-use Rattle.std.proofs.Common.{[], ℕ, ◌≡◌, ◌∙◌, ap, length, subst, IfOk, Some}
+use Rattle.std.proofs.Common.{[], ◌≡◌, ◌∙◌, ap, length, subst, IfOk, Some}
 use Rattle.cr_base.specs.History.{History}
 use Rattle.cr_policy.specs.View.{View, sights, view}
 use Rattle.cr_sights.specs.Readers.{reader_in}
