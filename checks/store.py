@@ -259,7 +259,7 @@ def bad_files(program, folder):
         ("column", "ALTER TABLE ties ADD COLUMN more_still INTEGER", 6),
         ("twice", "INSERT INTO talk SELECT * FROM people WHERE place = 1", 6),
         ("missing", "DELETE FROM people WHERE place = 1", 6),
-        ("type", "UPDATE people SET n1 = 'one' WHERE place = 0", 6),
+        ("negative", "UPDATE people SET n1 = -1 WHERE place = 0", 6),
         ("table", "INSERT INTO talk SELECT * FROM people WHERE place = 2; DELETE FROM people WHERE place = 2", 6),
         ("kind", "UPDATE people SET kind = 18 WHERE place = 1", 3),
         ("number", "UPDATE people SET n1 = 2 WHERE place = 0", 3),

@@ -24,8 +24,8 @@ use Rattle.cr_base.specs.Facts.{role_of, accounts_of}
 use Rattle.cr_base.specs.History.{History, Registration, all_told, registration_told}
 use Rattle.cr_base.specs.Judging.{judge_by_role}
 use Rattle.cr_base.specs.Drawn.{Drawn, grouped, registration, registration_drawn, phase_drawn, submission_drawn, naming_drawn, mode_drawn, conflict_drawn}
-use Rattle.cr_base.specs.Sources.{name_in, number_in, role_among, user_among, has_paper, facts_of_tables, standing_at}
-use Rattle.cr_base.specs.Checks.{Check, register_checks, phase_checks, submit_checks, name_checks, mode_checks, conflict_checks}
+use Rattle.cr_base.specs.Sources.{name_in, number_in, paper_named, role_among, shown_in_tables, target_named, user_among, facts_of_tables, standing_at}
+use Rattle.cr_base.specs.Checks.{Check, of_role, register_checks, phase_checks, submit_checks, name_checks, mode_checks, conflict_checks}
 use Rattle.cr_base.proofs.CheckLaws.{judged-Ok}
 use Rattle.cr_base.specs.declared.standing.Standing.{Standing}
 use Rattle.cr_base.specs.Lists.{is_number, at_some}
@@ -147,10 +147,10 @@ module _ (t : Tables) (user : ℕ) (known : is_known t (Some user) ≡ true) (dr
     where
       by : (target : Option ℕ) → number_in (lines_of t.accounts) name ≡ target → Told t drawn
       by None is =
-          let k = judged-Ok (name_checks (standing_at t (Some user) None) (role_among (lines_of t.accounts) (number_in (lines_of t.accounts) name)) role) (naming_drawn user (unwrap_or (number_in (lines_of t.accounts) name) 0) name role) drawn accepted in
-          absurd (true≢false (ap (λ (o : Option ℕ). is_none (role_among (lines_of t.accounts) o)) (sym is) ∙ k.0.0))
+          let k = judged-Ok (name_checks (standing_at t (Some user) None) (option_map of_role (role_among (lines_of t.accounts) (number_in (lines_of t.accounts) name))) role) (naming_drawn user (unwrap_or (number_in (lines_of t.accounts) name) 0) name role) drawn accepted in
+          absurd (true≢false (ap (λ (o : Option ℕ). is_none (option_map of_role (role_among (lines_of t.accounts) o))) (sym is) ∙ k.0.0))
       by (Some v) is =
-          let k = judged-Ok (name_checks (standing_at t (Some user) None) (role_among (lines_of t.accounts) (number_in (lines_of t.accounts) name)) role) (naming_drawn user (unwrap_or (number_in (lines_of t.accounts) name) 0) name role) drawn accepted in
+          let k = judged-Ok (name_checks (standing_at t (Some user) None) (option_map of_role (role_among (lines_of t.accounts) (number_in (lines_of t.accounts) name))) role) (naming_drawn user (unwrap_or (number_in (lines_of t.accounts) name) 0) name role) drawn accepted in
           told-single t user (Named v role) (Name (Some name) role) drawn (naming_drawn user v name role) refl (ap (λ (o : Option ℕ). naming_drawn user (unwrap_or o 0) name role) (sym is) ∙ k.1) refl known
           (ap (option_map (λ (n : List ℕ). Name (Some n) role)) (named t name v (sym (number_in-lines_of t.accounts name) ∙ is))) accepted
 
@@ -159,7 +159,8 @@ module _ (t : Tables) (user : ℕ) (known : is_known t (Some user) ≡ true) (dr
   found name = number_in (lines_of t.accounts) name
 
   abbrev checks : Option ℕ → Option ℕ → Bool → List Check
-  checks paper target on = conflict_checks (standing_at t (Some user) paper) (has_paper (facts_of_tables t (Some user)) paper) (role_among (lines_of t.accounts) target) (is_number target user) (at_some (λ p. list_any (is_number target) (authors_in t.ties p)) paper) on
+  checks paper target on =
+      conflict_checks (standing_at t (Some user) paper) (paper_named (facts_of_tables t (Some user)) paper) (target_named (facts_of_tables t (Some user)) (shown_in_tables t) (Some user) paper target) on
 
   conflict-told : (paper : Option ℕ) (name : Option (List ℕ)) (on : Bool) → judge_by_role t (Some user) (SetConflict paper name on) ≡ Ok drawn → Told t drawn
   conflict-told None name on accepted =
@@ -170,7 +171,7 @@ module _ (t : Tables) (user : ℕ) (known : is_known t (Some user) ≡ true) (dr
       by : (target : Option ℕ) → found name ≡ target → Told t drawn
       by None is =
           let k = judged-Ok (checks (Some p) (found name) on) (conflict_drawn user p (unwrap_or (found name) 0) on) drawn accepted in
-          absurd (true≢false (ap (λ (o : Option ℕ). is_none (role_among (lines_of t.accounts) o)) (sym is) ∙ k.0.1.0))
+          absurd (true≢false (ap (λ (o : Option ℕ). is_none (target_named (facts_of_tables t (Some user)) (shown_in_tables t) (Some user) (Some p) o)) (sym is) ∙ k.0.1.0))
       by (Some v) is =
           let k = judged-Ok (checks (Some p) (found name) on) (conflict_drawn user p (unwrap_or (found name) 0) on) drawn accepted in
           told-single t user (Conflict p v on) (SetConflict (Some p) (Some name) on) drawn (conflict_drawn user p v on) refl (ap (λ (o : Option ℕ). conflict_drawn user p (unwrap_or o 0) on) (sym is) ∙ k.1) refl known

@@ -29,11 +29,11 @@ pub record MayAdd (H group : History) : Type 0 where
 
 adds-group : (H g : History) → Adds H g → IsGroup g
 adds-group H g (single maker e made marked ruled) = refl
-adds-group H g (first_user user name digest is) = (refl, refl)
+adds-group H g (first_user user name digest is texts) = (refl, refl)
 
 -- what is added is a group
 pub may_add-group : (H g : History) → MayAdd H g → IsGroup g
-may_add-group H g add = subst (λ (x : History). IsGroup x) (sym add.group_is) (adds-group H add.drawn.group (accepted-adds H add.call.caller add.call.command add.drawn add.allowed.caller add.accepted))
+may_add-group H g add = subst (λ (x : History). IsGroup x) (sym add.group_is) (adds-group H add.drawn.group (accepted-adds H add.call.caller add.call.command add.drawn add.allowed.bounded add.allowed.caller add.accepted))
 
 -- ---- many calls
 
