@@ -1,22 +1,38 @@
 -- Stores that open, and stores that don't.
-use Rattle.std.proofs.Common.{◌≡◌, ◌≢◌, ◌∙◌, ◌≤◌, ◌+◌, ℕ, List, Bool, true, false, cond, Option, Some, None, Result, Ok, Err, IfSome, refl, sym, ap, subst, arith}
+use Rattle.std.proofs.Common.{◌≡◌, ◌≢◌, ◌∙◌, ◌≤◌, ◌<◌, ◌+◌, ◌++◌, ◌⊎◌, inl, inr, ℕ, List, [], ◌∷◌, length, Bool, true, false, cond, Option, Some, None, Result, Ok, Err, IfSome, refl, sym, ap, ap₂, subst, arith}
+use Rattle.std.specs.Prelude.{IsTrue, is_some}
+use Rattle.std.proofs.lemmas.Bool.{false≢true}
+use Rattle.std.specs.List.{AllByRecursion}
 use Rattle.std.specs.Str.{bytes_eq}
 use Rattle.std.proofs.lemmas.Slice.Eq.{bytes_eq-Decides}
+use Rattle.cr_base.specs.declared.entry.Entry.{Entry}
+use Rattle.cr_base.specs.declared.entry.Entry.TheVariants.{Registered}
+use Rattle.cr_base.specs.declared.entry.Stamped.{Stamped}
 use Rattle.cr_base.specs.declared.row.Row.{Row}
-use Rattle.cr_base.specs.History.{History}
-use Rattle.cr_base.specs.Rows.{rows_of}
+use Rattle.cr_base.specs.Facts.{number_of}
+use Rattle.cr_base.specs.Lists.{given, last}
+use Rattle.cr_base.specs.History.{History, all_told, number_told}
+use Rattle.cr_base.specs.Rows.{rows_of, IsBoundedEntry}
 use Rattle.cr_ports.specs.declared.keeper.KeeperError.{KeeperError}
 use Rattle.cr_ports.specs.declared.keeper.KeeperError.TheVariants as refusals
 use Rattle.cr_ports.specs.Count.{Gains, Rises}
 use Rattle.cr_ports.specs.Keeping.{HasCause}
+use Rattle.cr_ports.specs.Writing.{Outlet}
 use Rattle.cr_ports.specs.Shelving.{and_file, with_rows}
 use Rattle.cr_policy.specs.Legal.{Legal}
 use Rattle.cr_book.specs.declared.opening.OpenError.{OpenError}
 use Rattle.cr_book.specs.declared.opening.OpenError.TheVariants as errors
 use Rattle.cr_book.specs.Opening.{IsCounted, Opens}
 use Rattle.cr_book.specs.Seen.{SeenBook}
-use Rattle.cr_top.specs.Exits.{exit_of_rows, exit_of_shelf}
-use Rattle.cr_top.specs.Stores.{Files, Stores, KeepsFiles, IsRefused, IsBadStore, OpensStore, StaysShut, rows_at}
+use Rattle.cr_book.specs.Sound.{IsKept}
+use Rattle.cr_book.proofs.OpeningLaws.{legal-bounded}
+use Rattle.cr_session.specs.declared.serve.Ending.{Ending}
+use Rattle.cr_session.specs.Serving.{Connection, WholeText}
+use Rattle.cr_top.specs.declared.exit.Exit.{Exit}
+use Rattle.cr_top.specs.declared.exit.Exit.TheVariants as exits
+use Rattle.cr_top.specs.Exits.{exit_of, exit_of_rows, exit_of_shelf}
+use Rattle.cr_top.specs.Runs.{Outside, Pipes, world}
+use Rattle.cr_top.specs.Stores.{Files, Stores, KeepsFiles, IsBadStore, OpensStore, StaysShut, ServesStore, ViewsStore, TellsView, AnswersView, TellsRows, rows_at}
 
 -- ---- what stands at the paths
 
@@ -80,26 +96,109 @@ module _ {K : Type 0} (rows : K → Option (List Row)) (faults : K → ℕ) (pat
       record { refused = risen s.faults (faults given) s'.faults (subst (λ (n : ℕ). Rises n (faults given)) fresh (cause.failed refl)) gains; files = shut; count = gains.0 }
   rows-refuse errors.OutOfMemory opens cause = record { refused = tt; files = shut; count = gains.0 }
 
--- ---- a store that opens
+-- ---- a store that was served or read
 
-pub store-opens : {K : Type 0} (rows : K → Option (List Row)) (faults : K → ℕ) (path : List ℕ) (s s' : Stores) (opened : K) (book : SeenBook K)
-    → s'.files ≡ s.files → HasCause s.faults s'.faults (Ok {T = K} {E = KeeperError} opened) → IfSome s.files (λ files. rows opened ≡ Some (files path)) → faults opened ≡ 0
-    → IfSome (rows opened) (λ told. Opens told (Ok book)) → Legal book.log → faults book.keeper ≡ faults opened → OpensStore faults path book s s'
-store-opens rows faults path s s' opened book same cause found fresh opens legal steady = record {
-  legal = legal;
-  found = first s.files found;
-  only = only s.files found;
-  fresh = steady ∙ fresh;
-  same = whole s s' same (cause.steady (λ e. cc));
-}
+-- the rows of the last history stand at the path, where the keeper tells its rows
+kept-rows : {K : Type 0} (rows : K → Option (List Row)) (keeper : K) (files : Option Files) (files' : Option Files) (path : List ℕ) (H : History)
+    → IsKept rows keeper H → IfSome (rows keeper) (λ kept. files' ≡ and_file files path kept) → TellsRows rows → files' ≡ and_file files path (rows_of H)
+kept-rows rows keeper files files' path H is kept tells = at (rows keeper) is kept (tells keeper)
   where
-    whole : (s s' : Stores) → s'.files ≡ s.files → s'.faults ≡ s.faults → s' ≡ s
-    whole s s' a b = cc
+    at : (told : Option (List Row)) → IfSome told (λ t. t ≡ rows_of H) → IfSome told (λ t. files' ≡ and_file files path t) → IsTrue (is_some told) → files' ≡ and_file files path (rows_of H)
+    at None is kept there = absurd (false≢true there)
+    at (Some t) is kept there = kept ∙ ap (and_file files path) is
 
-    first : (f : Option Files) → IfSome f (λ files. rows opened ≡ Some (files path)) → IfSome f (λ files. rows_of book.log ≡ files path)
-    first None is = tt
-    first (Some files) is = (subst (λ (t : Option (List Row)). IfSome t (λ told. Opens told (Ok book))) is opens).1
+module _ {K I : Type 0} (rows : K → Option (List Row)) (faults : K → ℕ) (path : List ℕ) (left : I → Option (List ℕ)) (gives : I → I → List ℕ → Type 0)
+    (exit : Exit) (ending : Ending) (is : exit ≡ exit_of ending) (book : SeenBook K) (keeper' : K) (o o' : Outside I) (s m s' : Stores)
+    (opens : OpensStore rows faults path book s m) (p : Pipes rows faults left gives book.log ending book.keeper keeper' o o')
+    (kept : IfSome (rows keeper') (λ told. s'.files ≡ and_file m.files path told)) (gains : Gains m.faults (faults keeper') s'.faults) where
+  files-are : m.files ≡ s.files
+  files-are = ap (λ (x : Stores). x.files) opens.same
 
-    only : (f : Option Files) → IfSome f (λ files. rows opened ≡ Some (files path)) → IfSome f (λ files. (H : History) → Legal H → rows_of H ≡ files path → H ≡ book.log)
-    only None is = tt
-    only (Some files) is = (subst (λ (t : Option (List Row)). IfSome t (λ told. Opens told (Ok book))) is opens).2
+  count-is : m.faults ≡ s.faults
+  count-is = ap (λ (x : Stores). x.faults) opens.same
+
+  pub serves-store : ServesStore rows path left gives exit o o' s s'
+  serves-store = record {
+    opening = book.log;
+    opens = opens.legal;
+    found = opens.found;
+    ending = ending;
+    exit_is = is;
+    history = p.history;
+    legal = p.legal;
+    faults = faults keeper';
+    connection = subst (λ (n : ℕ). Connection left gives ending 0 [] (world o book.log n) (world o' p.history (faults keeper'))) opens.fresh p.connection;
+    whole = λ b told. subst (λ (n : ℕ). WholeText left ending b (world o book.log n) (world o' p.history (faults keeper'))) opens.fresh (p.whole b told);
+    kept = kept-rows rows keeper' s.files s'.files path p.history p.kept (subst (λ (f : Option Files). IfSome (rows keeper') (λ told. s'.files ≡ and_file f path told)) files-are kept);
+    counted = subst (λ (n : ℕ). Gains n (faults keeper') s'.faults) count-is gains;
+  }
+
+  -- where the shelf's count didn't rise, the keeper's didn't
+  pub no_fault : (Rises s.faults s'.faults → ⊥) → Rises (faults book.keeper) (faults keeper') → ⊥
+  no_fault idle rises =
+      idle (risen s.faults (faults keeper') s'.faults (subst (λ (n : ℕ). Rises n (faults keeper')) opens.fresh rises) (subst (λ (n : ℕ). Gains n (faults keeper') s'.faults) count-is gains))
+
+-- the book's history is the one that has the rows
+pub the-history : {K : Type 0} (rows : K → Option (List Row)) (faults : K → ℕ) (path : List ℕ) (book : SeenBook K) (s m : Stores) → OpensStore rows faults path book s m → (files : Files) → s.files ≡ Some files → (H : History) → Legal H → rows_of H ≡ files path
+    → book.log ≡ H
+the-history rows faults path book s m opens files told H legal spells =
+    sym (subst (λ (f : Option Files). IfSome f (λ files. (H : History) → Legal H → rows_of H ≡ files path → H ≡ book.log)) told opens.only H legal spells)
+
+-- a store of a legal history's rows opens where nothing fails, or memory is wanting
+pub opens-or-memory : (path : List ℕ) (exit : Exit) (s s' : Stores) → StaysShut path exit s s' → (Rises s.faults s'.faults → ⊥) → (files : Files) → s.files ≡ Some files → (H : History) → Legal H → rows_of H ≡ files path
+    → exit ≡ exits.OutOfMemory
+opens-or-memory path exits.OutOfMemory s s' shut idle files told H legal spells = refl
+opens-or-memory path exits.KeeperFault s s' shut idle files told H legal spells = absurd (idle shut.refused)
+opens-or-memory path (exits.BadStore row kind) s s' shut idle files told H legal spells =
+    absurd ((subst (λ (f : Option Files). IfSome f (λ files. IsBadStore (files path) row kind)) told shut.refused).none H legal spells)
+opens-or-memory path exits.Done s s' shut idle files told H legal spells = absurd shut.refused
+opens-or-memory path exits.Cut s s' shut idle files told H legal spells = absurd shut.refused
+opens-or-memory path exits.Usage s s' shut idle files told H legal spells = absurd shut.refused
+opens-or-memory path exits.ReadFault s s' shut idle files told H legal spells = absurd shut.refused
+opens-or-memory path exits.WriteFault s s' shut idle files told H legal spells = absurd shut.refused
+opens-or-memory path exits.NoUser s s' shut idle files told H legal spells = absurd shut.refused
+
+-- the keeper of a book that was read alone was taken back
+pub views-store : {K : Type 0} (rows : K → Option (List Row)) (faults : K → ℕ) (path name : List ℕ) (exit : Exit) (book : SeenBook K) (keeper' : K) (o o' : Outlet) (s m s' : Stores)
+    → OpensStore rows faults path book s m → keeper' ≡ book.keeper → TellsView book.log name exit o o'
+    → IfSome (rows keeper') (λ told. s'.files ≡ and_file m.files path told) → Gains m.faults (faults keeper') s'.faults → ViewsStore path name exit o o' s s'
+views-store {K} rows faults path name exit book keeper' o o' s m s' opens same tells kept gains = record {
+  opening = book.log;
+  opens = opens.legal;
+  found = opens.found;
+  tells = tells;
+  files = shut-files s s' path (rows keeper') (subst (λ (k : K). IfSome s.files (λ files. rows k ≡ Some (files path))) (sym same) opens.told)
+      (subst (λ (f : Option Files). IfSome (rows keeper') (λ t. s'.files ≡ and_file f path t)) (ap (λ (x : Stores). x.files) opens.same) kept);
+  count = subst (λ (n : ℕ). n ≤ s'.faults) (ap (λ (x : Stores). x.faults) opens.same) gains.0;
+}
+
+-- what a view is answered where nothing fails
+pub answers-view : (H : History) (name : List ℕ) (exit : Exit) (o o' : Outlet) → TellsView H name exit o o' → (Rises o.faults o'.faults → ⊥) → (exit ≡ exits.OutOfMemory) ⊎ AnswersView H name exit o o'
+answers-view H name exits.Done o o' tells idle = inr (tells, inl refl)
+answers-view H name exits.NoUser o o' tells idle = inr (tells, inr refl)
+answers-view H name exits.OutOfMemory o o' tells idle = inl refl
+answers-view H name exits.WriteFault o o' tells idle = absurd (idle tells.2.rises)
+answers-view H name exits.KeeperFault o o' tells idle = absurd tells
+answers-view H name (exits.BadStore row kind) o o' tells idle = absurd tells
+answers-view H name exits.Cut o o' tells idle = absurd tells
+answers-view H name exits.Usage o o' tells idle = absurd tells
+answers-view H name exits.ReadFault o o' tells idle = absurd tells
+
+-- ---- names
+
+-- another name than one that is longer than any may be
+not-named : (name other : List ℕ) (user : ℕ) → length other ≤ 32 → 34 < length name → (b : Bool) → bytes_eq other name ≡ b → given b user ≡ []
+not-named name other user few long true is = absurd (let e = ap length ((bytes_eq-Decides other name).0 is) in omega (arith, few, long, e))
+not-named name other user few long false is = refl
+
+registers-another : (name : List ℕ) (maker : ℕ) (more : Bool) (e : Entry) → 34 < length name → IsBoundedEntry (record { maker = maker; more = more; entry = e }) → number_told name e ≡ []
+registers-another name maker more (Registered user other digest) long b = not-named name other user b.b1.few long (bytes_eq other name) refl
+registers-another name maker more e long b = refl
+
+none-named : (name : List ℕ) (H : History) → 34 < length name → AllByRecursion IsBoundedEntry H → all_told (number_told name) H ≡ []
+none-named name [] long bounded = refl
+none-named name (s ∷ H) long bounded = ap₂ (λ (xs ys : List ℕ). xs ++ ys) (registers-another name s.maker s.more s.entry long bounded.0) (none-named name H long bounded.1)
+
+-- nobody has registered a name of more bytes than any may have
+pub nobody-has : (name : List ℕ) (H : History) → Legal H → 34 < length name → number_of name H ≡ None
+nobody-has name H legal long = ap last (none-named name H long (legal-bounded H legal))

@@ -1,6 +1,6 @@
 -- What a run does with the rows of a store: it opens them as a history, or tells why they don't open, and leaves the rows of
 -- the last history.
-use Rattle.std.specs.Prelude.{◌≡◌, ◌≢◌, ◌≤◌, ◌⊎◌, ℕ, List, [], Option, Some, None, IfSome, IsSome}
+use Rattle.std.specs.Prelude.{◌≡◌, ◌≢◌, ◌≤◌, ◌⊎◌, ℕ, List, [], Option, Some, None, is_some, IfSome, IsTrue}
 use Rattle.std.specs.Option.{option_map}
 use Rattle.cr_base.specs.declared.row.Row.{Row}
 use Rattle.cr_base.specs.History.{History}
@@ -40,7 +40,7 @@ rows_at files path = option_map (λ (f : Files). f path) files
 
 -- every keeper of the shelf's kind tells its rows
 abbrev pub TellsRows : {K : Type 0} → (K → Option (List Row)) → Type 0
-TellsRows {K} rows = (keeper : K) → IsSome (rows keeper)
+TellsRows {K} rows = (keeper : K) → IsTrue (is_some (rows keeper))
 
 -- the rows at every path are as they were, where they are told
 abbrev pub KeepsFiles : Stores → Stores → Type 0
@@ -48,11 +48,13 @@ KeepsFiles s s' = IfSome s.files (λ files. (path : List ℕ) → rows_at s'.fil
 
 -- ---- opening
 
--- The rows at the path are those of one legal history, the book's; its keeper has counted no fault, and nothing changed.
-pub record OpensStore {K : Type 0} (faults : K → ℕ) (path : List ℕ) (book : SeenBook K) (s s' : Stores) : Type 0 where
+-- The rows at the path are those of one legal history, the book's; its keeper tells them where the shelf does and has counted
+-- no fault, and nothing changed.
+pub record OpensStore {K : Type 0} (rows : K → Option (List Row)) (faults : K → ℕ) (path : List ℕ) (book : SeenBook K) (s s' : Stores) : Type 0 where
   pub legal : Legal book.log
   pub found : IfSome s.files (λ files. rows_of book.log ≡ files path)
   pub only : IfSome s.files (λ files. (H : History) → Legal H → rows_of H ≡ files path → H ≡ book.log)
+  pub told : IfSome s.files (λ files. rows book.keeper ≡ Some (files path))
   pub fresh : faults book.keeper ≡ 0
   pub same : s' ≡ s
 

@@ -49,9 +49,9 @@ fn do_job<I: Source, O: Sink, S: Shelf>(
     shelf: &mut S,
 ) -> Exit
     ensures does { let outside = outside_of I.faults O.taken O.faults in let stores = stores_of S.rows S.faults in
-        Does S.Keeper.rows I.left I.read_gives (job_seen job) result (outside input.old out.old) (outside input.new out.new) (stores shelf.old) (stores shelf.new) }
+        Does S.Keeper.rows I.left I.read_gives (job_seen job.entry) result (outside input.old out.old) (outside input.new out.new) (stores shelf.old) (stores shelf.new) }
     ensures answers { let outside = outside_of I.faults O.taken O.faults in let stores = stores_of S.rows S.faults in
-        AnswersJob I.left (job_seen job) result (outside input.old out.old) (outside input.new out.new) (stores shelf.old) (stores shelf.new) }
+        AnswersJob I.left (job_seen job.entry) result (outside input.old out.old) (outside input.new out.new) (stores shelf.old) (stores shelf.new) }
     ensures known { result ≢ Exit.Usage }
     ensures read_fault { result ≡ Exit.ReadFault → Rises (I.faults input.old) (I.faults input.new) }
     ensures write_fault { result ≡ Exit.WriteFault → Rises (O.faults out.old) (O.faults out.new) }

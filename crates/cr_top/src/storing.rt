@@ -45,7 +45,7 @@ pub(crate) fn open_store<S: Shelf>(
     path: &str,
     shelf: &mut S,
 ) -> Result<Book<S::Keeper>, Exit>
-    ensures opened { IfOk result (λ book. OpensStore S.Keeper.faults path.now book (stores_of S.rows S.faults shelf.old) (stores_of S.rows S.faults shelf.new)) }
+    ensures opened { IfOk result (λ book. OpensStore S.Keeper.rows S.Keeper.faults path.now book (stores_of S.rows S.faults shelf.old) (stores_of S.rows S.faults shelf.new)) }
     ensures open { OnOk result (S.has_opened shelf.new path.now) }
     ensures refused { IfErr result (λ exit. StaysShut path.now exit (stores_of S.rows S.faults shelf.old) (stores_of S.rows S.faults shelf.new)) }
 {

@@ -22,6 +22,7 @@ const MOST_BYTES: usize = 34;
 
 /// The user who registered this name, and none exactly where nobody did.
 fn user_named<K: Keeper>(book: &Book<K>, name: &str) -> Option<UserNo>
+    requires { Legal book.now.log }
     ensures { result ≡ number_of name.now book.now.log }
 {
     if name.len() > MOST_BYTES {
@@ -32,6 +33,7 @@ fn user_named<K: Keeper>(book: &Book<K>, name: &str) -> Option<UserNo>
 
 /// Prints the view of the user who registered the name.
 fn print_view<K: Keeper, O: Sink>(book: &Book<K>, name: &str, out: &mut O) -> Exit
+    requires { Legal book.now.log }
     ensures { TellsView book.now.log name.now result (outlet_of O.taken O.faults out.old) (outlet_of O.taken O.faults out.new) }
 {
     let Some(user) = user_named(book, name) else {
