@@ -1,6 +1,6 @@
 -- The command of a group, by its first entry: what is rebuilt is an allowed call of the history, and it is the call that
 -- added the group.
-use Rattle.std.proofs.Common.{ℕ, Bool, true, false, cond, ◌≡◌, ◌≤◌, ◌+◌, ◌-◌, List, [], ◌∷◌, length, eqb, zero, suc, refl, sym, ap, subst, ◌∙◌, arith, ◌||◌, Option, Some, None, Result, Ok, Err}
+use Rattle.std.proofs.Common.{ℕ, Bool, true, false, cond, ◌≡◌, ◌≤◌, ◌+◌, List, [], ◌∷◌, length, eqb, suc, refl, sym, ap, subst, ◌∙◌, arith, ◌||◌, Option, Some, None, Result, Ok, Err}
 use Rattle.std.specs.Prelude.{is_some, is_none, unwrap_or, map}
 use Rattle.std.specs.List.{list_any, find, slice_get, position_from}
 use Rattle.std.specs.Option.{option_map, option_and_then}
@@ -18,22 +18,18 @@ use Rattle.cr_base.specs.declared.reply.AccountLine.{AccountLine}
 use Rattle.cr_base.specs.declared.reply.Rule.{Rule}
 use Rattle.cr_base.specs.declared.words.Role.{Role}
 use Rattle.cr_base.specs.declared.words.Role.TheVariants as roles
-use Rattle.cr_base.specs.Accounts.{number_at, account_at, lines_of}
-use Rattle.cr_base.specs.Bounds.{IsBoundedCommand}
-use Rattle.cr_base.specs.Facts.{role_of, accounts_of}
+use Rattle.cr_base.specs.Accounts.{number_at, lines_of}
+use Rattle.cr_base.specs.Facts.{role_of}
 use Rattle.cr_base.specs.History.{History, Registration, all_told, registration_told}
 use Rattle.cr_base.specs.Judging.{judge_by_role}
-use Rattle.cr_base.specs.Drawn.{Drawn, grouped, registration, registration_drawn, phase_drawn, submission_drawn, naming_drawn, mode_drawn, conflict_drawn}
-use Rattle.cr_base.specs.Sources.{name_in, number_in, paper_named, role_among, shown_in_tables, target_named, user_among, facts_of_tables, standing_at}
+use Rattle.cr_base.specs.Drawn.{Drawn, grouped, registration_drawn, phase_drawn, submission_drawn, naming_drawn, mode_drawn, conflict_drawn}
+use Rattle.cr_base.specs.Sources.{number_in, paper_named, role_among, shown_in_tables, target_named, user_among, facts_of_tables, standing_at}
 use Rattle.cr_base.specs.Checks.{Check, of_role, register_checks, phase_checks, submit_checks, name_checks, mode_checks, conflict_checks}
 use Rattle.cr_base.proofs.CheckLaws.{judged-Ok}
-use Rattle.cr_base.specs.declared.standing.Standing.{Standing}
-use Rattle.cr_base.specs.Lists.{is_number, at_some}
 use Rattle.cr_base.specs.Logins.{command_wants_login}
-use Rattle.cr_base.specs.Ties.{authors_in}
 use Rattle.cr_book.proofs.OpeningLegal.{MayAdd}
 use Rattle.cr_base.specs.Rows.{IsBoundedEntry}
-use Rattle.cr_base.specs.Tables.{Tables, no_tables, tables_of, FitInTurn}
+use Rattle.cr_base.specs.Tables.{Tables, tables_of}
 use Rattle.cr_base.specs.Words.{role_number, is_member}
 use Rattle.cr_base.proofs.AccountLaws.{number_at-from, number_in-lines_of}
 use Rattle.cr_base.proofs.ListLaws.{name_in-lines_of}

@@ -1,12 +1,11 @@
 -- Legal histories that begin alike: where a legal history goes on from another, calls lead from that one on.
-use Rattle.std.proofs.Common.{ℕ, ◌≡◌, ◌+◌, ◌⊎◌, inl, inr, List, [], ◌∷◌, ◌++◌, length, refl, sym, ap, subst, ◌∙◌, arith, append_assoc, append-nil, length-append, Option, Result, Ok, Err}
+use Rattle.std.proofs.Common.{◌≡◌, ◌⊎◌, inl, inr, List, [], ◌∷◌, ◌++◌, length, refl, sym, ap, subst, ◌∙◌, arith, append_assoc, append-nil, length-append, Result, Ok, Err}
 use Rattle.std.proofs.lemmas.List.{append_cancel_left}
 use Rattle.cr_base.specs.declared.reply.Rule.{Rule}
-use Rattle.cr_base.specs.declared.entry.Stamped.{Stamped}
 use Rattle.cr_base.specs.History.{History}
 use Rattle.cr_base.specs.Drawn.{Drawn}
 use Rattle.cr_policy.specs.Judge.{judge}
-use Rattle.cr_policy.specs.Legal.{Call, IsAllowed, followed_by, step, LeadsTo, Legal}
+use Rattle.cr_policy.specs.Legal.{Call, IsAllowed, followed_by, LeadsTo, Legal}
 use Rattle.cr_policy.specs.View.{view}
 use Rattle.cr_history.specs.Groups.{Adds, single, first_user}
 use Rattle.cr_policy.proofs.AcceptedLaws.{accepted-adds}

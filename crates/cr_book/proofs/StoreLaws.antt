@@ -1,5 +1,5 @@
 -- Rows that a keeper tells, read one behind another: what is so of all of them by what is so of each.
-use Rattle.std.proofs.Common.{ℕ, ◌≡◌, ◌≤◌, ◌<◌, ◌+◌, ◌-◌, ◌⊎◌, inl, inr, List, [], ◌∷◌, ◌++◌, length, take, drop, cond, zero, suc, refl, sym, ap, subst, ◌∙◌, arith, add-one, append_assoc, append-nil, length-append, Option, Some, None, IfSome, Result, Ok, Err}
+use Rattle.std.proofs.Common.{ℕ, ◌≡◌, ◌+◌, ◌-◌, ◌⊎◌, inl, inr, List, [], ◌∷◌, ◌++◌, length, take, drop, cond, zero, suc, refl, sym, ap, subst, ◌∙◌, arith, add-one, append_assoc, append-nil, length-append, Option, Some, None, IfSome, Result, Ok, Err}
 use Rattle.std.specs.Prelude.{slice_get, ◌≢◌}
 use Rattle.std.proofs.lemmas.List.{take-append-drop}
 use Rattle.cr_base.specs.declared.row.Row.{Row}

@@ -1,5 +1,5 @@
 -- Which command the entries of a group come of, by the tables of the history before it.
-use Rattle.std.specs.Prelude.{ℕ, Bool, true, ◌≡◌, ◌∷◌, List, length, take, Option, Some, None, is_some, if◌then◌else◌}
+use Rattle.std.specs.Prelude.{ℕ, Bool, true, ◌≡◌, List, length, take, Option, Some, None, is_some, if◌then◌else◌}
 use Rattle.std.specs.Option.{option_map, option_and_then}
 use Rattle.std.specs.Result.{result_ok}
 use Rattle.cr_base.specs.declared.command.Command.{Command}

@@ -1,4 +1,4 @@
-use Rattle.std.proofs.Common.{◌≡◌, ◌++◌, List, subst, length, IfSome, Option}
+use Rattle.std.proofs.Common.{◌≡◌, ◌++◌, List, subst, IfSome, Option}
 use Rattle.cr_base.specs.declared.row.Row.{Row}
 use Rattle.cr_base.specs.Rows.{rows_of}
 use Rattle.cr_book.proofs.StoreLaws.{cut-store}

@@ -1,4 +1,4 @@
-use Rattle.std.proofs.Common.{◌≡◌, ◌++◌, ◌∷◌, ◌∙◌, List, [], ap, sym, subst, arith, refl, IfSome, Ok}
+use Rattle.std.proofs.Common.{◌++◌, ◌∙◌, refl, Ok}
 use Rattle.cr_base.specs.Rows.{rows_of}
 use Rattle.cr_book.proofs.StoreLaws.{untold-explains, answered-steady, read-more, bad-row}
 use Rattle.cr_book.proofs.opening.read_rows.Goals as goal

@@ -1,7 +1,7 @@
-use Rattle.std.proofs.Common.{◌≡◌, ◌++◌, ◌∙◌, List, [], ap, sym, subst, ◌≤◌, length, arith}
+use Rattle.std.proofs.Common.{◌++◌, ◌∙◌, List, ap, arith}
 use Rattle.cr_base.specs.declared.entry.Stamped.{Stamped}
 use Rattle.cr_base.specs.Tables.{Tables, tables_from}
-use Rattle.cr_book.proofs.OpeningLaws.{going-on, going-whole, going-rows}
+use Rattle.cr_book.proofs.OpeningLaws.{going-on, going-whole}
 use Rattle.cr_book.proofs.reading.with_begun.Goals as goal
 
 pub invariant_of-result : goal.invariant_of-result

@@ -1,4 +1,4 @@
-use Rattle.std.proofs.Common.{◌≡◌, ◌≤◌, take, length}
+use Rattle.std.proofs.Common.{◌≡◌, take}
 use Rattle.cr_book.proofs.rebuilding.are_first.Given as goal
 
 abbrev pub invariant-loop-i : goal.invariant-loop-i

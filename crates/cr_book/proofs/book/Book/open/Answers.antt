@@ -1,4 +1,3 @@
-use Rattle.std.proofs.Common.{◌≡◌}
 use Rattle.cr_book.proofs.StoreLaws.{opens-book, opens-not}
 use Rattle.cr_book.proofs.book.Book.open.Goals as goal
 

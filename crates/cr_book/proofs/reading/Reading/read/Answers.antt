@@ -1,12 +1,10 @@
-use Rattle.std.proofs.Common.{◌≡◌, ◌++◌, ◌∷◌, ◌∙◌, List, [], ap, sym, subst, append_assoc, refl, IfSome}
-use Rattle.std.specs.Prelude.{slice_get}
+use Rattle.std.proofs.Common.{◌≡◌, ◌++◌, ◌∷◌, ◌∙◌, List, [], ap, sym, subst, append_assoc, refl}
 use Rattle.std.proofs.lemmas.Result.{IfOk-weaker}
 use Rattle.cr_base.specs.declared.row.Row.{Row}
 use Rattle.cr_base.specs.Rows.{rows_of}
 use Rattle.cr_book.specs.Reading.{IsRefused}
-use Rattle.cr_book.specs.Rebuilding.{IsBegun, NoneBegun}
+use Rattle.cr_book.specs.Rebuilding.{IsBegun}
 use Rattle.cr_book.specs.Seen.{SeenReading}
-use Rattle.cr_book.specs.declared.reading.ReadError.{ReadError}
 use Rattle.cr_book.proofs.OpeningLaws.{begun-going, refused-row}
 use Rattle.cr_book.proofs.reading.Reading.read.Goals as goal
 
