@@ -5,9 +5,11 @@
 
 PROGRAM is `confd` as `rt run` builds it (crates/confd/out/confd where none is named), FOLDER where the files are made (the
 system's folder for such where none is named; it decides which disk is measured). Python 3 alone is needed, with its module
-`sqlite3`, which is the peer: the same rows read by it, and as many transactions of one row with the same settings.
+`sqlite3`, which is the peer: the same rows read by it, and as many transactions of one such row with the same settings.
+The goals are ten seconds for the opening, and half as many commits as the peer's.
 """
 
+import contextlib
 import json
 import os
 import platform
@@ -20,7 +22,15 @@ import time
 
 ROWS = 1_000_000
 COMMITS = 2_000
-ROW = "INSERT INTO {} (place, kind, maker, more, n1, n2, n3, n4, n5, b1, b2) VALUES (?, ?, ?, 0, ?, ?, ?, 0, 0, x'', x'')"
+ROW = "INSERT INTO {} (place, kind, maker, more, n1, n2, n3, n4, n5, b1, b2) VALUES (?, ?, ?, 0, ?, ?, ?, 0, 0, ?, ?)"
+TABLES = ("people", "papers", "ties", "talk")
+
+
+@contextlib.contextmanager
+def opened(store, **more):
+    """The file as SQLite's own library opens it; it is let go at the end."""
+    with contextlib.closing(sqlite3.connect(store, **more)) as file, file:
+        yield file
 
 
 def request(method, path, who=None, body=None):
@@ -63,15 +73,15 @@ def run(program, store, text):
 
 def fill(store, first):
     """Rows that turn bob's conflict on and off, up to a million in all."""
-    with sqlite3.connect(store) as file:
-        file.executemany(ROW.format("ties"), ((place, 10, 1, 1, 2, place % 2) for place in range(first, ROWS)))
+    with opened(store) as file:
+        file.executemany(ROW.format("ties"), ((place, 10, 1, 1, 2, place % 2, b"", b"") for place in range(first, ROWS)))
 
 
 def read_all(store):
     """The seconds in which the peer reads every row."""
     began = time.perf_counter()
-    with sqlite3.connect(store) as file:
-        for table in ("people", "papers", "ties", "talk"):
+    with opened(store) as file:
+        for table in TABLES:
             for _ in file.execute(f"SELECT * FROM {table} ORDER BY place"):
                 pass
     return time.perf_counter() - began
@@ -80,8 +90,8 @@ def read_all(store):
 def opening(program, folder):
     store = os.path.join(folder, "million")
     run(program, store, conference())
-    with sqlite3.connect(store) as file:
-        first = sum(file.execute(f"SELECT count(*) FROM {table}").fetchone()[0] for table in ("people", "papers", "ties", "talk"))
+    with opened(store) as file:
+        first = sum(file.execute(f"SELECT count(*) FROM {table}").fetchone()[0] for table in TABLES)
     fill(store, first)
     spent, memory = run(program, store, b"")
     print(f"opening {ROWS:,} rows: {spent:.1f} s, {memory / 1e6:.0f} MB at most")
@@ -94,18 +104,19 @@ def commits(program, folder):
     run(program, store, text)
     none, _ = run(program, store, b"")
     spent, _ = run(program, store, b"".join(register(f"user{n}") for n in range(COMMITS)))
-    print(f"{COMMITS:,} registrations, a commit each: {COMMITS / (spent - none):,.0f} a second")
-    file = sqlite3.connect(other, isolation_level=None)
-    file.execute("PRAGMA journal_mode = WAL")
-    file.execute("PRAGMA synchronous = FULL")
-    file.execute("CREATE TABLE people (place INTEGER PRIMARY KEY, kind INTEGER, maker INTEGER, more INTEGER, n1 INTEGER, n2 INTEGER, "
-                 "n3 INTEGER, n4 INTEGER, n5 INTEGER, b1 BLOB, b2 BLOB)")
-    began = time.perf_counter()
-    for n in range(COMMITS):
-        file.execute(ROW.format("people"), (n, 1, n + 1, n + 1, 0, 0))
-    spent = time.perf_counter() - began
-    file.close()
-    print(f"as many transactions of one row by Python's sqlite3, WAL and FULL: {COMMITS / spent:,.0f} a second")
+    ours = COMMITS / (spent - none)
+    print(f"{COMMITS:,} registrations, a commit each: {ours:,.0f} a second")
+    with opened(store) as file:
+        table = file.execute("SELECT sql FROM sqlite_schema WHERE name = 'people'").fetchone()[0]
+    with contextlib.closing(sqlite3.connect(other, isolation_level=None)) as file:
+        file.execute("PRAGMA journal_mode = WAL")
+        file.execute("PRAGMA synchronous = FULL")
+        file.execute(table)
+        began = time.perf_counter()
+        for n in range(COMMITS):
+            file.execute(ROW.format("people"), (n, 1, n + 1, n + 1, 0, 0, f"user{n}".encode(), bytes(32)))
+        theirs = COMMITS / (time.perf_counter() - began)
+    print(f"as many transactions of such a row by Python's sqlite3, WAL and FULL: {theirs:,.0f} a second; ours are {ours / theirs:.2f} of it")
 
 
 def processor():

@@ -4,10 +4,11 @@
     python3 checks/store.py [PROGRAM]
 
 PROGRAM is `confd` as `rt run` builds it (crates/confd/out/confd where none is named). Python 3 alone is
-needed. Prints a line a check, and last `N passed, M failed`; ends with status 0 where none failed. Takes
-about a minute.
+needed, whose module `sqlite3` stands on SQLite 3.37 or later. Prints a line a check, and last `N passed, M failed`;
+ends with status 0 where none failed. Takes about a minute.
 """
 
+import contextlib
 import json
 import os
 import random
@@ -18,11 +19,14 @@ import sqlite3
 import subprocess
 import sys
 import tempfile
+import time
 
 TOP = os.path.dirname(os.path.dirname(os.path.abspath(__file__)))
 MANY = 1_000
 PAPERS_EACH = 20
 KILLS = 50
+# Past so many seconds a run hangs.
+LONG = 120
 TABLES = ("people", "papers", "ties", "talk")
 
 
@@ -75,18 +79,29 @@ class Program:
 
     def run(self, words, text=b"", **more):
         """What a run with these words over these bytes wrote, and its status."""
-        done = subprocess.run([self.path, *words], input=text, stdout=subprocess.PIPE, stderr=subprocess.PIPE, **more)
+        done = subprocess.run(
+            [self.path, *words], input=text, stdout=subprocess.PIPE, stderr=subprocess.PIPE, timeout=LONG, **more
+        )
         return done.stdout, done.returncode, done.stderr
 
     def pipe(self, store, text, **more):
         out, status, _ = self.run(["pipe", "--store", store], text, **more)
         return answers(out), status
 
+    @contextlib.contextmanager
     def begin(self, store):
-        """A run whose input stays open."""
-        return subprocess.Popen(
+        """A run whose input stays open; killed at the end, where it runs still."""
+        child = subprocess.Popen(
             [self.path, "pipe", "--store", store], stdin=subprocess.PIPE, stdout=subprocess.PIPE, stderr=subprocess.DEVNULL
         )
+        try:
+            yield child
+        finally:
+            child.kill()
+            child.wait()
+            with contextlib.suppress(BrokenPipeError):
+                child.stdin.close()
+            child.stdout.close()
 
 
 def ask(child, text):
@@ -105,11 +120,29 @@ def ask(child, text):
 # ---- what stands in a file
 
 
+@contextlib.contextmanager
+def opened(store, **more):
+    """The file as SQLite's own library opens it; what was changed is in it, and it is let go, at the end."""
+    with contextlib.closing(sqlite3.connect(store, **more)) as file, file:
+        yield file
+
+
 def rows(store):
     """Every row of the four tables, by place."""
-    with sqlite3.connect(store) as file:
+    with opened(store) as file:
         found = [row for table in TABLES for row in file.execute(f"SELECT place, kind, maker, more, n1, b1, b2 FROM {table}")]
     return sorted(found)
+
+
+def contents(store):
+    """All that SQLite's own library finds in the file."""
+    with opened(store) as file:
+        return list(file.iterdump())
+
+
+def read(path):
+    with open(path, "rb") as file:
+        return file.read()
 
 
 def expect(held, what):
@@ -149,54 +182,43 @@ def killed(program, folder):
     dice = random.Random(7)
     told, status = program.pipe(store, opening())
     expect(status == 0, f"status {status}")
-    answered = 1
+    answered = ["alice"]
     for turn in range(KILLS):
-        child = program.begin(store)
-        for n in range(dice.randrange(1, 6)):
-            answer = ask(child, register(f"user{turn}-{n}"))
-            expect(answer is not None and answer[0] == 201, f"a registration was answered {answer}")
-            answered = json.loads(answer[1])["user"]
-        child.stdin.write(register(f"late{turn}"))
-        child.stdin.flush()
-        if dice.random() < 0.5:
-            dice_wait(dice)
-        child.send_signal(signal.SIGKILL)
-        child.wait()
-        child.stdin.close()
-        child.stdout.close()
+        with program.begin(store) as child:
+            for n in range(dice.randrange(1, 6)):
+                answer = ask(child, register(f"user{turn}-{n}"))
+                expect(answer is not None and answer[0] == 201, f"a registration was answered {answer}")
+                answered.append(f"user{turn}-{n}")
+            child.stdin.write(register(f"late{turn}"))
+            child.stdin.flush()
+            time.sleep(dice.choice((0, dice.random() / 500)))
+            child.send_signal(signal.SIGKILL)
         told, status = program.pipe(store, request("GET", "/accounts"))
         expect(status == 0, f"opened again with status {status} after kill {turn}")
-        users = [line["user"] for line in json.loads(told[0][1])["accounts"]]
-        expect(len(users) in (answered, answered + 1), f"{len(users)} accounts, {answered} answered, after kill {turn}")
-        answered = len(users)
-
-
-def dice_wait(dice):
-    """Up to two milliseconds."""
-    os.sched_yield()
-    signal.setitimer(signal.ITIMER_REAL, dice.random() / 500)
-    signal.pause()
+        names = [line["name"] for line in json.loads(told[0][1])["accounts"]]
+        expect(names[: len(answered)] == answered, f"an answered registration is gone after kill {turn}")
+        expect(names[len(answered) :] in ([], [f"late{turn}"]), f"more than was asked after kill {turn}")
+        answered = names
 
 
 def held_by_another(program, folder):
     """While confd runs, a second confd and sqlite3 are refused the file."""
     store = os.path.join(folder, "held")
-    child = program.begin(store)
-    answer = ask(child, register("alice"))
-    expect(answer is not None and answer[0] == 201, f"a registration was answered {answer}")
-    out, status, reason = program.run(["pipe", "--store", store], request("GET", "/phase"))
-    expect(status == 6 and out == b"", f"the second confd ended with {status}")
-    expect(store.encode() in reason, "standard error names no file")
-    refused = False
-    try:
-        with sqlite3.connect(store, timeout=0) as file:
-            file.execute("SELECT count(*) FROM people").fetchone()
-    except sqlite3.OperationalError:
-        refused = True
-    expect(refused, "sqlite3 read the file")
-    child.stdin.close()
-    child.wait()
-    child.stdout.close()
+    with program.begin(store) as child:
+        answer = ask(child, register("alice"))
+        expect(answer is not None and answer[0] == 201, f"a registration was answered {answer}")
+        out, status, reason = program.run(["pipe", "--store", store], request("GET", "/phase"))
+        expect(status == 6 and out == b"", f"the second confd ended with {status}")
+        expect(store.encode() in reason, "standard error names no file")
+        refused = False
+        try:
+            with opened(store, timeout=0) as file:
+                file.execute("SELECT count(*) FROM people").fetchone()
+        except sqlite3.OperationalError:
+            refused = True
+        expect(refused, "sqlite3 read the file")
+        child.stdin.close()
+        expect(child.wait(timeout=LONG) == 0, "the first confd did not end well")
     expect(len(rows(store)) == 2, "rows after the end")
 
 
@@ -216,6 +238,7 @@ def full_disk(program, folder):
     expect(503 in codes, "nothing was refused with 503")
     kept = [json.loads(content)["user"] for code, content in told if code == 201 and b"user" in content]
     papers = sum(1 for code, content in told if code == 201 and b"paper" in content)
+    expect(kept and papers, "nothing was taken before the file was full")
     told, status = program.pipe(store, request("GET", "/accounts") + request("GET", "/phase"))
     expect(status == 0, f"opened again with status {status}")
     users = [line["user"] for line in json.loads(told[0][1])["accounts"]]
@@ -224,16 +247,23 @@ def full_disk(program, folder):
 
 
 def copied(program, folder):
-    """A copy of the file, and of its -wal where there is one, opens with the same rows."""
-    store, copy = os.path.join(folder, "original"), os.path.join(folder, "copy")
-    told, status = program.pipe(store, opening() + submit("alice", "Proofs", "We prove."))
-    expect(status == 0, f"status {status}")
-    for end in ("", "-wal"):
-        if os.path.exists(store + end):
+    """A copy of the file and of its -wal opens with the same rows, after a good end and after a kill."""
+    store = os.path.join(folder, "original")
+    program.pipe(store, opening())
+    for name, kills in (("ended", False), ("killed", True)):
+        with program.begin(store) as child:
+            answer = ask(child, submit("alice", name, "We prove."))
+            expect(answer is not None and answer[0] == 201, f"a submission was answered {answer}")
+            if not kills:
+                child.stdin.close()
+                child.wait(timeout=LONG)
+        copy = os.path.join(folder, name)
+        for end in ("", "-wal"):
             shutil.copyfile(store + end, copy + end)
-    first, _ = program.pipe(store, request("GET", "/papers/1", "alice"))
-    second, status = program.pipe(copy, request("GET", "/papers/1", "alice"))
-    expect(status == 0 and first == second, "the copy tells another page")
+        paper = request("GET", f"/papers/{json.loads(answer[1])['paper']}", "alice")
+        second, status = program.pipe(copy, paper)
+        first, _ = program.pipe(store, paper)
+        expect(status == 0 and first == second and first[0][0] == 200, f"{name}: the copy tells {second}, status {status}")
 
 
 def view_of_a_file(program, folder):
@@ -252,8 +282,10 @@ def bad_files(program, folder):
     other = os.path.join(folder, "no-database")
     with open(other, "wb") as file:
         file.write(b"no database, but long enough to be read as one\n" * 100)
+    written = read(other)
     told, status = program.pipe(other, request("GET", "/phase"))
     expect(status == 6 and told == [], f"no database: {status}")
+    expect(read(other) == written, "no database: the file was changed")
     for name, change, due in (
         ("version", "UPDATE meta SET version = 99", 6),
         ("column", "ALTER TABLE ties ADD COLUMN more_still INTEGER", 6),
@@ -268,13 +300,13 @@ def bad_files(program, folder):
     ):
         store = os.path.join(folder, f"bad-{name}")
         program.pipe(store, opening())
-        with sqlite3.connect(store) as file:
+        with opened(store) as file:
             file.executescript(change)
-        before = open(store, "rb").read()
+        before = contents(store)
         out, status, reason = program.run(["pipe", "--store", store], request("GET", "/phase"))
         expect(status == due and out == b"", f"{name}: status {status}, due {due}")
         expect(reason != b"", f"{name}: nothing on standard error")
-        expect(open(store, "rb").read() == before, f"{name}: the file was changed")
+        expect(contents(store) == before, f"{name}: what the file holds was changed")
 
 
 CHECKS = (many_rows, killed, held_by_another, full_disk, copied, view_of_a_file, bad_files)
@@ -284,7 +316,8 @@ def main():
     path = sys.argv[1] if len(sys.argv) > 1 else os.path.join(TOP, "crates", "confd", "out", "confd")
     if not os.path.exists(path):
         sys.exit(f"{path}: build it first, with `rt run` in crates/confd")
-    signal.signal(signal.SIGALRM, lambda *_: None)
+    if sqlite3.sqlite_version_info < (3, 37):
+        sys.exit(f"SQLite {sqlite3.sqlite_version} is too old for these tables: 3.37 is wanted")
     program = Program(os.path.abspath(path))
     passed = failed = 0
     for check in CHECKS:
@@ -292,9 +325,9 @@ def main():
         with tempfile.TemporaryDirectory() as folder:
             try:
                 check(program, folder)
-            except AssertionError as error:
+            except Exception as error:
                 failed += 1
-                print(f"FAILED: {title}\n    {error}")
+                print(f"FAILED: {title}\n    {type(error).__name__}: {error}")
             else:
                 passed += 1
                 print(f"ok: {title}")

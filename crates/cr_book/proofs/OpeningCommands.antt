@@ -39,7 +39,7 @@ use Rattle.cr_history.specs.Invariants.{IsRegistered}
 use Rattle.cr_policy.specs.View.{view}
 use Rattle.cr_policy.proofs.LegalLaws.{Legal-fits, Legal-judge}
 use Rattle.cr_history.proofs.LineTies.{accounts_of-tables}
-use Rattle.cr_book.specs.Rebuilding.{name_told, caller_told, command_told, is_known, drawn_told}
+use Rattle.cr_book.specs.Rebuilding.{name_told, giver_told, command_told, is_known, drawn_told}
 
 -- ---- who is known
 
@@ -99,9 +99,9 @@ named t name user h = by (position_from (λ (a : Account). bytes_eq a.name name)
 -- ---- the call that added a group, by its first entry
 
 -- the call of an entry is known and draws this
-told-by : (t : Tables) (first : Stamped) (command : Command) (drawn : Drawn) → is_known t (caller_told first.maker first.entry) ≡ true → command_told t first.entry ≡ Some command → judge_by_role t (caller_told first.maker first.entry) command ≡ Ok drawn → drawn_told t first ≡ Some drawn
+told-by : (t : Tables) (first : Stamped) (command : Command) (drawn : Drawn) → is_known t (giver_told first.maker first.entry) ≡ true → command_told t first.entry ≡ Some command → judge_by_role t (giver_told first.maker first.entry) command ≡ Ok drawn → drawn_told t first ≡ Some drawn
 told-by t first command drawn known told accepted =
-    let caller = caller_told first.maker first.entry in
+    let caller = giver_told first.maker first.entry in
     ap (λ b. cond b (option_and_then (λ c. result_ok (judge_by_role t caller c)) (command_told t first.entry)) None) known
     ∙ ap (option_and_then (λ c. result_ok (judge_by_role t caller c))) told
     ∙ ap result_ok accepted
@@ -114,7 +114,7 @@ pub record Told (t : Tables) (drawn : Drawn) : Type 0 where
   pub told : drawn_told t first ≡ Some drawn
 
 -- a group of one entry
-told-single : (t : Tables) (user : ℕ) (e : Entry) (command : Command) (drawn given : Drawn) → given.group ≡ grouped user (e ∷ []) → given ≡ drawn → caller_told user e ≡ Some user → is_known t (Some user) ≡ true → command_told t e ≡ Some command → judge_by_role t (Some user) command ≡ Ok drawn → Told t drawn
+told-single : (t : Tables) (user : ℕ) (e : Entry) (command : Command) (drawn given : Drawn) → given.group ≡ grouped user (e ∷ []) → given ≡ drawn → giver_told user e ≡ Some user → is_known t (Some user) ≡ true → command_told t e ≡ Some command → judge_by_role t (Some user) command ≡ Ok drawn → Told t drawn
 told-single t user e command drawn given group is caller known told accepted =
     let first : Stamped = record { maker = user; more = false; entry = e } in
     record {
@@ -210,10 +210,10 @@ accepted-told H call drawn legal allowed accepted = by call.caller call.command 
 
 -- what the call of an entry draws, it draws as a command of its caller
 record Judges (t : Tables) (first : Stamped) (drawn : Drawn) : Type 0 where
-  known : is_known t (caller_told first.maker first.entry) ≡ true
+  known : is_known t (giver_told first.maker first.entry) ≡ true
   command : Command
   told : command_told t first.entry ≡ Some command
-  judged : judge_by_role t (caller_told first.maker first.entry) command ≡ Ok drawn
+  judged : judge_by_role t (giver_told first.maker first.entry) command ≡ Ok drawn
 
 none_some : {A : Type 0} (x : A) → None ≡ Some x → ⊥
 none_some x e = cc (e)
@@ -222,10 +222,10 @@ some_is : {A : Type 0} (x y : A) → Some x ≡ Some y → x ≡ y
 some_is x y e = cc (e)
 
 told-judges : (t : Tables) (first : Stamped) (drawn : Drawn) → drawn_told t first ≡ Some drawn → Judges t first drawn
-told-judges t first drawn told = by (is_known t (caller_told first.maker first.entry)) (command_told t first.entry) refl refl told
+told-judges t first drawn told = by (is_known t (giver_told first.maker first.entry)) (command_told t first.entry) refl refl told
   where
     caller : Option ℕ
-    caller = caller_told first.maker first.entry
+    caller = giver_told first.maker first.entry
 
     of_command : (known : is_known t caller ≡ true) (command : Command) → command_told t first.entry ≡ Some command → (r : Result Drawn Rule) → judge_by_role t caller command ≡ r → result_ok r ≡ Some drawn → Judges t first drawn
     of_command known command is (Ok d) judges same = record { known = known; command = command; told = is; judged = judges ∙ ap Ok (some_is d drawn same) }
@@ -254,7 +254,7 @@ module _ (H : History) (legal : Legal H) where
   registered user known = registered-known H user legal ∙ known
 
   -- it is allowed, where the entry is within its bounds
-  told-allowed : (maker : ℕ) (more : Bool) (e : Entry) (command : Command) → IsBoundedEntry (record { maker = maker; more = more; entry = e }) → is_known t (caller_told maker e) ≡ true → command_told t e ≡ Some command → IsAllowed H (record { caller = caller_told maker e; command = command })
+  told-allowed : (maker : ℕ) (more : Bool) (e : Entry) (command : Command) → IsBoundedEntry (record { maker = maker; more = more; entry = e }) → is_known t (giver_told maker e) ≡ true → command_told t e ≡ Some command → IsAllowed H (record { caller = giver_told maker e; command = command })
   told-allowed maker more (Registered user name digest) command bounded known told = subst (λ (c : Command). IsAllowed H (record { caller = None; command = c })) (some_is (Register name digest) command told) (record { caller = refl; bounded = (bounded.b1, bounded.b2) })
   told-allowed maker more (PhaseSet to) command bounded known told = subst (λ (c : Command). IsAllowed H (record { caller = Some maker; command = c })) (some_is (SetPhase to) command told) (record { caller = registered maker known; bounded = tt })
   told-allowed maker more (ModeSet to) command bounded known told = subst (λ (c : Command). IsAllowed H (record { caller = Some maker; command = c })) (some_is (SetMode to) command told) (record { caller = registered maker known; bounded = tt })
@@ -270,7 +270,7 @@ module _ (H : History) (legal : Legal H) where
   pub told-adds : (first : Stamped) (drawn : Drawn) → IsBoundedEntry first → drawn_told t first ≡ Some drawn → MayAdd H drawn.group
   told-adds first drawn bounded told =
       let j = told-judges t first drawn told in
-      let caller = caller_told first.maker first.entry in
+      let caller = giver_told first.maker first.entry in
       record {
         call = record { caller = caller; command = j.command };
         allowed = told-allowed first.maker first.more first.entry j.command bounded j.known j.told;

@@ -13,7 +13,7 @@ use Rattle.cr_policy.specs.Legal.{Legal}
 use Rattle.cr_policy.proofs.LegalLaws.{Legal-accepted, legal_invariants}
 use Rattle.cr_history.proofs.TableTies.{tables_of-append, rows_of-append}
 use Rattle.cr_book.specs.Opening.{Continue}
-use Rattle.cr_book.specs.Reading.{IsOpen, IsGroup, IsReading, IsGoing, IsRefused}
+use Rattle.cr_book.specs.Reading.{IsOpen, IsGroup, IsReading, IsGoing, IsRowRefused}
 use Rattle.cr_book.specs.declared.reading.ReadError.{ReadError}
 use Rattle.cr_book.specs.declared.reading.ReadError.TheVariants as errors
 use Rattle.cr_book.specs.Rebuilding.{drawn_told, IsBegun, NoneBegun}
@@ -168,8 +168,8 @@ going-rows log items t rows left group going all is_items is_left =
     ∙ ap (λ (x : List Row). rows_of log ++ x) (whole-rows rows group going.begins all)
 
 -- a row with which none is begun is refused
-pub refused-row : (log : History) (t : Tables) (pending rows : List Row) (row : Row) (error : ReadError) → IsReading log t pending → rows ≡ pending ++ row ∷ [] → IfSome (slice_get rows 0) (λ r. NoneBegun t r rows) → error ≡ errors.Bad row → IsRefused (rows_of log ++ pending) row error
+pub refused-row : (log : History) (t : Tables) (pending rows : List Row) (row : Row) (error : ReadError) → IsReading log t pending → rows ≡ pending ++ row ∷ [] → IfSome (slice_get rows 0) (λ r. NoneBegun t r rows) → error ≡ errors.Bad row → IsRowRefused (rows_of log ++ pending) row error
 refused-row log t pending rows row error reading is none bad =
     let none' = subst (λ (x : List Row). IfSome (slice_get x 0) (λ r. NoneBegun t r x)) is none in
-    subst (λ (e : ReadError). IsRefused (rows_of log ++ pending) row e) (sym bad)
+    subst (λ (e : ReadError). IsRowRefused (rows_of log ++ pending) row e) (sym bad)
     (refl, reading.continue, λ goes. none-begun log t pending row reading none' (subst (λ (x : List Row). Continue x) (append_assoc (rows_of log) pending (row ∷ [])) goes))

@@ -14,7 +14,7 @@ use Rattle.cr_book.specs.declared.opening.OpenError.TheVariants as errors
 use Rattle.cr_book.specs.declared.reading.ReadError.{ReadError}
 use Rattle.cr_book.specs.declared.reading.ReadError.TheVariants as refused
 use Rattle.cr_book.specs.Opening.{Continue, AreCutOff, IsBadAt, Explains, Opens, untold}
-use Rattle.cr_book.specs.Reading.{IsRefused, IsCutStore, IsWholeStore, refusal}
+use Rattle.cr_book.specs.Reading.{IsRowRefused, IsCutStore, IsWholeStore, refusal}
 use Rattle.cr_book.specs.Seen.{SeenBook}
 use Rattle.cr_history.specs.Invariants.{IsWhole}
 use Rattle.cr_policy.specs.Legal.{Legal}
@@ -55,7 +55,7 @@ read-more (Some t) now i row before after same read at is =
     is ∙ ap (λ (x : List Row). x ++ row ∷ []) read ∙ sym (next-row t i row here)
 
 -- a row that is refused is bad in its place
-refused-bad : (t : List Row) (i : ℕ) (row : Row) (before : List Row) (error : ReadError) → before ≡ take i t → slice_get t i ≡ Some row → IsRefused before row error → Explains t (refusal i error)
+refused-bad : (t : List Row) (i : ℕ) (row : Row) (before : List Row) (error : ReadError) → before ≡ take i t → slice_get t i ≡ Some row → IsRowRefused before row error → Explains t (refusal i error)
 refused-bad t i row before refused.OutOfMemory read here refuses = tt
 refused-bad t i row before (refused.Bad found) read here refuses = record {
   here = here ∙ ap Some (sym refuses.0);
@@ -63,7 +63,7 @@ refused-bad t i row before (refused.Bad found) read here refuses = record {
   bad = inl (λ goes. refuses.2 (subst (λ (x : List Row). Continue x) (next-row t i row here ∙ ap (λ (x : List Row). x ++ row ∷ []) (sym read)) goes));
 }
 
-pub bad-row : (told now : Option (List Row)) (i : ℕ) (row : Row) (before : List Row) (error : ReadError) (e : OpenError) → now ≡ told → IfSome told (λ t. before ≡ take i t) → IfSome now (λ t. slice_get t i ≡ Some row) → IsRefused before row error → e ≡ refusal i error → IfSome told (λ t. Explains t e)
+pub bad-row : (told now : Option (List Row)) (i : ℕ) (row : Row) (before : List Row) (error : ReadError) (e : OpenError) → now ≡ told → IfSome told (λ t. before ≡ take i t) → IfSome now (λ t. slice_get t i ≡ Some row) → IsRowRefused before row error → e ≡ refusal i error → IfSome told (λ t. Explains t e)
 bad-row None now i row before error e same read at refuses is = tt
 bad-row (Some t) now i row before error e same read at refuses is =
     let here = subst (λ (o : Option (List Row)). IfSome o (λ x. slice_get x i ≡ Some row)) same at in

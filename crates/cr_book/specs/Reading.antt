@@ -38,9 +38,9 @@ pub record IsGoing (log : History) (tables : Tables) (rows : List Row) (group : 
   pub begins : take (length rows) (rows_of group) ≡ rows
 
 -- a row behind these is refused: they continue a legal history, and with the row they don't
-abbrev pub IsRefused : List Row → Row → ReadError → Type 0
-IsRefused before row (errors.Bad found) = (found ≡ row) × Continue before × (Continue (before ++ row ∷ []) → ⊥)
-IsRefused before row errors.OutOfMemory = Unit {0}
+abbrev pub IsRowRefused : List Row → Row → ReadError → Type 0
+IsRowRefused before row (errors.Bad found) = (found ≡ row) × Continue before × (Continue (before ++ row ∷ []) → ⊥)
+IsRowRefused before row errors.OutOfMemory = Unit {0}
 
 -- what a row that is refused in its place comes to
 abbrev pub refusal : ℕ → ReadError → OpenError

@@ -22,9 +22,9 @@ abbrev pub name_told : Tables → ℕ → Option (List ℕ)
 name_told t user = option_map (λ a. a.name) (account_at t.accounts user)
 
 -- who gave it: nobody registers, and each other command is its maker's
-abbrev pub caller_told : ℕ → Entry → Option ℕ
-caller_told maker (Registered user name digest) = None
-caller_told maker e = Some maker
+abbrev pub giver_told : ℕ → Entry → Option ℕ
+giver_told maker (Registered user name digest) = None
+giver_told maker e = Some maker
 
 -- what it was, where the users that it names are there
 abbrev pub command_told : Tables → Entry → Option Command
@@ -43,7 +43,7 @@ is_known t (Some user) = is_some (name_told t user)
 -- what it draws, where its caller is known and no rule is broken
 abbrev pub drawn_told : Tables → Stamped → Option Drawn
 drawn_told t first =
-    let caller = caller_told first.maker first.entry in
+    let caller = giver_told first.maker first.entry in
     if is_known t caller then option_and_then (λ command. result_ok (judge_by_role t caller command)) (command_told t first.entry) else None
 
 -- ---- rows that begin a group

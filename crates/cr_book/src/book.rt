@@ -62,8 +62,8 @@ pub enum BookError {
 
 impl<K: Keeper> Book<K> {
     /// The book of the legal history that the keeper's rows spell; with each error the keeper is handed
-    /// back. Every row is read once, in order, and the command of each group is judged again, by the same
-    /// judgement and on the history before it, so opening costs what judging and applying them cost.
+    /// back. Every row is read once, in order, and the command of its group is judged again, by the same
+    /// judgement and on the history before it; at each row of the group, so one of n rows costs n judgements.
     ///
     /// `OpenError::BadStore` comes exactly where no legal history has these rows, and tells the first that
     /// is no entry's or doesn't continue a legal history, or else the last one, where another of its

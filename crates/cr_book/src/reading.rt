@@ -3,7 +3,7 @@ ghost use Rattle.std.specs.Prelude.{◌≡◌, ◌<◌, ◌++◌, ◌∷◌, Lis
 ghost use Rattle.cr_base.specs.declared.row.Row.{Row};
 ghost use Rattle.cr_base.specs.Rows.{rows_of};
 ghost use Rattle.cr_base.specs.Tables.{FitInTurn};
-ghost use Rattle.cr_book.specs.Reading.{IsCutStore, IsGoing, IsRefused, IsWholeStore};
+ghost use Rattle.cr_book.specs.Reading.{IsCutStore, IsGoing, IsRowRefused, IsWholeStore};
 
 use crate::rebuilding::begun;
 use crate::rows::copies_of;
@@ -61,7 +61,7 @@ impl Reading {
     /// command costs.
     pub(crate) fn read(self, row: Row) -> Result<Reading, ReadError>
         ensures ok { IfOk result (λ after. rows_of after.log ++ after.pending ≡ (rows_of self.log ++ self.pending) ++ row ∷ []) }
-        ensures refused { IfErr result (λ e. IsRefused (rows_of self.log ++ self.pending) row e) }
+        ensures refused { IfErr result (λ e. IsRowRefused (rows_of self.log ++ self.pending) row e) }
     {
         let Reading {
             alloc,

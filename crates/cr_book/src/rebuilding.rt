@@ -3,7 +3,7 @@ ghost use Rattle.std.specs.Prelude.{◌≡◌, ◌<◌, ◌↔◌, IfOk, IfSome,
 ghost use Rattle.std.specs.Option.{option_map};
 ghost use Rattle.cr_base.specs.Tables.{FitInTurn};
 ghost use Rattle.cr_view.specs.Draws.{drawn_by};
-ghost use Rattle.cr_book.specs.Rebuilding.{caller_told, command_told, drawn_told, is_known, IsBegun, NoneBegun};
+ghost use Rattle.cr_book.specs.Rebuilding.{giver_told, command_told, drawn_told, is_known, IsBegun, NoneBegun};
 ghost use Rattle.cr_base.specs.declared.row.Row.{Row};
 
 use crate::rows::rows_of;
@@ -13,7 +13,7 @@ use std::alloc::{AllocError, Global};
 
 /// Who gave the command of a group with this first entry.
 fn caller_of(first: &Stamped) -> Option<UserNo>
-    ensures { result ≡ caller_told first.now.maker first.now.entry }
+    ensures { result ≡ giver_told first.now.maker first.now.entry }
 {
     match first.entry {
         Entry::Registered { .. } => None,

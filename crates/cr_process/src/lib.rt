@@ -29,18 +29,24 @@ fn store_named(alloc: Global, words: &[String]) -> &str {
     }
 }
 
-// One line on standard error where the store has a bad row, or couldn't be opened or read.
+// One line on standard error for each status but 0.
 fn tell(rt: &HostRuntime, words: &[String], exit: Exit, shelf: &SqliteShelf) -> io::Result<()> {
     let store = store_named(rt.alloc(), words);
     match exit {
+        Exit::Done => Ok(()),
+        Exit::Cut => eprintln!(rt; "confd: the input ended inside a request"),
+        Exit::Usage => eprintln!(rt; "confd: no such words"),
         Exit::BadStore { row, kind } => {
-            eprintln!(rt; "confd: {store}: row {row}, of kind {kind}, continues no history")
+            eprintln!(rt; "confd: {store}: row {row}, of kind {kind}, is bad or ends inside a command")
         }
+        Exit::ReadFault => eprintln!(rt; "confd: the input could not be read"),
+        Exit::WriteFault => eprintln!(rt; "confd: the output could not be written"),
         Exit::KeeperFault => match shelf.reason() {
             Some(reason) => eprintln!(rt; "confd: {store}: {reason}"),
-            None => Ok(()),
+            None => eprintln!(rt; "confd: {store}: the store could not be read"),
         },
-        _ => Ok(()),
+        Exit::NoUser => eprintln!(rt; "confd: {store}: nobody has registered that name"),
+        Exit::OutOfMemory => eprintln!(rt; "confd: out of memory"),
     }
 }
 

@@ -91,9 +91,11 @@ impl Shelf for SqliteShelf {
     /// Where that fails, which is one fault more, the log stays beside the file.
     fn shut(&mut self, _path: &str, keeper: SqliteKeeper<FileStore<File>>) {
         self.faults = self.faults.saturating_add(keeper.faults());
-        self.reason = keeper.reason().or(self.reason);
+        let reason = keeper.reason();
         if let Err(error) = keeper.release().close() {
             self.refused(Refusal::from(error));
         }
+        // What failed first says why.
+        self.reason = reason.or(self.reason);
     }
 }

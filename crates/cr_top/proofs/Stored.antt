@@ -1,4 +1,4 @@
--- Stores that open, and stores that don't.
+-- ShelfState that open, and stores that don't.
 use Rattle.std.proofs.Common.{◌≡◌, ◌∙◌, ◌≤◌, ◌<◌, ◌++◌, ◌⊎◌, inl, inr, ℕ, List, [], ◌∷◌, length, Bool, true, false, cond, Option, Some, None, Err, IfSome, refl, sym, ap, ap₂, subst, arith}
 use Rattle.std.specs.Prelude.{IsTrue, is_some}
 use Rattle.std.proofs.lemmas.Bool.{false≢true}
@@ -31,15 +31,15 @@ use Rattle.cr_top.specs.declared.exit.Exit.{Exit}
 use Rattle.cr_top.specs.declared.exit.Exit.TheVariants as exits
 use Rattle.cr_top.specs.Exits.{exit_of, exit_of_rows, exit_of_shelf}
 use Rattle.cr_top.specs.Runs.{Outside, Pipes, world}
-use Rattle.cr_top.specs.Stores.{Files, Stores, KeepsFiles, IsBadStore, OpensStore, StaysShut, ServesStore, ViewsStore, TellsView, AnswersView, TellsRows, rows_at}
+use Rattle.cr_top.specs.Stores.{Files, ShelfState, KeepsFiles, IsBadStore, OpensStore, StaysShut, ServesStore, ViewsStore, TellsView, AnswersView, TellsRows, rows_told_at}
 
 -- ---- what stands at the paths
 
 -- nothing changed
-same-files : (s s' : Stores) → s'.files ≡ s.files → KeepsFiles s s'
-same-files s s' same = subst (λ (f : Option Files). IfSome s.files (λ files. (path : List ℕ) → rows_at f path ≡ Some (files path))) (sym same) (own s.files)
+same-files : (s s' : ShelfState) → s'.files ≡ s.files → KeepsFiles s s'
+same-files s s' same = subst (λ (f : Option Files). IfSome s.files (λ files. (path : List ℕ) → rows_told_at f path ≡ Some (files path))) (sym same) (own s.files)
   where
-    own : (f : Option Files) → IfSome f (λ files. (path : List ℕ) → rows_at f path ≡ Some (files path))
+    own : (f : Option Files) → IfSome f (λ files. (path : List ℕ) → rows_told_at f path ≡ Some (files path))
     own None = tt
     own (Some files) = λ path. refl
 
@@ -52,20 +52,20 @@ put_back files path p = at (bytes_eq path p) refl
     at false is = refl
 
 -- a keeper of the rows that stood at a path was taken back
-shut-files : (s s' : Stores) (path : List ℕ) (told : Option (List Row)) → IfSome s.files (λ files. told ≡ Some (files path))
+shut-files : (s s' : ShelfState) (path : List ℕ) (told : Option (List Row)) → IfSome s.files (λ files. told ≡ Some (files path))
     → IfSome told (λ kept. s'.files ≡ and_file s.files path kept) → KeepsFiles s s'
 shut-files s s' path told found kept = at s.files told found kept
   where
     at : (f : Option Files) (told : Option (List Row)) → IfSome f (λ files. told ≡ Some (files path)) → IfSome told (λ kept. s'.files ≡ and_file f path kept)
-        → IfSome f (λ files. (p : List ℕ) → rows_at s'.files p ≡ Some (files p))
+        → IfSome f (λ files. (p : List ℕ) → rows_told_at s'.files p ≡ Some (files p))
     at None told found kept = tt
     at (Some files) told found kept =
         let is : s'.files ≡ Some (with_rows files path (files path)) = subst (λ (t : Option (List Row)). IfSome t (λ rows. s'.files ≡ and_file (Some files) path rows)) found kept in
-        λ p. ap (λ (f : Option Files). rows_at f p) is ∙ ap Some (put_back files path p)
+        λ p. ap (λ (f : Option Files). rows_told_at f p) is ∙ ap Some (put_back files path p)
 
 -- ---- a store that doesn't open
 
-pub shelf-refuses : (path : List ℕ) (K : Type 0) (error : KeeperError) (s s' : Stores) → s'.files ≡ s.files → HasCause {T = K} s.faults s'.faults (Err error)
+pub shelf-refuses : (path : List ℕ) (K : Type 0) (error : KeeperError) (s s' : ShelfState) → s'.files ≡ s.files → HasCause {T = K} s.faults s'.faults (Err error)
     → StaysShut path (exit_of_shelf error) s s'
 shelf-refuses path K refusals.Failed s s' same cause = record { refused = cause.failed refl; files = same-files s s' same; count = cause.later }
 shelf-refuses path K refusals.OutOfMemory s s' same cause = record { refused = tt; files = same-files s s' same; count = cause.later }
@@ -82,7 +82,7 @@ explained {K} path (Some files) told row found keeper is opens =
     let bad = subst (λ (t : Option (List Row)). IfSome t (λ rows. Opens {K = K} rows (Err (errors.BadStore row found, keeper)))) is opens in
     record { found = found; kind_is = refl; bad = bad.0; none = bad.1 }
 
-module _ {K : Type 0} (rows : K → Option (List Row)) (faults : K → ℕ) (path : List ℕ) (s s' : Stores) (opened given : K)
+module _ {K : Type 0} (rows : K → Option (List Row)) (faults : K → ℕ) (path : List ℕ) (s s' : ShelfState) (opened given : K)
     (found : IfSome s.files (λ files. rows opened ≡ Some (files path))) (fresh : faults opened ≡ 0) (same : rows given ≡ rows opened)
     (kept : IfSome (rows given) (λ told. s'.files ≡ and_file s.files path told)) (gains : Gains s.faults (faults given) s'.faults) where
   shut : KeepsFiles s s'
@@ -107,14 +107,14 @@ kept-rows rows keeper files files' path H is kept tells = at (rows keeper) is ke
     at (Some t) is kept there = kept ∙ ap (and_file files path) is
 
 module _ {K I : Type 0} (rows : K → Option (List Row)) (faults : K → ℕ) (path : List ℕ) (left : I → Option (List ℕ)) (gives : I → I → List ℕ → Type 0)
-    (exit : Exit) (ending : Ending) (is : exit ≡ exit_of ending) (book : SeenBook K) (keeper' : K) (o o' : Outside I) (s m s' : Stores)
+    (exit : Exit) (ending : Ending) (is : exit ≡ exit_of ending) (book : SeenBook K) (keeper' : K) (o o' : Outside I) (s m s' : ShelfState)
     (opens : OpensStore rows faults path book s m) (p : Pipes rows faults left gives book.log ending book.keeper keeper' o o')
     (kept : IfSome (rows keeper') (λ told. s'.files ≡ and_file m.files path told)) (gains : Gains m.faults (faults keeper') s'.faults) where
   files-are : m.files ≡ s.files
-  files-are = ap (λ (x : Stores). x.files) opens.same
+  files-are = ap (λ (x : ShelfState). x.files) opens.same
 
   count-is : m.faults ≡ s.faults
-  count-is = ap (λ (x : Stores). x.faults) opens.same
+  count-is = ap (λ (x : ShelfState). x.faults) opens.same
 
   pub serves-store : ServesStore rows path left gives exit o o' s s'
   serves-store = record {
@@ -138,13 +138,13 @@ module _ {K I : Type 0} (rows : K → Option (List Row)) (faults : K → ℕ) (p
       idle (risen s.faults (faults keeper') s'.faults (subst (λ (n : ℕ). Rises n (faults keeper')) opens.fresh rises) (subst (λ (n : ℕ). Gains n (faults keeper') s'.faults) count-is gains))
 
 -- the book's history is the one that has the rows
-pub the-history : {K : Type 0} (rows : K → Option (List Row)) (faults : K → ℕ) (path : List ℕ) (book : SeenBook K) (s m : Stores) → OpensStore rows faults path book s m → (files : Files) → s.files ≡ Some files → (H : History) → Legal H → rows_of H ≡ files path
+pub the-history : {K : Type 0} (rows : K → Option (List Row)) (faults : K → ℕ) (path : List ℕ) (book : SeenBook K) (s m : ShelfState) → OpensStore rows faults path book s m → (files : Files) → s.files ≡ Some files → (H : History) → Legal H → rows_of H ≡ files path
     → book.log ≡ H
 the-history rows faults path book s m opens files told H legal spells =
     sym (subst (λ (f : Option Files). IfSome f (λ files. (H : History) → Legal H → rows_of H ≡ files path → H ≡ book.log)) told opens.only H legal spells)
 
 -- a store of a legal history's rows opens where nothing fails, or memory is wanting
-pub opens-or-memory : (path : List ℕ) (exit : Exit) (s s' : Stores) → StaysShut path exit s s' → (Rises s.faults s'.faults → ⊥) → (files : Files) → s.files ≡ Some files → (H : History) → Legal H → rows_of H ≡ files path
+pub opens-or-memory : (path : List ℕ) (exit : Exit) (s s' : ShelfState) → StaysShut path exit s s' → (Rises s.faults s'.faults → ⊥) → (files : Files) → s.files ≡ Some files → (H : History) → Legal H → rows_of H ≡ files path
     → exit ≡ exits.OutOfMemory
 opens-or-memory path exits.OutOfMemory s s' shut idle files told H legal spells = refl
 opens-or-memory path exits.KeeperFault s s' shut idle files told H legal spells = absurd (idle shut.refused)
@@ -158,7 +158,7 @@ opens-or-memory path exits.WriteFault s s' shut idle files told H legal spells =
 opens-or-memory path exits.NoUser s s' shut idle files told H legal spells = absurd shut.refused
 
 -- the keeper of a book that was read alone was taken back
-pub views-store : {K : Type 0} (rows : K → Option (List Row)) (faults : K → ℕ) (path name : List ℕ) (exit : Exit) (book : SeenBook K) (keeper' : K) (o o' : Outlet) (s m s' : Stores)
+pub views-store : {K : Type 0} (rows : K → Option (List Row)) (faults : K → ℕ) (path name : List ℕ) (exit : Exit) (book : SeenBook K) (keeper' : K) (o o' : Outlet) (s m s' : ShelfState)
     → OpensStore rows faults path book s m → keeper' ≡ book.keeper → TellsView book.log name exit o o'
     → IfSome (rows keeper') (λ told. s'.files ≡ and_file m.files path told) → Gains m.faults (faults keeper') s'.faults → ViewsStore path name exit o o' s s'
 views-store {K} rows faults path name exit book keeper' o o' s m s' opens same tells kept gains = record {
@@ -167,8 +167,8 @@ views-store {K} rows faults path name exit book keeper' o o' s m s' opens same t
   found = opens.found;
   tells = tells;
   files = shut-files s s' path (rows keeper') (subst (λ (k : K). IfSome s.files (λ files. rows k ≡ Some (files path))) (sym same) opens.told)
-      (subst (λ (f : Option Files). IfSome (rows keeper') (λ t. s'.files ≡ and_file f path t)) (ap (λ (x : Stores). x.files) opens.same) kept);
-  count = subst (λ (n : ℕ). n ≤ s'.faults) (ap (λ (x : Stores). x.faults) opens.same) gains.0;
+      (subst (λ (f : Option Files). IfSome (rows keeper') (λ t. s'.files ≡ and_file f path t)) (ap (λ (x : ShelfState). x.files) opens.same) kept);
+  count = subst (λ (n : ℕ). n ≤ s'.faults) (ap (λ (x : ShelfState). x.faults) opens.same) gains.0;
 }
 
 -- what a view is answered where nothing fails

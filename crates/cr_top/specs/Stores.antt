@@ -27,30 +27,30 @@ abbrev pub Files : Type 0
 Files = List ℕ → List Row
 
 -- a shelf: the rows at each path, where it tells them, and its count of faults
-pub record Stores : Type 0 where
+pub record ShelfState : Type 0 where
   pub files : Option Files
   pub faults : ℕ
 
-abbrev pub stores_of : {S : Type 0} → (S → Option Files) → (S → ℕ) → S → Stores
-stores_of rows faults shelf = record { files = rows shelf; faults = faults shelf }
+abbrev pub state_of : {S : Type 0} → (S → Option Files) → (S → ℕ) → S → ShelfState
+state_of rows faults shelf = record { files = rows shelf; faults = faults shelf }
 
 -- the rows at a path, where they are told
-abbrev pub rows_at : Option Files → List ℕ → Option (List Row)
-rows_at files path = option_map (λ (f : Files). f path) files
+abbrev pub rows_told_at : Option Files → List ℕ → Option (List Row)
+rows_told_at files path = option_map (λ (f : Files). f path) files
 
 -- every keeper of the shelf's kind tells its rows
 abbrev pub TellsRows : {K : Type 0} → (K → Option (List Row)) → Type 0
 TellsRows {K} rows = (keeper : K) → IsTrue (is_some (rows keeper))
 
 -- the rows at every path are as they were, where they are told
-abbrev pub KeepsFiles : Stores → Stores → Type 0
-KeepsFiles s s' = IfSome s.files (λ files. (path : List ℕ) → rows_at s'.files path ≡ Some (files path))
+abbrev pub KeepsFiles : ShelfState → ShelfState → Type 0
+KeepsFiles s s' = IfSome s.files (λ files. (path : List ℕ) → rows_told_at s'.files path ≡ Some (files path))
 
 -- ---- opening
 
 -- The rows at the path are those of one legal history, the book's; its keeper tells them where the shelf does and has counted
 -- no fault, and nothing changed.
-pub record OpensStore {K : Type 0} (rows : K → Option (List Row)) (faults : K → ℕ) (path : List ℕ) (book : SeenBook K) (s s' : Stores) : Type 0 where
+pub record OpensStore {K : Type 0} (rows : K → Option (List Row)) (faults : K → ℕ) (path : List ℕ) (book : SeenBook K) (s s' : ShelfState) : Type 0 where
   pub legal : Legal book.log
   pub found : IfSome s.files (λ files. rows_of book.log ≡ files path)
   pub only : IfSome s.files (λ files. (H : History) → Legal H → rows_of H ≡ files path → H ≡ book.log)
@@ -66,15 +66,15 @@ pub record IsBadStore (rows : List Row) (row kind : ℕ) : Type 0 where
   pub none : (H : History) → Legal H → rows_of H ≢ rows
 
 -- why it doesn't open, by the exit: the shelf or its keeper failed, which was counted; a row is bad; or memory is wanting
-abbrev pub IsRefused : List ℕ → Exit → Stores → Stores → Type 0
-IsRefused path exits.KeeperFault s s' = Rises s.faults s'.faults
-IsRefused path (exits.BadStore row kind) s s' = IfSome s.files (λ files. IsBadStore (files path) row kind)
-IsRefused path exits.OutOfMemory s s' = Unit {0}
-IsRefused path _ s s' = ⊥
+abbrev pub IsWhyShut : List ℕ → Exit → ShelfState → ShelfState → Type 0
+IsWhyShut path exits.KeeperFault s s' = Rises s.faults s'.faults
+IsWhyShut path (exits.BadStore row kind) s s' = IfSome s.files (λ files. IsBadStore (files path) row kind)
+IsWhyShut path exits.OutOfMemory s s' = Unit {0}
+IsWhyShut path _ s s' = ⊥
 
 -- It doesn't open, and the rows are as they were.
-pub record StaysShut (path : List ℕ) (exit : Exit) (s s' : Stores) : Type 0 where
-  pub refused : IsRefused path exit s s'
+pub record StaysShut (path : List ℕ) (exit : Exit) (s s' : ShelfState) : Type 0 where
+  pub refused : IsWhyShut path exit s s'
   pub files : KeepsFiles s s'
   pub count : s.faults ≤ s'.faults
 
@@ -82,7 +82,7 @@ pub record StaysShut (path : List ℕ) (exit : Exit) (s s' : Stores) : Type 0 wh
 
 -- From the history of the rows at the path on a connection was served to its ending, by which the exit is; the rows there
 -- are then those of the last history. The keeper counted so many faults, and the shelf's count rose by as many at least.
-pub record ServesStore {K I : Type 0} (rows : K → Option (List Row)) (path : List ℕ) (left : I → Option (List ℕ)) (gives : I → I → List ℕ → Type 0) (exit : Exit) (o o' : Outside I) (s s' : Stores) : Type 0 where
+pub record ServesStore {K I : Type 0} (rows : K → Option (List Row)) (path : List ℕ) (left : I → Option (List ℕ)) (gives : I → I → List ℕ → Type 0) (exit : Exit) (o o' : Outside I) (s s' : ShelfState) : Type 0 where
   pub opening : History
   pub opens : Legal opening
   pub found : IfSome s.files (λ files. rows_of opening ≡ files path)
@@ -97,7 +97,7 @@ pub record ServesStore {K I : Type 0} (rows : K → Option (List Row)) (path : L
   pub counted : Gains s.faults faults s'.faults
 
 -- a store that doesn't open leaves input and output as they were
-abbrev pub PipesStore : {K I : Type 0} → (K → Option (List Row)) → List ℕ → (I → Option (List ℕ)) → (I → I → List ℕ → Type 0) → Exit → Outside I → Outside I → Stores → Stores → Type 0
+abbrev pub PipesStore : {K I : Type 0} → (K → Option (List Row)) → List ℕ → (I → Option (List ℕ)) → (I → I → List ℕ → Type 0) → Exit → Outside I → Outside I → ShelfState → ShelfState → Type 0
 PipesStore rows path left gives exit o o' s s' = (StaysShut path exit s s' × (o' ≡ o)) ⊎ ServesStore rows path left gives exit o o' s s'
 
 -- ---- a view of a store
@@ -112,7 +112,7 @@ TellsView H name exits.NoUser s s' = (number_of name H ≡ None) × (s' ≡ s)
 TellsView H name _ s s' = ⊥
 
 -- The view of the history of the rows at the path was told, and the rows are as they were.
-pub record ViewsStore (path name : List ℕ) (exit : Exit) (o o' : Outlet) (s s' : Stores) : Type 0 where
+pub record ViewsStore (path name : List ℕ) (exit : Exit) (o o' : Outlet) (s s' : ShelfState) : Type 0 where
   pub opening : History
   pub opens : Legal opening
   pub found : IfSome s.files (λ files. rows_of opening ≡ files path)
@@ -121,7 +121,7 @@ pub record ViewsStore (path name : List ℕ) (exit : Exit) (o o' : Outlet) (s s'
   pub count : s.faults ≤ s'.faults
 
 -- a store that doesn't open leaves the output as it was
-abbrev pub TellsStore : List ℕ → List ℕ → Exit → Outlet → Outlet → Stores → Stores → Type 0
+abbrev pub TellsStore : List ℕ → List ℕ → Exit → Outlet → Outlet → ShelfState → ShelfState → Type 0
 TellsStore path name exit o o' s s' = (StaysShut path exit s s' × (o' ≡ o)) ⊎ ViewsStore path name exit o o' s s'
 
 -- where nothing fails, a legal history's view is told whole, or nobody there has the name

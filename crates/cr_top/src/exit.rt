@@ -7,7 +7,7 @@ use cr_session::Ending;
 /// How a run ended.
 #[derive(Clone, Copy, Debug, PartialEq, Eq)]
 pub enum Exit {
-    /// The job was done: the connection's stream ended between requests, or the server closed it.
+    /// The job was done: the connection's stream ended between requests, or the server closed it; or the view was printed.
     Done,
     /// The connection's stream ended inside a request.
     Cut,

@@ -6,7 +6,7 @@ ghost use Rattle.cr_words.specs.Job.{NamedJob, job_seen};
 ghost use Rattle.cr_words.specs.Usage.{usage};
 ghost use Rattle.cr_top.specs.Jobs.{AnswersJob, Does, IsUntouched};
 ghost use Rattle.cr_top.specs.Runs.{TellsUsage, outside_of};
-ghost use Rattle.cr_top.specs.Stores.{stores_of};
+ghost use Rattle.cr_top.specs.Stores.{state_of};
 ghost use Rattle.cr_top.specs.Words.{AreFor, AreRefused, PassTest};
 
 use crate::exit::{Exit, exit_of};
@@ -48,9 +48,9 @@ fn do_job<I: Source, O: Sink, S: Shelf>(
     out: &mut O,
     shelf: &mut S,
 ) -> Exit
-    ensures does { let outside = outside_of I.faults O.taken O.faults in let stores = stores_of S.rows S.faults in
+    ensures does { let outside = outside_of I.faults O.taken O.faults in let stores = state_of S.rows S.faults in
         Does S.Keeper.rows I.left I.read_gives (job_seen job.entry) result (outside input.old out.old) (outside input.new out.new) (stores shelf.old) (stores shelf.new) }
-    ensures answers { let outside = outside_of I.faults O.taken O.faults in let stores = stores_of S.rows S.faults in
+    ensures answers { let outside = outside_of I.faults O.taken O.faults in let stores = state_of S.rows S.faults in
         AnswersJob I.left (job_seen job.entry) result (outside input.old out.old) (outside input.new out.new) (stores shelf.old) (stores shelf.new) }
     ensures known { result ≢ Exit.Usage }
     ensures read_fault { result ≡ Exit.ReadFault → Rises (I.faults input.old) (I.faults input.new) }
@@ -93,17 +93,17 @@ pub fn top<I: Source, O: Sink, S: Shelf>(
 ) -> Exit
     // What the job that the words name did: one connection, whose bytes are the answers that its wishes are told, each on
     // the caller's view of the history at its turn; or a user's view.
-    ensures does { let outside = outside_of I.faults O.taken O.faults in let stores = stores_of S.rows S.faults in
+    ensures does { let outside = outside_of I.faults O.taken O.faults in let stores = state_of S.rows S.faults in
         (job : NamedJob) → AreFor words.now job
         → Does S.Keeper.rows I.left I.read_gives job result (outside input.old out.old) (outside input.new out.new) (stores shelf.old) (stores shelf.new) }
 
     // Where nothing fails, all that the input's bytes spell is answered, and the view is told whole, or memory is wanting.
-    ensures answers { let outside = outside_of I.faults O.taken O.faults in let stores = stores_of S.rows S.faults in
+    ensures answers { let outside = outside_of I.faults O.taken O.faults in let stores = state_of S.rows S.faults in
         (job : NamedJob) → AreFor words.now job
         → AnswersJob I.left job result (outside input.old out.old) (outside input.new out.new) (stores shelf.old) (stores shelf.new) }
 
     // Words that name no job are answered by the usage line, and nothing is read.
-    ensures refuses { let outside = outside_of I.faults O.taken O.faults in let stores = stores_of S.rows S.faults in
+    ensures refuses { let outside = outside_of I.faults O.taken O.faults in let stores = state_of S.rows S.faults in
         AreRefused words.now
         → IsUntouched result (outside input.old out.old) (outside input.new out.new) (stores shelf.old) (stores shelf.new)
         ⊎ (TellsUsage result (outside input.old out.old) (outside input.new out.new) × (shelf.new ≡ shelf.old)) }

@@ -7,7 +7,7 @@ ghost use Rattle.cr_ports.specs.Count.{Rises};
 ghost use Rattle.cr_top.specs.declared.exit.Exit.{Exit};
 ghost use Rattle.cr_top.specs.Exits.{exit_of_rows, exit_of_shelf};
 ghost use Rattle.cr_top.specs.Runs.{outside_of, IsFaultless, AnswersAll};
-ghost use Rattle.cr_top.specs.Stores.{Files, OpensStore, PipesStore, StaysShut, stores_of};
+ghost use Rattle.cr_top.specs.Stores.{Files, OpensStore, PipesStore, StaysShut, state_of};
 
 use crate::exit::{Exit, exit_of};
 use crate::piping::pipe;
@@ -45,9 +45,9 @@ pub(crate) fn open_store<S: Shelf>(
     path: &str,
     shelf: &mut S,
 ) -> Result<Book<S::Keeper>, Exit>
-    ensures opened { IfOk result (λ book. OpensStore S.Keeper.rows S.Keeper.faults path.now book (stores_of S.rows S.faults shelf.old) (stores_of S.rows S.faults shelf.new)) }
+    ensures opened { IfOk result (λ book. OpensStore S.Keeper.rows S.Keeper.faults path.now book (state_of S.rows S.faults shelf.old) (state_of S.rows S.faults shelf.new)) }
     ensures open { OnOk result (S.has_opened shelf.new path.now) }
-    ensures refused { IfErr result (λ exit. StaysShut path.now exit (stores_of S.rows S.faults shelf.old) (stores_of S.rows S.faults shelf.new)) }
+    ensures refused { IfErr result (λ exit. StaysShut path.now exit (state_of S.rows S.faults shelf.old) (state_of S.rows S.faults shelf.new)) }
 {
     let keeper = match shelf.open(path) {
         Ok(keeper) => keeper,
@@ -71,7 +71,7 @@ pub fn pipe_store<S: Shelf, I: Source, O: Sink>(
     out: &mut O,
     shelf: &mut S,
 ) -> Exit
-    ensures pipes { let outside = outside_of I.faults O.taken O.faults in let stores = stores_of S.rows S.faults in
+    ensures pipes { let outside = outside_of I.faults O.taken O.faults in let stores = state_of S.rows S.faults in
         PipesStore S.Keeper.rows path.now I.left I.read_gives result (outside input.old out.old) (outside input.new out.new) (stores shelf.old) (stores shelf.new) }
 
     // Where nothing fails and the rows are a legal history's, all that the input's bytes spell is answered from that history

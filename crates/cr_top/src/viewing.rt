@@ -7,7 +7,7 @@ ghost use Rattle.cr_policy.specs.Legal.{Legal};
 ghost use Rattle.cr_ports.specs.Count.{Rises};
 ghost use Rattle.cr_ports.specs.Writing.{outlet_of};
 ghost use Rattle.cr_top.specs.declared.exit.Exit.{Exit};
-ghost use Rattle.cr_top.specs.Stores.{Files, AnswersView, TellsStore, TellsView, stores_of};
+ghost use Rattle.cr_top.specs.Stores.{Files, AnswersView, TellsStore, TellsView, state_of};
 
 use crate::exit::Exit;
 use crate::storing::open_store;
@@ -55,7 +55,7 @@ pub fn view_store<S: Shelf, O: Sink>(
     out: &mut O,
     shelf: &mut S,
 ) -> Exit
-    ensures views { let outlet = outlet_of O.taken O.faults in let stores = stores_of S.rows S.faults in
+    ensures views { let outlet = outlet_of O.taken O.faults in let stores = state_of S.rows S.faults in
         TellsStore path.now name.now result (outlet out.old) (outlet out.new) (stores shelf.old) (stores shelf.new) }
 
     // Where nothing fails and the rows are a legal history's, its view is told whole, or nobody has the name; or memory is

@@ -106,7 +106,7 @@ entry_is_named a s t None subs s_name t_name whole none some = cc
 entry_is_named a s t (Some p) subs s_name t_name whole none some =
     rw subs (found_entry s t p.0 p.1 s_name t_name (whole p.1) (answers_to p.0 (label_of s)) (answers_to p.0 (label_of t)) (rw subs at none) (rw subs at some))
 
-names_a_job : (words : List Text) → fault_of confd_words words ≡ [] → is_some (job_of words) ≡ true
+pub names_a_job : (words : List Text) → fault_of confd_words words ≡ [] → is_some (job_of words) ≡ true
 unfolding confd_words pipe view
 names_a_job words e =
     let app = built confd_words in

@@ -1,5 +1,5 @@
 //! Laws over the definitions alone: which words are taken, and the job that each names, with no run.
-ghost use Rattle.std.specs.Prelude.{◌≡◌, [], ◌∷◌, ◌++◌, Some, None, codes, true};
+ghost use Rattle.std.specs.Prelude.{◌≡◌, [], ◌∷◌, ◌++◌, Some, None, codes, true, List, is_some};
 ghost use Rattle.clap.specs.Words.{Text, fault_of, takes};
 ghost use Rattle.cr_words.specs.Job.{job_of, pipe_job, view_job};
 ghost use Rattle.cr_words.specs.Words.{confd_words, is_plain_text, store_word, user_word, store_words, user_words};
@@ -42,4 +42,9 @@ pub fn law_attached()
     ensures view_taken { (name file user : Text) → fault_of confd_words (name ∷ codes "view" ∷ store_word file ∷ user_word user ∷ []) ≡ [] }
     ensures view_passes { (name file user : Text) → takes confd_words (name ∷ codes "view" ∷ store_word file ∷ user_word user ∷ []) ≡ true }
     ensures view_job { (name file user : Text) → job_of (name ∷ codes "view" ∷ store_word file ∷ user_word user ∷ []) ≡ Some (view_job file user) }
+{}
+
+/// Words that `clap` takes name a job.
+pub fn law_taken_words()
+    ensures { (words : List Text) → fault_of confd_words words ≡ [] → is_some (job_of words) ≡ true }
 {}

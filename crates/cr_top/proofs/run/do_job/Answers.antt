@@ -4,7 +4,7 @@ use Rattle.cr_base.specs.History.{History}
 use Rattle.cr_words.specs.Job.{NamedJob, pipe_job, job_seen}
 use Rattle.cr_top.specs.Jobs.{AnswersJob, Does}
 use Rattle.cr_top.specs.Runs.{ServesPipe, outside_of}
-use Rattle.cr_top.specs.Stores.{stores_of}
+use Rattle.cr_top.specs.Stores.{state_of}
 use Rattle.cr_top.proofs.Serving.{serves-from}
 use Rattle.cr_top.proofs.run.do_job.Goals as goal
 
@@ -13,7 +13,7 @@ returns-in-Some-clause-does g c =
     let outside = outside_of g.I.Source.faults g.O.Sink.taken g.O.Sink.faults in
     let o = outside c.args.input.now c.args.out.now in
     let o' = outside c.pipe-ending.new.input c.pipe-ending.new.out in
-    let s = stores_of g.S.Shelf.rows g.S.Shelf.faults c.args.shelf.now in
+    let s = state_of g.S.Shelf.rows g.S.Shelf.faults c.args.shelf.now in
     let none : c.in-Pipe-None.store ≡ None = rw c.in-Pipe-None.is at c.in-Pipe-None.store-is in
     let seen : job_seen c.args.job ≡ pipe_job None = ap job_seen c.in-Pipe-None.is ∙ ap (λ t. pipe_job (option_map (λ x. x.now) t)) none in
     subst (λ (job : NamedJob). Does g.S.Keeper.Keeper.rows g.I.Source.left g.I.Source.read_gives job c.exit_of.result o o' s s) (sym seen)
@@ -26,7 +26,7 @@ returns-in-Some-clause-does g c =
 pub returns-in-Pipe-Some-clause-answers : goal.returns-in-Pipe-Some-clause-answers
 returns-in-Pipe-Some-clause-answers g c =
     let outside = outside_of g.I.Source.faults g.O.Sink.taken g.O.Sink.faults in
-    let stores = stores_of g.S.Shelf.rows g.S.Shelf.faults in
+    let stores = state_of g.S.Shelf.rows g.S.Shelf.faults in
     let some : c.in-Pipe-Some.store ≡ Some c.in-Pipe-Some.path = rw c.in-Pipe-Some.is at c.in-Pipe-Some.store-is in
     let seen : job_seen c.args.job ≡ pipe_job (Some c.in-Pipe-Some.path.now) = ap job_seen c.in-Pipe-Some.is ∙ ap (λ t. pipe_job (option_map (λ x. x.now) t)) some in
     subst (λ (job : NamedJob). AnswersJob g.I.Source.left job c.pipe_store.result (outside c.args.input.now c.args.out.now) (outside c.pipe_store.new.input c.pipe_store.new.out) (stores c.args.shelf.now) (stores c.pipe_store.new.shelf)) (sym seen)

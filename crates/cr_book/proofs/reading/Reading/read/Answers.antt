@@ -2,7 +2,7 @@ use Rattle.std.proofs.Common.{◌≡◌, ◌++◌, ◌∷◌, ◌∙◌, List, [
 use Rattle.std.proofs.lemmas.Result.{IfOk-weaker}
 use Rattle.cr_base.specs.declared.row.Row.{Row}
 use Rattle.cr_base.specs.Rows.{rows_of}
-use Rattle.cr_book.specs.Reading.{IsRefused}
+use Rattle.cr_book.specs.Reading.{IsRowRefused}
 use Rattle.cr_book.specs.Rebuilding.{IsBegun}
 use Rattle.cr_book.specs.Seen.{SeenReading}
 use Rattle.cr_book.proofs.OpeningLaws.{begun-going, refused-row}
@@ -34,6 +34,6 @@ returns-in-Ok-Some-clause-ok c =
 pub returns-in-Ok-None-clause-refused : goal.returns-in-Ok-None-clause-refused
 returns-in-Ok-None-clause-refused c =
     let none = (rw c.in-Ok-None.field-0-is at c.in-Ok-None.ensures.none) refl in
-    subst (λ (rows : List Row). IsRefused rows c.args.row c.last_of.result) (before _ c.args.self c.self.view_is)
+    subst (λ (rows : List Row). IsRowRefused rows c.args.row c.last_of.result) (before _ c.args.self c.self.view_is)
     (refused-row c.self.inside.log.items c.self.inside.live.tables c.self.inside.pending.items c.deref.result.now c.args.row c.last_of.result c.self.invariant
     (c.deref.ensures.value ∙ pushed c.self.inside.pending.items c.reserve.new.self.items c.push_reserved.new.self.items c.args.row c.push_reserved.ensures.items c.reserve.ensures.items) none (c.last_of.ensures c.self.inside.pending.items c.args.row (pushed c.self.inside.pending.items c.reserve.new.self.items c.push_reserved.new.self.items c.args.row c.push_reserved.ensures.items c.reserve.ensures.items)))
