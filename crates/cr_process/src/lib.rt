@@ -37,7 +37,9 @@ fn tell(rt: &HostRuntime, words: &[String], exit: Exit, shelf: &SqliteShelf) -> 
         Exit::Cut => eprintln!(rt; "confd: the input ended inside a request"),
         Exit::Usage => eprintln!(rt; "confd: no such words"),
         Exit::BadStore { row, kind } => {
-            eprintln!(rt; "confd: {store}: row {row}, of kind {kind}, is bad or ends inside a command")
+            eprintln!(rt;
+                "confd: {store}: row {row}, of kind {kind}, is bad or ends inside a command"
+            )
         }
         Exit::ReadFault => eprintln!(rt; "confd: the input could not be read"),
         Exit::WriteFault => eprintln!(rt; "confd: the output could not be written"),
