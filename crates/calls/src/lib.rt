@@ -14,6 +14,4 @@ mod rows;
 #[cfg(test)]
 mod tables;
 #[cfg(test)]
-mod view;
-#[cfg(test)]
 mod words;

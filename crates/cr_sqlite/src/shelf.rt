@@ -91,11 +91,9 @@ impl Shelf for SqliteShelf {
     /// Where that fails, which is one fault more, the log stays beside the file.
     fn shut(&mut self, _path: &str, keeper: SqliteKeeper<FileStore<File>>) {
         self.faults = self.faults.saturating_add(keeper.faults());
-        let reason = keeper.reason();
+        self.reason = keeper.reason().or(self.reason);
         if let Err(error) = keeper.release().close() {
             self.refused(Refusal::from(error));
         }
-        // What failed first says why.
-        self.reason = reason.or(self.reason);
     }
 }
