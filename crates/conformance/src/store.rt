@@ -62,12 +62,16 @@ fn number(word: Option<&str>) -> Result<u64, LineError> {
 // Adds the bytes that hexadecimal digits tell.
 fn add_digits(into: &mut Vec<u8>, digits: &str) -> Result<(), LineError> {
     let mut rest = digits;
-    while !rest.is_empty() {
+    for _ in 0..digits.len() / 2 {
         let (byte, behind) = rest.split_at_checked(2).ok_or(LineError::NoForm)?;
         into.push(byte_of(byte)?)?;
         rest = behind;
     }
-    Ok(())
+    if rest.is_empty() {
+        Ok(())
+    } else {
+        Err(LineError::NoForm)
+    }
 }
 
 // The bytes of a row: none where there is `-`, by hexadecimal digits behind a `#`, else a text.
