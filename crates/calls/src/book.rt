@@ -1,10 +1,10 @@
-//! A book over two connections, one wish, one reply.
+//! A book over two connections, opened again from its rows, with a view; one wish, one reply.
 
 use cr_base::{PaperNo, Query, Reply, Short, UserNo};
 use cr_book::Book;
-use cr_ports::{Keeper, MemSink, PlainKeeper, PlainSource};
-use cr_session::{Ending, Inbox, WishRead, read_wish, serve_connection, write_reply};
-use std::alloc::Global;
+use cr_ports::{Keeper, MemSink, PlainKeeper, PlainSource, write_all};
+use cr_session::{Ending, Inbox, WishRead, read_wish, serve_connection};
+use std::alloc::{AllocError, Global};
 use std::test::Fail;
 
 const ROOM: usize = 4096;
@@ -22,7 +22,7 @@ const USER_1: &str =
     "HTTP/1.1 201 Created\r\nContent-Type: application/json\r\nContent-Length: 10\r\n\r\n{\"user\":1}";
 
 /// The texts, one behind the other.
-fn joined(alloc: Global, texts: &[&str]) -> Result<Vec<u8>, Fail> {
+pub(crate) fn joined(alloc: Global, texts: &[&str]) -> Result<Vec<u8>, Fail> {
     let mut bytes = Vec::new(alloc);
     for text in texts {
         bytes.extend_from_slice(text.as_bytes())?;
@@ -39,6 +39,8 @@ struct Told {
     accounts: usize,
     logins: [bool; 4],
     rows: u64,
+    again: u64,
+    view: [u64; 2],
 }
 
 /// Alice by her name, Bob, and Alice with a digest that isn't hers.
@@ -71,11 +73,29 @@ fn logins(book: &Book<PlainKeeper>) -> [bool; 4] {
 }
 
 /// How many rows are kept.
-fn rows(mut keeper: PlainKeeper) -> u64 {
+fn rows(keeper: &mut PlainKeeper) -> u64 {
     match keeper.len() {
         Ok(rows) => rows,
         Err(_) => 9,
     }
+}
+
+/// The book of a keeper's rows.
+fn opened(alloc: Global, keeper: PlainKeeper) -> Result<Book<PlainKeeper>, AllocError> {
+    match Book::open(alloc, keeper) {
+        Ok(book) => Ok(book),
+        Err(_) => Err(AllocError),
+    }
+}
+
+/// The length of the first user's view, and how many bytes its lines have.
+fn view(alloc: Global, book: &Book<PlainKeeper>) -> Result<[u64; 2], AllocError> {
+    let alice = UserNo::new(1);
+    let mut sink = MemSink::new(alloc, ROOM, Vec::new(alloc), Vec::new(alloc))?;
+    if book.view_lines(alice, &mut sink).is_err() {
+        return Err(AllocError);
+    }
+    Ok([book.view_len(alice)?, sink.taken().len() as u64])
 }
 
 /// Alice registers on one connection, and tries again on the next, which is cut.
@@ -83,18 +103,32 @@ fn told_by_a_book(alloc: Global) -> Result<Told, Fail> {
     let mut first = PlainSource::new(joined(alloc, &[ALICE])?);
     let mut second = PlainSource::new(joined(alloc, &[GET_PHASE, ALICE, CUT_SHORT])?);
     let mut sink = MemSink::new(alloc, ROOM, Vec::new(alloc), Vec::new(alloc))?;
-    let mut book = Book::open(alloc, PlainKeeper::new(alloc));
+    let mut book = opened(alloc, PlainKeeper::new(alloc))?;
     let endings = [
         serve_connection(alloc, &mut book, &mut first, &mut sink),
         serve_connection(alloc, &mut book, &mut second, &mut sink),
     ];
+    let (entries, users, accounts, logins) = (
+        book.entries(),
+        users(&book),
+        accounts(&book),
+        logins(&book),
+    );
+    let mut keeper = book.close();
+    let rows = rows(&mut keeper);
+    let book = opened(alloc, keeper)?;
+    let again = book.entries();
+    let view = view(alloc, &book);
+    let _ = book.close();
     Ok(Told {
         endings,
-        entries: book.entries(),
-        users: users(&book),
-        accounts: accounts(&book),
-        logins: logins(&book),
-        rows: rows(book.close()),
+        entries,
+        users,
+        accounts,
+        logins,
+        rows,
+        again,
+        view: view?,
     })
 }
 
@@ -104,7 +138,8 @@ fn a_book_of_two_connections(rt: HostRuntime) -> Result<(), Fail> {
     assert!(rt; told.endings == [Ending::Clean, Ending::Cut]);
     assert!(rt; told.users == [Some(UserNo::new(1)), None, None]);
     assert!(rt; told.logins == [false, false, true, true]);
-    assert!(rt; (told.entries, told.accounts, told.rows) == (2, 1, 2));
+    assert!(rt; (told.entries, told.accounts, told.rows, told.again) == (2, 1, 2, 2));
+    assert!(rt; told.view == [2, 187]);
     Ok(())
 }
 
@@ -127,7 +162,7 @@ fn one_wish(rt: HostRuntime) -> Result<(), Fail> {
 fn one_reply(rt: HostRuntime) -> Result<(), Fail> {
     let alloc = rt.alloc();
     let mut sink = MemSink::new(alloc, ROOM, Vec::new(alloc), Vec::new(alloc))?;
-    assert!(rt; write_reply(&mut sink, USER_1.as_bytes()).is_ok());
+    assert!(rt; write_all(&mut sink, USER_1.as_bytes()).is_ok());
     assert!(rt; sink.taken() == USER_1.as_bytes());
     Ok(())
 }

@@ -1,9 +1,10 @@
 //! What is kept of a conference with a command of each kind.
 
+use cr_book::Book;
 use cr_ports::{Keeper, MemSink, PlainKeeper, PlainSource};
 use cr_session::Ending;
 use cr_top::pipe;
-use std::alloc::Global;
+use std::alloc::{AllocError, Global};
 use std::test::Fail;
 
 /// A command of each kind. The first registration adds two entries.
@@ -37,7 +38,10 @@ fn run(alloc: Global) -> Result<(Ending, PlainKeeper), Fail> {
     }
     let mut source = PlainSource::new(bytes);
     let mut sink = MemSink::new(alloc, 4096, Vec::new(alloc), Vec::new(alloc))?;
-    Ok(pipe(alloc, PlainKeeper::new(alloc), &mut source, &mut sink))
+    match Book::open(alloc, PlainKeeper::new(alloc)) {
+        Ok(book) => Ok(pipe(alloc, book, &mut source, &mut sink)),
+        Err(_) => Err(AllocError.into()),
+    }
 }
 
 /// The first numbers of a row, where it is there.

@@ -1,7 +1,9 @@
 //! A case: what is sent on one connection, what fails meanwhile, and what is due.
 
 use crate::message::{add_answer, add_request};
+use crate::store::{add_row, copied, read_row};
 use crate::text::{LineError, add_raw, number_of};
+use cr_base::Row;
 use cr_top::Exit;
 use std::alloc::{AllocError, Global};
 
@@ -22,6 +24,10 @@ pub struct Case {
     pub answers: Vec<Mark>,
     /// What fails.
     pub faults: Faults,
+    /// The rows that stand in the store ahead of the run.
+    pub rows: Vec<Row>,
+    /// The rows that are due there behind it, where they are told.
+    pub rows_due: Option<Vec<Row>>,
     /// In which ways it is run.
     pub ways: Ways,
     /// Where the bytes begin that aren't to be read, where some are told.
@@ -48,8 +54,12 @@ pub struct Faults {
     pub read: Option<usize>,
     /// Behind how many bytes the output fails.
     pub write: Option<usize>,
+    /// Whether the store can't be opened.
+    pub is_shut: bool,
     /// The numbers of the appends that fail, from 0.
     pub appends: Vec<u64>,
+    /// The numbers of the keeper's other calls that fail, from 0.
+    pub reads: Vec<u64>,
 }
 
 /// In which ways a case is run.
@@ -65,6 +75,8 @@ pub enum Ways {
     EachRead,
     /// For each number of bytes behind which the output may fail, once.
     EachWrite,
+    /// For each number of rows behind which the store may end, once.
+    EachRow,
 }
 
 impl Case {
@@ -80,8 +92,12 @@ impl Case {
             faults: Faults {
                 read: None,
                 write: None,
+                is_shut: false,
                 appends: Vec::new(alloc),
+                reads: Vec::new(alloc),
             },
+            rows: Vec::new(alloc),
+            rows_due: None,
             ways: Ways::AllCuts,
             unread: None,
         })
@@ -120,12 +136,16 @@ impl Case {
         if let Some(count) = form.strip_prefix(">>") {
             return add_raw(&mut self.sent, count, rest);
         }
+        if let Some(place) = form.strip_prefix('@') {
+            return add_row(&mut self.rows, place, read_row(alloc, rest)?);
+        }
         match form {
             ">" => add_request(alloc, &mut self.sent, rest),
             "$" => {
                 self.words = words_of(alloc, rest)?;
                 Ok(())
             }
+            "=@" => self.add_row_due(alloc, rest),
             _ if form.starts_with('!') => self.add_fault(form, rest),
             _ => self.add_end(form, rest),
         }
@@ -143,31 +163,52 @@ impl Case {
         }
     }
 
-    // !read [N], !write [N], !append N, !each end, !each read, !each write, !whole
+    // =@ ROW, or `=@ same`
+    fn add_row_due(&mut self, alloc: Global, rest: &str) -> Result<(), LineError> {
+        let mut rows = self.rows_due.take().unwrap_or(Vec::new(alloc));
+        if rest == "same" {
+            rows = copied(alloc, self.rows.as_slice())?;
+        } else {
+            rows.push(read_row(alloc, rest)?)?;
+        }
+        self.rows_due = Some(rows);
+        Ok(())
+    }
+
+    // !read [N], !write [N], !open, !append N, !row N, !each end, !each read, !each write, !each row, !whole
     fn add_fault(&mut self, form: &str, rest: &str) -> Result<(), LineError> {
         match (form, rest) {
             ("!read", _) => self.faults.read = Some(behind(self.sent.len(), rest)?),
             ("!write", _) => self.faults.write = Some(behind(self.due.len(), rest)?),
-            ("!append", _) => {
-                let place = number_of(rest)?.checked_sub(1).ok_or(LineError::NoForm)?;
-                self.faults.appends.push(place as u64)?;
-            }
+            ("!open", "") => self.faults.is_shut = true,
+            ("!append", _) => self.faults.appends.push(before(rest)?)?,
+            ("!row", _) => self.faults.reads.push(before(rest)?)?,
             ("!whole", "") => self.ways = Ways::Whole,
             ("!each", "end") => self.ways = Ways::EachEnd,
             ("!each", "read") => self.ways = Ways::EachRead,
             ("!each", "write") => self.ways = Ways::EachWrite,
+            ("!each", "row") => self.ways = Ways::EachRow,
             _ => return Err(LineError::NoForm),
         }
         Ok(())
     }
 
-    // =EXIT, =unread, =rows N
+    // =EXIT, =bad_store ROW KIND, =unread, =rows N
     fn add_end(&mut self, form: &str, rest: &str) -> Result<(), LineError> {
         match (form, rest) {
             ("=cut", "") => self.exit = Exit::Cut,
             ("=usage", "") => self.exit = Exit::Usage,
             ("=read_fault", "") => self.exit = Exit::ReadFault,
             ("=write_fault", "") => self.exit = Exit::WriteFault,
+            ("=keeper_fault", "") => self.exit = Exit::KeeperFault,
+            ("=no_user", "") => self.exit = Exit::NoUser,
+            ("=bad_store", _) => {
+                let (row, kind) = rest.split_once(' ').ok_or(LineError::NoForm)?;
+                self.exit = Exit::BadStore {
+                    row: number_of(row)? as u64,
+                    kind: number_of(kind)? as u64,
+                };
+            }
             ("=unread", "") => self.unread = Some(self.sent.len()),
             ("=rows", _) => {
                 let rows = number_of(rest)? as u64;
@@ -178,6 +219,12 @@ impl Case {
         }
         Ok(())
     }
+}
+
+// One less than a number from 1.
+fn before(text: &str) -> Result<u64, LineError> {
+    let number = number_of(text)?.checked_sub(1).ok_or(LineError::NoForm)?;
+    Ok(number as u64)
 }
 
 // So many bytes, or so many more as a text says.

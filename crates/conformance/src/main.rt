@@ -18,10 +18,16 @@
 //! | `>>[N] TEXT`, `<<[N] TEXT` | bytes are sent, are due, N times |
 //! | `*N LINE` | N times that line, with the number of the time, from 1, in place of each `\#` |
 //! | `!read [N]`, `!write [N]` | the input fails behind what is sent so far, the output behind what is due so far, or N bytes later |
-//! | `!append N` | append number N, from 1, fails |
+//! | `@ ROW` | a row that stands in the store `f` ahead of the run: `KIND MAKER MORE N1 N2 N3 N4 N5 B1 B2`, `-` for no bytes, `#` ahead of hexadecimal digits |
+//! | `@N ROW` | the same in place of row number N, from 0, of those told so far |
+//! | `=@ same`, `=@ ROW` | the rows that are due there behind the run: those that stood there ahead of it; and then this one |
+//! | `!open` | the store can't be opened |
+//! | `!append N`, `!row N` | append number N, from 1, fails, in a store without rows; any other call of the keeper does |
 //! | `!each end`, `!each read`, `!each write` | the case is run once for each place at which the input may end, may fail, the output may fail |
+//! | `!each row` | the case is run once for each row at which the store may end |
 //! | `!whole` | the case is run with its bytes whole alone |
-//! | `=cut`, `=usage`, `=read_fault`, `=write_fault` | how the run ends, where that isn't with status 0 |
+//! | `=cut`, `=usage`, `=read_fault`, `=write_fault`, `=keeper_fault`, `=no_user` | how the run ends, where that isn't with status 0 |
+//! | `=bad_store ROW KIND` | it ends since that row, from 0, of that kind, is a bad one |
 //! | `=rows N` | N rows are kept by the answer ahead of this line |
 //! | `=unread` | what is sent from here on isn't read, where the bytes come one by one |
 //!
@@ -33,6 +39,7 @@ mod case;
 mod file;
 mod message;
 mod run;
+mod store;
 mod text;
 mod verdict;
 

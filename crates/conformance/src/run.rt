@@ -1,7 +1,9 @@
 //! One run of a case, over streams in memory.
 
-use cr_ports::{Keeper, MemKeeper, MemSink, MemSource};
-use cr_top::{Exit, exit_of, pipe, top};
+use crate::store::{PATH, Store, copied};
+use cr_base::Row;
+use cr_ports::{MemSink, MemSource};
+use cr_top::{Exit, top};
 use std::alloc::{AllocError, Global};
 
 /// How a stream is cut: one piece of `first` bytes, where that isn't 0, then pieces of `size`.
@@ -51,8 +53,7 @@ pub struct Input<'a> {
     pub read_fault: Option<usize>,
     /// Behind how many bytes the output fails.
     pub write_fault: Option<usize>,
-    /// The appends that fail, where the rows are to be counted.
-    pub appends: Option<&'a [u64]>,
+    pub store: Store<'a>,
 }
 
 /// What came of it.
@@ -62,8 +63,8 @@ pub struct Outcome {
     pub out: Vec<u8>,
     /// How many bytes of the input weren't read.
     pub unread: usize,
-    /// How many rows are kept, where they were to be counted.
-    pub rows: Option<u64>,
+    /// The rows that stand in the store.
+    pub rows: Vec<Row>,
 }
 
 impl Input<'_> {
@@ -85,31 +86,17 @@ impl Input<'_> {
         MemSink::new(alloc, room, pieces, Vec::new(alloc))
     }
 
-    // Runs it over these streams. Tells how many rows are kept where they are to be counted.
-    fn serve(
-        &self,
-        alloc: Global,
-        source: &mut MemSource,
-        sink: &mut MemSink,
-    ) -> Result<(Exit, Option<u64>), AllocError> {
-        let Some(appends) = self.appends else {
-            return Ok((top(alloc, self.words, source, sink), None));
-        };
-        let keeper = MemKeeper::new(alloc, appends.to_vec(alloc)?, Vec::new(alloc));
-        let (ending, mut keeper) = pipe(alloc, keeper, source, sink);
-        Ok((exit_of(ending), keeper.len().ok()))
-    }
-
     /// Runs it, with room for so many bytes of answers.
     pub fn run(&self, alloc: Global, room: usize) -> Result<Outcome, AllocError> {
         let mut source = self.source(alloc)?;
         let mut sink = self.sink(alloc, room)?;
-        let (exit, rows) = self.serve(alloc, &mut source, &mut sink)?;
+        let mut shelf = self.store.shelf(alloc)?;
+        let exit = top(alloc, self.words, &mut source, &mut sink, &mut shelf);
         Ok(Outcome {
             exit,
             out: sink.taken().to_vec(alloc)?,
             unread: source.unread().len(),
-            rows,
+            rows: copied(alloc, shelf.rows_at(PATH))?,
         })
     }
 }

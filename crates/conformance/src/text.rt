@@ -70,7 +70,8 @@ fn add_escaped(into: &mut Vec<u8>, part: &str) -> Result<(), LineError> {
     Ok(())
 }
 
-fn byte_of(digits: &str) -> Result<u8, LineError> {
+/// The byte that two hexadecimal digits tell.
+pub fn byte_of(digits: &str) -> Result<u8, LineError> {
     u8::from_str_radix(digits, 16).map_err(|_| LineError::NoForm)
 }
 

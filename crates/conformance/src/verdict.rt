@@ -2,6 +2,8 @@
 
 use crate::case::{Case, Mark, Ways};
 use crate::run::{Cut, Input, Outcome};
+use crate::store::{Store, are_same};
+use cr_base::Row;
 use cr_top::Exit;
 use std::alloc::{AllocError, Global};
 use std::fmt::Debug;
@@ -41,6 +43,7 @@ struct Due<'a> {
     out: &'a [u8],
     exit: Exit,
     rows: Option<u64>,
+    rows_due: Option<&'a [Row]>,
     unread: Option<usize>,
 }
 
@@ -64,6 +67,7 @@ fn runs(case: &Case) -> usize {
         Ways::Whole => 1,
         Ways::EachEnd | Ways::EachRead => case.sent.len().saturating_add(1),
         Ways::EachWrite => case.due.len(),
+        Ways::EachRow => case.rows.len().saturating_add(1),
     }
 }
 
@@ -82,6 +86,7 @@ fn name_of(ways: Ways, number: usize) -> &'static str {
         Ways::EachEnd => "the input ends behind a number of bytes",
         Ways::EachRead => "the input fails behind a number of bytes",
         Ways::EachWrite => "the output fails behind a number of bytes",
+        Ways::EachRow => "the store ends behind a number of rows",
     }
 }
 
@@ -93,19 +98,24 @@ fn front(bytes: &[u8], count: Option<usize>) -> &[u8] {
     }
 }
 
-// The appends that fail, where one does or where rows are told.
-fn appends(case: &Case) -> Option<&[u64]> {
-    let counts_rows = case.answers.iter().any(|mark| mark.rows.is_some());
-    if counts_rows || !case.faults.appends.is_empty() {
-        Some(case.faults.appends.as_slice())
-    } else {
-        None
-    }
-}
-
 // What the last of these answers tells of rows.
 fn rows_by(answers: &[Mark]) -> Option<u64> {
     answers.iter().rev().find_map(|mark| mark.rows)
+}
+
+// The store of a case with these rows.
+fn store_of<'a>(case: &'a Case, rows: &'a [Row]) -> Store<'a> {
+    Store {
+        rows,
+        is_shut: case.faults.is_shut,
+        appends: case.faults.appends.as_slice(),
+        reads: case.faults.reads.as_slice(),
+    }
+}
+
+// The first rows of a case.
+fn first_rows(case: &Case, count: usize) -> &[Row] {
+    case.rows.get(..count).unwrap_or(&[])
 }
 
 // The run of a case by one cut.
@@ -117,7 +127,7 @@ fn input_of(case: &Case, cut: Cut, out_cut: Cut) -> Input<'_> {
         out_cut,
         read_fault: case.faults.read,
         write_fault: case.faults.write,
-        appends: appends(case),
+        store: store_of(case, case.rows.as_slice()),
     }
 }
 
@@ -140,6 +150,10 @@ fn input_at(case: &Case, number: usize) -> Input<'_> {
             write_fault: Some(number),
             ..input_of(case, Cut::WHOLE, Cut::BYTES)
         },
+        Ways::EachRow => Input {
+            store: store_of(case, first_rows(case, number)),
+            ..input_of(case, Cut::WHOLE, Cut::WHOLE)
+        },
     }
 }
 
@@ -150,6 +164,7 @@ fn due_at(case: &Case, number: usize) -> Due<'_> {
         Ways::EachEnd => due_of_end(case, number),
         Ways::EachRead => due_of_read(case, number),
         Ways::EachWrite => due_of_write(case, number),
+        Ways::EachRow => due_of_rows(case, number),
     }
 }
 
@@ -159,6 +174,7 @@ fn due_of_cut(case: &Case, cut: Cut) -> Due<'_> {
         out: front(case.due.as_slice(), case.faults.write),
         exit: case.exit,
         rows: rows_by(case.answers.as_slice()),
+        rows_due: case.rows_due.as_ref().map(|rows| rows.as_slice()),
         unread: case
             .unread
             .filter(|_| cut.size == 1)
@@ -190,6 +206,7 @@ fn due_of_end(case: &Case, count: usize) -> Due<'_> {
         out: front(case.due.as_slice(), Some(end_of(answers))),
         exit: if is_clean { Exit::Done } else { Exit::Cut },
         rows: rows_by(answers),
+        rows_due: None,
         unread: None,
     }
 }
@@ -201,6 +218,7 @@ fn due_of_read(case: &Case, count: usize) -> Due<'_> {
         out: front(case.due.as_slice(), Some(end_of(answers))),
         exit: Exit::ReadFault,
         rows: rows_by(answers),
+        rows_due: None,
         unread: Some(case.sent.len().saturating_sub(count)),
     }
 }
@@ -223,7 +241,25 @@ fn due_of_write(case: &Case, count: usize) -> Due<'_> {
         out: front(case.due.as_slice(), Some(count)),
         exit: Exit::WriteFault,
         rows: rows_by(begun(case, count)),
+        rows_due: None,
         unread: None,
+    }
+}
+
+// Where the store ends behind so many rows. It is bad at the last one where that has another of its command behind it.
+fn due_of_rows(case: &Case, count: usize) -> Due<'_> {
+    match first_rows(case, count).last() {
+        Some(last) if last.more == 1 => Due {
+            out: &[],
+            exit: Exit::BadStore {
+                row: count.saturating_sub(1) as u64,
+                kind: last.kind,
+            },
+            rows: Some(count as u64),
+            rows_due: None,
+            unread: None,
+        },
+        _ => due_of_cut(case, Cut::WHOLE),
     }
 }
 
@@ -291,8 +327,15 @@ fn differing_end(
     if outcome.exit != due.exit {
         return differing(alloc, "end", &outcome.exit, &due.exit);
     }
-    if due.rows.is_some() && outcome.rows != due.rows {
-        return differing(alloc, "rows", &outcome.rows, &due.rows);
+    let rows = Some(outcome.rows.len() as u64);
+    if due.rows.is_some() && rows != due.rows {
+        return differing(alloc, "rows", &rows, &due.rows);
+    }
+    if !due
+        .rows_due
+        .is_none_or(|rows| are_same(outcome.rows.as_slice(), rows))
+    {
+        return Ok(Some(String::from_str(alloc, "other rows are kept than are due")?));
     }
     let unread = Some(outcome.unread);
     if due.unread.is_some() && unread != due.unread {

@@ -1,15 +1,15 @@
 -- Rows and entries spell each other.
-use Rattle.std.proofs.Common.{ℕ, Bool, true, false, cond, ◌≡◌, ◌≤◌, ◌==◌, ◌-◌, List, ◌++◌, length, drop, replicate, refl, sym, ap, subst, ◌∙◌, arith}
+use Rattle.std.proofs.Common.{ℕ, Bool, true, false, cond, ◌≡◌, ◌≤◌, ◌==◌, ◌-◌, List, [], ◌++◌, length, drop, replicate, refl, sym, ap, subst, ◌∙◌, arith}
 use Rattle.std.proofs.lemmas.Bool.Decides.{nat_tests}
 use Rattle.std.proofs.lemmas.List.{drop-replicate}
 use Rattle.std.proofs.lemmas.Slice.{drop-append-drop}
 use Rattle.cr_base.specs.Words.{phase_number, phase_at, mode_number, mode_at, role_number, role_at}
-use Rattle.cr_base.specs.Shapes.{kind_number, shape_of, FitsShape, InRange, unused}
-use Rattle.cr_base.specs.Rows.{kind_of, row_of, built, stamped, IsBoundedEntry}
+use Rattle.cr_base.specs.Shapes.{FitsShape, HasText, InRange, unused}
+use Rattle.cr_base.specs.Rows.{kind_number, shape_of, kind_of, row_of, built, stamped, IsBoundedEntry}
 use Rattle.cr_base.specs.declared.entry.EntryKind.{EntryKind}
 use Rattle.cr_base.specs.declared.entry.EntryKind.TheVariants as kind
 use Rattle.cr_base.specs.declared.entry.Entry.{Entry}
-use Rattle.cr_base.specs.declared.entry.Entry.TheVariants.{Registered, Named, PhaseSet, ModeSet, Submitted, Conflict}
+use Rattle.cr_base.specs.declared.entry.Entry.TheVariants.{Named, PhaseSet, ModeSet, Conflict}
 use Rattle.cr_base.specs.declared.entry.Stamped.{Stamped}
 use Rattle.cr_base.specs.declared.words.Phase.{Phase}
 use Rattle.cr_base.specs.declared.words.Phase.TheVariants.{Setup, Submission, Bidding, Reviewing, Discussion, Notification, Closed}
@@ -18,6 +18,10 @@ use Rattle.cr_base.specs.declared.words.Mode.TheVariants.{Overt, Blind, Anonymou
 use Rattle.cr_base.specs.declared.words.Role.{Role}
 use Rattle.cr_base.specs.declared.words.Role.TheVariants.{Account, Member, Chair}
 use Rattle.cr_base.specs.declared.row.Row.{Row}
+use Rattle.cr_base.specs.declared.shape.Range.{Range}
+use Rattle.cr_base.specs.declared.shape.Shape.{Shape}
+use Rattle.cr_base.specs.declared.shape.TextKind.{TextKind}
+use Rattle.cr_base.specs.declared.shape.TextKind.TheVariants.{Nothing}
 
 -- ---- words and their numbers
 
@@ -81,22 +85,39 @@ same_row r k a b c x y hk f h4 h5 h1 h2 h3 hx hy =
     let e : record { kind = kind_number k; maker = r.maker; more = cond (r.more == 1) 1 0; n1 = a; n2 = b; n3 = c; n4 = 0; n5 = 0; b1 = x; b2 = y } ≡ record { kind = r.kind; maker = r.maker; more = r.more; n1 = r.n1; n2 = r.n2; n3 = r.n3; n4 = r.n4; n5 = r.n5; b1 = r.b1; b2 = r.b2 } = cc in
     e
 
--- the entry that a row spells has that row
+-- what a field spells that holds a number as it is, a mark, or nothing
+abbrev plain : Range → ℕ → ℕ
+plain range n = cond (range.high == 0) 0 (cond (range.high == 1) (cond (n == 1) 1 0) n)
+
+plain-is : (range : Range) (n : ℕ) → InRange range n → plain range n ≡ n
+plain-is range n h = by range.high h.1
+  where
+    by : (high : ℕ) → n ≤ high → cond (high == 0) 0 (cond (high == 1) (cond (n == 1) 1 0) n) ≡ n
+    by high h = grind (arith, nat_tests)
+
+abbrev plain_text : TextKind → List ℕ → List ℕ
+plain_text Nothing bytes = []
+plain_text _ bytes = bytes
+
+plain_text-is : (text : TextKind) (bytes : List ℕ) → HasText text bytes → plain_text text bytes ≡ bytes
+plain_text-is Nothing bytes h = sym h
+plain_text-is text bytes h = refl
+
+-- the entry that a row spells has that row: a line for each kind with a word in it
 pub row_of-stamped : (k : EntryKind) (r : Row) → kind_number k ≡ r.kind → FitsShape (shape_of k) r → row_of (stamped k r) ≡ r
-row_of-stamped kind.Registered r hk f = same_row r kind.Registered _ _ _ _ _ hk f (unused-zero _ f.n4) (unused-zero _ f.n5) refl (unused-zero _ f.n2) (unused-zero _ f.n3) refl refl
 row_of-stamped kind.Named r hk f = same_row r kind.Named _ _ _ _ _ hk f (unused-zero _ f.n4) (unused-zero _ f.n5) refl (role_number-at r.n2 f.n2.0 f.n2.1) (unused-zero _ f.n3) (sym f.b1) (sym f.b2)
 row_of-stamped kind.PhaseSet r hk f = same_row r kind.PhaseSet _ _ _ _ _ hk f (unused-zero _ f.n4) (unused-zero _ f.n5) (phase_number-at r.n1 f.n1.1) (unused-zero _ f.n2) (unused-zero _ f.n3) (sym f.b1) (sym f.b2)
 row_of-stamped kind.ModeSet r hk f = same_row r kind.ModeSet _ _ _ _ _ hk f (unused-zero _ f.n4) (unused-zero _ f.n5) (mode_number-at r.n1 f.n1.1) (unused-zero _ f.n2) (unused-zero _ f.n3) (sym f.b1) (sym f.b2)
-row_of-stamped kind.Submitted r hk f = same_row r kind.Submitted _ _ _ _ _ hk f (unused-zero _ f.n4) (unused-zero _ f.n5) refl (unused-zero _ f.n2) (unused-zero _ f.n3) refl refl
-row_of-stamped kind.Conflict r hk f = same_row r kind.Conflict _ _ _ _ _ hk f (unused-zero _ f.n4) (unused-zero _ f.n5) refl refl (bit r.n3 f.n3.1) (sym f.b1) (sym f.b2)
+row_of-stamped k r hk f =
+    let s : Shape = shape_of k in
+    same_row r k _ _ _ _ _ hk f (plain-is s.n4 r.n4 f.n4) (plain-is s.n5 r.n5 f.n5) (plain-is s.n1 r.n1 f.n1) (plain-is s.n2 r.n2 f.n2) (plain-is s.n3 r.n3 f.n3) (plain_text-is s.b1 r.b1 f.b1) (plain_text-is s.b2 r.b2 f.b2)
 
 built-row_of : (e : Entry) (m : ℕ) (o : Bool) → IsBoundedEntry (record { maker = m; more = o; entry = e }) → built (kind_of e) (row_of (record { maker = m; more = o; entry = e })) ≡ e
-built-row_of (Registered user name digest) m o h = refl
 built-row_of (Named user role) m o h = ap (λ x. Named user x) (role_at-number role h.n2.0)
 built-row_of (PhaseSet phase) m o h = ap (λ x. PhaseSet x) (phase_at-number phase)
 built-row_of (ModeSet mode) m o h = ap (λ x. ModeSet x) (mode_at-number mode)
-built-row_of (Submitted paper title abstract) m o h = refl
 built-row_of (Conflict paper user on) m o h = ap (λ x. Conflict paper user x) (bit-back on)
+built-row_of e m o h = refl
 
 restamp : (s : Stamped) (p : Bool) (f : Entry) → p ≡ s.more → f ≡ s.entry → ◌≡◌ {A = Stamped} (record { maker = s.maker; more = p; entry = f }) s
 restamp s p f hp hf = let e : ◌≡◌ {A = Stamped} (record { maker = s.maker; more = p; entry = f }) (record { maker = s.maker; more = s.more; entry = s.entry }) = cc in e
@@ -107,31 +128,13 @@ stamped-row_of s h = restamp s _ _ (bit-back s.more) (built-row_of s.entry s.mak
 
 -- ---- the kind of a row
 
-kind_at : ℕ → EntryKind
-kind_at n = cond (n == 1) kind.Registered (cond (n == 2) kind.Named (cond (n == 3) kind.PhaseSet (cond (n == 4) kind.ModeSet (cond (n == 5) kind.Submitted kind.Conflict))))
-
-kind_at-number : (k : EntryKind) → kind_at (kind_number k) ≡ k
-unfolding kind_at
-kind_at-number kind.Registered = refl
-kind_at-number kind.Named = refl
-kind_at-number kind.PhaseSet = refl
-kind_at-number kind.ModeSet = refl
-kind_at-number kind.Submitted = refl
-kind_at-number kind.Conflict = refl
-
-same_kind : (k j : EntryKind) → kind_number k ≡ kind_number j → k ≡ j
-same_kind k j e = sym (kind_at-number k) ∙ ap kind_at e ∙ kind_at-number j
-
 kind_of-built : (k : EntryKind) (r : Row) → kind_of (built k r) ≡ k
 kind_of-built kind.Registered r = refl
-kind_of-built kind.Named r = refl
-kind_of-built kind.PhaseSet r = refl
-kind_of-built kind.ModeSet r = refl
-kind_of-built kind.Submitted r = refl
-kind_of-built kind.Conflict r = refl
+kind_of-built k r = refl
 
-kind_of-row : (k : EntryKind) (r : Row) (s : Stamped) → kind_number k ≡ r.kind → row_of s ≡ r → kind_of s.entry ≡ k
-kind_of-row k r s hk e = same_kind (kind_of s.entry) k (ap (λ (q : Row). q.kind) e ∙ sym hk)
+-- the only kind of a row's number is its entry's
+kind_of-row : (k : EntryKind) (r : Row) (s : Stamped) → ((j : EntryKind) → kind_number j ≡ r.kind → j ≡ k) → row_of s ≡ r → kind_of s.entry ≡ k
+kind_of-row k r s only e = only (kind_of s.entry) (ap (λ (q : Row). q.kind) e)
 
 -- ---- which rows are an entry's
 
@@ -142,12 +145,12 @@ bounded-stamped k r hk f =
     subst (λ (q : Row). P (kind_of (built k r)) q) (sym (row_of-stamped k r hk f)) (subst (λ (j : EntryKind). P j r) (sym (kind_of-built k r)) f)
 
 -- the row of an entry within its bounds fits its kind's shape
-pub row_fits : (k : EntryKind) (r : Row) (s : Stamped) → kind_number k ≡ r.kind → IsBoundedEntry s → row_of s ≡ r → FitsShape (shape_of k) r
-row_fits k r s hk h e = subst (λ (j : EntryKind). FitsShape (shape_of j) r) (kind_of-row k r s hk e) (subst (λ (q : Row). FitsShape (shape_of (kind_of s.entry)) q) e h)
+pub row_fits : (k : EntryKind) (r : Row) (s : Stamped) → ((j : EntryKind) → kind_number j ≡ r.kind → j ≡ k) → IsBoundedEntry s → row_of s ≡ r → FitsShape (shape_of k) r
+row_fits k r s only h e = subst (λ (j : EntryKind). FitsShape (shape_of j) r) (kind_of-row k r s only e) (subst (λ (q : Row). FitsShape (shape_of (kind_of s.entry)) q) e h)
 
 -- a row spells no other entry
-pub only_one : (k : EntryKind) (r : Row) (s : Stamped) → kind_number k ≡ r.kind → IsBoundedEntry s → row_of s ≡ r → stamped k r ≡ s
-only_one k r s hk h e = subst (λ (j : EntryKind). stamped j r ≡ s) (kind_of-row k r s hk e) (subst (λ (q : Row). stamped (kind_of s.entry) q ≡ s) e (stamped-row_of s h))
+pub only_one : (k : EntryKind) (r : Row) (s : Stamped) → ((j : EntryKind) → kind_number j ≡ r.kind → j ≡ k) → IsBoundedEntry s → row_of s ≡ r → stamped k r ≡ s
+only_one k r s only h e = subst (λ (j : EntryKind). stamped j r ≡ s) (kind_of-row k r s only e) (subst (λ (q : Row). stamped (kind_of s.entry) q ≡ s) e (stamped-row_of s h))
 
 -- the entry that a row spells, from its parts
 pub stamped-parts : (k : EntryKind) (r : Row) (m : ℕ) (e : Entry) → m ≡ r.maker → e ≡ built k r → ◌≡◌ {A = Stamped} (stamped k r) (record { maker = m; more = r.more == 1; entry = e })

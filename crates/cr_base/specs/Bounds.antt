@@ -1,14 +1,12 @@
 -- The bounds on one command: what a body has to be within, so that no entry is added that no row spells.
 use Rattle.std.specs.Prelude.{◌≡◌, length, IsTrue}
 use Rattle.cr_base.specs.declared.command.Command.{Command}
-use Rattle.cr_base.specs.declared.command.Command.TheVariants.{Register, SetPhase, Submit, Name, SetMode, SetConflict}
+use Rattle.cr_base.specs.declared.command.Command.TheVariants.{Register, Submit, Name}
 use Rattle.cr_base.specs.Texts.{IsName, IsTitle, IsAbstract}
 use Rattle.cr_base.specs.Words.{is_member}
 
 abbrev pub IsBoundedCommand : Command → Type 0
 IsBoundedCommand (Register name digest) = IsName name × (length digest ≡ 32)
-IsBoundedCommand (SetPhase phase) = Unit {0}
 IsBoundedCommand (Submit title abstract) = IsTitle title × IsAbstract abstract
 IsBoundedCommand (Name user role) = IsTrue (is_member role)
-IsBoundedCommand (SetMode mode) = Unit {0}
-IsBoundedCommand (SetConflict paper user on) = Unit {0}
+IsBoundedCommand _ = Unit {0}

@@ -1,4 +1,4 @@
--- The row of each entry, and the entry of a row.
+-- The row of each entry, and the entry of a row, kind by kind.
 use Rattle.std.specs.Prelude.{ℕ, Bool, ◌==◌, List, [], if◌then◌else◌, map}
 use Rattle.cr_base.specs.declared.entry.EntryKind.{EntryKind}
 use Rattle.cr_base.specs.declared.entry.EntryKind.TheVariants as kind
@@ -7,8 +7,29 @@ use Rattle.cr_base.specs.declared.entry.Entry.TheVariants.{Registered, Named, Ph
 use Rattle.cr_base.specs.declared.entry.Stamped.{Stamped}
 use Rattle.cr_base.specs.declared.row.Row.{Row}
 use Rattle.cr_base.specs.Words.{phase_number, phase_at, mode_number, mode_at, role_number, role_at}
-use Rattle.cr_base.specs.Shapes.{kind_number, shape_of, FitsShape}
+use Rattle.cr_base.specs.declared.shape.Shape.{Shape}
+use Rattle.cr_base.specs.declared.shape.TextKind.TheVariants.{Nothing, Name, Digest, Title, Abstract}
+use Rattle.cr_base.specs.Shapes.{users, papers, phases, modes, bit, roles, unused, shape, FitsShape}
 
+-- the number by which rows tell the kind
+abbrev pub kind_number : EntryKind → ℕ
+kind_number kind.Registered = 1
+kind_number kind.Named = 2
+kind_number kind.PhaseSet = 3
+kind_number kind.ModeSet = 4
+kind_number kind.Submitted = 5
+kind_number kind.Conflict = 10
+
+-- the fields of each kind, a line a kind
+abbrev pub shape_of : EntryKind → Shape
+shape_of kind.Registered = shape users unused unused Name Digest
+shape_of kind.Named = shape users roles unused Nothing Nothing
+shape_of kind.PhaseSet = shape phases unused unused Nothing Nothing
+shape_of kind.ModeSet = shape modes unused unused Nothing Nothing
+shape_of kind.Submitted = shape papers unused unused Title Abstract
+shape_of kind.Conflict = shape papers users bit Nothing Nothing
+
+-- the kind of an entry
 abbrev pub kind_of : Entry → EntryKind
 kind_of (Registered user name digest) = kind.Registered
 kind_of (Named user role) = kind.Named

@@ -1,22 +1,11 @@
--- What may stand in the fields of a row, kind by kind.
+-- What may stand in the fields of a row: ranges of numbers and grammars of bytes.
 use Rattle.std.specs.Prelude.{ℕ, ◌≡◌, ◌≤◌, List, [], length}
-use Rattle.cr_base.specs.declared.entry.EntryKind.{EntryKind}
-use Rattle.cr_base.specs.declared.entry.EntryKind.TheVariants.{Registered, Named, PhaseSet, ModeSet, Submitted, Conflict}
 use Rattle.cr_base.specs.declared.shape.Range.{Range}
 use Rattle.cr_base.specs.declared.shape.Shape.{Shape}
 use Rattle.cr_base.specs.declared.shape.TextKind.{TextKind}
 use Rattle.cr_base.specs.declared.shape.TextKind.TheVariants.{Nothing, Name, Digest, Title, Abstract}
 use Rattle.cr_base.specs.declared.row.Row.{Row}
 use Rattle.cr_base.specs.Texts.{IsName, IsTitle, IsAbstract}
-
--- the number by which rows tell the kind
-abbrev pub kind_number : EntryKind → ℕ
-kind_number Registered = 1
-kind_number Named = 2
-kind_number PhaseSet = 3
-kind_number ModeSet = 4
-kind_number Submitted = 5
-kind_number Conflict = 10
 
 abbrev pub range : ℕ → ℕ → Range
 range low high = record { low = low; high = high }
@@ -51,15 +40,6 @@ unused = range 0 0
 
 abbrev pub shape : Range → Range → Range → TextKind → TextKind → Shape
 shape n1 n2 n3 b1 b2 = record { n1 = n1; n2 = n2; n3 = n3; n4 = unused; n5 = unused; b1 = b1; b2 = b2 }
-
--- the fields of each kind, a line a kind
-abbrev pub shape_of : EntryKind → Shape
-shape_of Registered = shape users unused unused Name Digest
-shape_of Named = shape users roles unused Nothing Nothing
-shape_of PhaseSet = shape phases unused unused Nothing Nothing
-shape_of ModeSet = shape modes unused unused Nothing Nothing
-shape_of Submitted = shape papers unused unused Title Abstract
-shape_of Conflict = shape papers users bit Nothing Nothing
 
 abbrev pub InRange : Range → ℕ → Type 0
 InRange r n = (r.low ≤ n) × (n ≤ r.high)

@@ -1,5 +1,5 @@
 //! Rows: what a keeper keeps of entries.
-ghost use Rattle.std.specs.Prelude.{◌≡◌, IfOk};
+ghost use Rattle.std.specs.Prelude.{◌≡◌, ◌↔◌, IsTrue, IfOk};
 
 use crate::texts::Blob;
 use std::alloc::AllocError;
@@ -47,5 +47,21 @@ impl Row {
             b1: self.b1.copy()?,
             b2: self.b2.copy()?,
         })
+    }
+
+    /// Whether all fields of both are the same; at most one look at each byte. Takes no memory.
+    pub fn is_same(&self, other: &Row) -> bool
+        ensures { IsTrue result ↔ (self.now ≡ other.now) }
+    {
+        self.kind == other.kind
+            && self.maker == other.maker
+            && self.more == other.more
+            && self.n1 == other.n1
+            && self.n2 == other.n2
+            && self.n3 == other.n3
+            && self.n4 == other.n4
+            && self.n5 == other.n5
+            && self.b1.is_same(&other.b1)
+            && self.b2.is_same(&other.b2)
     }
 }

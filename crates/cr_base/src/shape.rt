@@ -1,9 +1,7 @@
-//! What may stand in the fields of a row, kind by kind: the table that rows are read by.
-ghost use Rattle.std.specs.Prelude.{◌≡◌, ◌≢◌, ◌↔◌, IsTrue, IfSome, IfNone};
-ghost use Rattle.cr_base.specs.Shapes.{kind_number, shape_of, FitsShape, HasText, InRange};
-ghost use Rattle.cr_base.specs.declared.entry.EntryKind.{EntryKind};
+//! What may stand in the fields of a row: ranges of numbers and grammars of bytes.
+ghost use Rattle.std.specs.Prelude.{◌≡◌, ◌↔◌, IsTrue};
+ghost use Rattle.cr_base.specs.Shapes.{FitsShape, HasText, InRange};
 
-use crate::entry::EntryKind;
 use crate::numbers::LAST_NUMBER;
 use crate::row::Row;
 use crate::texts::{is_abstract, is_name, is_title};
@@ -51,25 +49,25 @@ pub struct Shape {
     pub b2: TextKind,
 }
 
-const USERS: Range = Range {
+pub(crate) const USERS: Range = Range {
     low: 1,
     high: LAST_NUMBER,
 };
 
-const PAPERS: Range = Range {
+pub(crate) const PAPERS: Range = Range {
     low: 1,
     high: LAST_NUMBER,
 };
 
-const PHASES: Range = Range { low: 0, high: 6 };
+pub(crate) const PHASES: Range = Range { low: 0, high: 6 };
 
-const MODES: Range = Range { low: 0, high: 2 };
+pub(crate) const MODES: Range = Range { low: 0, high: 2 };
 
-const ROLES: Range = Range { low: 1, high: 2 };
+pub(crate) const ROLES: Range = Range { low: 1, high: 2 };
 
-const BIT: Range = Range { low: 0, high: 1 };
+pub(crate) const BIT: Range = Range { low: 0, high: 1 };
 
-const UNUSED: Range = Range { low: 0, high: 0 };
+pub(crate) const UNUSED: Range = Range { low: 0, high: 0 };
 
 impl Range {
     fn holds(self, number: u64) -> bool
@@ -93,60 +91,11 @@ impl TextKind {
     }
 }
 
-impl EntryKind {
-    /// The number by which rows tell the kind.
-    pub fn number(self) -> u64
-        ensures { result ≡ kind_number self }
-    {
-        match self {
-            EntryKind::Registered => 1,
-            EntryKind::Named => 2,
-            EntryKind::PhaseSet => 3,
-            EntryKind::ModeSet => 4,
-            EntryKind::Submitted => 5,
-            EntryKind::Conflict => 10,
-        }
-    }
-
-    /// The kind of that number, and none where no kind has it.
-    pub fn from_number(number: u64) -> Option<EntryKind>
-        ensures some { IfSome result (λ kind. kind_number kind ≡ number) }
-        ensures none { IfNone result ((kind : EntryKind) → kind_number kind ≢ number) }
-    {
-        match number {
-            1 => Some(EntryKind::Registered),
-            2 => Some(EntryKind::Named),
-            3 => Some(EntryKind::PhaseSet),
-            4 => Some(EntryKind::ModeSet),
-            5 => Some(EntryKind::Submitted),
-            10 => Some(EntryKind::Conflict),
-            _ => None,
-        }
-    }
-
-    /// What may stand in its rows.
-    pub(crate) fn shape(self) -> Shape
-        ensures { result ≡ shape_of self }
-    {
-        match self {
-            EntryKind::Registered => {
-                Shape::of(USERS, UNUSED, UNUSED, TextKind::Name, TextKind::Digest)
-            }
-            EntryKind::Named => Shape::of_numbers(USERS, ROLES, UNUSED),
-            EntryKind::PhaseSet => Shape::of_numbers(PHASES, UNUSED, UNUSED),
-            EntryKind::ModeSet => Shape::of_numbers(MODES, UNUSED, UNUSED),
-            EntryKind::Submitted => {
-                Shape::of(PAPERS, UNUSED, UNUSED, TextKind::Title, TextKind::Abstract)
-            }
-            EntryKind::Conflict => Shape::of_numbers(PAPERS, USERS, BIT),
-        }
-    }
-}
-
 impl Shape {
     ghost use Rattle.cr_base.specs.Shapes.{shape};
 
-    fn of(n1: Range, n2: Range, n3: Range, b1: TextKind, b2: TextKind) -> Shape
+    /// What may stand in rows that leave the last two numbers unused.
+    pub(crate) fn of(n1: Range, n2: Range, n3: Range, b1: TextKind, b2: TextKind) -> Shape
         ensures { result ≡ shape n1 n2 n3 b1 b2 }
     {
         Shape {
@@ -160,7 +109,8 @@ impl Shape {
         }
     }
 
-    fn of_numbers(n1: Range, n2: Range, n3: Range) -> Shape
+    /// The same of rows without bytes.
+    pub(crate) fn of_numbers(n1: Range, n2: Range, n3: Range) -> Shape
         ensures { result ≡ shape n1 n2 n3 TextKind.Nothing TextKind.Nothing }
     {
         Shape::of(n1, n2, n3, TextKind::Nothing, TextKind::Nothing)

@@ -1,15 +1,68 @@
-//! The row of an entry, and the entry of a row.
-ghost use Rattle.std.specs.Prelude.{◌≡◌, [], length, IfOk, IfSome, Some};
-ghost use Rattle.cr_base.specs.Shapes.{kind_number, shape_of, FitsShape};
-ghost use Rattle.cr_base.specs.Rows.{row_of, bit_number, built, IsBoundedEntry};
+//! The row of an entry, and the entry of a row, kind by kind.
+ghost use Rattle.std.specs.Prelude.{◌≡◌, ◌≢◌, [], length, IfOk, IfSome, IfNone, Some};
+ghost use Rattle.cr_base.specs.Shapes.{FitsShape};
+ghost use Rattle.cr_base.specs.Rows.{kind_number, shape_of, row_of, bit_number, built, IsBoundedEntry};
+ghost use Rattle.cr_base.specs.declared.entry.EntryKind.{EntryKind};
 ghost use Rattle.cr_base.specs.declared.entry.Stamped.{Stamped};
 
 use crate::entry::{Digest, Entry, EntryKind, Stamped};
 use crate::numbers::{PaperNo, UserNo};
 use crate::row::Row;
+use crate::shape::{BIT, MODES, PAPERS, PHASES, ROLES, Shape, TextKind, UNUSED, USERS};
 use crate::texts::{Blob, Short, Text};
 use crate::words::{Mode, Phase, Role};
 use std::alloc::{AllocError, Global};
+
+impl EntryKind {
+    /// The number by which rows tell the kind.
+    pub fn number(self) -> u64
+        ensures { result ≡ kind_number self }
+    {
+        match self {
+            EntryKind::Registered => 1,
+            EntryKind::Named => 2,
+            EntryKind::PhaseSet => 3,
+            EntryKind::ModeSet => 4,
+            EntryKind::Submitted => 5,
+            EntryKind::Conflict => 10,
+        }
+    }
+
+    /// The kind of that number, and none where no kind has it.
+    pub fn from_number(number: u64) -> Option<EntryKind>
+        ensures some { IfSome result (λ kind. kind_number kind ≡ number) }
+        ensures only { IfSome result (λ kind. (other : EntryKind) → kind_number other ≡ number → other ≡ kind) }
+        ensures none { IfNone result ((kind : EntryKind) → kind_number kind ≢ number) }
+    {
+        match number {
+            1 => Some(EntryKind::Registered),
+            2 => Some(EntryKind::Named),
+            3 => Some(EntryKind::PhaseSet),
+            4 => Some(EntryKind::ModeSet),
+            5 => Some(EntryKind::Submitted),
+            10 => Some(EntryKind::Conflict),
+            _ => None,
+        }
+    }
+
+    /// What may stand in its rows.
+    pub(crate) fn shape(self) -> Shape
+        ensures { result ≡ shape_of self }
+    {
+        match self {
+            EntryKind::Registered => {
+                Shape::of(USERS, UNUSED, UNUSED, TextKind::Name, TextKind::Digest)
+            }
+            EntryKind::Named => Shape::of_numbers(USERS, ROLES, UNUSED),
+            EntryKind::PhaseSet => Shape::of_numbers(PHASES, UNUSED, UNUSED),
+            EntryKind::ModeSet => Shape::of_numbers(MODES, UNUSED, UNUSED),
+            EntryKind::Submitted => {
+                Shape::of(PAPERS, UNUSED, UNUSED, TextKind::Title, TextKind::Abstract)
+            }
+            EntryKind::Conflict => Shape::of_numbers(PAPERS, USERS, BIT),
+        }
+    }
+}
 
 impl Entry {
     /// The row of an entry by this maker, where `more` says whether another entry of the same

@@ -47,6 +47,13 @@ impl Blob {
         self.bytes.as_slice()
     }
 
+    /// Whether both are the same bytes; at most one look at each.
+    pub fn is_same(&self, other: &Blob) -> bool
+        ensures { IsTrue result ↔ (self.now ≡ other.now) }
+    {
+        self.as_slice() == other.as_slice()
+    }
+
     /// An equal one, which shares the bytes: its cost is the same whatever their number. An error only for
     /// want of memory, of which a few bytes are taken for the count of those who share them.
     pub fn copy(&self) -> Result<Blob, AllocError>

@@ -1,2 +1,5 @@
+pub mod Opening
+pub mod Reading
+pub mod Rebuilding
 pub mod Seen
 pub mod Sound

@@ -1,8 +1,14 @@
--- What contracts see of a book.
+-- What contracts see of a book, and of one that is being read.
 use Rattle.std.specs.Prelude.{List}
 use Rattle.cr_base.specs.declared.entry.Stamped.{Stamped}
+use Rattle.cr_base.specs.declared.row.Row.{Row}
 
 -- the history, and the keeper of its rows
 pub record SeenBook (K : Type 0) : Type 0 where
   pub log : List Stamped
   pub keeper : K
+
+-- the history of the groups that are whole, and the rows of the one that isn't yet
+pub record SeenReading : Type 0 where
+  pub log : List Stamped
+  pub pending : List Row

@@ -1,5 +1,5 @@
 //! The book: one history, its tables and its keeper.
-ghost use Rattle.std.specs.Prelude.{◌≡◌, ◌≤◌, ◌++◌, ℕ, [], length, IfOk, IsOk, OnOk, OnErr, IfSome, Ok, Err, ◌≢◌};
+ghost use Rattle.std.specs.Prelude.{◌≡◌, ◌≤◌, ◌++◌, ℕ, length, IfOk, IfErr, IsOk, OnOk, OnErr, IfSome, Ok, Err, Some, ◌≢◌};
 ghost use Rattle.cr_base.specs.declared.reply.Rule.{Rule};
 ghost use Rattle.cr_base.specs.Facts.{number_of, caller_of};
 ghost use Rattle.cr_base.specs.Logins.{query_wants_login};
@@ -9,15 +9,21 @@ ghost use Rattle.cr_policy.specs.View.{view};
 ghost use Rattle.cr_base.specs.declared.command.Query.TheVariants as queries;
 ghost use Rattle.cr_policy.specs.Legal.{Legal, IsAllowed, MayAsk};
 ghost use Rattle.cr_ports.specs.Count.{Rises};
+ghost use Rattle.cr_ports.specs.Writing.{outlet_of};
+ghost use Rattle.cr_sights.specs.Lines.{lines_text};
+ghost use Rattle.cr_sights.specs.Walks.{WritesView};
 ghost use Rattle.cr_view.specs.Draws.{drawn_by};
 ghost use Rattle.cr_view.specs.Replies.{AnswersAsDue};
+ghost use Rattle.cr_book.specs.Opening.{Opens, IsCounted};
 ghost use Rattle.cr_book.specs.Sound.{IsKept, Accepts};
 
+use crate::opening::{OpenError, read_all};
 use crate::rows::{copies_of, rows_of};
 use cr_base::{Command, Digest, Query, Receipt, Reply, Rule, Short, Stamped, UserNo};
-use cr_ports::{Keeper, KeeperError};
+use cr_ports::{Keeper, KeeperError, Sink};
+use cr_sights::{ViewError, view_len, write_view};
 use cr_view::{AnswerError, Draw, Live};
-use std::alloc::Global;
+use std::alloc::{AllocError, Global};
 use std::marker::Model;
 
 /// A history, the tables that it comes to, and the keeper of its rows.
@@ -55,17 +61,31 @@ pub enum BookError {
 }
 
 impl<K: Keeper> Book<K> {
-    /// The book of a keeper without rows: its history is empty. Reads no row and takes no memory.
-    pub fn open(alloc: Global, keeper: K) -> Book<K>
-        requires { IfSome (K.rows keeper) (λ rows. rows ≡ []) }
-        ensures empty { result.log ≡ [] }
-        ensures same { result.keeper ≡ keeper }
+    /// The book of the legal history that the keeper's rows spell; with each error the keeper is handed
+    /// back. Every row is read once, in order, and the command of its group is judged again, by the same
+    /// judgement and on the history before it; at each row of the group, so one of n rows costs n judgements.
+    ///
+    /// `OpenError::BadStore` comes exactly where no legal history has these rows, and tells the first that
+    /// is no entry's or doesn't continue a legal history, or else the last one, where another of its
+    /// command should follow. `KeeperFault` comes only where the keeper's count of faults rose, or stands
+    /// at its last value; with all else the count is as it was, and `OutOfMemory` comes for want of memory
+    /// alone. No row changes.
+    pub fn open(alloc: Global, mut keeper: K) -> Result<Book<K>, (OpenError, K)>
+        ensures exact { IfSome (K.rows keeper) (λ rows. Opens rows result) }
+        ensures legal { IfOk result (λ book. Legal book.log) }
+        ensures same { IfOk result (λ book. K.rows book.keeper ≡ K.rows keeper) }
+        ensures steady { IfOk result (λ book. K.faults book.keeper ≡ K.faults keeper) }
+        ensures given_back { IfErr result (λ e. K.rows e.1 ≡ K.rows keeper) }
+        ensures cause { IfErr result (λ e. IsCounted {T = Unit {0}} (K.faults keeper) (K.faults e.1) (Err e.0)) }
     {
-        Book {
-            alloc,
-            log: Vec::new(alloc),
-            live: Live::new(alloc),
-            keeper,
+        match read_all(alloc, &mut keeper) {
+            Ok((log, live)) => Ok(Book {
+                alloc,
+                log,
+                live,
+                keeper,
+            }),
+            Err(error) => Err((error, keeper)),
         }
     }
 
@@ -207,5 +227,26 @@ impl<K: Keeper> Book<K> {
         ensures legal { Legal self.now.log }
     {
         self.log.len() as u64
+    }
+}
+
+/// What a user sees of the history.
+impl<K: Keeper> Book<K> {
+    /// Writes the user's view, one line a sighting: a compact JSON object with the parts that she is shown, its keys in
+    /// the order of their bytes. Behind an error a part of the lines was written. `WriteFault` comes only where the
+    /// sink's count of faults rose, or stands at its last value; else the count is as it was, and `OutOfMemory` comes
+    /// for want of memory alone. No view is made in memory: see `write_view` for the cost.
+    pub fn view_lines<O: Sink>(&self, user: UserNo, sink: &mut O) -> Result<(), ViewError>
+        ensures { WritesView result (lines_text (view (Some user) self.now.log)) (outlet_of O.taken O.faults sink.old) (outlet_of O.taken O.faults sink.new) }
+    {
+        write_view(self.alloc, &self.live, &self.log, user, sink)
+    }
+
+    /// The length of the user's view, which is the number of lines that `view_lines` writes; an error only for want of
+    /// memory. Costs two walks over the history, with a few look-ups an entry.
+    pub fn view_len(&self, user: UserNo) -> Result<u64, AllocError>
+        ensures { IfOk result (λ n. n ≡ length (view (Some user) self.now.log)) }
+    {
+        view_len(self.alloc, &self.live, &self.log, user)
     }
 }

@@ -4,8 +4,13 @@
 
 mod book;
 mod laws;
+mod opening;
+mod reading;
+mod rebuilding;
 mod rows;
 
 pub use book::{Book, BookError};
+pub use cr_sights::ViewError;
 pub use cr_view::AnswerError;
 pub use laws::law_standing_by_tables;
+pub use opening::OpenError;

@@ -5,7 +5,7 @@ use Rattle.std.specs.List.{list_any, AllByRecursion}
 use Rattle.std.proofs.lemmas.Bool.{eqb-true, or_parts, false≢true}
 use Rattle.std.proofs.lemmas.List.Elements.{All-nil, All-cons, All-append, All-same}
 use Rattle.cr_base.specs.declared.entry.Entry.{Entry}
-use Rattle.cr_base.specs.declared.entry.Entry.TheVariants.{Registered, Named, PhaseSet, ModeSet, Submitted, Conflict}
+use Rattle.cr_base.specs.declared.entry.Entry.TheVariants.{Registered, Named, Submitted, Conflict}
 use Rattle.cr_base.specs.declared.entry.EntryKind.TheVariants as kinds
 use Rattle.cr_base.specs.declared.entry.Stamped.{Stamped}
 use Rattle.cr_base.specs.declared.words.Role.{Role}
@@ -118,9 +118,6 @@ module _ (u : Option ℕ) (H : History) (stranger : IsStranger u H) where
 
   public-one : (later : History) (maker : ℕ) (more : Bool) (e : Entry) → names_her u e ≡ false → is_told u H maker e ≡ true → is_number u maker ≡ false → IsPublic (kind_for u H later maker e) (shown_to u H later maker e)
   public-one later maker more (Registered user name digest) unnamed told other = λ i. record (blank kinds.Registered) { mine = other i; user = Some user; name = Some name; digest = where_known (other i) digest }
-  public-one later maker more (Named user role) unnamed told other = λ i. record (blank kinds.Named) { mine = other i; user = Some user; role = Some role }
-  public-one later maker more (PhaseSet phase) unnamed told other = λ i. record (blank kinds.PhaseSet) { mine = other i; phase = Some phase }
-  public-one later maker more (ModeSet mode) unnamed told other = λ i. record (blank kinds.ModeSet) { mine = other i; mode = Some mode }
   public-one later maker more (Submitted paper title abstract) unnamed told other = λ i. record (blank kinds.Submitted) {
     mine = other i;
     paper = Some paper;
@@ -132,6 +129,7 @@ module _ (u : Option ℕ) (H : History) (stranger : IsStranger u H) where
     where
       untold : is_number u user ≡ false → is_number u maker ≡ false → is_author u paper H ≡ false → serves u H ≡ false → ⊥
       untold n o a s = grind (arith, told, n, o, a, s)
+  public-one later maker more e unnamed told other = λ i. record (shown_to u H later maker e) { mine = other i }
 
   unnamed-all : (G : History) → list_any (λ (e : Stamped). names_her u e.entry) G ≡ false → AllByRecursion (λ (e : Stamped). names_her u e.entry ≡ false) G
   unnamed-all [] h = tt

@@ -93,12 +93,13 @@ module _ (u : Option ℕ) (H : History) (at : Place) (maker : ℕ) (more : Bool)
   seen e = joined r at (stamp maker more e)
 
   pub seen-told : (e : Entry) → is_seen r at (stamp maker more e) ≡ is_told u H maker e
-  seen-told (Conflict paper user on) =
+  seen-told (Registered user name digest) = refl
+  seen-told e =
       let chair = chair-leads (role_of u H) in
       let on_it = chair-committee (role_of u H) in
+      let member = member-committee (role_of u H) in
       let from = from-past (phase_of H) in
-      grind (arith, chair, on_it, from)
-  seen-told e = refl
+      grind (arith, chair, on_it, member, from)
 
   -- the parts that are shown to all who are told of the entry
   pub record AreShown (e : Entry) : Type 0 where

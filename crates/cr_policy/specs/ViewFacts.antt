@@ -14,7 +14,7 @@ use Rattle.cr_base.specs.declared.reply.AccountLine.{AccountLine}
 use Rattle.cr_base.specs.declared.standing.Standing.{Standing}
 use Rattle.cr_base.specs.Lists.{listed, last, last_or, is_number, at_some, until, since}
 use Rattle.cr_base.specs.Phases.{is_phase}
-use Rattle.cr_base.specs.Shapes.{kind_number}
+use Rattle.cr_base.specs.Rows.{kind_number}
 use Rattle.cr_base.specs.History.{Registration}
 use Rattle.cr_base.specs.Sources.{Facts, Shown}
 use Rattle.cr_policy.specs.Sighting.{Sighting}

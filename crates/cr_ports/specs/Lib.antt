@@ -5,3 +5,5 @@ pub mod Script
 pub mod Memory
 pub mod Keeping
 pub mod Adapter
+pub mod Shelving
+pub mod Writing

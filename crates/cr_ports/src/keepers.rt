@@ -40,13 +40,37 @@ impl MemKeeper {
         ensures reads { (result.reads.failing ≡ failing_reads) × (result.reads.made ≡ 0) }
         ensures faults { result.faults ≡ 0 }
     {
+        MemKeeper::over(alloc, Vec::new(alloc), failing_appends, failing_reads)
+    }
+
+    /// A keeper of these rows, with no call made and no fault counted, which fails as the lists
+    /// tell.
+    pub(crate) fn over(
+        alloc: Global,
+        rows: Vec<Row>,
+        failing_appends: Vec<u64>,
+        failing_reads: Vec<u64>,
+    ) -> Self
+        ensures rows { result.rows ≡ rows.items }
+        ensures appends { (result.appends.failing ≡ failing_appends) × (result.appends.made ≡ 0) }
+        ensures reads { (result.reads.failing ≡ failing_reads) × (result.reads.made ≡ 0) }
+        ensures faults { result.faults ≡ 0 }
+    {
         MemKeeper {
             alloc,
-            rows: Vec::new(alloc),
+            rows,
             appends: Calls::new(failing_appends),
             reads: Calls::new(failing_reads),
             faults: 0,
         }
+    }
+
+    /// Its rows and its count of faults.
+    pub(crate) fn into_parts(self) -> (Vec<Row>, u64)
+        ensures rows { result.0.items ≡ self.rows }
+        ensures faults { result.1 ≡ self.faults }
+    {
+        (self.rows, self.faults)
     }
 
     /// Counts a call that isn't an append, and fails it where it is listed.
@@ -66,15 +90,23 @@ impl MemKeeper {
     }
 }
 
+/// Copies of `rows`.
+pub(crate) fn copies_of(alloc: Global, rows: &[Row]) -> Result<Vec<Row>, AllocError>
+    ensures { IfOk result (λ copies. copies.items ≡ rows.now) }
+{
+    let mut copies = Vec::with_capacity(alloc, rows.len())?;
+    for row in rows {
+        copies.push(row.copy()?)?;
+    }
+    Ok(copies)
+}
+
 /// Puts copies of `added` behind the rows that are there, or changes nothing.
 fn add_copies(alloc: Global, rows: &mut Vec<Row>, added: &[Row]) -> Result<(), AllocError>
     ensures ok { OnOk result (rows.new.items ≡ rows.old.items ++ added.now) }
     ensures err { OnErr result (rows.new.items ≡ rows.old.items) }
 {
-    let mut copies = Vec::with_capacity(alloc, added.len())?;
-    for row in added {
-        copies.push(row.copy()?)?;
-    }
+    let mut copies = copies_of(alloc, added)?;
     rows.append(&mut copies)?;
     Ok(())
 }

@@ -1,4 +1,4 @@
-//! The outside as traits: what is read, what is written and what keeps rows, each with a meaning and a count of faults.
+//! The outside as traits: what is read, what is written and what keeps rows and opens what keeps them, each with a meaning and a count of faults.
 //!
 //! A meaning is optional: what stands in memory tells its content, an adapter over a real stream
 //! doesn't. A count of faults never falls, and a call answers that it failed only where the count
@@ -9,21 +9,27 @@ mod calls;
 mod keeper;
 mod keepers;
 mod script;
+mod shelf;
+mod shelves;
 mod sink;
 mod sinks;
 mod source;
 mod sources;
 mod streams;
+mod writing;
 
 pub use calls::Calls;
 pub use keeper::{Keeper, KeeperError};
 pub use keepers::{MemKeeper, PlainKeeper};
 pub use script::Script;
+pub use shelf::Shelf;
+pub use shelves::MemShelf;
 pub use sink::{Sink, WriteStep};
 pub use sinks::MemSink;
 pub use source::{ReadStep, Source};
 pub use sources::{MemSource, PlainSource};
 pub use streams::{ReadSource, WriteSink};
+pub use writing::{WriteFault, write_all};
 
 #[cfg(test)]
 mod tests;

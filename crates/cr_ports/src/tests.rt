@@ -1,8 +1,8 @@
 //! What no clause says: that the calls that take memory succeed with ample memory, and the adapters.
 
 use crate::{
-    Keeper, KeeperError, MemKeeper, MemSink, MemSource, PlainKeeper, PlainSource, ReadSource,
-    ReadStep, Sink, Source, WriteSink, WriteStep,
+    Keeper, KeeperError, MemKeeper, MemShelf, MemSink, MemSource, PlainKeeper, PlainSource,
+    ReadSource, ReadStep, Shelf, Sink, Source, WriteSink, WriteStep,
 };
 use cr_base::{Blob, Row};
 use std::alloc::Global;
@@ -186,5 +186,39 @@ fn keepers(rt: HostRuntime) -> Result<(), Fail> {
     let mut plain = PlainKeeper::new(alloc);
     assert_eq!(rt; keep(alloc, &mut plain), Ok(2));
     assert_eq!(rt; second(&mut plain), Ok(8));
+    Ok(())
+}
+
+/// How many rows stand at the path, through the bound.
+fn count_at<S: Shelf>(shelf: &mut S, path: &str) -> Result<u64, KeeperError> {
+    let mut keeper = shelf.open(path)?;
+    let count = keeper.len();
+    shelf.shut(path, keeper);
+    count
+}
+
+/// Keeps two more rows at the path, through the bound.
+fn keep_at<S: Shelf>(alloc: Global, shelf: &mut S, path: &str) -> Result<u64, KeeperError> {
+    let mut keeper = shelf.open(path)?;
+    let kept = keep(alloc, &mut keeper);
+    shelf.shut(path, keeper);
+    kept
+}
+
+#[test]
+fn shelves(rt: HostRuntime) -> Result<(), Fail> {
+    let alloc = rt.alloc();
+    let mut shelf = MemShelf::new(
+        alloc,
+        vec![in alloc; 2]?,
+        vec![in alloc; 1]?,
+        Vec::new(alloc),
+    );
+    assert_eq!(rt; keep_at(alloc, &mut shelf, "f"), Ok(2));
+    assert_eq!(rt; keep_at(alloc, &mut shelf, "f"), Ok(4));
+    assert_eq!(rt; count_at(&mut shelf, "f"), Err(KeeperError::Failed));
+    assert_eq!(rt; count_at(&mut shelf, "f"), Ok(4));
+    assert_eq!(rt; count_at(&mut shelf, "g"), Ok(0));
+    assert_eq!(rt; shelf.rows_at("f").len(), 4);
     Ok(())
 }

@@ -28,6 +28,7 @@ mod status;
 pub use brief::ANSWER_ROOM;
 pub use form::Form;
 pub use no_memory::no_memory_text;
+pub use object::Object;
 pub use receipt::print_receipt;
 pub use refused::{Refused, print_refusal};
 pub use reply::print_reply;

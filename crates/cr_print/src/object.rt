@@ -14,7 +14,7 @@ use std::alloc::AllocError;
 /// An object that is being written. Its keys need no escape; members are written in the order of the
 /// bytes of their keys.
 #[derive(Clone, Copy)]
-pub(crate) struct Object {
+pub struct Object {
     is_first: bool,
 }
 
@@ -26,8 +26,9 @@ fn word_of(truth: bool) -> &'static str
 }
 
 impl Object {
-    /// Begins an object.
-    pub(crate) fn open(into: &mut Vec<u8>) -> Result<Object, AllocError>
+    /// Begins an object; an error only for want of memory, here and below. Behind one, `into` may have a part of
+    /// what was to be written.
+    pub fn open(into: &mut Vec<u8>) -> Result<Object, AllocError>
         ensures text { Appends result into.old into.new (codes "{") }
         ensures first { IfOk result (λ o. o.is_first ≡ true) }
         ensures room { Takes result into.old into.new 1 }
@@ -52,12 +53,7 @@ impl Object {
     }
 
     /// Writes a member that is a number.
-    pub(crate) fn number(
-        &mut self,
-        into: &mut Vec<u8>,
-        key: &str,
-        number: u64,
-    ) -> Result<(), AllocError>
+    pub fn number(&mut self, into: &mut Vec<u8>, key: &str, number: u64) -> Result<(), AllocError>
         ensures adds { Adds result into.old into.new self.old.is_first self.new.is_first (told key.now (Some (decimal number))) }
         ensures room { Takes result into.old into.new (length key.now + 24) }
     {
@@ -66,12 +62,7 @@ impl Object {
     }
 
     /// Writes a member that is a string.
-    pub(crate) fn string(
-        &mut self,
-        into: &mut Vec<u8>,
-        key: &str,
-        text: &[u8],
-    ) -> Result<(), AllocError>
+    pub fn string(&mut self, into: &mut Vec<u8>, key: &str, text: &[u8]) -> Result<(), AllocError>
         ensures adds { Adds result into.old into.new self.old.is_first self.new.is_first (told key.now (Some (quoted text.now))) }
         ensures room { Takes result into.old into.new (length key.now + 6 * length text.now + 6) }
     {
@@ -80,7 +71,7 @@ impl Object {
     }
 
     /// Writes a member that is a list.
-    pub(crate) fn list<T: Item>(
+    pub fn list<T: Item>(
         &mut self,
         into: &mut Vec<u8>,
         key: &str,
@@ -93,7 +84,7 @@ impl Object {
     }
 
     /// Writes a member whose value is JSON already, where that is told.
-    pub(crate) fn fixed(
+    pub fn fixed(
         &mut self,
         into: &mut Vec<u8>,
         key: &str,
@@ -110,7 +101,7 @@ impl Object {
     }
 
     /// Writes a member that is true or false, where that is told.
-    pub(crate) fn truth(
+    pub fn truth(
         &mut self,
         into: &mut Vec<u8>,
         key: &str,
@@ -125,7 +116,7 @@ impl Object {
     }
 
     /// Writes a member that is a text, where that is told.
-    pub(crate) fn text(
+    pub fn text(
         &mut self,
         into: &mut Vec<u8>,
         key: &str,
@@ -140,7 +131,7 @@ impl Object {
     }
 
     /// Writes a member that is a list of names, where that is told.
-    pub(crate) fn names(
+    pub fn names(
         &mut self,
         into: &mut Vec<u8>,
         key: &str,
@@ -155,7 +146,7 @@ impl Object {
     }
 
     /// Ends the object.
-    pub(crate) fn close(self, into: &mut Vec<u8>) -> Result<(), AllocError>
+    pub fn close(self, into: &mut Vec<u8>) -> Result<(), AllocError>
         ensures text { Appends result into.old into.new (codes "}") }
         ensures room { Takes result into.old into.new 1 }
     {

@@ -1,13 +1,15 @@
-//! The process: the top call over the words of the command line, standard input and standard output.
+//! The process: the top call over the words of the command line, standard input and standard output, and files as stores.
 //!
 //! A program's `main` hands its runtime to `run`, and has nothing else in it.
 #![tactic(auto)]
 
 use cr_ports::{ReadSource, WriteSink};
+use cr_sqlite::SqliteShelf;
 use cr_top::{Exit, top};
-use std::alloc::AllocError;
+use cr_words::{Job, read_words};
+use std::alloc::{AllocError, Global};
 use std::env;
-use std::io::ErrorKind;
+use std::io::{self, ErrorKind};
 use std::process::ExitCode;
 
 // The words of the command line, or none where one isn't UTF-8.
@@ -19,13 +21,53 @@ fn words(rt: &HostRuntime) -> Result<Vec<String>, AllocError> {
     }
 }
 
+// The file that the words name as the store.
+fn store_named(alloc: Global, words: &[String]) -> &str {
+    match read_words(alloc, words) {
+        Ok(Job::Pipe { store: Some(store) } | Job::View { store, .. }) => store,
+        Ok(Job::Pipe { store: None }) | Err(_) => "",
+    }
+}
+
+// One line on standard error for each status but 0.
+fn tell(rt: &HostRuntime, words: &[String], exit: Exit, shelf: &SqliteShelf) -> io::Result<()> {
+    let store = store_named(rt.alloc(), words);
+    match exit {
+        Exit::Done => Ok(()),
+        Exit::Cut => eprintln!(rt; "confd: the input ended inside a request"),
+        Exit::Usage => eprintln!(rt; "confd: no such words"),
+        Exit::BadStore { row, kind } => {
+            eprintln!(rt;
+                "confd: {store}: row {row}, of kind {kind}, is bad or ends inside a command"
+            )
+        }
+        Exit::ReadFault => eprintln!(rt; "confd: the input could not be read"),
+        Exit::WriteFault => eprintln!(rt; "confd: the output could not be written"),
+        Exit::KeeperFault => match shelf.reason() {
+            Some(reason) => eprintln!(rt; "confd: {store}: {reason}"),
+            None => eprintln!(rt; "confd: {store}: the store could not be read"),
+        },
+        Exit::NoUser => eprintln!(rt; "confd: {store}: nobody has registered that name"),
+        Exit::OutOfMemory => eprintln!(rt; "confd: out of memory"),
+    }
+}
+
 /// Does what the command line asks for, and gives the status that the process is to end with.
 pub fn run(rt: HostRuntime) -> ExitCode {
     let mut input = ReadSource::new(rt.stdin());
     let mut out = WriteSink::new(rt.stdout());
-    let exit = match words(&rt) {
-        Ok(words) => top(rt.alloc(), words.as_slice(), &mut input, &mut out),
-        Err(_) => Exit::OutOfMemory,
+    let mut shelf = SqliteShelf::new(&rt);
+    let Ok(words) = words(&rt) else {
+        return ExitCode::from(Exit::OutOfMemory.code());
     };
+    let exit = top(
+        rt.alloc(),
+        words.as_slice(),
+        &mut input,
+        &mut out,
+        &mut shelf,
+    );
+    // The status says the same, so a line that can't be written is left out.
+    let _ = tell(&rt, words.as_slice(), exit, &shelf);
     ExitCode::from(exit.code())
 }

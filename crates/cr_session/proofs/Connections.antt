@@ -12,11 +12,11 @@ use Rattle.cr_session.specs.declared.serve.Why.TheVariants as whys
 use Rattle.cr_session.specs.Replay.{JudgedWish, Replays, answers, answer_to, wishes_of}
 use Rattle.cr_session.specs.Serving.{World, EndsAs, CountsReads, Connection, GoesOn, TellsWantOfMemory, ReadsNoFurther}
 use Rattle.cr_session.specs.Wishes.{Spells, Begins, Reaches}
-use Rattle.cr_session.specs.Writing.{Outlet, Writes, BreaksOff}
+use Rattle.cr_ports.specs.Writing.{Outlet, Writes, BreaksOff}
 use Rattle.cr_session.proofs.NoFurther.{no_further-append, no_further-still}
 use Rattle.cr_session.proofs.Turns.{answers-append, replays-append}
 use Rattle.cr_session.proofs.WishRuns.{spells_on, begins_on, reaches_on, Reaches-more}
-use Rattle.cr_session.proofs.WritingLaws.{writes-nil, writes-append, breaks_behind}
+use Rattle.cr_ports.proofs.WritingLaws.{writes-nil, writes-append, breaks_behind}
 
 -- ---- what the sink took
 

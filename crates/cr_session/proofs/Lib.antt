@@ -1,7 +1,6 @@
 pub mod TwoRunsLaws
 pub mod Runs
 pub mod WishRuns
-pub mod WritingLaws
 pub mod Turns
 pub mod TurnLaws
 pub mod Requests

@@ -19,14 +19,14 @@ use Rattle.cr_session.specs.Replay.{JudgedWish, Ledger, answer_to, wishes_of}
 use Rattle.cr_session.specs.Serving.{World, Connection, GoesOn, WritesRefusal, TellsWantOfMemory, MayLackMemory, EndsAs, EndsSource, CountsReads, ReadsNoFurther}
 use Rattle.cr_session.specs.Turning.{ServesRequest}
 use Rattle.cr_session.specs.Wishes.{Spells}
-use Rattle.cr_session.specs.Writing.{Outlet, Writes, BreaksOff}
+use Rattle.cr_ports.specs.Writing.{Outlet, Writes, BreaksOff}
 use Rattle.cr_wire.specs.Wishes.{closes, closes_behind}
 use Rattle.cr_http.proofs.Moving.{and_left-nil}
 use Rattle.cr_http.specs.ToHead.{IsToHead}
 use Rattle.cr_http.proofs.HeadsRead.{to_head_of}
 use Rattle.cr_session.proofs.NoFurther.{no_further-one, no_further-still}
 use Rattle.cr_session.proofs.Turns.{replays-one}
-use Rattle.cr_session.proofs.WritingLaws.{writes-nil}
+use Rattle.cr_ports.proofs.WritingLaws.{writes-nil}
 
 closes_behind-is : (n : ℕ) (r : RequestText) → closes_behind n r ≡ ((wish_text r).asks_close || n == 1048575)
 unfolding closes_behind

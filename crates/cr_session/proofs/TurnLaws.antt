@@ -1,6 +1,6 @@
 -- What one turn does is what Told and Step say.
 use Rattle.std.proofs.Common.{◌≡◌, ◌∙◌, ℕ, Bool, true, false, cond, Option, Some, None, Result, Ok, Err, refl, sym, ap, subst, IsSome, IsOk}
-use Rattle.cr_base.specs.declared.command.Command.TheVariants.{Register, SetPhase, Submit, Name, SetMode, SetConflict}
+use Rattle.cr_base.specs.declared.command.Command.TheVariants.{Register}
 use Rattle.cr_base.specs.declared.ask.Ask.{Ask}
 use Rattle.cr_routes.specs.declared.place.Place.{Place}
 use Rattle.cr_policy.specs.Legal.{IsCaller, IsUser, MayAsk}
@@ -178,8 +178,4 @@ is-user H (Some v) h = h
 -- nobody registers, and every other command is a registered user's
 pub caller-command : (H : History) (w : Wish) (u : Option ℕ) (command : Command) → w.what ≡ whats.Command command → u ≡ caller H w → is_unauthorized u (whats.Command command) ≡ false → IsCaller H u command
 caller-command H w u (Register name digest) is by may = by ∙ ap (λ (x : What). cond (reads_credentials x) (user_told w.credentials H) None) is
-caller-command H w u (SetPhase phase) is by may = is-user H u (may-ask H w u (whats.Command (SetPhase phase)) by may)
-caller-command H w u (Submit title abstract) is by may = is-user H u (may-ask H w u (whats.Command (Submit title abstract)) by may)
-caller-command H w u (Name user role) is by may = is-user H u (may-ask H w u (whats.Command (Name user role)) by may)
-caller-command H w u (SetMode mode) is by may = is-user H u (may-ask H w u (whats.Command (SetMode mode)) by may)
-caller-command H w u (SetConflict paper user on) is by may = is-user H u (may-ask H w u (whats.Command (SetConflict paper user on)) by may)
+caller-command H w u command is by may = is-user H u (may-ask H w u (whats.Command command) by may)

@@ -11,7 +11,7 @@ use Rattle.cr_session.specs.declared.serve.Ending.TheVariants as endings
 use Rattle.cr_session.specs.declared.serve.Why.TheVariants as whys
 use Rattle.cr_session.specs.Replay.{JudgedWish, wishes_of}
 use Rattle.cr_session.specs.Serving.{World, EndsAs, EndsSource, CountsReads, Connection, WholeText}
-use Rattle.cr_session.specs.Writing.{Outlet}
+use Rattle.cr_ports.specs.Writing.{Outlet}
 use Rattle.cr_wire.specs.declared.what.Wish.{Wish}
 use Rattle.cr_session.specs.Wishes.{Spells, Begins}
 use Rattle.cr_session.proofs.Runs.{IsClosing}

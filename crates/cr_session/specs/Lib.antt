@@ -3,6 +3,5 @@ pub mod TwoRuns
 pub mod Replay
 pub mod Wishes
 pub mod Reading
-pub mod Writing
 pub mod Turning
 pub mod Serving

@@ -18,7 +18,7 @@ use Rattle.cr_session.specs.Reading.{StandsWish, MayWantToRead}
 use Rattle.cr_session.specs.Replay.{JudgedWish, Ledger, ledger_of, Replays, answers, answer_to, wishes_of}
 use Rattle.cr_session.specs.Turning.{MayWantMemory}
 use Rattle.cr_session.specs.Wishes.{Spells, Begins, Reaches}
-use Rattle.cr_session.specs.Writing.{Outlet, outlet_of, Writes, BreaksOff}
+use Rattle.cr_ports.specs.Writing.{Outlet, outlet_of, Writes, BreaksOff}
 use Rattle.cr_wire.specs.declared.what.Wish.{Wish}
 
 -- what a connection works on: the ledger, the source with its count of faults, and the sink

@@ -21,7 +21,7 @@ use Rattle.cr_session.specs.declared.serve.Served.{Served}
 use Rattle.cr_session.specs.declared.serve.Served.TheVariants as served
 use Rattle.cr_session.specs.Told.{form_of, told, is_unauthorized, drawn, step}
 use Rattle.cr_session.specs.Replay.{JudgedWish, Ledger, Turned, CountsLoss, answer_to}
-use Rattle.cr_session.specs.Writing.{Outlet, Writes, BreaksOff}
+use Rattle.cr_ports.specs.Writing.{Outlet, Writes, BreaksOff}
 use Rattle.cr_wire.specs.Wishes.{closes}
 
 -- ---- one turn

@@ -5,9 +5,7 @@ mod laws;
 mod reading;
 mod serve;
 mod turn;
-mod writing;
 
 pub use laws::{law_counted_faults, law_two_runs};
 pub use reading::{Inbox, WishRead, read_wish};
 pub use serve::{Ending, Why, serve_connection};
-pub use writing::{WriteFault, write_reply};

@@ -6,14 +6,13 @@ ghost use Rattle.cr_wire.specs.Wishes.{closes};
 ghost use Rattle.cr_session.specs.Replay.{ledger_of};
 ghost use Rattle.cr_session.specs.Serving.{Connection, TellsWantOfMemory, WritesRefusal, OneRound, WholeText, world_of};
 ghost use Rattle.cr_session.specs.Turning.{Sends, ServesRequest};
-ghost use Rattle.cr_session.specs.Writing.{outlet_of};
+ghost use Rattle.cr_ports.specs.Writing.{outlet_of};
 
 use crate::reading::{Inbox, WishRead, read_wish};
 use crate::turn::{Turn, print_turn, take_turn};
-use crate::writing::write_reply;
 use cr_book::Book;
 use cr_http::Refusal;
-use cr_ports::{Keeper, Sink, Source};
+use cr_ports::{Keeper, Sink, Source, write_all};
 use cr_print::{ANSWER_ROOM, Form, Refused, no_memory_text, print_refusal};
 use cr_wire::Wish;
 use std::alloc::Global;
@@ -101,7 +100,7 @@ fn serve_request<K: Keeper, O: Sink>(
 fn send<O: Sink>(sink: &mut O, reply: &[u8], close: bool) -> Served
     ensures { Sends result close reply.now (outlet_of O.taken O.faults sink.old) (outlet_of O.taken O.faults sink.new) }
 {
-    match write_reply(sink, reply) {
+    match write_all(sink, reply) {
         Err(_) => Served::WriteFault,
         Ok(()) if close => Served::Closes,
         Ok(()) => Served::Goes,
@@ -120,7 +119,7 @@ fn refuse<O: Sink>(sink: &mut O, reply: &mut Vec<u8>, why: Refusal, is_head: boo
         closes: true,
     };
     print_refusal(reply, Refused::Closing(why), form);
-    match write_reply(sink, reply) {
+    match write_all(sink, reply) {
         Ok(()) => Ending::Closed(Why::Refused(why)),
         Err(_) => Ending::WriteFault,
     }
@@ -131,7 +130,7 @@ fn note_no_memory<O: Sink>(sink: &mut O, is_head: bool) -> Ending
     ensures notes { TellsWantOfMemory [] is_head (outlet_of O.taken O.faults sink.old) (outlet_of O.taken O.faults sink.new) }
     ensures ending { result ≡ Ending.OutOfMemory }
 {
-    let _ = write_reply(sink, no_memory_text(is_head));
+    let _ = write_all(sink, no_memory_text(is_head));
     Ending::OutOfMemory
 }
 

@@ -15,7 +15,7 @@ use Rattle.cr_session.specs.declared.serve.Why.TheVariants as whys
 use Rattle.cr_session.specs.Told.{told, step}
 use Rattle.cr_session.specs.Replay.{JudgedWish, Ledger, Turned, Replays, wishes_of, answers, answer_to, history_after, lost_count}
 use Rattle.cr_session.specs.Wishes.{Spells}
-use Rattle.cr_session.specs.Writing.{Outlet, Writes}
+use Rattle.cr_ports.specs.Writing.{Outlet, Writes}
 use Rattle.cr_wire.specs.Wishes.{closes}
 use Rattle.cr_session.specs.Serving.{EndsAs, CountsReads}
 use Rattle.cr_session.proofs.Turns.{counted}
@@ -90,17 +90,17 @@ ended endings.ReadFault came b answered None H s s' f g read written counts e = 
 ended endings.WriteFault came b answered None H s s' f g read written counts e = absurd (written e.3.rises)
 ended endings.OutOfMemory came b answered None H s s' f g read written counts e = inl refl
 
-module _ {I : Type 0} where
-  answered : (exit : Exit) (b : List ℕ) (judged : List JudgedWish) (o o' : Outside I) (b0 b1 : Ledger) → b0.history ≡ [] → Legal b1.history → Replays judged b0 b1 → lost_count judged ≡ 0
-      → Answered exit b judged o.output o'.output → AnswersAll exit b o o'
-  answered exit b judged o o' b0 b1 empty legal r none a = record {
+module _ {I : Type 0} (opening : History) where
+  answered : (exit : Exit) (b : List ℕ) (judged : List JudgedWish) (o o' : Outside I) (b0 b1 : Ledger) → b0.history ≡ opening → Legal b1.history → Replays judged b0 b1 → lost_count judged ≡ 0
+      → Answered exit b judged o.output o'.output → AnswersAll opening exit b o o'
+  answered exit b judged o o' b0 b1 opens legal r none a = record {
     wishes = wishes_of judged;
     end = a.end;
     spells = a.spells;
     exit_is = a.exit_is;
-    legal = subst Legal (leads-steps b0 b1 judged r none ∙ ap (λ (h : History). steps_along h (wishes_of judged)) empty) legal;
+    legal = subst Legal (leads-steps b0 b1 judged r none ∙ ap (λ (h : History). steps_along h (wishes_of judged)) opens) legal;
     told = subst (λ (texts : List ℕ). Writes (texts ++ last_words a.end) o.output o'.output)
-        (answers-told 0 b0 b1 judged r none ∙ ap (λ (h : History). told_along 0 h (wishes_of judged)) empty) a.told;
+        (answers-told 0 b0 b1 judged r none ∙ ap (λ (h : History). told_along 0 h (wishes_of judged)) opens) a.told;
   }
 
 -- ---- one connection
@@ -129,22 +129,22 @@ nothing_lost judged b b' r idle = last (nat_lt b'.faults (2 ^ 64 - 1)) refl
     last true e = count (below_last b'.faults e) (nat_lt b.faults b'.faults) refl
     last false e = absurd (idle (λ lt. absurd (not_below b'.faults (2 ^ 64 - 1) e lt)))
 
-pub pipe_answers : {K I : Type 0} (rows : K → Option (List Row)) (faults : K → ℕ) (left : I → Option (List ℕ)) (gives : I → I → List ℕ → Type 0) (ending : Ending) (keeper keeper' : K) (b : List ℕ) (o o' : Outside I)
-    → Pipes rows faults left gives ending keeper keeper' o o' → left o.input ≡ Some b → IsFaultless o o' → (Rises (faults keeper) (faults keeper') → ⊥)
-    → (exit_of ending ≡ exits.OutOfMemory) ⊎ AnswersAll (exit_of ending) b o o'
-pipe_answers rows faults left gives ending keeper keeper' b o o' p told faultless idle =
+pub pipe_answers : {K I : Type 0} (rows : K → Option (List Row)) (faults : K → ℕ) (left : I → Option (List ℕ)) (gives : I → I → List ℕ → Type 0) (opening : History) (ending : Ending) (keeper keeper' : K) (b : List ℕ) (o o' : Outside I)
+    → Pipes rows faults left gives opening ending keeper keeper' o o' → left o.input ≡ Some b → IsFaultless o o' → (Rises (faults keeper) (faults keeper') → ⊥)
+    → (exit_of ending ≡ exits.OutOfMemory) ⊎ AnswersAll opening (exit_of ending) b o o'
+pipe_answers rows faults left gives opening ending keeper keeper' b o o' p told faultless idle =
     let text = p.whole b told in
     by text.answered text.failed text.replays (ended ending text.came b text.answered text.failed p.history o.output o'.output o.read_faults o'.read_faults faultless.read faultless.written p.connection.counts text.ends)
   where
     b0 : Ledger
-    b0 = record { history = []; faults = faults keeper }
+    b0 = record { history = opening; faults = faults keeper }
 
     b1 : Ledger
     b1 = record { history = p.history; faults = faults keeper' }
 
     by : (js : List JudgedWish) (failed : Option JudgedWish) → Replays (js ++ listed failed) b0 b1 → (exit_of ending ≡ exits.OutOfMemory) ⊎ (Answered (exit_of ending) b js o.output o'.output × (failed ≡ None))
-        → (exit_of ending ≡ exits.OutOfMemory) ⊎ AnswersAll (exit_of ending) b o o'
+        → (exit_of ending ≡ exits.OutOfMemory) ⊎ AnswersAll opening (exit_of ending) b o o'
     by js failed r (inl e) = inl e
     by js failed r (inr a) =
         let all : Replays js b0 b1 = subst (λ (xs : List JudgedWish). Replays xs b0 b1) (append-nil js) (subst (λ (x : Option JudgedWish). Replays (js ++ listed x) b0 b1) a.1 r) in
-        inr (answered (exit_of ending) b js o o' b0 b1 refl p.legal all (nothing_lost js b0 b1 all idle) a.0)
+        inr (answered opening (exit_of ending) b js o o' b0 b1 refl p.legal all (nothing_lost js b0 b1 all idle) a.0)

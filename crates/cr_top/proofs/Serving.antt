@@ -1,13 +1,17 @@
--- A connection over a keeper that counts no fault loses nothing.
-use Rattle.std.proofs.Common.{◌≡◌, ◌++◌, ℕ, List, [], Option, refl, arith}
+-- One connection, with its keeper handed back; over a keeper that counts no fault nothing is lost.
+use Rattle.std.proofs.Common.{◌≡◌, ◌++◌, ℕ, List, [], Option, Some, refl, sym, ap, subst, arith}
 use Rattle.cr_base.specs.Lists.{listed}
 use Rattle.cr_base.specs.declared.row.Row.{Row}
+use Rattle.cr_base.specs.History.{History}
+use Rattle.cr_policy.specs.Legal.{Legal}
+use Rattle.cr_book.specs.Sound.{IsKept}
 use Rattle.cr_session.specs.declared.serve.Ending.{Ending}
+use Rattle.cr_session.specs.Serving.{Connection, WholeText}
 use Rattle.cr_session.specs.Replay.{JudgedWish, Ledger, Replays, lost_count}
 use Rattle.cr_session.proofs.Turns.{counted}
 use Rattle.cr_top.specs.declared.exit.Exit.{Exit}
 use Rattle.cr_top.specs.Exits.{exit_of}
-use Rattle.cr_top.specs.Runs.{Outside, Pipes, ServesPipe}
+use Rattle.cr_top.specs.Runs.{Outside, Pipes, ServesPipe, world}
 
 -- as many were lost at most as the count rose by
 none_lost : (judged : List JudgedWish) (b b' : Ledger) → b.faults ≡ 0 → b'.faults ≡ 0 → Replays judged b b' → lost_count judged ≡ 0
@@ -15,15 +19,32 @@ none_lost judged b b' first last r =
     let most = counted judged b b' r (omega (arith, last)) in
     omega (arith, first, last, most)
 
-pub serves-from : {K I : Type 0} (rows : K → Option (List Row)) (left : I → Option (List ℕ)) (gives : I → I → List ℕ → Type 0) (exit : Exit) (ending : Ending) (keeper keeper' : K) (o o' : Outside I)
-    → exit ≡ exit_of ending → Pipes rows (λ _. 0) left gives ending keeper keeper' o o' → ServesPipe left gives exit o o'
-serves-from rows left gives exit ending keeper keeper' o o' is p =
+pub serves-from : {K I : Type 0} (rows : K → Option (List Row)) (left : I → Option (List ℕ)) (gives : I → I → List ℕ → Type 0) (opening : History) (exit : Exit) (ending : Ending) (keeper keeper' : K) (o o' : Outside I)
+    → exit ≡ exit_of ending → Pipes rows (λ _. 0) left gives opening ending keeper keeper' o o' → ServesPipe left gives opening exit o o'
+serves-from rows left gives opening exit ending keeper keeper' o o' is p =
     record {
       ending = ending;
       exit_is = is;
       history = p.history;
       legal = p.legal;
       connection = p.connection;
-      none_lost = none_lost (p.connection.answered ++ listed p.connection.failed) (record { history = []; faults = 0 }) (record { history = p.history; faults = 0 }) refl refl p.connection.replays;
+      none_lost = none_lost (p.connection.answered ++ listed p.connection.failed) (record { history = opening; faults = 0 }) (record { history = p.history; faults = 0 }) refl refl p.connection.replays;
       whole = p.whole;
     }
+
+-- the keeper that is handed back is that of the book at the end
+pub pipes-of : {K I : Type 0} (rows : K → Option (List Row)) (faults : K → ℕ) (left : I → Option (List ℕ)) (gives : I → I → List ℕ → Type 0) (opening history : History) (ending : Ending) (keeper last keeper' : K) (o o' : Outside I)
+    → keeper' ≡ last → Legal history → IsKept rows keeper' history
+    → Connection left gives ending 0 [] (world o opening (faults keeper)) (world o' history (faults last))
+    → ((b : List ℕ) → left o.input ≡ Some b → WholeText left ending b (world o opening (faults keeper)) (world o' history (faults last)))
+    → Pipes rows faults left gives opening ending keeper keeper' o o'
+pipes-of {K} {I} rows faults left gives opening history ending keeper last keeper' o o' same legal kept connection whole = record {
+  history = history;
+  legal = legal;
+  kept = kept;
+  connection = subst (λ (n : ℕ). Connection left gives ending 0 [] (world o opening (faults keeper)) (world o' history n)) count connection;
+  whole = λ b told. subst (λ (n : ℕ). WholeText left ending b (world o opening (faults keeper)) (world o' history n)) count (whole b told);
+}
+  where
+    count : faults last ≡ faults keeper'
+    count = ap faults (sym same)

@@ -1,5 +1,9 @@
 -- The exit of a run, by how its connection ended, and its status.
 use Rattle.std.specs.Prelude.{ℕ}
+use Rattle.cr_ports.specs.declared.keeper.KeeperError.{KeeperError}
+use Rattle.cr_ports.specs.declared.keeper.KeeperError.TheVariants as refusals
+use Rattle.cr_book.specs.declared.opening.OpenError.{OpenError}
+use Rattle.cr_book.specs.declared.opening.OpenError.TheVariants as errors
 use Rattle.cr_session.specs.declared.serve.Ending.{Ending}
 use Rattle.cr_session.specs.declared.serve.Ending.TheVariants as endings
 use Rattle.cr_top.specs.declared.exit.Exit.{Exit}
@@ -14,11 +18,25 @@ exit_of endings.ReadFault = exits.ReadFault
 exit_of endings.WriteFault = exits.WriteFault
 exit_of endings.OutOfMemory = exits.OutOfMemory
 
+-- the exit of a run whose store the shelf didn't open
+abbrev pub exit_of_shelf : KeeperError → Exit
+exit_of_shelf refusals.Failed = exits.KeeperFault
+exit_of_shelf refusals.OutOfMemory = exits.OutOfMemory
+
+-- the exit of a run whose store has rows that don't open
+abbrev pub exit_of_rows : OpenError → Exit
+exit_of_rows (errors.BadStore row found) = exits.BadStore row found.kind
+exit_of_rows errors.KeeperFault = exits.KeeperFault
+exit_of_rows errors.OutOfMemory = exits.OutOfMemory
+
 -- the status that the process ends with
 abbrev pub status_of : Exit → ℕ
 status_of exits.Done = 0
 status_of exits.Cut = 1
 status_of exits.Usage = 2
+status_of (exits.BadStore row kind) = 3
 status_of exits.ReadFault = 4
 status_of exits.WriteFault = 5
+status_of exits.KeeperFault = 6
+status_of exits.NoUser = 8
 status_of exits.OutOfMemory = 9

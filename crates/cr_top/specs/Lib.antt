@@ -3,3 +3,5 @@ pub mod Words
 pub mod Exits
 pub mod Replayed
 pub mod Runs
+pub mod Stores
+pub mod Jobs

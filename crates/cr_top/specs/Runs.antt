@@ -13,7 +13,7 @@ use Rattle.cr_wire.specs.Wishes.{Wishes}
 use Rattle.cr_session.specs.declared.serve.Ending.{Ending}
 use Rattle.cr_session.specs.Replay.{lost_count}
 use Rattle.cr_session.specs.Serving.{World, Connection, WholeText}
-use Rattle.cr_session.specs.Writing.{Outlet, outlet_of, Writes, BreaksOff}
+use Rattle.cr_ports.specs.Writing.{Outlet, outlet_of, Writes, BreaksOff}
 use Rattle.cr_top.specs.declared.exit.Exit.{Exit}
 use Rattle.cr_top.specs.declared.exit.Exit.TheVariants as exits
 use Rattle.cr_top.specs.Exits.{exit_of}
@@ -32,32 +32,28 @@ outside_of read_faults taken write_faults input out = record { input = input; re
 abbrev pub world : {I : Type 0} → Outside I → History → ℕ → World I
 world o H faults = record { ledger = record { history = H; faults = faults }; source = o.input; read_faults = o.read_faults; sink = o.output }
 
--- ---- one connection from the empty history
+-- ---- one connection from an opening history on
 
--- From the empty history on a connection was served to its ending, and the keeper was handed back with the rows of
--- the last history.
-pub record Pipes {K I : Type 0} (rows : K → Option (List Row)) (faults : K → ℕ) (left : I → Option (List ℕ)) (gives : I → I → List ℕ → Type 0) (ending : Ending) (keeper keeper' : K) (o o' : Outside I) : Type 0 where
+-- From this history on, whose rows the keeper had, a connection was served to its ending, and the keeper was handed back
+-- with the rows of the last history.
+pub record Pipes {K I : Type 0} (rows : K → Option (List Row)) (faults : K → ℕ) (left : I → Option (List ℕ)) (gives : I → I → List ℕ → Type 0) (opening : History) (ending : Ending) (keeper keeper' : K) (o o' : Outside I) : Type 0 where
   pub history : History
   pub legal : Legal history
   pub kept : IsKept rows keeper' history
-  pub connection : Connection left gives ending 0 [] (world o [] (faults keeper)) (world o' history (faults keeper'))
-  pub whole : (b : List ℕ) → left o.input ≡ Some b → WholeText left ending b (world o [] (faults keeper)) (world o' history (faults keeper'))
+  pub connection : Connection left gives ending 0 [] (world o opening (faults keeper)) (world o' history (faults keeper'))
+  pub whole : (b : List ℕ) → left o.input ≡ Some b → WholeText left ending b (world o opening (faults keeper)) (world o' history (faults keeper'))
 
 -- ---- the exits
 
 -- The same over a keeper that counts no fault, so that nothing is lost: the exit says how the connection ended.
-pub record ServesPipe {I : Type 0} (left : I → Option (List ℕ)) (gives : I → I → List ℕ → Type 0) (exit : Exit) (o o' : Outside I) : Type 0 where
+pub record ServesPipe {I : Type 0} (left : I → Option (List ℕ)) (gives : I → I → List ℕ → Type 0) (opening : History) (exit : Exit) (o o' : Outside I) : Type 0 where
   pub ending : Ending
   pub exit_is : exit ≡ exit_of ending
   pub history : History
   pub legal : Legal history
-  pub connection : Connection left gives ending 0 [] (world o [] 0) (world o' history 0)
+  pub connection : Connection left gives ending 0 [] (world o opening 0) (world o' history 0)
   pub none_lost : lost_count (connection.answered ++ listed connection.failed) ≡ 0
-  pub whole : (b : List ℕ) → left o.input ≡ Some b → WholeText left ending b (world o [] 0) (world o' history 0)
-
--- memory was wanting before anything was read or written
-abbrev pub IsUntouched : {I : Type 0} → Exit → Outside I → Outside I → Type 0
-IsUntouched exit o o' = (exit ≡ exits.OutOfMemory) × (o' ≡ o)
+  pub whole : (b : List ℕ) → left o.input ≡ Some b → WholeText left ending b (world o opening 0) (world o' history 0)
 
 -- Words were refused: nothing was read, and the usage line was written, or a part of it where its write failed.
 pub record TellsUsage {I : Type 0} (exit : Exit) (o o' : Outside I) : Type 0 where
@@ -65,13 +61,6 @@ pub record TellsUsage {I : Type 0} (exit : Exit) (o o' : Outside I) : Type 0 whe
   pub no_read : o'.read_faults ≡ o.read_faults
   pub written : ((exit ≡ exits.Usage) × Writes usage o.output o'.output)
       ⊎ ((exit ≡ exits.WriteFault) × BreaksOff [] usage o.output o'.output)
-
--- what a run did whose words were taken, and one whose words were refused
-abbrev pub DoesPipe : {I : Type 0} → (I → Option (List ℕ)) → (I → I → List ℕ → Type 0) → Exit → Outside I → Outside I → Type 0
-DoesPipe left gives exit o o' = IsUntouched exit o o' ⊎ ServesPipe left gives exit o o'
-
-abbrev pub RefusesWords : {I : Type 0} → Exit → Outside I → Outside I → Type 0
-RefusesWords exit o o' = IsUntouched exit o o' ⊎ TellsUsage exit o o'
 
 -- ---- nothing fails
 
@@ -81,11 +70,11 @@ pub record IsFaultless {I : Type 0} (o o' : Outside I) : Type 0 where
   pub written : Rises o.output.faults o'.output.faults → ⊥
 
 -- Each wish that the bytes spell has its answer, told on the history that the wishes before it lead to, from the
--- empty one on; then comes what the end of the bytes is answered, which gives the exit.
-pub record AnswersAll {I : Type 0} (exit : Exit) (b : List ℕ) (o o' : Outside I) : Type 0 where
+-- opening one on; then comes what the end of the bytes is answered, which gives the exit.
+pub record AnswersAll {I : Type 0} (opening : History) (exit : Exit) (b : List ℕ) (o o' : Outside I) : Type 0 where
   pub wishes : List Wish
   pub end : End
   pub spells : Wishes b wishes end
   pub exit_is : exit ≡ exit_at end
-  pub legal : Legal (steps_along [] wishes)
-  pub told : Writes (told_along 0 [] wishes ++ last_words end) o.output o'.output
+  pub legal : Legal (steps_along opening wishes)
+  pub told : Writes (told_along 0 opening wishes ++ last_words end) o.output o'.output

@@ -7,22 +7,34 @@ use cr_session::Ending;
 /// How a run ended.
 #[derive(Clone, Copy, Debug, PartialEq, Eq)]
 pub enum Exit {
-    /// The job was done: the connection's stream ended between requests, or the server closed it.
+    /// The job was done: the connection's stream ended between requests, or the server closed it; or the view was printed.
     Done,
     /// The connection's stream ended inside a request.
     Cut,
     /// The words name no job, a call for help included.
     Usage,
+    /// The store has a row that is no entry's, or doesn't continue a legal history, or is its last one though
+    /// another of its command should follow.
+    BadStore {
+        /// The row's number, from 0: it is the first such row.
+        row: u64,
+        /// The number of its kind, as it was read.
+        kind: u64,
+    },
     /// A read of the input failed.
     ReadFault,
     /// A write to the output failed.
     WriteFault,
+    /// The store couldn't be opened or read.
+    KeeperFault,
+    /// Nobody has registered the name in the store.
+    NoUser,
     /// Memory is wanting.
     OutOfMemory,
 }
 
 impl Exit {
-    /// The status that the process ends with: 0, 1, 2, 4, 5 or 9.
+    /// The status that the process ends with: 0 to 6, 8 or 9.
     pub fn code(self) -> u8
         ensures { result ≡ status_of self }
     {
@@ -30,8 +42,11 @@ impl Exit {
             Exit::Done => 0,
             Exit::Cut => 1,
             Exit::Usage => 2,
+            Exit::BadStore { .. } => 3,
             Exit::ReadFault => 4,
             Exit::WriteFault => 5,
+            Exit::KeeperFault => 6,
+            Exit::NoUser => 8,
             Exit::OutOfMemory => 9,
         }
     }

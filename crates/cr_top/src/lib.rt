@@ -1,12 +1,17 @@
-//! The top call: a command line, an input and an output.
+//! The top call: a command line, an input, an output and a shelf.
 //!
-//! `top` does what the program's words ask for; `pipe` is one connection from the empty history on.
+//! `top` does what the program's words ask for: `pipe` is one connection from a book's history on, `pipe_store` and
+//! `view_store` work on the rows of a store.
 #![tactic(auto)]
 
 mod exit;
 mod piping;
 mod run;
+mod storing;
+mod viewing;
 
 pub use exit::{Exit, exit_of};
 pub use piping::pipe;
 pub use run::top;
+pub use storing::pipe_store;
+pub use viewing::view_store;

@@ -1,5 +1,5 @@
-//! One connection, from an empty history on.
-ghost use Rattle.std.specs.Prelude.{◌≡◌, ◌⊎◌, [], ℕ, List, Some, IfSome};
+//! One connection, from the history of a book on.
+ghost use Rattle.std.specs.Prelude.{◌≡◌, ◌⊎◌, ℕ, List, Some};
 ghost use Rattle.cr_ports.specs.Count.{Rises};
 ghost use Rattle.cr_top.specs.declared.exit.Exit.{Exit};
 ghost use Rattle.cr_top.specs.Exits.{exit_of};
@@ -10,33 +10,32 @@ use cr_ports::{Keeper, Sink, Source};
 use cr_session::{Ending, serve_connection};
 use std::alloc::Global;
 
-/// Serves one connection over `input` and `out`, from the empty history on. Tells how it ended, and
-/// hands back the keeper, which keeps the rows of the last history.
+/// Serves one connection over `input` and `out`, from the book's history on. Tells how it ended, and
+/// hands back the book's keeper, which keeps the rows of the last history.
 ///
-/// The keeper begins without rows. `ReadFault` and `WriteFault` come only where the count of `input`,
+/// `ReadFault` and `WriteFault` come only where the count of `input`,
 /// of `out` rose, or stands at its last value, and no other ending lets a count rise. `OutOfMemory` comes
 /// for want of memory alone, and behind a wish that was read only where it wanted some: see
 /// `serve_connection`.
 pub fn pipe<K: Keeper, I: Source, O: Sink>(
     alloc: Global,
-    keeper: K,
+    book: Book<K>,
     input: &mut I,
     out: &mut O,
 ) -> (Ending, K)
-    requires { IfSome (K.rows keeper) (λ rows. rows ≡ []) }
     ensures pipes { let outside = outside_of I.faults O.taken O.faults in
-        Pipes K.rows K.faults I.left I.read_gives result.0 keeper result.1 (outside input.old out.old) (outside input.new out.new) }
+        Pipes K.rows K.faults I.left I.read_gives book.log result.0 book.keeper result.1 (outside input.old out.old) (outside input.new out.new) }
 
     // Where nothing fails, the keeper's calls included, all that the input's bytes spell is answered,
     // or memory is wanting.
     ensures answers { let outside = outside_of I.faults O.taken O.faults in
         (b : List ℕ) → I.left input.old ≡ Some b → IsFaultless (outside input.old out.old) (outside input.new out.new)
-        → (Rises (K.faults keeper) (K.faults result.1) → ⊥)
-        → (exit_of result.0 ≡ Exit.OutOfMemory) ⊎ AnswersAll (exit_of result.0) b (outside input.old out.old) (outside input.new out.new) }
+        → (Rises (K.faults book.keeper) (K.faults result.1) → ⊥)
+        → (exit_of result.0 ≡ Exit.OutOfMemory) ⊎ AnswersAll book.log (exit_of result.0) b (outside input.old out.old) (outside input.new out.new) }
     ensures read_fault { result.0 ≡ Ending.ReadFault → Rises (I.faults input.old) (I.faults input.new) }
     ensures write_fault { result.0 ≡ Ending.WriteFault → Rises (O.faults out.old) (O.faults out.new) }
 {
-    let mut book = Book::open(alloc, keeper);
+    let mut book = book;
     let ending = serve_connection(alloc, &mut book, input, out);
     (ending, book.close())
 }

@@ -1,6 +1,7 @@
 //! The tables of a history, and what a user is by them.
 ghost use Rattle.std.specs.Prelude.{◌≡◌, ◌≤◌, ◌<◌, ◌+◌, OnOk, length};
-ghost use Rattle.cr_base.specs.Accounts.{number_at, caller_at};
+ghost use Rattle.std.specs.Option.{option_map};
+ghost use Rattle.cr_base.specs.Accounts.{number_at, account_at, caller_at};
 ghost use Rattle.cr_base.specs.Sources.{standing_at};
 ghost use Rattle.cr_base.specs.Lists.{at_some};
 ghost use Rattle.cr_base.specs.Papers.{paper_count};
@@ -100,6 +101,13 @@ impl Live {
         ensures { result ≡ number_at self.now.tables.accounts name.now }
     {
         self.accounts.number_of(name)
+    }
+
+    /// The name of a user, and none where nobody has that number. One read by number.
+    pub fn name_of(&self, user: UserNo) -> Option<Short>
+        ensures { result ≡ option_map (λ a. a.name) (account_at self.now.tables.accounts user) }
+    {
+        self.accounts.name_of(user)
     }
 
     /// The user who registered a name with this digest of a secret, and none where nobody did: no

@@ -47,10 +47,7 @@ given asks.SetConflict paper body =
     of_each asks.SetConflict (json_of body) (command_in asks.SetConflict paper) (λ d.
     of_each asks.SetConflict (flag_at (codes "on") d) _ (λ on.
     of_each asks.SetConflict (user_at (codes "user") d) _ (λ user. refl)))
-given asks.Accounts paper body = of_each asks.Accounts (json_of body) (command_in asks.Accounts paper) (λ d. tt)
-given asks.Phase paper body = of_each asks.Phase (json_of body) (command_in asks.Phase paper) (λ d. tt)
-given asks.Page paper body = of_each asks.Page (json_of body) (command_in asks.Page paper) (λ d. tt)
-given asks.Me paper body = of_each asks.Me (json_of body) (command_in asks.Me paper) (λ d. tt)
+given ask paper body = of_each ask (json_of body) (command_in ask paper) (λ d. tt)
 
 asks_for : (ask : Ask) (told : Option Command) → GivenBy ask told → ask_of (command_of ask told) ≡ Some ask
 asks_for ask None given = refl
@@ -61,12 +58,9 @@ by_body ask found body = asks_for ask _ (given ask (paper_of found) body)
 
 pub ask_by_ask : (ask : Ask) (found : FoundPath) (body : List ℕ) → ask_of (asked ask found body) ≡ Some ask
 ask_by_ask asks.Register found body = by_body asks.Register found body
-ask_by_ask asks.Accounts found body = refl
 ask_by_ask asks.Name found body = by_body asks.Name found body
 ask_by_ask asks.SetMode found body = by_body asks.SetMode found body
-ask_by_ask asks.Phase found body = refl
 ask_by_ask asks.SetPhase found body = by_body asks.SetPhase found body
 ask_by_ask asks.Submit found body = by_body asks.Submit found body
-ask_by_ask asks.Page found body = refl
 ask_by_ask asks.SetConflict found body = by_body asks.SetConflict found body
-ask_by_ask asks.Me found body = refl
+ask_by_ask ask found body = refl

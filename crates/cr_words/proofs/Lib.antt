@@ -1,3 +1,5 @@
 pub mod Simple
+pub mod Filled
 pub mod Named
 mod PipeLaw
+mod StoreLaws

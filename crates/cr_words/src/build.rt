@@ -1,18 +1,36 @@
 //! The command that the words are read by.
 ghost use Rattle.std.specs.Prelude.{◌≡◌, IfOk, false};
-ghost use Rattle.clap.specs.Words.{app_of};
+ghost use Rattle.clap.specs.Words.{app_of, rule_of};
 ghost use Rattle.clap.specs.declared.Command.TheViews.{out-Command as fields_of};
-ghost use Rattle.cr_words.specs.Words.{pipe, confd_words};
+ghost use Rattle.cr_words.specs.Words.{text_option, pipe, view, confd_words};
 
-use clap::Command;
+use clap::{Arg, Command};
 use std::alloc::{AllocError, Global};
 
-#[tactic(auto, unfolding(crate::specs::Words::pipe))]
-fn pipe_command<'a>(alloc: Global) -> Command<'a>
-    ensures shape { app_of result ≡ pipe }
-    ensures local { (fields_of result).has_globals ≡ false }
+/// The option `--id VALUE`, where VALUE is any text.
+fn text_arg<'a>(alloc: Global, id: &'a str, is_required: bool) -> Arg<'a>
+    ensures rule { rule_of result ≡ text_option id.entry.now is_required }
+    ensures local { result.global ≡ false }
 {
-    Command::new(alloc, "pipe")
+    Arg::new(alloc, id).long(id).required(is_required)
+}
+
+#[tactic(auto, unfolding(crate::specs::Words::pipe))]
+fn pipe_command<'a>(alloc: Global) -> Result<Command<'a>, AllocError>
+    ensures shape { IfOk result (λ c. app_of c ≡ pipe) }
+    ensures local { IfOk result (λ c. (fields_of c).has_globals ≡ false) }
+{
+    Command::new(alloc, "pipe").arg(text_arg(alloc, "store", false))
+}
+
+#[tactic(auto, unfolding(crate::specs::Words::view))]
+fn view_command<'a>(alloc: Global) -> Result<Command<'a>, AllocError>
+    ensures shape { IfOk result (λ c. app_of c ≡ view) }
+    ensures local { IfOk result (λ c. (fields_of c).has_globals ≡ false) }
+{
+    Command::new(alloc, "view")
+        .arg(text_arg(alloc, "store", true))?
+        .arg(text_arg(alloc, "user", true))
 }
 
 /// The program with its subcommands. It takes memory, and fails for want of it only.
@@ -22,5 +40,6 @@ pub(crate) fn confd_command<'a>(alloc: Global) -> Result<Command<'a>, AllocError
     Command::new(alloc, "confd")
         .subcommand_required(true)
         .disable_help_subcommand(true)
-        .subcommand(pipe_command(alloc))
+        .subcommand(pipe_command(alloc)?)?
+        .subcommand(view_command(alloc)?)
 }

@@ -1,14 +1,50 @@
-//! Laws over the definitions alone.
-ghost use Rattle.std.specs.Prelude.{◌≡◌, [], ◌∷◌, Some, codes, true};
+//! Laws over the definitions alone: which words are taken, and the job that each names, with no run.
+ghost use Rattle.std.specs.Prelude.{◌≡◌, [], ◌∷◌, ◌++◌, Some, None, codes, true, List, is_some};
 ghost use Rattle.clap.specs.Words.{Text, fault_of, takes};
-ghost use Rattle.cr_words.specs.Job.{job_of};
-ghost use Rattle.cr_words.specs.Words.{confd_words};
-ghost use Rattle.cr_words.specs.declared.read.Job.{Job};
+ghost use Rattle.cr_words.specs.Job.{job_of, pipe_job, view_job};
+ghost use Rattle.cr_words.specs.Words.{confd_words, is_plain_text, store_word, user_word, store_words, user_words};
 
-/// `pipe` alone, behind the program's name, whatever that is, is taken, and names its job: by the words'
-/// own definition, with no run.
+/// `pipe` alone, behind the program's name, whatever that is.
 pub fn law_pipe()
     ensures taken { (name : Text) → fault_of confd_words (name ∷ codes "pipe" ∷ []) ≡ [] }
     ensures passes { (name : Text) → takes confd_words (name ∷ codes "pipe" ∷ []) ≡ true }
-    ensures job { (name : Text) → job_of (name ∷ codes "pipe" ∷ []) ≡ Some Job.Pipe }
+    ensures job { (name : Text) → job_of (name ∷ codes "pipe" ∷ []) ≡ Some (pipe_job None) }
+{}
+
+/// `pipe --store FILE`, where FILE doesn't begin with a hyphen.
+pub fn law_pipe_store()
+    ensures taken { (name file : Text) → is_plain_text file ≡ true → fault_of confd_words (name ∷ codes "pipe" ∷ store_words file) ≡ [] }
+    ensures passes { (name file : Text) → is_plain_text file ≡ true → takes confd_words (name ∷ codes "pipe" ∷ store_words file) ≡ true }
+    ensures job { (name file : Text) → is_plain_text file ≡ true → job_of (name ∷ codes "pipe" ∷ store_words file) ≡ Some (pipe_job (Some file)) }
+{}
+
+/// `view --store FILE --user NAME`, in either order, where neither value begins with a hyphen.
+pub fn law_view()
+    ensures taken { (name file user : Text) → is_plain_text file ≡ true → is_plain_text user ≡ true
+        → fault_of confd_words (name ∷ codes "view" ∷ store_words file ++ user_words user) ≡ [] }
+    ensures passes { (name file user : Text) → is_plain_text file ≡ true → is_plain_text user ≡ true
+        → takes confd_words (name ∷ codes "view" ∷ store_words file ++ user_words user) ≡ true }
+    ensures job { (name file user : Text) → is_plain_text file ≡ true → is_plain_text user ≡ true
+        → job_of (name ∷ codes "view" ∷ store_words file ++ user_words user) ≡ Some (view_job file user) }
+    ensures user_first_taken { (name file user : Text) → is_plain_text file ≡ true → is_plain_text user ≡ true
+        → fault_of confd_words (name ∷ codes "view" ∷ user_words user ++ store_words file) ≡ [] }
+    ensures user_first_passes { (name file user : Text) → is_plain_text file ≡ true → is_plain_text user ≡ true
+        → takes confd_words (name ∷ codes "view" ∷ user_words user ++ store_words file) ≡ true }
+    ensures user_first_job { (name file user : Text) → is_plain_text file ≡ true → is_plain_text user ≡ true
+        → job_of (name ∷ codes "view" ∷ user_words user ++ store_words file) ≡ Some (view_job file user) }
+{}
+
+/// `pipe --store=FILE` and `view --store=FILE --user=NAME`, whatever the values are.
+pub fn law_attached()
+    ensures pipe_taken { (name file : Text) → fault_of confd_words (name ∷ codes "pipe" ∷ store_word file ∷ []) ≡ [] }
+    ensures pipe_passes { (name file : Text) → takes confd_words (name ∷ codes "pipe" ∷ store_word file ∷ []) ≡ true }
+    ensures pipe_job { (name file : Text) → job_of (name ∷ codes "pipe" ∷ store_word file ∷ []) ≡ Some (pipe_job (Some file)) }
+    ensures view_taken { (name file user : Text) → fault_of confd_words (name ∷ codes "view" ∷ store_word file ∷ user_word user ∷ []) ≡ [] }
+    ensures view_passes { (name file user : Text) → takes confd_words (name ∷ codes "view" ∷ store_word file ∷ user_word user ∷ []) ≡ true }
+    ensures view_job { (name file user : Text) → job_of (name ∷ codes "view" ∷ store_word file ∷ user_word user ∷ []) ≡ Some (view_job file user) }
+{}
+
+/// Words that `clap` takes name a job.
+pub fn law_taken_words()
+    ensures { (words : List Text) → fault_of confd_words words ≡ [] → is_some (job_of words) ≡ true }
 {}

@@ -1,20 +1,30 @@
 //! What the words ask for.
-ghost use Rattle.std.specs.Prelude.{◌≡◌, ◌≢◌, Some, [], IfOk, true, map, string_bytes};
+ghost use Rattle.std.specs.Prelude.{◌≡◌, ◌≢◌, Some, [], IfOk, true, map, string_bytes, option_map};
 ghost use Rattle.std.specs.Option.{option_and_then};
-ghost use Rattle.clap.specs.Words.{takes, fault_of, subcommand_rows_of};
+ghost use Rattle.clap.specs.Words.{takes, fault_of, first_of, found_of, rows_of, subcommand_rows_of};
 ghost use Rattle.cr_words.specs.Words.{confd_words};
-ghost use Rattle.cr_words.specs.Job.{job_named, job_of};
+ghost use Rattle.cr_words.specs.Job.{job_named, job_of, job_seen, view_named};
 
 use crate::build::confd_command;
 use clap::ArgMatches;
 use clap::error::ErrorKind;
 use std::alloc::Global;
 
-/// What the program is asked to do.
+/// What the program is asked to do. Its texts are lent from the words, and may be empty.
 #[derive(Clone, Copy, Debug, PartialEq, Eq)]
-pub enum Job {
+pub enum Job<'a> {
     /// One connection over standard input and standard output.
-    Pipe,
+    Pipe {
+        /// Where the records are kept, if anywhere.
+        store: Option<&'a str>,
+    },
+    /// What one user may see of the history that a store keeps.
+    View {
+        /// Where the records are kept.
+        store: &'a str,
+        /// The user's name.
+        user: &'a str,
+    },
 }
 
 /// Why the words name no job.
@@ -26,13 +36,33 @@ pub enum WordsError {
     OutOfMemory,
 }
 
-/// The job of the subcommand that was used.
-fn named_job(matches: &ArgMatches) -> Option<Job>
-    ensures { result ≡ option_and_then job_named (subcommand_rows_of matches.now) }
+/// The value of the option `--id`, if it was given.
+fn value_of<'a>(options: &ArgMatches<'a>, id: &str) -> Option<&'a str>
+    ensures { option_map (λ s. s.now) result ≡ first_of id.now (rows_of (found_of options.now)) }
 {
-    let (name, _) = matches.subcommand()?;
+    options.get_str(id)
+}
+
+/// The job of `view`, whose options are both there.
+fn view_job<'a>(options: &ArgMatches<'a>) -> Option<Job<'a>>
+    ensures { option_map job_seen result ≡ view_named (rows_of (found_of options.now)) }
+{
+    Some(Job::View {
+        store: value_of(options, "store")?,
+        user: value_of(options, "user")?,
+    })
+}
+
+/// The job of the subcommand that was used.
+fn named_job<'a>(matches: &ArgMatches<'a>) -> Option<Job<'a>>
+    ensures { option_map job_seen result ≡ option_and_then job_named (subcommand_rows_of matches.now) }
+{
+    let (name, options) = matches.subcommand()?;
     match name {
-        "pipe" => Some(Job::Pipe),
+        "pipe" => Some(Job::Pipe {
+            store: value_of(options, "store"),
+        }),
+        "view" => view_job(options),
         _ => None,
     }
 }
@@ -41,11 +71,11 @@ fn named_job(matches: &ArgMatches) -> Option<Job>
 ///
 /// `Usage` comes exactly where `clap` refuses the words by `confd_words`, a call for help included.
 /// `OutOfMemory` comes only where memory ran out. What was taken for the reading is given back.
-pub fn read_words(alloc: Global, words: &[String]) -> Result<Job, WordsError>
-    ensures job { IfOk result (λ job. job_of (map string_bytes words.now) ≡ Some job) }
-    ensures taken { IfOk result (λ _. fault_of confd_words (map string_bytes words.now) ≡ []) }
-    ensures refused { result ≡ Err WordsError.Usage → fault_of confd_words (map string_bytes words.now) ≢ [] }
-    ensures passes { takes confd_words (map string_bytes words.now) ≡ true → result ≢ Err WordsError.Usage }
+pub fn read_words<'a>(alloc: Global, words: &'a [String]) -> Result<Job<'a>, WordsError>
+    ensures job { IfOk result (λ job. job_of (map string_bytes words.entry.now) ≡ Some (job_seen job)) }
+    ensures taken { IfOk result (λ _. fault_of confd_words (map string_bytes words.entry.now) ≡ []) }
+    ensures refused { result ≡ Err WordsError.Usage → fault_of confd_words (map string_bytes words.entry.now) ≢ [] }
+    ensures passes { takes confd_words (map string_bytes words.entry.now) ≡ true → result ≢ Err WordsError.Usage }
 {
     let Ok(command) = confd_command(alloc) else {
         return Err(WordsError::OutOfMemory);

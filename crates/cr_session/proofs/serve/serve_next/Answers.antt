@@ -1,7 +1,7 @@
 use Rattle.std.proofs.Common.{refl, sym, subst}
 use Rattle.cr_session.specs.Replay.{ledger_of}
 use Rattle.cr_session.specs.Serving.{world_of, Connection}
-use Rattle.cr_session.specs.Writing.{outlet_of}
+use Rattle.cr_ports.specs.Writing.{outlet_of}
 use Rattle.cr_session.specs.declared.serve.Ending.{Ending}
 use Rattle.cr_session.proofs.Rounds.{round_goes, round_closes, round_write_fault, round_no_memory, round_unread, round_refused, round_cut, round_clean, round_read_fault}
 use Rattle.cr_session.proofs.serve.serve_next.Goals as goal

@@ -7,8 +7,10 @@ use Rattle.cr_words.proofs.build.confd_command.Goals as goal
 pub returns : goal.returns
 unfolding confd_words
 returns c =
+    let top = λ (a : App). a.top in
     let first : app_of c.disable_help_subcommand.result ≡ required (app_of c.new.result) =
     rw (c.disable_help_subcommand.ensures, c.subcommand_required.ensures) refl in
     let program = first ∙ ap required c.new.ensures.app in
-    let sub = ap (λ (a : App). a.top) c.pipe_command.ensures.shape in
-    IfOk-weaker c.subcommand.result _ _ (λ m h. h.shape c.pipe_command.ensures.local ∙ ap₂ with_subcommand program sub) c.subcommand.ensures
+    let with_pipe = c.in_ok-subcommand.ensures.shape c.in_ok-pipe_command.ensures.local ∙ ap₂ with_subcommand program (ap top c.in_ok-pipe_command.ensures.shape) in
+    IfOk-weaker c.subcommand-2.result _ _
+    (λ m h. h.shape c.in_ok-view_command.ensures.local ∙ ap₂ with_subcommand with_pipe (ap top c.in_ok-view_command.ensures.shape)) c.subcommand-2.ensures

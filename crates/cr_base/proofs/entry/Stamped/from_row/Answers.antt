@@ -1,6 +1,6 @@
 use Rattle.std.proofs.Common.{◌≡◌, ap, subst, sym, ◌∙◌, Some, IsTrue}
-use Rattle.cr_base.specs.Shapes.{shape_of, FitsShape}
-use Rattle.cr_base.specs.Rows.{row_of, stamped, IsBoundedEntry}
+use Rattle.cr_base.specs.Shapes.{FitsShape}
+use Rattle.cr_base.specs.Rows.{shape_of, row_of, stamped, IsBoundedEntry}
 use Rattle.cr_base.specs.declared.entry.Stamped.{Stamped}
 use Rattle.cr_base.specs.declared.shape.Shape.{Shape}
 use Rattle.cr_base.proofs.RowLaws.{row_of-stamped, bounded-stamped, row_fits, only_one, stamped-parts}
@@ -8,7 +8,7 @@ use Rattle.cr_base.proofs.entry.Stamped.from_row.Goals as goal
 
 pub returns-then-not-fits-clause-every : goal.returns-then-not-fits-clause-every
 returns-then-not-fits-clause-every c = λ s h e.
-    let fits = row_fits c.in-Some.kind c.args.row.now s c.in-Some.ensures.some h e in
+    let fits = row_fits c.in-Some.kind c.args.row.now s c.in-Some.ensures.only h e in
     let held : IsTrue c.fits.result = c.fits.ensures.1 (subst (λ (x : Shape). FitsShape x c.args.row.now) (sym c.shape.ensures) fits) in
     let failed = c.if-not-fits.true in
     cc
@@ -25,4 +25,4 @@ returns-clause-spells c =
     (bounded-stamped c.in-Some.kind c.args.row.now c.in-Some.ensures.some (fits c), row_of-stamped c.in-Some.kind c.args.row.now c.in-Some.ensures.some (fits c))
 
 pub returns-clause-every : goal.returns-clause-every
-returns-clause-every c = λ s h e. ap (λ (x : Stamped). Some x) (sym (made c) ∙ only_one c.in-Some.kind c.args.row.now s c.in-Some.ensures.some h e)
+returns-clause-every c = λ s h e. ap (λ (x : Stamped). Some x) (sym (made c) ∙ only_one c.in-Some.kind c.args.row.now s c.in-Some.ensures.only h e)

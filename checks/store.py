@@ -1,0 +1,339 @@
+#!/usr/bin/env python3
+"""Tries `confd pipe --store FILE` on real files: what was answered is there, whatever happens.
+
+    python3 checks/store.py [PROGRAM]
+
+PROGRAM is `confd` as `rt run` builds it (crates/confd/out/confd where none is named). Python 3 alone is
+needed, whose module `sqlite3` stands on SQLite 3.37 or later. Prints a line a check, and last `N passed, M failed`;
+ends with status 0 where none failed. Takes about a minute.
+"""
+
+import contextlib
+import json
+import os
+import random
+import resource
+import shutil
+import signal
+import sqlite3
+import subprocess
+import sys
+import tempfile
+import time
+
+TOP = os.path.dirname(os.path.dirname(os.path.abspath(__file__)))
+MANY = 1_000
+PAPERS_EACH = 20
+KILLS = 50
+# Past so many seconds a run hangs.
+LONG = 120
+TABLES = ("people", "papers", "ties", "talk")
+
+
+# ---- requests and answers
+
+
+def request(method, path, who=None, body=None):
+    """One request as bytes; `who` is a name, whose secret is made of it."""
+    lines = [f"{method} {path} HTTP/1.1", "Host: c"]
+    if who is not None:
+        lines.append(f"Authorization: Bearer {who}.{who}-secret-0123456789")
+    content = b""
+    if body is not None:
+        content = json.dumps(body, separators=(",", ":")).encode()
+        lines.append(f"Content-Length: {len(content)}")
+    return "\r\n".join(lines).encode() + b"\r\n\r\n" + content
+
+
+def register(name):
+    return request("POST", "/register", body={"name": name, "secret": f"{name}-secret-0123456789"})
+
+
+def submit(name, title, abstract=""):
+    return request("POST", "/papers", name, {"abstract": abstract, "title": title})
+
+
+def opening():
+    """A chair, and the phase in which papers come: three rows."""
+    return register("alice") + request("POST", "/phase", "alice", {"phase": "submission"})
+
+
+def answers(out):
+    """The answers that stand whole in these bytes, each as its status code and its content."""
+    found = []
+    while True:
+        head, blank, rest = out.partition(b"\r\n\r\n")
+        if not blank:
+            return found
+        fields = dict(line.split(b": ", 1) for line in head.split(b"\r\n")[1:])
+        length = int(fields.get(b"Content-Length", b"0"))
+        if len(rest) < length:
+            return found
+        found.append((int(head.split(b" ")[1]), rest[:length]))
+        out = rest[length:]
+
+
+class Program:
+    def __init__(self, path):
+        self.path = path
+
+    def run(self, words, text=b"", **more):
+        """What a run with these words over these bytes wrote, and its status."""
+        done = subprocess.run(
+            [self.path, *words], input=text, stdout=subprocess.PIPE, stderr=subprocess.PIPE, timeout=LONG, **more
+        )
+        return done.stdout, done.returncode, done.stderr
+
+    def pipe(self, store, text, **more):
+        out, status, _ = self.run(["pipe", "--store", store], text, **more)
+        return answers(out), status
+
+    @contextlib.contextmanager
+    def begin(self, store):
+        """A run whose input stays open; killed at the end, where it runs still."""
+        child = subprocess.Popen(
+            [self.path, "pipe", "--store", store], stdin=subprocess.PIPE, stdout=subprocess.PIPE, stderr=subprocess.DEVNULL
+        )
+        try:
+            yield child
+        finally:
+            child.kill()
+            child.wait()
+            with contextlib.suppress(BrokenPipeError):
+                child.stdin.close()
+            child.stdout.close()
+
+
+def ask(child, text):
+    """Sends one request, and waits for its answer."""
+    child.stdin.write(text)
+    child.stdin.flush()
+    out = b""
+    while not answers(out):
+        piece = os.read(child.stdout.fileno(), 65536)
+        if not piece:
+            return None
+        out += piece
+    return answers(out)[0]
+
+
+# ---- what stands in a file
+
+
+@contextlib.contextmanager
+def opened(store, **more):
+    """The file as SQLite's own library opens it; what was changed is in it, and it is let go, at the end."""
+    with contextlib.closing(sqlite3.connect(store, **more)) as file, file:
+        yield file
+
+
+def rows(store):
+    """Every row of the four tables, by place."""
+    with opened(store) as file:
+        found = [row for table in TABLES for row in file.execute(f"SELECT place, kind, maker, more, n1, b1, b2 FROM {table}")]
+    return sorted(found)
+
+
+def contents(store):
+    """All that SQLite's own library finds in the file."""
+    with opened(store) as file:
+        return list(file.iterdump())
+
+
+def read(path):
+    with open(path, "rb") as file:
+        return file.read()
+
+
+def expect(held, what):
+    if not held:
+        raise AssertionError(what)
+
+
+# ---- the checks
+
+
+def many_rows(program, folder):
+    """A thousand registrations and a thousand submissions stand in the file, row by row."""
+    store = os.path.join(folder, "many")
+    names = [f"user{n}" for n in range(MANY)]
+    text = opening() + b"".join(register(name) for name in names)
+    text += b"".join(submit(names[n // PAPERS_EACH], f"Paper {n}", "We prove.") for n in range(MANY))
+    told, status = program.pipe(store, text)
+    expect(status == 0, f"status {status}")
+    expect(all(code in (200, 201) for code, _ in told) and len(told) == 2 + 2 * MANY, "not every request was taken")
+    found = rows(store)
+    expect([row[0] for row in found] == list(range(len(found))), "the places are not 0, 1, 2 ..")
+    expect(len(found) == 3 + 2 * MANY, f"{len(found)} rows")
+    registered = [row for row in found if row[1] == 1]
+    submitted = [row for row in found if row[1] == 5]
+    expect([row[4] for row in registered] == list(range(1, MANY + 2)), "user numbers")
+    expect([bytes(row[5]).decode() for row in registered] == ["alice"] + names, "names")
+    expect([row[4] for row in submitted] == list(range(1, MANY + 1)), "paper numbers")
+    expect(all(len(row[6]) == 32 for row in registered), "digests of 32 bytes")
+    expect(sum(len(row[6]) for row in submitted) == MANY * len("We prove."), "the sum of the abstracts' bytes")
+    accounts, _ = program.pipe(store, request("GET", "/accounts"))
+    expect(len(json.loads(accounts[0][1])["accounts"]) == MANY + 1, "accounts after opening again")
+
+
+def killed(program, folder):
+    """Killed at a random moment: each answered command is there when the store is opened again."""
+    store = os.path.join(folder, "killed")
+    dice = random.Random(7)
+    told, status = program.pipe(store, opening())
+    expect(status == 0, f"status {status}")
+    answered = ["alice"]
+    for turn in range(KILLS):
+        with program.begin(store) as child:
+            for n in range(dice.randrange(1, 6)):
+                answer = ask(child, register(f"user{turn}-{n}"))
+                expect(answer is not None and answer[0] == 201, f"a registration was answered {answer}")
+                answered.append(f"user{turn}-{n}")
+            child.stdin.write(register(f"late{turn}"))
+            child.stdin.flush()
+            time.sleep(dice.choice((0, dice.random() / 500)))
+            child.send_signal(signal.SIGKILL)
+        told, status = program.pipe(store, request("GET", "/accounts"))
+        expect(status == 0, f"opened again with status {status} after kill {turn}")
+        names = [line["name"] for line in json.loads(told[0][1])["accounts"]]
+        expect(names[: len(answered)] == answered, f"an answered registration is gone after kill {turn}")
+        expect(names[len(answered) :] in ([], [f"late{turn}"]), f"more than was asked after kill {turn}")
+        answered = names
+
+
+def held_by_another(program, folder):
+    """While confd runs, a second confd and sqlite3 are refused the file."""
+    store = os.path.join(folder, "held")
+    with program.begin(store) as child:
+        answer = ask(child, register("alice"))
+        expect(answer is not None and answer[0] == 201, f"a registration was answered {answer}")
+        out, status, reason = program.run(["pipe", "--store", store], request("GET", "/phase"))
+        expect(status == 6 and out == b"", f"the second confd ended with {status}")
+        expect(store.encode() in reason, "standard error names no file")
+        refused = False
+        try:
+            with opened(store, timeout=0) as file:
+                file.execute("SELECT count(*) FROM people").fetchone()
+        except sqlite3.OperationalError:
+            refused = True
+        expect(refused, "sqlite3 read the file")
+        child.stdin.close()
+        expect(child.wait(timeout=LONG) == 0, "the first confd did not end well")
+    expect(len(rows(store)) == 2, "rows after the end")
+
+
+def full_disk(program, folder):
+    """A file that may grow no further: 503, and nothing that was acknowledged is lost."""
+    store = os.path.join(folder, "full")
+    told, status = program.pipe(store, opening())
+    expect(status == 0, f"status {status}")
+
+    def limit():
+        signal.signal(signal.SIGXFSZ, signal.SIG_IGN)
+        resource.setrlimit(resource.RLIMIT_FSIZE, (400_000, 400_000))
+
+    text = b"".join(register(f"user{n}") + submit(f"user{n}", "Proofs", "x" * 5000) for n in range(200))
+    told, status = program.pipe(store, text + request("GET", "/accounts"), preexec_fn=limit)
+    codes = [code for code, _ in told]
+    expect(503 in codes, "nothing was refused with 503")
+    kept = [json.loads(content)["user"] for code, content in told if code == 201 and b"user" in content]
+    papers = sum(1 for code, content in told if code == 201 and b"paper" in content)
+    expect(kept and papers, "nothing was taken before the file was full")
+    told, status = program.pipe(store, request("GET", "/accounts") + request("GET", "/phase"))
+    expect(status == 0, f"opened again with status {status}")
+    users = [line["user"] for line in json.loads(told[0][1])["accounts"]]
+    expect(users == [1] + kept, "accounts")
+    expect(json.loads(told[1][1])["papers"] == papers, "papers")
+
+
+def copied(program, folder):
+    """A copy of the file and of its -wal opens with the same rows, after a good end and after a kill."""
+    store = os.path.join(folder, "original")
+    program.pipe(store, opening())
+    for name, kills in (("ended", False), ("killed", True)):
+        with program.begin(store) as child:
+            answer = ask(child, submit("alice", name, "We prove."))
+            expect(answer is not None and answer[0] == 201, f"a submission was answered {answer}")
+            if not kills:
+                child.stdin.close()
+                child.wait(timeout=LONG)
+        copy = os.path.join(folder, name)
+        for end in ("", "-wal"):
+            shutil.copyfile(store + end, copy + end)
+        paper = request("GET", f"/papers/{json.loads(answer[1])['paper']}", "alice")
+        second, status = program.pipe(copy, paper)
+        first, _ = program.pipe(store, paper)
+        expect(status == 0 and first == second and first[0][0] == 200, f"{name}: the copy tells {second}, status {status}")
+
+
+def view_of_a_file(program, folder):
+    """`view` prints what a user sees; a name that is not registered is status 8."""
+    store = os.path.join(folder, "viewed")
+    program.pipe(store, opening())
+    out, status, _ = program.run(["view", "--store", store, "--user", "alice"])
+    lines = [json.loads(line) for line in out.splitlines()]
+    expect(status == 0 and [line["kind"] for line in lines] == ["registered", "named", "phaseset"], f"{status}: {out!r}")
+    out, status, _ = program.run(["view", "--store", store, "--user", "zoe"])
+    expect(status == 8 and out == b"", f"{status}: {out!r}")
+
+
+def bad_files(program, folder):
+    """What is no store of this version is refused with status 6, and a store with a bad row with status 3."""
+    other = os.path.join(folder, "no-database")
+    with open(other, "wb") as file:
+        file.write(b"no database, but long enough to be read as one\n" * 100)
+    written = read(other)
+    told, status = program.pipe(other, request("GET", "/phase"))
+    expect(status == 6 and told == [], f"no database: {status}")
+    expect(read(other) == written, "no database: the file was changed")
+    for name, change, due in (
+        ("version", "UPDATE meta SET version = 99", 6),
+        ("column", "ALTER TABLE ties ADD COLUMN more_still INTEGER", 6),
+        ("twice", "INSERT INTO talk SELECT * FROM people WHERE place = 1", 6),
+        ("missing", "DELETE FROM people WHERE place = 1", 6),
+        ("negative", "UPDATE people SET n1 = -1 WHERE place = 0", 6),
+        ("table", "INSERT INTO talk SELECT * FROM people WHERE place = 2; DELETE FROM people WHERE place = 2", 6),
+        ("kind", "UPDATE people SET kind = 18 WHERE place = 1", 3),
+        ("number", "UPDATE people SET n1 = 2 WHERE place = 0", 3),
+        ("role", "UPDATE people SET n2 = 1 WHERE place = 1", 3),
+        ("cut", "DELETE FROM people WHERE place >= 1", 3),
+    ):
+        store = os.path.join(folder, f"bad-{name}")
+        program.pipe(store, opening())
+        with opened(store) as file:
+            file.executescript(change)
+        before = contents(store)
+        out, status, reason = program.run(["pipe", "--store", store], request("GET", "/phase"))
+        expect(status == due and out == b"", f"{name}: status {status}, due {due}")
+        expect(reason != b"", f"{name}: nothing on standard error")
+        expect(contents(store) == before, f"{name}: what the file holds was changed")
+
+
+CHECKS = (many_rows, killed, held_by_another, full_disk, copied, view_of_a_file, bad_files)
+
+
+def main():
+    path = sys.argv[1] if len(sys.argv) > 1 else os.path.join(TOP, "crates", "confd", "out", "confd")
+    if not os.path.exists(path):
+        sys.exit(f"{path}: build it first, with `rt run` in crates/confd")
+    if sqlite3.sqlite_version_info < (3, 37):
+        sys.exit(f"SQLite {sqlite3.sqlite_version} is too old for these tables: 3.37 is wanted")
+    program = Program(os.path.abspath(path))
+    passed = failed = 0
+    for check in CHECKS:
+        title = check.__doc__.strip()
+        with tempfile.TemporaryDirectory() as folder:
+            try:
+                check(program, folder)
+            except Exception as error:
+                failed += 1
+                print(f"FAILED: {title}\n    {type(error).__name__}: {error}")
+            else:
+                passed += 1
+                print(f"ok: {title}")
+    print(f"{passed} passed, {failed} failed")
+    sys.exit(1 if failed else 0)
+
+
+if __name__ == "__main__":
+    main()

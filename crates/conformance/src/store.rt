@@ -1,0 +1,145 @@
+//! The rows of a store, as lines of a case tell them.
+
+use crate::text::{LineError, add_text, byte_of, number_of};
+use cr_base::{Blob, Row};
+use cr_ports::{Keeper, KeeperError, MemShelf, Shelf};
+use std::alloc::{AllocError, Global};
+
+/// Where the rows of a case stand.
+pub const PATH: &str = "f";
+
+/// The rows that stand in the store ahead of a run, and which calls of shelf and keeper fail.
+#[derive(Clone, Copy, Drop)]
+pub struct Store<'a> {
+    pub rows: &'a [Row],
+    /// Whether the store can't be opened.
+    pub is_shut: bool,
+    /// The numbers of the appends that fail, from 0, in a store that has no row ahead of the run.
+    pub appends: &'a [u64],
+    /// The numbers of the keeper's other calls that fail, from 0.
+    pub reads: &'a [u64],
+}
+
+impl Store<'_> {
+    /// A shelf with these rows at the path.
+    pub fn shelf(&self, alloc: Global) -> Result<MemShelf, AllocError> {
+        let mut opens = Vec::new(alloc);
+        if self.is_shut {
+            opens.push(u64::from(!self.rows.is_empty()))?;
+        }
+        let mut shelf = MemShelf::new(
+            alloc,
+            opens,
+            self.appends.to_vec(alloc)?,
+            self.reads.to_vec(alloc)?,
+        );
+        match self.fill(&mut shelf) {
+            Ok(()) => Ok(shelf),
+            Err(_) => Err(AllocError),
+        }
+    }
+
+    // Puts the rows into the store, where there are some.
+    fn fill(&self, shelf: &mut MemShelf) -> Result<(), KeeperError> {
+        if self.rows.is_empty() {
+            return Ok(());
+        }
+        let mut keeper = shelf.open(PATH)?;
+        let filled = keeper.append_all(self.rows);
+        shelf.shut(PATH, keeper);
+        filled
+    }
+}
+
+// A number of a row.
+fn number(word: Option<&str>) -> Result<u64, LineError> {
+    match word.map(str::parse::<u64>) {
+        Some(Ok(number)) => Ok(number),
+        _ => Err(LineError::NoForm),
+    }
+}
+
+// Adds the bytes that hexadecimal digits tell.
+fn add_digits(into: &mut Vec<u8>, digits: &str) -> Result<(), LineError> {
+    let mut rest = digits;
+    for _ in 0..digits.len() / 2 {
+        let (byte, behind) = rest.split_at_checked(2).ok_or(LineError::NoForm)?;
+        into.push(byte_of(byte)?)?;
+        rest = behind;
+    }
+    if rest.is_empty() {
+        Ok(())
+    } else {
+        Err(LineError::NoForm)
+    }
+}
+
+// The bytes of a row: none where there is `-`, by hexadecimal digits behind a `#`, else a text.
+fn bytes(alloc: Global, word: Option<&str>) -> Result<Blob, LineError> {
+    let word = word.ok_or(LineError::NoForm)?;
+    let mut bytes = Vec::new(alloc);
+    if let Some(digits) = word.strip_prefix('#') {
+        add_digits(&mut bytes, digits)?;
+    } else if word != "-" {
+        add_text(&mut bytes, word)?;
+    }
+    Ok(Blob::from_slice(alloc, bytes.as_slice())?)
+}
+
+/// The row that `KIND MAKER MORE N1 N2 N3 N4 N5 B1 B2` tells, a space between any two of them.
+pub fn read_row(alloc: Global, text: &str) -> Result<Row, LineError> {
+    let mut words = text.split(' ');
+    let mut numbers = [0u64; 8];
+    for place in numbers.iter_mut() {
+        *place = number(words.next())?;
+    }
+    let b1 = bytes(alloc, words.next())?;
+    let b2 = bytes(alloc, words.next())?;
+    let [kind, maker, more, n1, n2, n3, n4, n5] = numbers;
+    Ok(Row {
+        kind,
+        maker,
+        more,
+        n1,
+        n2,
+        n3,
+        n4,
+        n5,
+        b1,
+        b2,
+    })
+}
+
+/// Adds the row that a line tells, `@ ROW`, or puts it in place of the row with a number, `@N ROW`.
+pub fn add_row(rows: &mut Vec<Row>, place: &str, row: Row) -> Result<(), LineError> {
+    if place.is_empty() {
+        rows.push(row)?;
+        return Ok(());
+    }
+    let place = number_of(place)?;
+    match rows.get_mut(place) {
+        Some(old) => {
+            *old = row;
+            Ok(())
+        }
+        None => Err(LineError::NoForm),
+    }
+}
+
+/// Whether these are the same rows.
+pub fn are_same(rows: &[Row], others: &[Row]) -> bool {
+    rows.len() == others.len()
+        && rows
+            .iter()
+            .zip(others.iter())
+            .all(|(row, other)| row.is_same(other))
+}
+
+/// The rows, copied.
+pub fn copied(alloc: Global, rows: &[Row]) -> Result<Vec<Row>, AllocError> {
+    let mut copies = Vec::new(alloc);
+    for row in rows {
+        copies.push(row.copy()?)?;
+    }
+    Ok(copies)
+}

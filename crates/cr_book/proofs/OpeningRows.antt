@@ -1,0 +1,83 @@
+-- Rows that spell entries, and entries that make a group: how far one list goes, where two begin alike.
+use Rattle.std.proofs.Common.{true, false, cond, ◌≡◌, List, [], ◌∷◌, ◌++◌, length, take, refl, sym, ap, ◌∙◌, arith}
+use Rattle.std.specs.List.{AllByRecursion}
+use Rattle.std.proofs.lemmas.Bool.{true≢false}
+use Rattle.cr_base.specs.declared.entry.EntryKind.{EntryKind}
+use Rattle.cr_base.specs.declared.entry.EntryKind.TheVariants as kinds
+use Rattle.cr_base.specs.declared.entry.Stamped.{Stamped}
+use Rattle.cr_base.specs.declared.row.Row.{Row}
+use Rattle.cr_base.specs.History.{History}
+use Rattle.cr_base.specs.Rows.{kind_number, kind_of, row_of, rows_of, IsBoundedEntry}
+use Rattle.cr_base.proofs.RowLaws.{only_one}
+use Rattle.cr_book.specs.Reading.{IsOpen, IsGroup}
+
+-- ---- rows
+
+-- a number tells one kind
+one_kind : (j k : EntryKind) → kind_number j ≡ kind_number k → j ≡ k
+one_kind kinds.Registered kinds.Registered e = refl
+one_kind kinds.Named kinds.Named e = refl
+one_kind kinds.PhaseSet kinds.PhaseSet e = refl
+one_kind kinds.ModeSet kinds.ModeSet e = refl
+one_kind kinds.Submitted kinds.Submitted e = refl
+one_kind kinds.Conflict kinds.Conflict e = refl
+one_kind j k e = absurd (omega (arith, e))
+
+-- entries within their bounds that have the same row are the same
+same_entry : (s s' : Stamped) → IsBoundedEntry s → IsBoundedEntry s' → row_of s ≡ row_of s' → s ≡ s'
+same_entry s s' b b' e =
+    let only = λ (j : EntryKind). one_kind j (kind_of s'.entry) in
+    sym (only_one (kind_of s'.entry) (row_of s') s only b e) ∙ only_one (kind_of s'.entry) (row_of s') s' only b' refl
+
+pub head_is : {A : Type 0} (x y : A) (xs ys : List A) → x ∷ xs ≡ y ∷ ys → x ≡ y
+head_is x y xs ys e = cc (e)
+
+pub tail_is : {A : Type 0} (x y : A) (xs ys : List A) → x ∷ xs ≡ y ∷ ys → xs ≡ ys
+tail_is x y xs ys e = cc (e)
+
+cons_is : {A : Type 0} (x y : A) (xs ys : List A) → x ≡ y → xs ≡ ys → x ∷ xs ≡ y ∷ ys
+cons_is x y xs ys e f = cc
+
+empty_not : {A : Type 0} (x : A) (xs : List A) → [] ≡ x ∷ xs → ⊥
+empty_not x xs e = cc (e)
+
+-- a history whose rows begin with another's begins with it
+pub rows-split : (G H : History) (after : List Row) → AllByRecursion IsBoundedEntry G → AllByRecursion IsBoundedEntry H → rows_of H ≡ rows_of G ++ after → (tail : History) × (H ≡ G ++ tail) × (rows_of tail ≡ after)
+rows-split [] H after bg bh e = (H, refl, e)
+rows-split (g ∷ G) [] after bg bh e = absurd (empty_not (row_of g) (rows_of G ++ after) e)
+rows-split (g ∷ G) (h ∷ H) after bg bh e =
+    let rest = rows-split G H after bg.1 bh.1 (tail_is (row_of h) (row_of g) (rows_of H) (rows_of G ++ after) e) in
+    (rest.0, cons_is h g H (G ++ rest.0) (same_entry h g bh.0 bg.0 (head_is (row_of h) (row_of g) (rows_of H) (rows_of G ++ after) e)) rest.1, rest.2)
+
+-- ---- groups
+
+marks_differ : (e f : Stamped) → e ≡ f → e.more ≡ false → f.more ≡ true → ⊥
+marks_differ e f same last more = true≢false (sym more ∙ ap (λ (s : Stamped). s.more) (sym same) ∙ last)
+
+-- of two groups that begin the same list each is the other
+pub group-first : (g h a b : History) → IsGroup g → IsGroup h → g ++ a ≡ h ++ b → g ≡ h
+group-first [] h a b ig ih s = elim ig [ ]
+group-first (e ∷ []) [] a b ig ih s = elim ih [ ]
+group-first (e ∷ e' ∷ g) [] a b ig ih s = elim ih [ ]
+group-first (e ∷ []) (f ∷ []) a b ig ih s = ap (λ x. x ∷ []) (head_is e f a b s)
+group-first (e ∷ []) (f ∷ f' ∷ h) a b ig ih s = absurd (marks_differ e f (head_is e f a (f' ∷ h ++ b) s) ig ih.0)
+group-first (e ∷ e' ∷ g) (f ∷ []) a b ig ih s = absurd (marks_differ f e (sym (head_is e f (e' ∷ g ++ a) b s)) ih ig.0)
+group-first (e ∷ e' ∷ g) (f ∷ f' ∷ h) a b ig ih s =
+    cons_is e f (e' ∷ g) (f' ∷ h) (head_is e f (e' ∷ g ++ a) (f' ∷ h ++ b) s)
+    (group-first (e' ∷ g) (f' ∷ h) a b ig.1 ih.1 (tail_is e f (e' ∷ g ++ a) (f' ∷ h ++ b) s))
+
+-- a row of an entry that is the last of its group isn't open
+not_open : (e : Stamped) (p : Row) → row_of e ≡ p → e.more ≡ false → IsOpen p → ⊥
+not_open e p same last o =
+    let zero : (row_of e).more ≡ 0 = ap (λ b. cond b 1 0) last in
+    let one : (row_of e).more ≡ 1 = ap (λ (r : Row). r.more) same ∙ o in
+    omega (arith, zero, one)
+
+-- rows of which all but the last are open go no farther than the group that begins like them
+pub group-covers : (g : History) (pending : List Row) (row : Row) (a b : List Row) → IsGroup g → AllByRecursion IsOpen pending → rows_of g ++ a ≡ (pending ++ row ∷ []) ++ b → take (length (pending ++ row ∷ [])) (rows_of g) ≡ pending ++ row ∷ []
+group-covers [] pending row a b ig o s = elim ig [ ]
+group-covers (e ∷ g) [] row a b ig o s = ap (λ x. x ∷ []) (head_is (row_of e) row (rows_of g ++ a) b s)
+group-covers (e ∷ []) (p ∷ ps) row a b ig o s = absurd (not_open e p (head_is (row_of e) p a ((ps ++ row ∷ []) ++ b) s) ig o.0)
+group-covers (e ∷ e' ∷ g) (p ∷ ps) row a b ig o s =
+    cons_is (row_of e) p (take (length (ps ++ row ∷ [])) (rows_of (e' ∷ g))) (ps ++ row ∷ []) (head_is (row_of e) p (rows_of (e' ∷ g) ++ a) ((ps ++ row ∷ []) ++ b) s)
+    (group-covers (e' ∷ g) ps row a b ig.1 o.1 (tail_is (row_of e) p (rows_of (e' ∷ g) ++ a) ((ps ++ row ∷ []) ++ b) s))

@@ -1,0 +1,122 @@
+//! The command that the entries of a group come of.
+ghost use Rattle.std.specs.Prelude.{◌≡◌, ◌<◌, ◌↔◌, IfOk, IfSome, IsTrue, None, length, slice_get, take};
+ghost use Rattle.std.specs.Option.{option_map};
+ghost use Rattle.cr_base.specs.Tables.{FitInTurn};
+ghost use Rattle.cr_view.specs.Draws.{drawn_by};
+ghost use Rattle.cr_book.specs.Rebuilding.{giver_told, command_told, drawn_told, is_known, IsBegun, NoneBegun};
+ghost use Rattle.cr_base.specs.declared.row.Row.{Row};
+
+use crate::rows::rows_of;
+use cr_base::{Command, Entry, Row, Stamped, UserNo};
+use cr_view::{Draw, Live};
+use std::alloc::{AllocError, Global};
+
+/// Who gave the command of a group with this first entry.
+fn caller_of(first: &Stamped) -> Option<UserNo>
+    ensures { result ≡ giver_told first.now.maker first.now.entry }
+{
+    match first.entry {
+        Entry::Registered { .. } => None,
+        _ => Some(first.maker),
+    }
+}
+
+/// Whether it is nobody, or a user who has registered.
+fn is_known(live: &Live, caller: &Option<UserNo>) -> bool
+    ensures { result ≡ is_known live.now.tables caller.now }
+{
+    match caller {
+        Some(user) => live.name_of(*user).is_some(),
+        None => true,
+    }
+}
+
+/// The command of a group with this first entry, which gives it its texts; none where it names a user
+/// who isn't there.
+fn command_of(live: &Live, first: Entry) -> Option<Command>
+    ensures { result ≡ command_told live.now.tables first }
+{
+    match first {
+        Entry::Registered { name, digest, .. } => Some(Command::Register { name, digest }),
+        Entry::PhaseSet { phase } => Some(Command::SetPhase { phase }),
+        Entry::ModeSet { mode } => Some(Command::SetMode { mode }),
+        Entry::Submitted {
+            title,
+            abstract_,
+            ..
+        } => Some(Command::Submit { title, abstract_ }),
+        Entry::Named { user, role } => {
+            let name = live.name_of(user)?;
+            Some(Command::Name {
+                user: Some(name),
+                role,
+            })
+        }
+        Entry::Conflict { paper, user, on } => {
+            let name = live.name_of(user)?;
+            Some(Command::SetConflict {
+                paper: Some(paper),
+                user: Some(name),
+                on,
+            })
+        }
+    }
+}
+
+/// What that command draws; none where it has no caller, or breaks a rule.
+fn draw_of(live: &Live, first: Stamped) -> Option<Draw>
+    ensures drawn { option_map drawn_by result ≡ drawn_told live.now.tables first }
+    ensures fits { IfSome result (λ draw. FitInTurn live.now.tables (drawn_by draw).group) }
+{
+    let caller = caller_of(&first);
+    if !is_known(live, &caller) {
+        return None;
+    }
+    let command = command_of(live, first.entry)?;
+    match live.judge(&caller, command) {
+        Ok(draw) => Some(draw),
+        Err(_) => None,
+    }
+}
+
+/// Whether these are the first rows of all.
+fn are_first(rows: &[Row], all: &[Row]) -> bool
+    ensures { IsTrue result ↔ (take (length rows.now) all.now ≡ rows.now) }
+{
+    if rows.len() > all.len() {
+        return false;
+    }
+    for (i, row) in rows.iter().enumerate() {
+        if !row.is_same(&all[i]) {
+            return false;
+        }
+    }
+    true
+}
+
+/// The entries of the command whose first rows these are, if there is one: the command of the first
+/// row's entry, judged on the tables of the history before it, draws them. An error only for want of
+/// memory.
+pub(crate) fn begun(
+    alloc: Global,
+    live: &Live,
+    rows: &[Row],
+) -> Result<Option<Vec<Stamped>>, AllocError>
+    requires { 0 < length rows.now }
+    ensures some { IfOk result (λ found. IfSome found (λ group. IsBegun live.now.tables rows.now group.items)) }
+    ensures fits { IfOk result (λ found. IfSome found (λ group. FitInTurn live.now.tables group.items)) }
+    ensures none { IfOk result (λ found. found ≡ None → IfSome (slice_get rows.now 0) (λ row. NoneBegun live.now.tables row rows.now)) }
+{
+    let Some(first) = Stamped::from_row(&rows[0])? else {
+        return Ok(None);
+    };
+    let Some(draw) = draw_of(live, first) else {
+        return Ok(None);
+    };
+    let group = draw.group(alloc)?;
+    let all = rows_of(alloc, &group)?;
+    if !are_first(rows, &all) {
+        return Ok(None);
+    }
+    Ok(Some(group))
+}

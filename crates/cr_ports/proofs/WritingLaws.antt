@@ -1,0 +1,73 @@
+-- What a sink took, piece by piece.
+use Rattle.std.proofs.Common.{◌≡◌, ◌≢◌, ◌∙◌, ℕ, ◌+◌, ◌<◌, ◌≤◌, ◌-◌, List, [], ◌++◌, length, take, drop, Option, Some, None, refl, sym, ap, subst, append_assoc, append-nil, arith, length-drop}
+use Rattle.std.proofs.lemmas.List.{take-append-drop, take_all}
+use Rattle.std.proofs.Math.Seq.{take-add}
+use Rattle.cr_ports.specs.Count.{Rises}
+use Rattle.cr_ports.specs.Stream.{taken_and}
+use Rattle.cr_ports.specs.Writing.{Outlet, Writes, BreaksOff}
+
+pub taken_and-append : (t : Option (List ℕ)) (a b : List ℕ) → taken_and (taken_and t a) b ≡ taken_and t (a ++ b)
+taken_and-append None a b = refl
+taken_and-append (Some taken) a b = ap Some (append_assoc taken a b)
+
+pub taken_and-nil : (t : Option (List ℕ)) → taken_and t [] ≡ t
+taken_and-nil None = refl
+taken_and-nil (Some taken) = ap Some (append-nil taken)
+
+-- ---- one write of many
+
+-- one more piece of the bytes was taken
+pub wrote_on : (t t' t'' : Option (List ℕ)) (bytes piece : List ℕ) (at n : ℕ) → t' ≡ taken_and t (take at bytes) → piece ≡ drop at bytes
+    → t'' ≡ taken_and t' (take n piece) → t'' ≡ taken_and t (take (at + n) bytes)
+wrote_on t t' t'' bytes piece at n before is now =
+    now ∙ ap (λ p. taken_and t' (take n p)) is ∙ ap (λ o. taken_and o (take n (drop at bytes))) before
+    ∙ taken_and-append t (take at bytes) (take n (drop at bytes)) ∙ ap (taken_and t) (sym (take-add at n bytes))
+
+some_left : (at : ℕ) (bytes : List ℕ) → at < length bytes → drop at bytes ≢ []
+some_left at bytes less none =
+    let left : length bytes - at ≡ 0 = sym (length-drop at bytes) ∙ ap length none in
+    omega (arith, less, left)
+
+-- the next write failed
+pub wrote_part : (s s' s'' : Outlet) (bytes : List ℕ) (at : ℕ) → at < length bytes → s'.taken ≡ taken_and s.taken (take at bytes) → s'.faults ≡ s.faults
+    → s''.taken ≡ taken_and s'.taken [] → s'.faults ≤ s''.faults → Rises s'.faults s''.faults → BreaksOff [] bytes s s''
+wrote_part s s' s'' bytes at less before steady now later rises = record {
+  part = take at bytes;
+  missing = drop at bytes;
+  parts = sym (take-append-drop at bytes);
+  short = some_left at bytes less;
+  took = now ∙ taken_and-nil s'.taken ∙ before;
+  later = omega (arith, steady, later);
+  rises = subst (λ (f : ℕ). Rises f s''.faults) steady rises;
+}
+
+-- all of them were taken
+pub wrote_whole : (s s' : Outlet) (bytes : List ℕ) (at : ℕ) → length bytes ≤ at → s'.taken ≡ taken_and s.taken (take at bytes) → s'.faults ≡ s.faults
+    → Writes bytes s s'
+wrote_whole s s' bytes at all took steady = record {
+  took = took ∙ ap (λ (b : List ℕ). taken_and s.taken b) (take_all at bytes all);
+  steady = steady;
+}
+
+-- ---- one text behind another
+
+pub writes-nil : (s : Outlet) → Writes [] s s
+writes-nil s = record { took = sym (taken_and-nil s.taken); steady = refl }
+
+pub writes-append : (a b : List ℕ) (s t u : Outlet) → Writes a s t → Writes b t u → Writes (a ++ b) s u
+writes-append a b s t u x y = record {
+  took = y.took ∙ ap (λ (o : Option (List ℕ)). taken_and o b) x.took ∙ taken_and-append s.taken a b;
+  steady = y.steady ∙ x.steady;
+}
+
+pub breaks_behind : (a b bytes : List ℕ) (s t u : Outlet) → Writes a s t → BreaksOff b bytes t u → BreaksOff (a ++ b) bytes s u
+breaks_behind a b bytes s t u x y = record {
+  part = y.part;
+  missing = y.missing;
+  parts = y.parts;
+  short = y.short;
+  took = y.took ∙ ap (λ (o : Option (List ℕ)). taken_and o (b ++ y.part)) x.took ∙ taken_and-append s.taken a (b ++ y.part)
+      ∙ ap (taken_and s.taken) (sym (append_assoc a b y.part));
+  later = let e = x.steady in let l = y.later in omega (arith, e, l);
+  rises = subst (λ (f : ℕ). Rises f u.faults) x.steady y.rises;
+}

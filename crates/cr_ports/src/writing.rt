@@ -1,0 +1,26 @@
+//! Writes all bytes of a text, piece by piece.
+ghost use Rattle.std.specs.Prelude.{[], OnOk, OnErr};
+ghost use Rattle.cr_ports.specs.Writing.{BreaksOff, Writes, outlet_of};
+
+use crate::sink::{Sink, WriteStep};
+
+/// A write failed: a fault of the sink, which it counted.
+#[derive(Clone, Copy, Debug, PartialEq, Eq)]
+pub struct WriteFault;
+
+/// Writes all the bytes, or a part of them up to a fault. `WriteFault` comes only where the sink's count
+/// of faults rose, or stands at its last value, and bytes are missing then; else the count is as it was.
+/// Behind a fault nothing more is written. Takes no memory.
+pub fn write_all<O: Sink>(sink: &mut O, bytes: &[u8]) -> Result<(), WriteFault>
+    ensures whole { OnOk result (Writes bytes.now (outlet_of O.taken O.faults sink.old) (outlet_of O.taken O.faults sink.new)) }
+    ensures failed { OnErr result (BreaksOff [] bytes.now (outlet_of O.taken O.faults sink.old) (outlet_of O.taken O.faults sink.new)) }
+{
+    let mut at = 0;
+    'writing: while at < bytes.len() {
+        match sink.write(&bytes[at..]) {
+            WriteStep::Took(n) => at += n,
+            WriteStep::Failed => return Err(WriteFault),
+        }
+    }
+    Ok(())
+}

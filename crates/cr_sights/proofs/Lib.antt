@@ -1,0 +1,4 @@
+pub mod Places
+pub mod LastLaws
+pub mod SightLaws
+pub mod WalkLaws

@@ -1,0 +1,15 @@
+use Rattle.std.proofs.Common.{length, Some, ◌-◌}
+use Rattle.cr_sights.specs.Last.{AreLast}
+use Rattle.cr_sights.specs.Readers.{reader_in}
+use Rattle.cr_ports.specs.Writing.{outlet_of}
+use Rattle.cr_sights.proofs.WalkLaws.{Reached}
+use Rattle.cr_sights.proofs.walk.write_view.Given as goal
+
+abbrev pub invariant-lines : goal.invariant-lines
+invariant-lines g l = record {
+  last : AreLast l.last.places.items l.log;
+  reached : Reached (reader_in l.live.tables (Some l.reader)) l.log l.at (outlet_of g.O.Sink.taken g.O.Sink.faults l.initial.sink) (outlet_of g.O.Sink.taken g.O.Sink.faults l.sink);
+}
+
+abbrev pub decreases-lines : goal.decreases-lines
+decreases-lines g l = length l.log - l.at

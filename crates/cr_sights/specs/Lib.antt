@@ -1,0 +1,4 @@
+pub mod Readers
+pub mod Lines
+pub mod Last
+pub mod Walks

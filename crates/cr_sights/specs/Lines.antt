@@ -1,0 +1,77 @@
+-- The lines of a view: each sighting is one compact JSON object and a line feed.
+use Rattle.std.specs.Prelude.{ℕ, List, ◌++◌, Option, Some, codes, decimal}
+use Rattle.std.specs.List.{flat_map}
+use Rattle.std.specs.Option.{option_map}
+use Rattle.hex.specs.Hex.{encode_lower}
+use Rattle.json.specs.Print.{quoted}
+use Rattle.cr_base.specs.declared.entry.EntryKind.{EntryKind}
+use Rattle.cr_base.specs.declared.entry.EntryKind.TheVariants.{Registered, Named, PhaseSet, ModeSet, Submitted, Conflict}
+use Rattle.cr_base.specs.declared.words.Phase.{Phase}
+use Rattle.cr_base.specs.declared.words.Mode.{Mode}
+use Rattle.cr_base.specs.declared.words.Role.{Role}
+use Rattle.cr_base.specs.Page.{where_told}
+use Rattle.cr_base.specs.Words.{mode_name, phase_name, role_name}
+use Rattle.cr_policy.specs.Sighting.{Sighting}
+use Rattle.cr_policy.specs.View.{View}
+use Rattle.cr_print.specs.Json.{Member, told, object_text, truth_text}
+
+-- the word for a kind of entry: its name in lower case
+abbrev pub kind_name : EntryKind → List ℕ
+kind_name Registered = codes "registered"
+kind_name Named = codes "named"
+kind_name PhaseSet = codes "phaseset"
+kind_name ModeSet = codes "modeset"
+kind_name Submitted = codes "submitted"
+kind_name Conflict = codes "conflict"
+
+-- the value of a member: a text, a digest in lower-case hexadecimal digits, a word, a number
+abbrev pub bytes_value : Option (List ℕ) → Option (List ℕ)
+bytes_value bytes = option_map quoted bytes
+
+abbrev pub digest_value : Option (List ℕ) → Option (List ℕ)
+digest_value digest = option_map (λ bytes. quoted (encode_lower bytes)) digest
+
+abbrev pub phase_value : Option Phase → Option (List ℕ)
+phase_value phase = option_map (λ p. quoted (phase_name p)) phase
+
+abbrev pub mode_value : Option Mode → Option (List ℕ)
+mode_value mode = option_map (λ m. quoted (mode_name m)) mode
+
+abbrev pub role_value : Option Role → Option (List ℕ)
+role_value role = option_map (λ r. quoted (role_name r)) role
+
+abbrev pub number_value : Option ℕ → Option (List ℕ)
+number_value number = option_map decimal number
+
+-- the parts that are shown, and the mark `mine` on the reader's own, with their keys in the order of their bytes
+unfoldable pub first_members : Sighting → List Member
+first_members s =
+    told (codes "abstract") (bytes_value s.abstract)
+    ++ told (codes "by") (number_value s.by)
+    ++ told (codes "digest") (digest_value s.digest)
+    ++ told (codes "kind") (Some (quoted (kind_name s.kind)))
+
+unfoldable pub middle_members : Sighting → List Member
+middle_members s =
+    told (codes "mine") (where_told s.mine (Some (codes "true")))
+    ++ told (codes "mode") (mode_value s.mode)
+    ++ told (codes "name") (bytes_value s.name)
+    ++ told (codes "on") (option_map truth_text s.on)
+
+unfoldable pub last_members : Sighting → List Member
+last_members s =
+    told (codes "paper") (number_value s.paper)
+    ++ told (codes "phase") (phase_value s.phase)
+    ++ told (codes "role") (role_value s.role)
+    ++ told (codes "title") (bytes_value s.title)
+    ++ told (codes "user") (number_value s.user)
+
+abbrev pub sighting_members : Sighting → List Member
+sighting_members s = first_members s ++ middle_members s ++ last_members s
+
+unfoldable pub line_text : Sighting → List ℕ
+line_text s = object_text (sighting_members s) ++ codes "\n"
+
+-- the lines of the sightings, in order
+abbrev pub lines_text : View → List ℕ
+lines_text sightings = flat_map line_text sightings

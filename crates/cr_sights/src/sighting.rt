@@ -1,0 +1,201 @@
+//! What one entry shows a reader.
+ghost use Rattle.std.specs.Prelude.{◌≡◌, ◌||◌, ◌&&◌, Bool, not, Some};
+ghost use Rattle.cr_base.specs.Lists.{listed};
+ghost use Rattle.cr_base.specs.Page.{is_clear_member, is_clear_chair};
+ghost use Rattle.cr_base.specs.Phases.{is_from};
+ghost use Rattle.cr_base.specs.Words.{is_anonymous, is_member};
+ghost use Rattle.cr_base.specs.declared.words.Phase.TheVariants as phases;
+ghost use Rattle.cr_base.specs.declared.entry.Entry.TheVariants.{Conflict};
+ghost use Rattle.cr_policy.specs.Triggers.{Place, none_alike};
+ghost use Rattle.cr_policy.specs.Sighting.{blank as blank_sighting};
+ghost use Rattle.cr_policy.specs.View.{is_seen, sight as sight_at};
+ghost use Rattle.cr_sights.specs.Readers.{reader_in};
+
+use cr_base::{
+    Digest, Entry, EntryKind, Mode, PaperNo, Phase, Role, Short, Stamped, Standing, Text, UserNo,
+};
+use cr_view::Live;
+use std::marker::Model;
+
+/// What one entry shows a reader: its kind and its paper, and of its other parts those that she is shown, lent from
+/// the entry.
+///
+/// Contracts see it as the definition of views has it.
+#[derive(Drop)]
+pub struct Sighting<'a> {
+    /// The kind of the entry.
+    pub kind: EntryKind,
+    /// Whether it is the reader's own: she made it.
+    pub mine: bool,
+    /// The paper of an entry that has one.
+    pub paper: Option<PaperNo>,
+    /// The user who was registered, named, or declared in conflict.
+    pub user: Option<UserNo>,
+    /// The name that was registered.
+    pub name: Option<&'a Short>,
+    /// The digest of the secret that was registered.
+    pub digest: Option<&'a Digest>,
+    /// The role that a user was named to.
+    pub role: Option<Role>,
+    /// The phase that was set.
+    pub phase: Option<Phase>,
+    /// The mode that was set.
+    pub mode: Option<Mode>,
+    /// Who made a submission.
+    pub by: Option<UserNo>,
+    /// The title of a submission.
+    pub title: Option<&'a Text>,
+    /// The abstract of a submission.
+    pub abstract_: Option<&'a Text>,
+    /// Whether a conflict was turned on, or off.
+    pub on: Option<bool>,
+}
+
+impl<'a> Model for Sighting<'a> {
+    ghost use Rattle.std.specs.Option.{option_map};
+    ghost use Rattle.cr_policy.specs.Sighting.{Sighting as SeenSighting};
+
+    ghost Value = { SeenSighting };
+
+    ghost view = { λ s. record {
+      kind = s.kind;
+      mine = s.mine;
+      paper = s.paper;
+      user = s.user;
+      name = option_map (λ t. t.now) s.name;
+      digest = option_map (λ t. t.now) s.digest;
+      role = s.role;
+      phase = s.phase;
+      mode = s.mode;
+      by = s.by;
+      title = option_map (λ t. t.now) s.title;
+      abstract = option_map (λ t. t.now) s.abstract_;
+      on = s.on;
+    } };
+}
+
+/// No part of an entry.
+fn blank<'a>(kind: EntryKind, mine: bool) -> Sighting<'a>
+    ensures { result ≡ record (blank_sighting kind) { mine = mine } }
+{
+    Sighting {
+        kind,
+        mine,
+        paper: None,
+        user: None,
+        name: None,
+        digest: None,
+        role: None,
+        phase: None,
+        mode: None,
+        by: None,
+        title: None,
+        abstract_: None,
+        on: None,
+    }
+}
+
+/// Whether it is the bidding, or later.
+fn is_bidding(by: &Standing) -> bool
+    ensures { result ≡ is_from phases.Bidding by.now.phase }
+{
+    by.phase.is_from(Phase::Bidding)
+}
+
+/// Whether she is shown who made a submission.
+fn shows_maker(by: &Standing) -> bool
+    ensures { result ≡ (by.now.author || (is_from phases.Bidding by.now.phase && (is_clear_chair by.now || (is_clear_member by.now && not (is_anonymous by.now.mode))))) }
+{
+    let handles = by.is_clear_chair() || by.is_clear_member() && !by.mode.is_anonymous();
+    by.author || is_bidding(by) && handles
+}
+
+/// Whether she is shown the title of a submission.
+fn shows_title(by: &Standing, mine: bool, is_last: bool) -> bool
+    ensures { result ≡ (by.now.author || ((is_last && is_member by.now.role && is_from phases.Bidding by.now.phase) || mine)) }
+{
+    by.author || is_last && by.role.is_member() && is_bidding(by) || mine
+}
+
+/// Whether she is shown the abstract of a submission.
+fn shows_abstract(by: &Standing, mine: bool, is_last: bool) -> bool
+    ensures { result ≡ (by.now.author || ((is_last && is_clear_member by.now && is_from phases.Bidding by.now.phase) || mine)) }
+{
+    by.author || is_last && by.is_clear_member() && is_bidding(by) || mine
+}
+
+/// Whether she is shown any conflict with a paper, whoever made it.
+fn shows_conflicts(by: &Standing) -> bool
+    ensures { result ≡ (is_clear_chair by.now && is_from phases.Bidding by.now.phase) }
+{
+    by.is_clear_chair() && is_bidding(by)
+}
+
+/// Whether she is told that a user is in conflict with a paper, or no longer: who made the entry is, the user
+/// herself, an author where an author made it, and whoever is shown all of the paper's conflicts.
+fn tells_conflict(live: &Live, reader: UserNo, maker: UserNo, user: UserNo, paper: PaperNo) -> bool
+    ensures { (at : Place) (more on : Bool) → is_seen (reader_in live.now.tables (Some reader)) at (record { maker = maker; more = more; entry = Conflict paper user on }) ≡ result }
+{
+    let by = live.standing(&Some(reader), &Some(paper));
+    let wrote = live.standing(&Some(maker), &Some(paper)).author;
+    user == reader || wrote && by.author || shows_conflicts(&by) || maker == reader
+}
+
+/// What an entry shows a user by the tables of the whole history, and none where it shows her nothing. `is_last`
+/// tells whether no later entry is of the same matter: gives its paper texts. A few look-ups; takes no memory.
+pub fn sight<'a>(
+    live: &Live,
+    reader: UserNo,
+    stamped: &'a Stamped,
+    is_last: bool,
+) -> Option<Sighting<'a>>
+    ensures { (at : Place) → none_alike stamped.now.entry at.after ≡ is_last → listed result ≡ sight_at (reader_in live.now.tables (Some reader)) at stamped.now }
+{
+    let mine = reader == stamped.maker;
+    match &stamped.entry {
+        Entry::Registered { user, name, digest } => Some(Sighting {
+            user: Some(*user),
+            name: Some(name),
+            digest: mine.then_some(digest),
+            ..blank(EntryKind::Registered, mine)
+        }),
+        Entry::Named { user, role } => Some(Sighting {
+            user: Some(*user),
+            role: Some(*role),
+            ..blank(EntryKind::Named, mine)
+        }),
+        Entry::PhaseSet { phase } => Some(Sighting {
+            phase: Some(*phase),
+            ..blank(EntryKind::PhaseSet, mine)
+        }),
+        Entry::ModeSet { mode } => Some(Sighting {
+            mode: Some(*mode),
+            ..blank(EntryKind::ModeSet, mine)
+        }),
+        Entry::Submitted {
+            paper,
+            title,
+            abstract_,
+        } => {
+            let by = live.standing(&Some(reader), &Some(*paper));
+            Some(Sighting {
+                paper: Some(*paper),
+                by: shows_maker(&by).then_some(stamped.maker),
+                title: shows_title(&by, mine, is_last).then_some(title),
+                abstract_: shows_abstract(&by, mine, is_last).then_some(abstract_),
+                ..blank(EntryKind::Submitted, mine)
+            })
+        }
+        Entry::Conflict { paper, user, on } => {
+            if !tells_conflict(live, reader, stamped.maker, *user, *paper) {
+                return None;
+            }
+            Some(Sighting {
+                paper: Some(*paper),
+                user: Some(*user),
+                on: Some(*on),
+                ..blank(EntryKind::Conflict, mine)
+            })
+        }
+    }
+}

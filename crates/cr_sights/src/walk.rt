@@ -1,0 +1,88 @@
+//! A user's view, entry by entry over the history.
+ghost use Rattle.std.specs.Prelude.{◌≡◌, [], length, IfOk, Some};
+ghost use Rattle.cr_base.specs.Lists.{listed};
+ghost use Rattle.cr_ports.specs.Writing.{outlet_of};
+ghost use Rattle.cr_policy.specs.View.{sights};
+ghost use Rattle.cr_sights.specs.Lines.{lines_text};
+ghost use Rattle.cr_sights.specs.Readers.{reader_in};
+ghost use Rattle.cr_sights.specs.Walks.{WritesView};
+
+use crate::last::LastTexts;
+use crate::line::fill;
+use crate::sighting::{Sighting, sight};
+use cr_base::{Stamped, UserNo};
+use cr_ports::{Sink, write_all};
+use cr_view::Live;
+use std::alloc::{AllocError, Global};
+
+/// Why a view was not written whole.
+#[derive(Clone, Copy, Debug, PartialEq, Eq)]
+pub enum ViewError {
+    /// A write failed, and the sink counted it.
+    WriteFault,
+    /// Memory is wanting.
+    OutOfMemory,
+}
+
+/// Writes what the entries of a history show a user, one line a sighting, by the tables of the whole history. Behind
+/// an error some part of the lines was written. `WriteFault` comes only where the sink's count of faults rose, or
+/// stands at its last value; else the count is as it was, and `OutOfMemory` comes for want of memory alone.
+///
+/// Costs two walks over the history, with a few look-ups and one write an entry, 80 KB for the places of the papers'
+/// last texts, and a buffer for the longest line.
+pub fn write_view<O: Sink>(
+    alloc: Global,
+    live: &Live,
+    log: &[Stamped],
+    reader: UserNo,
+    sink: &mut O,
+) -> Result<(), ViewError>
+    ensures { WritesView result (lines_text (sights (reader_in live.now.tables (Some reader)) [] log.now)) (outlet_of O.taken O.faults sink.old) (outlet_of O.taken O.faults sink.new) }
+{
+    let Ok(last) = LastTexts::of(alloc, log) else {
+        return Err(ViewError::OutOfMemory);
+    };
+    let mut line = Vec::new(alloc);
+    let mut at = 0;
+    'lines: while at < log.len() {
+        let sighting = sight(live, reader, &log[at], last.is_last(log, at));
+        let Ok(()) = fill(&mut line, &sighting) else {
+            return Err(ViewError::OutOfMemory);
+        };
+        match write_all(sink, &line) {
+            Ok(()) => at += 1,
+            Err(_) => return Err(ViewError::WriteFault),
+        }
+    }
+    Ok(())
+}
+
+/// How many sightings a user has of a history, by its tables: the lines that `write_view` writes; an error only for
+/// want of memory. Costs the same walks.
+pub fn view_len(
+    alloc: Global,
+    live: &Live,
+    log: &[Stamped],
+    reader: UserNo,
+) -> Result<u64, AllocError>
+    ensures { IfOk result (λ n. n ≡ length (sights (reader_in live.now.tables (Some reader)) [] log.now)) }
+{
+    let last = LastTexts::of(alloc, log)?;
+    let mut count = 0;
+    let mut at = 0;
+    'sightings: while at < log.len() {
+        count += number_of(&sight(live, reader, &log[at], last.is_last(log, at)));
+        at += 1;
+    }
+    Ok(count)
+}
+
+/// 1 where there is a sighting, else 0.
+fn number_of(sighting: &Option<Sighting>) -> u64
+    ensures { result ≡ length (listed sighting.now) }
+{
+    match sighting {
+        Some(_) => 1,
+        None => 0,
+    }
+}

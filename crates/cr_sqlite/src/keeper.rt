@@ -1,0 +1,201 @@
+//! A keeper over a connection.
+ghost use Rattle.std.specs.Prelude.{◌≡◌, ℕ, None, false, IfOk, IfErr};
+ghost use Rattle.cr_ports.specs.Keeping.{HasCause};
+ghost use Rattle.cr_sqlite.specs.Refusing.{told_of};
+
+use crate::lanes::Lanes;
+use crate::reason::{Reason, Refusal};
+use crate::record::insert;
+use crate::schema::make_or_check;
+use crate::table::Table;
+use cr_base::Row;
+use cr_ports::{Keeper, KeeperError};
+use sqlite::{Alter, Connection, Error};
+use std::alloc::Global;
+use std::marker::Model;
+
+/// The rows of a store, over a connection that nobody else has. It doesn't tell them.
+///
+/// Contracts see the count of faults.
+#[derive(Drop)]
+pub struct SqliteKeeper<S: Alter> {
+    conn: Connection<S>,
+    lanes: Lanes,
+    /// How many rows are kept.
+    len: u64,
+    /// The row at which the lanes stand, if they do at one.
+    next: Option<u64>,
+    faults: u64,
+    reason: Option<Reason>,
+}
+
+impl<S: Alter> Model for SqliteKeeper<S> {
+    ghost use Rattle.std.specs.Prelude.{ℕ};
+
+    ghost Value = { ℕ };
+
+    ghost view = { λ k. k.faults };
+}
+
+/// Makes the store's tables where the database has none, and else looks at them. The lanes, and
+/// how many rows there are.
+fn prepare<S: Alter>(alloc: Global, conn: &mut Connection<S>) -> Result<(Lanes, u64), Refusal> {
+    make_or_check(conn)?;
+    let lanes = Lanes::new(alloc, conn)?;
+    let mut len = 0u64;
+    for table in [Table::People, Table::Papers, Table::Ties, Table::Talk] {
+        len = len.saturating_add(count_of(conn, table)?);
+    }
+    Ok((lanes, len))
+}
+
+/// How many rows a table has.
+fn count_of<S: Alter>(conn: &mut Connection<S>, table: Table) -> Result<u64, Error> {
+    conn.query_row(table.count(), &[])?.get(0)
+}
+
+/// Adds all rows from a place on, in one transaction, or none of them.
+fn insert_all<S: Alter>(
+    conn: &mut Connection<S>,
+    lanes: &Lanes,
+    first: u64,
+    added: &[Row],
+) -> Result<(), Refusal>
+    requires { conn.old.in_transaction ≡ false }
+{
+    let mut transaction = conn.transaction();
+    let mut place = first;
+    for row in added {
+        let Some(statement) = lanes.insert_for(row.kind) else {
+            return Err(Refusal::Failed(Reason::UnknownRow(place)));
+        };
+        insert(&mut transaction, statement, place, row)?;
+        place = place.saturating_add(1);
+    }
+    transaction.commit()?;
+    Ok(())
+}
+
+impl<S: Alter> SqliteKeeper<S> {
+    /// A keeper of the rows that the connection's database has as a store, with no fault counted.
+    /// A database without tables becomes a store without rows, in one transaction; any other is
+    /// left as it is.
+    ///
+    /// `Failed` comes only where `faults` rose, or stands at its last value: the database isn't a
+    /// store of version 1, or a statement failed. `OutOfMemory` comes only where it is as it was.
+    /// Counts the rows; what they are is looked at as they are read. Where each of the first that
+    /// many places then has one row, there is no other.
+    pub fn adopt(
+        alloc: Global,
+        mut conn: Connection<S>,
+        faults: &mut u64,
+    ) -> Result<Self, (Refusal, Connection<S>)>
+        ensures kept { IfOk result (λ keeper. (keeper ≡ 0) × (faults.new ≡ faults.old)) }
+        ensures cause { IfErr result (λ e. HasCause {T = ℕ} faults.old faults.new (Err (told_of e.0))) }
+    {
+        match prepare(alloc, &mut conn) {
+            Ok((lanes, len)) => Ok(SqliteKeeper {
+                conn,
+                lanes,
+                len,
+                next: None,
+                faults: 0,
+                reason: None,
+            }),
+            Err(Refusal::Failed(reason)) => {
+                *faults = faults.saturating_add(1);
+                Err((Refusal::Failed(reason), conn))
+            }
+            Err(Refusal::OutOfMemory) => Err((Refusal::OutOfMemory, conn)),
+        }
+    }
+
+    /// The connection, whose database has the rows.
+    pub fn release(self) -> Connection<S> {
+        self.conn
+    }
+
+    /// How many calls have failed.
+    pub fn faults(&self) -> u64
+        ensures { result ≡ self.now }
+    {
+        self.faults
+    }
+
+    /// What the last fault was; none where no call has failed.
+    pub fn reason(&self) -> Option<Reason> {
+        self.reason
+    }
+
+    /// Counts a fault and keeps its reason. Want of memory is none.
+    fn refused(&mut self, refusal: Refusal) -> KeeperError
+        ensures { HasCause {T = ℕ} self.old self.new (Err result) }
+    {
+        match refusal {
+            Refusal::Failed(reason) => {
+                self.faults = self.faults.saturating_add(1);
+                self.reason = Some(reason);
+                KeeperError::Failed
+            }
+            Refusal::OutOfMemory => KeeperError::OutOfMemory,
+        }
+    }
+
+    /// Keeps all rows, or none of them.
+    fn keep(&mut self, added: &[Row]) -> Result<(), Refusal>
+        ensures { self.new ≡ self.old }
+    {
+        if !self.conn.is_autocommit() {
+            return Err(Refusal::Failed(Reason::InTransaction));
+        }
+        insert_all(&mut self.conn, &self.lanes, self.len, added)?;
+        self.len = self.len.saturating_add(added.len() as u64);
+        self.next = None;
+        Ok(())
+    }
+
+    /// Takes the row at this place, from the pages that are at hand where it is the next one.
+    fn take(&mut self, at: u64) -> Result<Row, Refusal>
+        ensures { self.new ≡ self.old }
+    {
+        if self.next != Some(at) {
+            self.seek(at);
+        }
+        self.next = None;
+        let row = self.lanes.take(&mut self.conn, at)?;
+        self.next = at.checked_add(1);
+        Ok(row)
+    }
+
+    fn seek(&mut self, at: u64)
+        ensures { self.new ≡ self.old }
+    {
+        self.lanes.seek(i64::try_from(at).unwrap_or(i64::MAX));
+    }
+}
+
+impl<S: Alter> Keeper for SqliteKeeper<S> {
+    ghost rows = { λ _. None };
+
+    ghost faults = { λ k. k };
+
+    /// One transaction, whose commit waits until the disk has it.
+    fn append_all(&mut self, added: &[Row]) -> Result<(), KeeperError> {
+        match self.keep(added) {
+            Ok(()) => Ok(()),
+            Err(refusal) => Err(self.refused(refusal)),
+        }
+    }
+
+    fn len(&mut self) -> Result<u64, KeeperError> {
+        Ok(self.len)
+    }
+
+    /// Rows read in their order are read by pages; any other row begins a page.
+    fn row(&mut self, at: u64) -> Result<Row, KeeperError> {
+        match self.take(at) {
+            Ok(row) => Ok(row),
+            Err(refusal) => Err(self.refused(refusal)),
+        }
+    }
+}

@@ -1,0 +1,20 @@
+//! A shelf and a keeper over SQLite files. They tell no rows: what a file keeps is the word of the
+//! crate `sqlite`.
+//!
+//! A store is a file with four tables of rows, by kind of entry, and one with the version of these
+//! tables. A row stands at its place, its number from 0 in the one list of them all.
+#![tactic(auto)]
+
+mod keeper;
+mod lanes;
+mod reason;
+mod record;
+mod schema;
+mod shelf;
+mod table;
+#[cfg(test)]
+mod tests;
+
+pub use keeper::SqliteKeeper;
+pub use reason::{Reason, Refusal};
+pub use shelf::SqliteShelf;

@@ -1,0 +1,82 @@
+//! What was wrong where a shelf or a keeper failed.
+ghost use Rattle.std.specs.Prelude.{◌≡◌};
+ghost use Rattle.cr_sqlite.specs.Refusing.{told_of};
+
+use cr_ports::KeeperError;
+use sqlite::{Error, ErrorCode};
+use std::fmt;
+
+/// What a fault was. Its text is one line, without the path.
+#[derive(Clone, Copy, Debug, PartialEq, Eq)]
+pub enum Reason {
+    /// The crate `sqlite` refused the file, the disk failed, or another process holds the file.
+    Database(Error),
+    /// The file has other tables, or one of the store's has other columns.
+    OtherTables,
+    /// The store isn't of version 1.
+    OtherVersion,
+    /// No row stands at this place, which is below the number of rows.
+    MissingPlace(u64),
+    /// Two rows stand at this place.
+    TakenPlace(u64),
+    /// The row at this place stands in another table than that of its kind.
+    OtherTable(u64),
+    /// A value of the row at this place is of another type, or no number that a row can hold.
+    OtherValue(u64),
+    /// A row was to be kept whose kind has no table, or with a number past 2^63 - 1.
+    UnknownRow(u64),
+    /// The connection is inside a transaction.
+    InTransaction,
+}
+
+impl fmt::Display for Reason {
+    fn fmt<W: fmt::Write>(&self, f: &mut fmt::Formatter<W>) -> fmt::Result {
+        match self {
+            Reason::Database(error) => write!(f, "{error}"),
+            Reason::OtherTables => f.write_str("the tables are not those of a store"),
+            Reason::OtherVersion => f.write_str("the store is not of version 1"),
+            Reason::MissingPlace(place) => write!(f, "no row stands at place {place}"),
+            Reason::TakenPlace(place) => write!(f, "two rows stand at place {place}"),
+            Reason::OtherTable(place) => write!(
+                f,
+                "the row at place {place} stands in another table than its kind's"
+            ),
+            Reason::OtherValue(place) => write!(
+                f,
+                "the row at place {place} has a value that no row has"
+            ),
+            Reason::UnknownRow(place) => write!(f, "the row for place {place} fits no table"),
+            Reason::InTransaction => f.write_str("a transaction is open"),
+        }
+    }
+}
+
+/// Why a connection wasn't taken as a keeper, or a call of one gave up.
+#[derive(Clone, Copy, Debug, PartialEq, Eq)]
+pub enum Refusal {
+    /// A fault, which was counted.
+    Failed(Reason),
+    /// Want of memory, which isn't counted as a fault.
+    OutOfMemory,
+}
+
+impl From<Error> for Refusal {
+    fn from(error: Error) -> Refusal {
+        match error {
+            Error::SqliteFailure(ErrorCode::OutOfMemory) => Refusal::OutOfMemory,
+            _ => Refusal::Failed(Reason::Database(error)),
+        }
+    }
+}
+
+impl Refusal {
+    /// The same as a keeper tells it, without its reason.
+    pub fn error(&self) -> KeeperError
+        ensures { result ≡ told_of self.now }
+    {
+        match self {
+            Refusal::Failed(_) => KeeperError::Failed,
+            Refusal::OutOfMemory => KeeperError::OutOfMemory,
+        }
+    }
+}

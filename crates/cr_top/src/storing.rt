@@ -1,0 +1,93 @@
+//! Jobs on a store: its rows are opened as a book, worked on, and shut.
+ghost use Rattle.std.specs.Prelude.{◌≡◌, ◌≢◌, ◌⊎◌, ℕ, List, Some, IfErr, IfOk, OnOk};
+ghost use Rattle.cr_base.specs.History.{History};
+ghost use Rattle.cr_base.specs.Rows.{rows_of};
+ghost use Rattle.cr_policy.specs.Legal.{Legal};
+ghost use Rattle.cr_ports.specs.Count.{Rises};
+ghost use Rattle.cr_top.specs.declared.exit.Exit.{Exit};
+ghost use Rattle.cr_top.specs.Exits.{exit_of_rows, exit_of_shelf};
+ghost use Rattle.cr_top.specs.Runs.{outside_of, IsFaultless, AnswersAll};
+ghost use Rattle.cr_top.specs.Stores.{Files, OpensStore, PipesStore, StaysShut, state_of};
+
+use crate::exit::{Exit, exit_of};
+use crate::piping::pipe;
+use cr_book::{Book, OpenError};
+use cr_ports::{KeeperError, Shelf, Sink, Source};
+use std::alloc::Global;
+
+/// The exit of a run whose store the shelf didn't open.
+fn exit_of_shelf(error: KeeperError) -> Exit
+    ensures { result ≡ exit_of_shelf error }
+{
+    match error {
+        KeeperError::Failed => Exit::KeeperFault,
+        KeeperError::OutOfMemory => Exit::OutOfMemory,
+    }
+}
+
+/// The exit of a run whose store has rows that don't open.
+fn exit_of_rows(error: OpenError) -> Exit
+    ensures { result ≡ exit_of_rows error }
+{
+    match error {
+        OpenError::BadStore { row, found } => Exit::BadStore {
+            row,
+            kind: found.kind,
+        },
+        OpenError::KeeperFault => Exit::KeeperFault,
+        OpenError::OutOfMemory => Exit::OutOfMemory,
+    }
+}
+
+/// The book of the rows at the path. Where they don't open, the store is shut again, and the exit tells why.
+pub(crate) fn open_store<S: Shelf>(
+    alloc: Global,
+    path: &str,
+    shelf: &mut S,
+) -> Result<Book<S::Keeper>, Exit>
+    ensures opened { IfOk result (λ book. OpensStore S.Keeper.rows S.Keeper.faults path.now book (state_of S.rows S.faults shelf.old) (state_of S.rows S.faults shelf.new)) }
+    ensures open { OnOk result (S.has_opened shelf.new path.now) }
+    ensures refused { IfErr result (λ exit. StaysShut path.now exit (state_of S.rows S.faults shelf.old) (state_of S.rows S.faults shelf.new)) }
+{
+    let keeper = match shelf.open(path) {
+        Ok(keeper) => keeper,
+        Err(error) => return Err(exit_of_shelf(error)),
+    };
+    match Book::open(alloc, keeper) {
+        Ok(book) => Ok(book),
+        Err((error, keeper)) => {
+            shelf.shut(path, keeper);
+            Err(exit_of_rows(error))
+        }
+    }
+}
+
+/// Serves one connection over `input` and `out` from the history of the rows at the path on, which are then
+/// those of the last history. Where they don't open, nothing is read and nothing written.
+pub fn pipe_store<S: Shelf, I: Source, O: Sink>(
+    alloc: Global,
+    path: &str,
+    input: &mut I,
+    out: &mut O,
+    shelf: &mut S,
+) -> Exit
+    ensures pipes { let outside = outside_of I.faults O.taken O.faults in let stores = state_of S.rows S.faults in
+        PipesStore S.Keeper.rows path.now I.left I.read_gives result (outside input.old out.old) (outside input.new out.new) (stores shelf.old) (stores shelf.new) }
+
+    // Where nothing fails and the rows are a legal history's, all that the input's bytes spell is answered from that history
+    // on, or memory is wanting.
+    ensures answers { let outside = outside_of I.faults O.taken O.faults in
+        (b : List ℕ) → I.left input.old ≡ Some b → IsFaultless (outside input.old out.old) (outside input.new out.new)
+        → (Rises (S.faults shelf.old) (S.faults shelf.new) → ⊥)
+        → (files : Files) → S.rows shelf.old ≡ Some files → (H : History) → Legal H → rows_of H ≡ files path.now
+        → (result ≡ Exit.OutOfMemory) ⊎ AnswersAll H result b (outside input.old out.old) (outside input.new out.new) }
+{
+    match open_store(alloc, path, shelf) {
+        Ok(book) => {
+            let (ending, keeper) = pipe(alloc, book, input, out);
+            shelf.shut(path, keeper);
+            exit_of(ending)
+        }
+        Err(exit) => exit,
+    }
+}
