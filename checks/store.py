@@ -277,39 +277,135 @@ def view_of_a_file(program, folder):
     expect(status == 8 and out == b"", f"{status}: {out!r}")
 
 
-def bad_files(program, folder):
-    """What is no store of this version is refused with status 6, and a store with a bad row with status 3."""
-    other = os.path.join(folder, "no-database")
-    with open(other, "wb") as file:
+def a_bit_of_all():
+    """Six rows: of people at the places 0 to 3, of papers at 4, of ties at 5."""
+    conflict = request("POST", "/papers/1/conflicts", "alice", {"on": True, "user": "bob"})
+    return opening() + register("bob") + submit("alice", "Proofs", "We prove.") + conflict
+
+
+def no_database(program, folder):
+    """A file that is no database is refused with status 6, and stays byte for byte as it is."""
+    store = os.path.join(folder, "no-database")
+    with open(store, "wb") as file:
         file.write(b"no database, but long enough to be read as one\n" * 100)
-    written = read(other)
-    told, status = program.pipe(other, request("GET", "/phase"))
-    expect(status == 6 and told == [], f"no database: {status}")
-    expect(read(other) == written, "no database: the file was changed")
-    for name, change, due in (
-        ("version", "UPDATE meta SET version = 99", 6),
-        ("column", "ALTER TABLE ties ADD COLUMN more_still INTEGER", 6),
-        ("twice", "INSERT INTO talk SELECT * FROM people WHERE place = 1", 6),
-        ("missing", "DELETE FROM people WHERE place = 1", 6),
-        ("negative", "UPDATE people SET n1 = -1 WHERE place = 0", 6),
-        ("table", "INSERT INTO talk SELECT * FROM people WHERE place = 2; DELETE FROM people WHERE place = 2", 6),
-        ("kind", "UPDATE people SET kind = 18 WHERE place = 1", 3),
-        ("number", "UPDATE people SET n1 = 2 WHERE place = 0", 3),
-        ("role", "UPDATE people SET n2 = 1 WHERE place = 1", 3),
-        ("cut", "DELETE FROM people WHERE place >= 1", 3),
-    ):
-        store = os.path.join(folder, f"bad-{name}")
-        program.pipe(store, opening())
-        with opened(store) as file:
-            file.executescript(change)
-        before = contents(store)
-        out, status, reason = program.run(["pipe", "--store", store], request("GET", "/phase"))
-        expect(status == due and out == b"", f"{name}: status {status}, due {due}")
-        expect(reason != b"", f"{name}: nothing on standard error")
-        expect(contents(store) == before, f"{name}: what the file holds was changed")
+    written = read(store)
+    out, status, reason = program.run(["pipe", "--store", store], request("GET", "/phase"))
+    expect(status == 6 and out == b"" and reason != b"", f"status {status}, {reason!r}")
+    expect(read(store) == written, "the file was changed")
 
 
-CHECKS = (many_rows, killed, held_by_another, full_disk, copied, view_of_a_file, bad_files)
+def somebody_elses(program, folder):
+    """A database with a table of somebody else's is refused with status 6, and stays byte for byte as it is."""
+    store = os.path.join(folder, "others")
+    with opened(store) as file:
+        file.executescript("CREATE TABLE note (title TEXT) STRICT; INSERT INTO note VALUES ('mine')")
+    written = read(store)
+    out, status, reason = program.run(["pipe", "--store", store], request("GET", "/phase"))
+    expect(status == 6 and out == b"", f"status {status}")
+    expect(reason == line_of(store, OTHER_TABLES), f"{reason!r}")
+    expect(read(store) == written, "the file was changed")
+
+
+OTHER_TABLES = "the tables are not those of a store"
+OTHER_VERSION = "the store is not of version 1"
+
+# What is done to the six rows, and what standard error is to say; the status is 6.
+BAD_STORES = (
+    ("UPDATE meta SET version = 2", OTHER_VERSION),
+    ("DELETE FROM meta", OTHER_VERSION),
+    ("INSERT INTO meta VALUES (1)", OTHER_VERSION),
+    ("DROP TABLE talk", OTHER_TABLES),
+    ("CREATE TABLE more (place INTEGER) STRICT", OTHER_TABLES),
+    ("ALTER TABLE ties ADD COLUMN more_still INTEGER", OTHER_TABLES),
+    ("DROP TABLE talk; CREATE TABLE talk (place INTEGER PRIMARY KEY, b1 BLOB) STRICT", OTHER_TABLES),
+    ("DELETE FROM people WHERE place = 0", "no row stands at place 0"),
+    ("DELETE FROM people WHERE place = 1", "no row stands at place 1"),
+    ("UPDATE papers SET place = 40 WHERE place = 4", "no row stands at place 4"),
+    ("UPDATE ties SET place = 6 WHERE place = 5", "no row stands at place 5"),
+    ("UPDATE people SET place = -1 WHERE place = 0", "no row stands at place 0"),
+    ("INSERT INTO talk SELECT * FROM people WHERE place = 1", "two rows stand at place 1"),
+    ("UPDATE ties SET place = 2 WHERE place = 5", "two rows stand at place 2"),
+    (
+        "INSERT INTO talk SELECT * FROM people WHERE place = 2; DELETE FROM people WHERE place = 2",
+        "the row at place 2 stands in another table than its kind's",
+    ),
+    ("UPDATE papers SET kind = 4 WHERE place = 4", "the row at place 4 stands in another table than its kind's"),
+    ("UPDATE people SET n1 = -1 WHERE place = 0", "the row at place 0 has a value that no row has"),
+    ("UPDATE papers SET n3 = -1 WHERE place = 4", "the row at place 4 has a value that no row has"),
+)
+
+# What is done to them so that one is a row of no entry, or of no history; the status is 3.
+BAD_ROWS = (
+    ("UPDATE people SET kind = 18 WHERE place = 1", 1, 18),
+    ("UPDATE people SET n1 = 2 WHERE place = 0", 0, 1),
+    ("UPDATE people SET n2 = 1 WHERE place = 1", 1, 2),
+    ("DELETE FROM people WHERE place >= 1; DELETE FROM papers; DELETE FROM ties", 0, 1),
+)
+
+
+def line_of(store, reason):
+    """The line on standard error that gives this reason."""
+    return f"confd: {store}: {reason}\n".encode()
+
+
+def refused(program, folder, change, due, reason):
+    """Tries a store of six rows that was changed so, and that has to stay as it is."""
+    store = os.path.join(folder, "bad")
+    answered, status = program.pipe(store, a_bit_of_all())
+    expect(status == 0 and all(code in (200, 201) for code, _ in answered), "the six rows were not kept")
+    with opened(store) as file:
+        file.executescript(change)
+    before = contents(store)
+    out, status, line = program.run(["pipe", "--store", store], request("GET", "/phase"))
+    expect(status == due and out == b"", f"{change}: status {status}, due {due}")
+    expect(line == line_of(store, reason), f"{change}: {line!r}, due {reason!r}")
+    expect(contents(store) == before, f"{change}: what the file holds was changed")
+    for end in ("", "-wal"):
+        with contextlib.suppress(FileNotFoundError):
+            os.remove(store + end)
+
+
+def bad_stores(program, folder):
+    """What is no store of this version is refused with status 6 and its reason, and stays as it is."""
+    for change, reason in BAD_STORES:
+        refused(program, folder, change, 6, reason)
+
+
+def bad_rows(program, folder):
+    """A store with a row of no history is refused with status 3 and the row's number and kind, and stays as it is."""
+    for change, row, kind in BAD_ROWS:
+        refused(program, folder, change, 3, f"row {row}, of kind {kind}, is bad or ends inside a command")
+
+
+def other_types(program, folder):
+    """A value of another type, or none, can't stand in a store's tables: SQLite refuses it, since they are STRICT."""
+    store = os.path.join(folder, "types")
+    program.pipe(store, opening())
+    before = contents(store)
+    for column, value in (("kind", "'one'"), ("n1", "x'01'"), ("n2", "1.5"), ("more", "NULL"), ("b1", "'text'"), ("b2", "7")):
+        stood = True
+        try:
+            with opened(store) as file:
+                file.execute(f"UPDATE people SET {column} = {value} WHERE place = 0")
+        except sqlite3.IntegrityError:
+            stood = False
+        expect(not stood, f"{column} took {value}")
+    expect(contents(store) == before, "what the file holds was changed")
+
+
+CHECKS = (
+    many_rows,
+    killed,
+    held_by_another,
+    full_disk,
+    copied,
+    view_of_a_file,
+    no_database,
+    somebody_elses,
+    bad_stores,
+    bad_rows,
+    other_types,
+)
 
 
 def main():

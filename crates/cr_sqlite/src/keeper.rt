@@ -1,23 +1,22 @@
 //! A keeper over a connection.
 ghost use Rattle.std.specs.Prelude.{◌≡◌, ℕ, None, false, IfOk, IfErr};
 ghost use Rattle.cr_ports.specs.Keeping.{HasCause};
-ghost use Rattle.cr_sqlite.specs.Refusing.{told_of};
+ghost use Rattle.cr_sqlite.specs.Telling.{told_of};
 
 use crate::lanes::Lanes;
-use crate::reason::{Reason, Refusal};
+use crate::reason::{Reason, StoreError};
 use crate::record::insert;
 use crate::schema::make_or_check;
 use crate::table::Table;
 use cr_base::Row;
 use cr_ports::{Keeper, KeeperError};
-use sqlite::{Alter, Connection, Error};
+use sqlite::{Alter, Connection, Error, Transaction};
 use std::alloc::Global;
 use std::marker::Model;
 
 /// The rows of a store, over a connection that nobody else has. It doesn't tell them.
 ///
 /// Contracts see the count of faults.
-#[derive(Drop)]
 pub struct SqliteKeeper<S: Alter> {
     conn: Connection<S>,
     lanes: Lanes,
@@ -27,6 +26,20 @@ pub struct SqliteKeeper<S: Alter> {
     next: Option<u64>,
     faults: u64,
     reason: Option<Reason>,
+}
+
+// Written out, so that a caller doesn't prove again how each part is dropped.
+impl<S: Alter + Drop> Drop for SqliteKeeper<S> {
+    fn drop(self) {
+        let SqliteKeeper {
+            conn: _,
+            lanes: _,
+            len: _,
+            next: _,
+            faults: _,
+            reason: _,
+        } = self;
+    }
 }
 
 impl<S: Alter> Model for SqliteKeeper<S> {
@@ -39,14 +52,20 @@ impl<S: Alter> Model for SqliteKeeper<S> {
 
 /// Makes the store's tables where the database has none, and else looks at them. The lanes, and
 /// how many rows there are.
-fn prepare<S: Alter>(alloc: Global, conn: &mut Connection<S>) -> Result<(Lanes, u64), Refusal> {
+fn prepare<S: Alter>(alloc: Global, conn: &mut Connection<S>) -> Result<(Lanes, u64), StoreError> {
     make_or_check(conn)?;
+    let len = count_all(conn)?;
     let lanes = Lanes::new(alloc, conn)?;
+    Ok((lanes, len))
+}
+
+/// How many rows there are.
+fn count_all<S: Alter>(conn: &mut Connection<S>) -> Result<u64, Error> {
     let mut len = 0u64;
     for table in [Table::People, Table::Papers, Table::Ties, Table::Talk] {
         len = len.saturating_add(count_of(conn, table)?);
     }
-    Ok((lanes, len))
+    Ok(len)
 }
 
 /// How many rows a table has.
@@ -60,20 +79,40 @@ fn insert_all<S: Alter>(
     lanes: &Lanes,
     first: u64,
     added: &[Row],
-) -> Result<(), Refusal>
+) -> Result<(), StoreError>
     requires { conn.old.in_transaction ≡ false }
 {
     let mut transaction = conn.transaction();
-    let mut place = first;
-    for row in added {
-        let Some(statement) = lanes.insert_for(row.kind) else {
-            return Err(Refusal::Failed(Reason::UnknownRow(place)));
-        };
-        insert(&mut transaction, statement, place, row)?;
-        place = place.saturating_add(1);
-    }
+    insert_each(&mut transaction, lanes, first, added)?;
     transaction.commit()?;
     Ok(())
+}
+
+/// Adds all rows from a place on.
+fn insert_each<S: Alter>(
+    transaction: &mut Transaction<'_, S>,
+    lanes: &Lanes,
+    first: u64,
+    added: &[Row],
+) -> Result<(), StoreError> {
+    let mut place = first;
+    for row in added {
+        insert_one(transaction, lanes, place, row)?;
+        place = place.saturating_add(1);
+    }
+    Ok(())
+}
+
+fn insert_one<S: Alter>(
+    transaction: &mut Transaction<'_, S>,
+    lanes: &Lanes,
+    place: u64,
+    row: &Row,
+) -> Result<(), StoreError> {
+    match lanes.insert_for(row.kind) {
+        Some(statement) => insert(transaction, statement, place, row),
+        None => Err(StoreError::Failed(Reason::UnknownRow(place))),
+    }
 }
 
 impl<S: Alter> SqliteKeeper<S> {
@@ -89,7 +128,7 @@ impl<S: Alter> SqliteKeeper<S> {
         alloc: Global,
         mut conn: Connection<S>,
         faults: &mut u64,
-    ) -> Result<Self, (Refusal, Connection<S>)>
+    ) -> Result<Self, (StoreError, Connection<S>)>
         ensures kept { IfOk result (λ keeper. (keeper ≡ 0) × (faults.new ≡ faults.old)) }
         ensures cause { IfErr result (λ e. HasCause {T = ℕ} faults.old faults.new (Err (told_of e.0))) }
     {
@@ -102,17 +141,25 @@ impl<S: Alter> SqliteKeeper<S> {
                 faults: 0,
                 reason: None,
             }),
-            Err(Refusal::Failed(reason)) => {
+            Err(StoreError::Failed(reason)) => {
                 *faults = faults.saturating_add(1);
-                Err((Refusal::Failed(reason), conn))
+                Err((StoreError::Failed(reason), conn))
             }
-            Err(Refusal::OutOfMemory) => Err((Refusal::OutOfMemory, conn)),
+            Err(StoreError::OutOfMemory) => Err((StoreError::OutOfMemory, conn)),
         }
     }
 
     /// The connection, whose database has the rows.
     pub fn release(self) -> Connection<S> {
-        self.conn
+        let SqliteKeeper {
+            conn,
+            lanes: _,
+            len: _,
+            next: _,
+            faults: _,
+            reason: _,
+        } = self;
+        conn
     }
 
     /// How many calls have failed.
@@ -128,25 +175,25 @@ impl<S: Alter> SqliteKeeper<S> {
     }
 
     /// Counts a fault and keeps its reason. Want of memory is none.
-    fn refused(&mut self, refusal: Refusal) -> KeeperError
+    fn refused(&mut self, refusal: StoreError) -> KeeperError
         ensures { HasCause {T = ℕ} self.old self.new (Err result) }
     {
         match refusal {
-            Refusal::Failed(reason) => {
+            StoreError::Failed(reason) => {
                 self.faults = self.faults.saturating_add(1);
                 self.reason = Some(reason);
                 KeeperError::Failed
             }
-            Refusal::OutOfMemory => KeeperError::OutOfMemory,
+            StoreError::OutOfMemory => KeeperError::OutOfMemory,
         }
     }
 
     /// Keeps all rows, or none of them.
-    fn keep(&mut self, added: &[Row]) -> Result<(), Refusal>
+    fn keep(&mut self, added: &[Row]) -> Result<(), StoreError>
         ensures { self.new ≡ self.old }
     {
         if !self.conn.is_autocommit() {
-            return Err(Refusal::Failed(Reason::InTransaction));
+            return Err(StoreError::Failed(Reason::InTransaction));
         }
         insert_all(&mut self.conn, &self.lanes, self.len, added)?;
         self.len = self.len.saturating_add(added.len() as u64);
@@ -155,7 +202,7 @@ impl<S: Alter> SqliteKeeper<S> {
     }
 
     /// Takes the row at this place, from the pages that are at hand where it is the next one.
-    fn take(&mut self, at: u64) -> Result<Row, Refusal>
+    fn take(&mut self, at: u64) -> Result<Row, StoreError>
         ensures { self.new ≡ self.old }
     {
         if self.next != Some(at) {

@@ -1,5 +1,5 @@
 //! The four tables read side by side, merged by place.
-use crate::reason::{Reason, Refusal};
+use crate::reason::{Reason, StoreError};
 use crate::record::{place_of, read};
 use crate::table::Table;
 use cr_base::Row;
@@ -7,7 +7,6 @@ use sqlite::{Alter, Connection, Error, Statement, params};
 use std::alloc::Global;
 
 /// One table: its statements, made once, and the page of it that is being read.
-#[derive(Drop)]
 pub(crate) struct Lane {
     table: Table,
     insert: Statement,
@@ -19,8 +18,21 @@ pub(crate) struct Lane {
     behind: Option<i64>,
 }
 
+// Written out, so that a caller doesn't prove again how each part is dropped.
+impl Drop for Lane {
+    fn drop(self) {
+        let Lane {
+            table: _,
+            insert: _,
+            page: _,
+            rows: _,
+            taken: _,
+            behind: _,
+        } = self;
+    }
+}
+
 /// The four tables.
-#[derive(Drop)]
 pub(crate) struct Lanes {
     alloc: Global,
     people: Lane,
@@ -29,8 +41,38 @@ pub(crate) struct Lanes {
     talk: Lane,
 }
 
+// Written out, so that a caller doesn't prove again how each part is dropped.
+impl Drop for Lanes {
+    fn drop(self) {
+        let Lanes {
+            alloc: _,
+            people: _,
+            papers: _,
+            ties: _,
+            talk: _,
+        } = self;
+    }
+}
+
 fn prepare<S: Alter>(conn: &mut Connection<S>, sql: &str) -> Result<Statement, Error> {
     conn.prepare(sql)
+}
+
+/// The rows of a page that begins at this place.
+fn page_from<S: Alter>(
+    page: &Statement,
+    conn: &mut Connection<S>,
+    place: i64,
+) -> Result<Vec<sqlite::Row>, Error> {
+    page.query_all(conn, params![place])
+}
+
+/// The first place behind these rows; none where there are none.
+fn behind(rows: &[sqlite::Row]) -> Result<Option<i64>, Error> {
+    match rows.last() {
+        Some(last) => Ok(place_of(last)?.checked_add(1)),
+        None => Ok(None),
+    }
 }
 
 impl Lane {
@@ -53,35 +95,60 @@ impl Lane {
     }
 
     /// Reads the next page where all rows of this one were taken.
-    fn fill<S: Alter>(&mut self, conn: &mut Connection<S>) -> Result<(), Error> {
+    fn fill<S: Alter>(&mut self, alloc: Global, conn: &mut Connection<S>) -> Result<(), Error> {
         if self.taken < self.rows.len() {
             return Ok(());
         }
-        let Some(behind) = self.behind else {
-            return Ok(());
-        };
-        self.rows = self.page.query_all(conn, params![behind])?;
-        self.taken = 0;
-        self.behind = match self.rows.last() {
-            Some(last) => place_of(last)?.checked_add(1),
-            None => None,
-        };
+        match self.behind {
+            Some(place) => self.turn(alloc, conn, place),
+            None => Ok(()),
+        }
+    }
+
+    /// Lets the page go, before it reads the one that begins at this place.
+    fn turn<S: Alter>(
+        &mut self,
+        alloc: Global,
+        conn: &mut Connection<S>,
+        place: i64,
+    ) -> Result<(), Error> {
+        self.seek(alloc, place);
+        self.rows = page_from(&self.page, conn, place)?;
+        self.behind = behind(self.rows.as_slice())?;
         Ok(())
     }
 
     /// Whether the next row stands at this place.
-    fn stands_at<S: Alter>(&mut self, conn: &mut Connection<S>, place: i64) -> Result<bool, Error> {
-        self.fill(conn)?;
-        let Some(next) = self.rows.get(self.taken) else {
-            return Ok(false);
-        };
-        Ok(place_of(next)? == place)
+    fn stands_at<S: Alter>(
+        &mut self,
+        alloc: Global,
+        conn: &mut Connection<S>,
+        place: i64,
+    ) -> Result<bool, Error> {
+        self.fill(alloc, conn)?;
+        match self.rows.get(self.taken) {
+            Some(next) => Ok(place_of(next)? == place),
+            None => Ok(false),
+        }
+    }
+
+    /// The table, where its next row stands at this place.
+    fn table_at<S: Alter>(
+        &mut self,
+        alloc: Global,
+        conn: &mut Connection<S>,
+        place: i64,
+    ) -> Result<Option<Table>, Error> {
+        if self.stands_at(alloc, conn, place)? {
+            return Ok(Some(self.table));
+        }
+        Ok(None)
     }
 
     /// Takes the next row, which stands at this place.
-    fn take(&mut self, alloc: Global, place: u64) -> Result<Row, Refusal> {
+    fn take(&mut self, alloc: Global, place: u64) -> Result<Row, StoreError> {
         let Some(next) = self.rows.get(self.taken) else {
-            return Err(Refusal::Failed(Reason::MissingPlace(place)));
+            return Err(StoreError::Failed(Reason::MissingPlace(place)));
         };
         let row = read(alloc, self.table, place, next)?;
         self.taken = self.taken.saturating_add(1);
@@ -120,21 +187,41 @@ impl Lanes {
     }
 
     /// Takes the one row that stands at this place, which is the next one.
-    pub fn take<S: Alter>(&mut self, conn: &mut Connection<S>, place: u64) -> Result<Row, Refusal> {
+    pub fn take<S: Alter>(&mut self, conn: &mut Connection<S>, place: u64) -> Result<Row, StoreError> {
         let Ok(at) = i64::try_from(place) else {
-            return Err(Refusal::Failed(Reason::MissingPlace(place)));
+            return Err(StoreError::Failed(Reason::MissingPlace(place)));
         };
-        let people = self.people.stands_at(conn, at)?;
-        let papers = self.papers.stands_at(conn, at)?;
-        let ties = self.ties.stands_at(conn, at)?;
-        let talk = self.talk.stands_at(conn, at)?;
-        match (people, papers, ties, talk) {
-            (true, false, false, false) => self.people.take(self.alloc, place),
-            (false, true, false, false) => self.papers.take(self.alloc, place),
-            (false, false, true, false) => self.ties.take(self.alloc, place),
-            (false, false, false, true) => self.talk.take(self.alloc, place),
-            (false, false, false, false) => Err(Refusal::Failed(Reason::MissingPlace(place))),
-            _ => Err(Refusal::Failed(Reason::TakenPlace(place))),
+        let found = self.tables_at(conn, at)?;
+        match the_one(place, found)? {
+            Table::People => self.people.take(self.alloc, place),
+            Table::Papers => self.papers.take(self.alloc, place),
+            Table::Ties => self.ties.take(self.alloc, place),
+            Table::Talk => self.talk.take(self.alloc, place),
         }
     }
+
+    /// Each table whose next row stands at this place.
+    fn tables_at<S: Alter>(
+        &mut self,
+        conn: &mut Connection<S>,
+        place: i64,
+    ) -> Result<[Option<Table>; 4], Error> {
+        let people = self.people.table_at(self.alloc, conn, place)?;
+        let papers = self.papers.table_at(self.alloc, conn, place)?;
+        let ties = self.ties.table_at(self.alloc, conn, place)?;
+        let talk = self.talk.table_at(self.alloc, conn, place)?;
+        Ok([people, papers, ties, talk])
+    }
+}
+
+/// The one table that was found with a row at this place.
+fn the_one(place: u64, found: [Option<Table>; 4]) -> Result<Table, StoreError> {
+    let mut tables = found.into_iter().flatten();
+    let Some(one) = tables.next() else {
+        return Err(StoreError::Failed(Reason::MissingPlace(place)));
+    };
+    if tables.next().is_some() {
+        return Err(StoreError::Failed(Reason::TakenPlace(place)));
+    }
+    Ok(one)
 }

@@ -16,5 +16,5 @@ mod table;
 mod tests;
 
 pub use keeper::SqliteKeeper;
-pub use reason::{Reason, Refusal};
+pub use reason::{Reason, StoreError};
 pub use shelf::SqliteShelf;

@@ -1,8 +1,4 @@
 //! What was wrong where a shelf or a keeper failed.
-ghost use Rattle.std.specs.Prelude.{◌≡◌};
-ghost use Rattle.cr_sqlite.specs.Refusing.{told_of};
-
-use cr_ports::KeeperError;
 use sqlite::{Error, ErrorCode};
 use std::fmt;
 
@@ -53,30 +49,18 @@ impl fmt::Display for Reason {
 
 /// Why a connection wasn't taken as a keeper, or a call of one gave up.
 #[derive(Clone, Copy, Debug, PartialEq, Eq)]
-pub enum Refusal {
+pub enum StoreError {
     /// A fault, which was counted.
     Failed(Reason),
     /// Want of memory, which isn't counted as a fault.
     OutOfMemory,
 }
 
-impl From<Error> for Refusal {
-    fn from(error: Error) -> Refusal {
+impl From<Error> for StoreError {
+    fn from(error: Error) -> StoreError {
         match error {
-            Error::SqliteFailure(ErrorCode::OutOfMemory) => Refusal::OutOfMemory,
-            _ => Refusal::Failed(Reason::Database(error)),
-        }
-    }
-}
-
-impl Refusal {
-    /// The same as a keeper tells it, without its reason.
-    pub fn error(&self) -> KeeperError
-        ensures { result ≡ told_of self.now }
-    {
-        match self {
-            Refusal::Failed(_) => KeeperError::Failed,
-            Refusal::OutOfMemory => KeeperError::OutOfMemory,
+            Error::SqliteFailure(ErrorCode::OutOfMemory) => StoreError::OutOfMemory,
+            _ => StoreError::Failed(Reason::Database(error)),
         }
     }
 }

@@ -1,5 +1,5 @@
 //! A row of a keeper as a row of a table, and back.
-use crate::reason::{Reason, Refusal};
+use crate::reason::{Reason, StoreError};
 use crate::table::Table;
 use cr_base::{Blob, Row};
 use sqlite::types::{Type, ValueRef};
@@ -12,9 +12,9 @@ pub(crate) fn insert<S: Alter>(
     statement: &Statement,
     place: u64,
     row: &Row,
-) -> Result<(), Refusal> {
+) -> Result<(), StoreError> {
     let Some(numbers) = numbers_of(place, row) else {
-        return Err(Refusal::Failed(Reason::UnknownRow(place)));
+        return Err(StoreError::Failed(Reason::UnknownRow(place)));
     };
     put(transaction, statement, &numbers, row)?;
     Ok(())
@@ -22,17 +22,14 @@ pub(crate) fn insert<S: Alter>(
 
 /// The numbers of a row's columns; none where one is past 2^63 - 1.
 fn numbers_of(place: u64, row: &Row) -> Option<[i64; 9]> {
-    Some([
-        i64::try_from(place).ok()?,
-        i64::try_from(row.kind).ok()?,
-        i64::try_from(row.maker).ok()?,
-        i64::try_from(row.more).ok()?,
-        i64::try_from(row.n1).ok()?,
-        i64::try_from(row.n2).ok()?,
-        i64::try_from(row.n3).ok()?,
-        i64::try_from(row.n4).ok()?,
-        i64::try_from(row.n5).ok()?,
-    ])
+    let unsigned = [
+        place, row.kind, row.maker, row.more, row.n1, row.n2, row.n3, row.n4, row.n5,
+    ];
+    let mut numbers = [0; 9];
+    for (number, from) in numbers.iter_mut().zip(unsigned) {
+        *number = i64::try_from(from).ok()?;
+    }
+    Some(numbers)
 }
 
 fn put<S: Alter>(
@@ -60,15 +57,27 @@ pub(crate) fn read(
     table: Table,
     place: u64,
     row: &sqlite::Row,
-) -> Result<Row, Refusal> {
+) -> Result<Row, StoreError> {
     match fields_of(alloc, row) {
-        Ok(read) if is_of(table, read.kind) => Ok(read),
-        Ok(_) => Err(Refusal::Failed(Reason::OtherTable(place))),
-        Err(error) => match Refusal::from(error) {
-            Refusal::OutOfMemory => Err(Refusal::OutOfMemory),
-            Refusal::Failed(_) => Err(Refusal::Failed(Reason::OtherValue(place))),
-        },
+        Ok(read) => of_table(table, place, read),
+        Err(error) => Err(unread(place, error)),
     }
+}
+
+/// Why the fields of the row at this place weren't read.
+fn unread(place: u64, error: Error) -> StoreError {
+    match StoreError::from(error) {
+        StoreError::OutOfMemory => StoreError::OutOfMemory,
+        StoreError::Failed(_) => StoreError::Failed(Reason::OtherValue(place)),
+    }
+}
+
+/// The row, where it may stand in the table.
+fn of_table(table: Table, place: u64, row: Row) -> Result<Row, StoreError> {
+    if is_of(table, row.kind) {
+        return Ok(row);
+    }
+    Err(StoreError::Failed(Reason::OtherTable(place)))
 }
 
 /// Whether a row of this kind may stand in the table: it is the table of the kind, or the kind has
@@ -81,18 +90,34 @@ fn is_of(table: Table, kind: u64) -> bool {
 }
 
 fn fields_of(alloc: Global, row: &sqlite::Row) -> Result<Row, Error> {
+    let [kind, maker, more, n1, n2, n3, n4, n5] = numbers_in(row)?;
+    let b1 = blob_at(alloc, row, 9)?;
+    let b2 = blob_at(alloc, row, 10)?;
     Ok(Row {
-        kind: row.get(1)?,
-        maker: row.get(2)?,
-        more: row.get(3)?,
-        n1: row.get(4)?,
-        n2: row.get(5)?,
-        n3: row.get(6)?,
-        n4: row.get(7)?,
-        n5: row.get(8)?,
-        b1: blob_at(alloc, row, 9)?,
-        b2: blob_at(alloc, row, 10)?,
+        kind,
+        maker,
+        more,
+        n1,
+        n2,
+        n3,
+        n4,
+        n5,
+        b1,
+        b2,
     })
+}
+
+/// The numbers behind the place.
+fn numbers_in(row: &sqlite::Row) -> Result<[u64; 8], Error> {
+    let mut numbers = [0; 8];
+    for (number, at) in numbers.iter_mut().zip(1..9) {
+        *number = number_at(row, at)?;
+    }
+    Ok(numbers)
+}
+
+fn number_at(row: &sqlite::Row, at: usize) -> Result<u64, Error> {
+    row.get(at)
 }
 
 /// The bytes of a column, copied once.

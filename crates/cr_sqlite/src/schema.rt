@@ -1,7 +1,7 @@
 //! The tables of a store: made where a file has none, else looked at.
 ghost use Rattle.std.specs.Prelude.{◌≡◌, false};
 
-use crate::reason::{Reason, Refusal};
+use crate::reason::{Reason, StoreError};
 use sqlite::{Alter, Connection, Error, Row, Transaction};
 
 /// The text that makes a table of rows.
@@ -32,38 +32,64 @@ const VERSION: i64 = 1;
 
 /// Makes the tables in one transaction where there are none; else tests that they are those of a
 /// store, and of this version.
-pub(crate) fn make_or_check<S: Alter>(conn: &mut Connection<S>) -> Result<(), Refusal> {
-    let found = all(conn, "SELECT sql FROM sqlite_schema ORDER BY name")?;
-    if found.is_empty() {
-        return make(conn);
+pub(crate) fn make_or_check<S: Alter>(conn: &mut Connection<S>) -> Result<(), StoreError> {
+    match tables_in(conn)? {
+        Tables::None => make(conn),
+        Tables::Others => Err(StoreError::Failed(Reason::OtherTables)),
+        Tables::Store => check_version(conn),
     }
-    if !are_tables(found.as_slice())? {
-        return Err(Refusal::Failed(Reason::OtherTables));
+}
+
+/// What tables a database has.
+enum Tables {
+    None,
+    /// A store's.
+    Store,
+    Others,
+}
+
+fn tables_in<S: Alter>(conn: &mut Connection<S>) -> Result<Tables, Error> {
+    let rows = all(conn, "SELECT sql FROM sqlite_schema ORDER BY name")?;
+    compare(rows.as_slice(), &TABLES)
+}
+
+/// What tables the rows tell, whose texts are to be these.
+fn compare(rows: &[Row], texts: &[&str]) -> Result<Tables, Error> {
+    if rows.is_empty() {
+        return Ok(Tables::None);
     }
-    let versions = all(conn, "SELECT version FROM meta LIMIT 2")?;
-    if !is_version(versions.as_slice())? {
-        return Err(Refusal::Failed(Reason::OtherVersion));
+    if rows.len() != texts.len() {
+        return Ok(Tables::Others);
     }
-    Ok(())
+    for (row, text) in rows.iter().zip(texts) {
+        if !is_text(row, text)? {
+            return Ok(Tables::Others);
+        }
+    }
+    Ok(Tables::Store)
+}
+
+fn is_text(row: &Row, text: &str) -> Result<bool, Error> {
+    let found: String = row.get(0)?;
+    Ok(found.as_str() == text)
+}
+
+/// Tests that the store is of this version.
+fn check_version<S: Alter>(conn: &mut Connection<S>) -> Result<(), StoreError> {
+    if has_version(conn)? {
+        return Ok(());
+    }
+    Err(StoreError::Failed(Reason::OtherVersion))
+}
+
+fn has_version<S: Alter>(conn: &mut Connection<S>) -> Result<bool, Error> {
+    let rows = all(conn, "SELECT version FROM meta LIMIT 2")?;
+    is_version(rows.as_slice())
 }
 
 /// All rows of a query.
 fn all<S: Alter>(conn: &mut Connection<S>, sql: &str) -> Result<Vec<Row>, Error> {
     conn.query_all(sql, &[])
-}
-
-/// Whether the rows tell the texts of the store's tables, and no other text.
-fn are_tables(rows: &[Row]) -> Result<bool, Error> {
-    if rows.len() != TABLES.len() {
-        return Ok(false);
-    }
-    for (row, table) in rows.iter().zip(TABLES) {
-        let text: String = row.get(0)?;
-        if text.as_str() != table {
-            return Ok(false);
-        }
-    }
-    Ok(true)
 }
 
 /// Whether the rows are one, which tells the version of these tables.
@@ -76,9 +102,9 @@ fn is_version(rows: &[Row]) -> Result<bool, Error> {
 }
 
 /// Makes the tables, all or none of them.
-fn make<S: Alter>(conn: &mut Connection<S>) -> Result<(), Refusal> {
+fn make<S: Alter>(conn: &mut Connection<S>) -> Result<(), StoreError> {
     if !conn.is_autocommit() {
-        return Err(Refusal::Failed(Reason::InTransaction));
+        return Err(StoreError::Failed(Reason::InTransaction));
     }
     make_all(conn)?;
     Ok(())
@@ -88,11 +114,17 @@ fn make_all<S: Alter>(conn: &mut Connection<S>) -> Result<(), Error>
     requires { conn.old.in_transaction ≡ false }
 {
     let mut transaction = conn.transaction();
-    for table in TABLES {
-        run(&mut transaction, table)?;
-    }
-    run(&mut transaction, "INSERT INTO meta VALUES (1)")?;
+    run_all(&mut transaction, &TABLES)?;
     transaction.commit()
+}
+
+/// Makes the tables of these texts, and tells their version.
+fn run_all<S: Alter>(transaction: &mut Transaction<'_, S>, texts: &[&str]) -> Result<(), Error> {
+    for text in texts {
+        run(transaction, text)?;
+    }
+    run(transaction, "INSERT INTO meta VALUES (1)")?;
+    Ok(())
 }
 
 fn run<S: Alter>(transaction: &mut Transaction<'_, S>, sql: &str) -> Result<usize, Error> {

@@ -1,11 +1,12 @@
 //! A shelf of files.
 ghost use Rattle.std.specs.Prelude.{◌≡◌, ℕ, None, ⊤};
+ghost use Rattle.cr_ports.specs.Count.{Gains};
 ghost use Rattle.cr_ports.specs.Keeping.{HasCause};
 
 use crate::keeper::SqliteKeeper;
-use crate::reason::{Reason, Refusal};
+use crate::reason::{Reason, StoreError};
 use cr_ports::{KeeperError, Shelf};
-use sqlite::{Connection, File, FileStore};
+use sqlite::{Connection, Error, File, FileStore};
 use std::marker::Model;
 use std::rt::HostRuntime;
 
@@ -46,16 +47,25 @@ impl SqliteShelf {
     }
 
     /// Counts a fault and keeps its reason. Want of memory is none.
-    fn refused(&mut self, refusal: Refusal) -> KeeperError
+    fn refused(&mut self, refusal: StoreError) -> KeeperError
         ensures { HasCause {T = ℕ} self.old self.new (Err result) }
     {
         match refusal {
-            Refusal::Failed(reason) => {
+            StoreError::Failed(reason) => {
                 self.faults = self.faults.saturating_add(1);
                 self.reason = Some(reason);
                 KeeperError::Failed
             }
-            Refusal::OutOfMemory => KeeperError::OutOfMemory,
+            StoreError::OutOfMemory => KeeperError::OutOfMemory,
+        }
+    }
+
+    /// Counts what closing failed of.
+    fn closed(&mut self, end: Result<(), Error>)
+        ensures { Gains self.old 0 self.new }
+    {
+        if let Err(error) = end {
+            self.refused(StoreError::from(error));
         }
     }
 }
@@ -75,25 +85,25 @@ impl Shelf for SqliteShelf {
         let rt = self.rt;
         let conn = match Connection::open(&rt, path) {
             Ok(conn) => conn,
-            Err(error) => return Err(self.refused(Refusal::from(error))),
+            Err(error) => return Err(self.refused(StoreError::from(error))),
         };
         match SqliteKeeper::adopt(rt.alloc(), conn, &mut self.faults) {
             Ok(keeper) => Ok(keeper),
-            Err((Refusal::Failed(reason), _)) => {
+            Err((StoreError::Failed(reason), _)) => {
                 self.reason = Some(reason);
                 Err(KeeperError::Failed)
             }
-            Err((Refusal::OutOfMemory, _)) => Err(KeeperError::OutOfMemory),
+            Err((StoreError::OutOfMemory, _)) => Err(KeeperError::OutOfMemory),
         }
     }
 
     /// What was appended stands in the file's log before; here the log is copied into the file.
-    /// Where that fails, which is one fault more, the log stays beside the file.
+    /// Where that fails, which is one fault more, the log stays beside the file. The reason is that
+    /// of the keeper's last fault, if it had one.
     fn shut(&mut self, _path: &str, keeper: SqliteKeeper<FileStore<File>>) {
         self.faults = self.faults.saturating_add(keeper.faults());
-        self.reason = keeper.reason().or(self.reason);
-        if let Err(error) = keeper.release().close() {
-            self.refused(Refusal::from(error));
-        }
+        let of_keeper = keeper.reason();
+        self.closed(keeper.release().close());
+        self.reason = of_keeper.or(self.reason);
     }
 }

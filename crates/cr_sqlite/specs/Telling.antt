@@ -1,10 +1,10 @@
 -- What a keeper answers where it gave up.
 use Rattle.cr_ports.specs.declared.keeper.KeeperError.{KeeperError}
 use Rattle.cr_ports.specs.declared.keeper.KeeperError.TheVariants as errors
-use Rattle.cr_sqlite.specs.declared.reason.Refusal.{Refusal}
-use Rattle.cr_sqlite.specs.declared.reason.Refusal.TheVariants.{Failed, OutOfMemory}
+use Rattle.cr_sqlite.specs.declared.reason.StoreError.{StoreError}
+use Rattle.cr_sqlite.specs.declared.reason.StoreError.TheVariants.{Failed, OutOfMemory}
 
 -- the same, without its reason
-abbrev pub told_of : Refusal → KeeperError
+abbrev pub told_of : StoreError → KeeperError
 told_of (Failed reason) = errors.Failed
 told_of OutOfMemory = errors.OutOfMemory
