@@ -187,7 +187,11 @@ impl Lanes {
     }
 
     /// Takes the one row that stands at this place, which is the next one.
-    pub fn take<S: Alter>(&mut self, conn: &mut Connection<S>, place: u64) -> Result<Row, StoreError> {
+    pub fn take<S: Alter>(
+        &mut self,
+        conn: &mut Connection<S>,
+        place: u64,
+    ) -> Result<Row, StoreError> {
         let Ok(at) = i64::try_from(place) else {
             return Err(StoreError::Failed(Reason::MissingPlace(place)));
         };

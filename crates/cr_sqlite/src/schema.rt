@@ -34,39 +34,41 @@ const VERSION: i64 = 1;
 /// store, and of this version.
 pub(crate) fn make_or_check<S: Alter>(conn: &mut Connection<S>) -> Result<(), StoreError> {
     match tables_in(conn)? {
-        Tables::None => make(conn),
-        Tables::Others => Err(StoreError::Failed(Reason::OtherTables)),
-        Tables::Store => check_version(conn),
+        Found::Nothing => make(conn),
+        Found::Others => Err(StoreError::Failed(Reason::OtherTables)),
+        Found::Store => check_version(conn),
     }
 }
 
 /// What tables a database has.
-enum Tables {
-    None,
-    /// A store's.
+enum Found {
+    /// None.
+    Nothing,
+    /// Those of a store.
     Store,
+    /// Any others.
     Others,
 }
 
-fn tables_in<S: Alter>(conn: &mut Connection<S>) -> Result<Tables, Error> {
+fn tables_in<S: Alter>(conn: &mut Connection<S>) -> Result<Found, Error> {
     let rows = all(conn, "SELECT sql FROM sqlite_schema ORDER BY name")?;
     compare(rows.as_slice(), &TABLES)
 }
 
 /// What tables the rows tell, whose texts are to be these.
-fn compare(rows: &[Row], texts: &[&str]) -> Result<Tables, Error> {
+fn compare(rows: &[Row], texts: &[&str]) -> Result<Found, Error> {
     if rows.is_empty() {
-        return Ok(Tables::None);
+        return Ok(Found::Nothing);
     }
     if rows.len() != texts.len() {
-        return Ok(Tables::Others);
+        return Ok(Found::Others);
     }
     for (row, text) in rows.iter().zip(texts) {
         if !is_text(row, text)? {
-            return Ok(Tables::Others);
+            return Ok(Found::Others);
         }
     }
-    Ok(Tables::Store)
+    Ok(Found::Store)
 }
 
 fn is_text(row: &Row, text: &str) -> Result<bool, Error> {

@@ -1,7 +1,8 @@
 //! A shelf of files.
-ghost use Rattle.std.specs.Prelude.{◌≡◌, ℕ, None, ⊤};
+ghost use Rattle.std.specs.Prelude.{◌≡◌, ℕ, None, ⊤, IfOk};
 ghost use Rattle.cr_ports.specs.Count.{Gains};
 ghost use Rattle.cr_ports.specs.Keeping.{HasCause};
+ghost use Rattle.cr_sqlite.specs.Telling.{told_of};
 
 use crate::keeper::SqliteKeeper;
 use crate::reason::{Reason, StoreError};
@@ -26,6 +27,16 @@ impl Model for SqliteShelf {
     ghost Value = { ℕ };
 
     ghost view = { λ s. s.faults };
+}
+
+// The two below have no clause, so that what the library says of files stays out of the shelf's proofs.
+
+fn connect(rt: &HostRuntime, path: &str) -> Result<Connection<FileStore<File>>, Error> {
+    Connection::open(rt, path)
+}
+
+fn close(keeper: SqliteKeeper<FileStore<File>>) -> Result<(), Error> {
+    keeper.release().close()
 }
 
 impl SqliteShelf {
@@ -60,6 +71,34 @@ impl SqliteShelf {
         }
     }
 
+    /// A keeper over the connection.
+    fn adopt(
+        &mut self,
+        conn: Connection<FileStore<File>>,
+    ) -> Result<SqliteKeeper<FileStore<File>>, KeeperError>
+        ensures fresh { IfOk result (λ keeper. keeper ≡ 0) }
+        ensures cause { HasCause self.old self.new result }
+    {
+        match SqliteKeeper::adopt(self.rt.alloc(), conn, &mut self.faults) {
+            Ok(keeper) => Ok(keeper),
+            Err((error, _)) => Err(self.told(error)),
+        }
+    }
+
+    /// The same as a shelf tells it, whose reason is kept here. It was counted before.
+    fn told(&mut self, error: StoreError) -> KeeperError
+        ensures told { result ≡ told_of error }
+        ensures same { self.new ≡ self.old }
+    {
+        match error {
+            StoreError::Failed(reason) => {
+                self.reason = Some(reason);
+                KeeperError::Failed
+            }
+            StoreError::OutOfMemory => KeeperError::OutOfMemory,
+        }
+    }
+
     /// Counts what closing failed of.
     fn closed(&mut self, end: Result<(), Error>)
         ensures { Gains self.old 0 self.new }
@@ -83,17 +122,9 @@ impl Shelf for SqliteShelf {
     /// left as it is.
     fn open(&mut self, path: &str) -> Result<SqliteKeeper<FileStore<File>>, KeeperError> {
         let rt = self.rt;
-        let conn = match Connection::open(&rt, path) {
-            Ok(conn) => conn,
-            Err(error) => return Err(self.refused(StoreError::from(error))),
-        };
-        match SqliteKeeper::adopt(rt.alloc(), conn, &mut self.faults) {
-            Ok(keeper) => Ok(keeper),
-            Err((StoreError::Failed(reason), _)) => {
-                self.reason = Some(reason);
-                Err(KeeperError::Failed)
-            }
-            Err((StoreError::OutOfMemory, _)) => Err(KeeperError::OutOfMemory),
+        match connect(&rt, path) {
+            Ok(conn) => self.adopt(conn),
+            Err(error) => Err(self.refused(StoreError::from(error))),
         }
     }
 
@@ -103,7 +134,7 @@ impl Shelf for SqliteShelf {
     fn shut(&mut self, _path: &str, keeper: SqliteKeeper<FileStore<File>>) {
         self.faults = self.faults.saturating_add(keeper.faults());
         let of_keeper = keeper.reason();
-        self.closed(keeper.release().close());
+        self.closed(close(keeper));
         self.reason = of_keeper.or(self.reason);
     }
 }
