@@ -221,6 +221,23 @@ impl<S: Alter> SqliteKeeper<S> {
     }
 }
 
+impl<S: Alter + Drop> SqliteKeeper<S> {
+    /// The same as `adopt`, where a connection that isn't taken is let go.
+    pub(crate) fn adopt_or_drop(
+        alloc: Global,
+        conn: Connection<S>,
+        faults: &mut u64,
+    ) -> Result<Self, StoreError>
+        ensures kept { IfOk result (λ keeper. (keeper ≡ 0) × (faults.new ≡ faults.old)) }
+        ensures cause { IfErr result (λ e. HasCause {T = ℕ} faults.old faults.new (Err (told_of e))) }
+    {
+        match SqliteKeeper::adopt(alloc, conn, faults) {
+            Ok(keeper) => Ok(keeper),
+            Err((error, _)) => Err(error),
+        }
+    }
+}
+
 impl<S: Alter> Keeper for SqliteKeeper<S> {
     ghost rows = { λ _. None };
 

@@ -79,9 +79,9 @@ impl SqliteShelf {
         ensures fresh { IfOk result (λ keeper. keeper ≡ 0) }
         ensures cause { HasCause self.old self.new result }
     {
-        match SqliteKeeper::adopt(self.rt.alloc(), conn, &mut self.faults) {
+        match SqliteKeeper::adopt_or_drop(self.rt.alloc(), conn, &mut self.faults) {
             Ok(keeper) => Ok(keeper),
-            Err((error, _)) => Err(self.told(error)),
+            Err(error) => Err(self.told(error)),
         }
     }
 
