@@ -8,6 +8,7 @@ use crate::keeper::SqliteKeeper;
 use crate::reason::{Reason, StoreError};
 use cr_ports::{KeeperError, Shelf};
 use sqlite::{Connection, Error, File, FileStore};
+use sqlite_disk::Disk;
 use std::marker::Model;
 use std::rt::HostRuntime;
 
@@ -35,7 +36,7 @@ fn connect(rt: &HostRuntime, path: &str) -> Result<Connection<FileStore<File>>, 
     Connection::open(rt, path)
 }
 
-fn close(keeper: SqliteKeeper<FileStore<File>>) -> Result<(), Error> {
+fn close<D: Disk + Drop>(keeper: SqliteKeeper<FileStore<D>>) -> Result<(), Error> {
     keeper.release().close()
 }
 
