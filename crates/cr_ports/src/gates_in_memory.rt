@@ -103,7 +103,7 @@ fn silent_connection(alloc: Global) -> Result<Planned, AllocError>
 fn fill(alloc: Global, coming: &mut VecDeque<Planned>, connections: usize) -> Result<(), AllocError>
     ensures { OnOk result (coming.new.items ≡ filled connections coming.old.items) }
 {
-    while coming.len() < connections {
+    'filling: while coming.len() < connections {
         coming.push_back(silent_connection(alloc)?)?;
     }
     Ok(())
@@ -159,7 +159,7 @@ fn faults_with(before: u64, doors: &[MemDoor]) -> u64
     ensures { result ≡ min (before + sum_by (λ door. door.faults) doors.now) (2 ^ 64 - 1) }
 {
     let mut faults = before;
-    for door in doors {
+    'counting: for door in doors {
         faults = faults.saturating_add(door.fault_count());
     }
     faults
