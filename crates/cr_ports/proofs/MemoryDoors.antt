@@ -1,10 +1,10 @@
 -- Doors in memory, one behind the other, and the connections that they take.
-use Rattle.std.proofs.Common.{◌≡◌, ◌∙◌, ℕ, suc, ◌+◌, ◌-◌, ◌<◌, ◌≤◌, List, [], ◌∷◌, ◌++◌, length, map, take, drop, flat_map, replicate, All, refl, sym, ap, subst, arith, append_assoc}
+use Rattle.std.proofs.Common.{◌≡◌, ◌∙◌, ℕ, suc, ◌+◌, ◌-◌, ◌<◌, ◌≤◌, List, [], ◌∷◌, ◌++◌, length, map, take, drop, flat_map, replicate, All, Some, refl, sym, ap, arith, append_assoc}
 use Rattle.std.proofs.lemmas.Grind.{replicate_next}
 use Rattle.std.proofs.lemmas.List.{map-append, take-append-drop, flat_map_more}
 use Rattle.std.proofs.lemmas.List.Elements.{All-push}
 use Rattle.cr_ports.specs.Doors.{share_of, shares_below}
-use Rattle.cr_ports.specs.MemoryDoors.{calls_below, listed_at}
+use Rattle.cr_ports.specs.MemoryDoors.{Doored, calls_below, listed_at}
 use Rattle.std.specs.Prelude.{slice_get}
 
 pub shares_below-next : (i workers connections : ℕ) → shares_below (i + 1) workers connections ≡ shares_below i workers connections ++ share_of i workers connections ∷ []
@@ -35,3 +35,8 @@ pub filled_more : {X : Type 0} (xs old new : List X) (x y : X) (n m : ℕ) → o
 filled_more xs old new x y n m before is same more =
     is ∙ ap (λ l. l ++ x ∷ []) before ∙ append_assoc xs (replicate n y) (x ∷ []) ∙ ap (λ z. xs ++ (replicate n y ++ z ∷ [])) same
     ∙ ap (λ l. xs ++ l) (sym (replicate_next n y)) ∙ ap (λ (k : ℕ). xs ++ replicate k y) (sym more)
+
+-- doors in memory tell their logs, each
+pub logs_told : (doors : List Doored) → map (λ (door : Doored). Some door.log) doors ≡ map Some (map (λ (door : Doored). door.log) doors)
+logs_told [] = refl
+logs_told (door ∷ doors) = ap (λ logs. Some door.log ∷ logs) (logs_told doors)
