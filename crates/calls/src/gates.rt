@@ -82,9 +82,7 @@ fn ask(alloc: Global, gates: &mut MemGates) -> Result<Asked, AllocError> {
             echo_next(&mut second),
         ],
     };
-    doors.push(first)?;
-    doors.push(second)?;
-    gates.shut(doors);
+    gates.shut(vec![in alloc; first, second]?);
     Ok(asked)
 }
 
