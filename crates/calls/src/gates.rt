@@ -2,8 +2,8 @@
 ghost use Rattle.std.specs.Prelude.{IsFalse};
 
 use cr_ports::{
-    Door, DoorAnswer, Gates, MemDoor, MemGates, MemSink, MemSource, NextConnection, Opened, ReadStep,
-    Source, write_all,
+    Door, DoorAnswer, Gates, MemDoor, MemGates, MemSink, MemSource, NextConnection, Opened,
+    ReadStep, Source, write_all,
 };
 use std::alloc::{AllocError, Global};
 use std::test::Fail;
