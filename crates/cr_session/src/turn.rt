@@ -1,20 +1,25 @@
 //! One turn: a wish is judged or answered by the book.
-ghost use Rattle.std.specs.Prelude.{◌≡◌, ◌≤◌, [], OnOk, OnErr, vec_capacity};
+ghost use Rattle.std.specs.Prelude.{◌≡◌, ◌≤◌, ◌<◌, ◌^◌, [], ℕ, OnOk, OnErr, vec_capacity};
+ghost use mathlib.Core.List.{IsPrefix};
 ghost use Rattle.cr_base.specs.Logins.{query_wants_login};
+ghost use Rattle.cr_lock.specs.Counts.{has_risen};
+ghost use Rattle.cr_lock.specs.Passes.{after_turn};
 ghost use Rattle.cr_policy.specs.Legal.{IsAllowed, MayAsk};
 ghost use Rattle.cr_print.specs.Put.{HasRoom};
 ghost use Rattle.cr_wire.specs.Bounds.{IsBoundedWhat};
 ghost use Rattle.cr_wire.specs.Caller.{caller};
-ghost use Rattle.cr_session.specs.Replay.{ledger_of};
+ghost use Rattle.cr_session.specs.Replay.{Ledger, ledger_of};
 ghost use Rattle.cr_session.specs.Told.{is_unauthorized};
 ghost use Rattle.cr_session.specs.Turning.{Turns, JudgesCommand, AnswersQuery, turn_text, MayWantToPrint};
 
 use cr_base::{Command, Query, Receipt, Reply, UserNo};
 use cr_book::{AnswerError, Book, BookError};
+use cr_lock::{HistoryLock, Pass};
 use cr_ports::Keeper;
 use cr_print::{Form, Refused, print_receipt, print_refusal, print_reply};
 use cr_wire::{What, Wish};
 use std::alloc::AllocError;
+use std::sync::Wait;
 
 /// What a turn came to.
 #[derive(Drop)]
@@ -31,12 +36,32 @@ pub(crate) enum Turn {
     OutOfMemory,
 }
 
+/// Judges or answers a wish in one turn of the lock, on a history that begins with what the pass had seen.
+pub(crate) fn in_turn<R: Wait, K: Keeper>(
+    rt: &R,
+    lock: &HistoryLock<Book<K>>,
+    pass: &mut Pass<Book<K>>,
+    wish: Wish,
+) -> Turn
+    requires own { pass.old.lock ≡ lock.now.lock }
+    requires few { pass.old.turns < 2 ^ 40 }
+    requires bounded { IsBoundedWhat wish.what }
+    ensures { (b b' : Ledger)
+        × IsPrefix pass.old.seen b.history
+        × Turns result wish b b'
+        × (pass.new ≡ after_turn pass.old b.history b'.history (has_risen b.faults b'.faults)) }
+{
+    lock.turn(rt, pass, |book: &mut Book<K>| take_turn(book, wish))
+}
+
 /// Judges or answers a wish. Takes no memory on a refusal: `Turn::OutOfMemory` comes only for a command
 /// that is accepted and for a query that isn't refused, and then nothing changed. Who calls is asked first, by one look-up
 /// by name; whoever can't be told from nobody is refused alike where a login is wanted.
 pub(crate) fn take_turn<K: Keeper>(book: &mut Book<K>, wish: Wish) -> Turn
     requires { IsBoundedWhat wish.what }
-    ensures { Turns result wish (ledger_of K.faults book.old) (ledger_of K.faults book.new) }
+    ensures turn { Turns result wish (ledger_of K.faults book.old) (ledger_of K.faults book.new) }
+    ensures appends { IsPrefix book.old.log book.new.log }
+    ensures count { K.faults book.old.keeper ≤ K.faults book.new.keeper }
 {
     let caller = caller_of(book, &wish);
     if is_unauthorized(book, &caller, &wish.what) {
