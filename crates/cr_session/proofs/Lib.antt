@@ -2,6 +2,7 @@ pub mod TwoRunsLaws
 pub mod Runs
 pub mod WishRuns
 pub mod Turns
+pub mod Passes
 pub mod TurnLaws
 pub mod Requests
 pub mod NoFurther

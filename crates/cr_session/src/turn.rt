@@ -59,9 +59,7 @@ pub(crate) fn in_turn<R: Wait, K: Keeper>(
 /// by name; whoever can't be told from nobody is refused alike where a login is wanted.
 pub(crate) fn take_turn<K: Keeper>(book: &mut Book<K>, wish: Wish) -> Turn
     requires { IsBoundedWhat wish.what }
-    ensures turn { Turns result wish (ledger_of K.faults book.old) (ledger_of K.faults book.new) }
-    ensures appends { IsPrefix book.old.log book.new.log }
-    ensures count { K.faults book.old.keeper ≤ K.faults book.new.keeper }
+    ensures { Turns result wish (ledger_of K.faults book.old) (ledger_of K.faults book.new) }
 {
     let caller = caller_of(book, &wish);
     if is_unauthorized(book, &caller, &wish.what) {
