@@ -80,7 +80,10 @@ module _ {T E : Type 0} (list : T → List E) (faults : T → ℕ) (first : T) w
   holding t v = holds_ticket t v.role
 
   pub risen_same : (vs ws : List V) (n : ℕ) → total marked vs ≡ total marked ws → Rose vs n → Rose ws n
-  risen_same vs ws n e r = ⊎_elim (λ (a : faults first + total marked vs ≤ n). inl (omega arith)) (λ (a : last_count ≤ n). inr a) r
+  risen_same vs ws n e r = record {
+    marks = ⊎_elim (λ (a : faults first + total marked vs ≤ n). inl (omega arith)) (λ (a : last_count ≤ n). inr a) r.marks;
+    unmarked = λ none. r.unmarked (e ∙ none);
+  }
 
   each_set : (F G : V → Type 0) (vs : List V) (me : ℕ) (w : V) → G w → ((j : ℕ) (u : V) → j ≢ me → get_elem? vs j ≡ some u → F u → G u)
       → ((j : ℕ) (u : V) → get_elem? vs j ≡ some u → F u) → (j : ℕ) (u : V) → get_elem? (set vs me w) j ≡ some u → G u
@@ -148,7 +151,7 @@ module _ {T E : Type 0} (list : T → List E) (faults : T → ℕ) (first : T) w
     drawn = omega arith;
     groups = λ k. sym (within_out start start k (dite (dec_le start k) (λ a. inl a) (λ a. inr (omega arith))));
     each = opens_each;
-    value = inl (first, refl, refl, inl (omega arith), refl);
+    value = inl (first, refl, refl, record { marks = inl (omega arith); unmarked = λ _. refl }, refl);
   }
 
   -- the same value, where no view's marks change and the passes that have the value are as many

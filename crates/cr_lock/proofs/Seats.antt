@@ -258,6 +258,7 @@ module _ {T E : Type 0} (list : T → List E) (faults : T → ℕ) (first : T) w
           groups = λ k. counted k ∙ ap (λ z. within start (length z) k) (sym all_seen);
           places = f.stand;
           whole = home.2 ∙ (sym (prefix_drop (list first) r.log r.begins) ∙ ap (λ z. list first ++ z) (follows r.log v.mine start (length r.log) f.sorted (every_longer v.seen r.log v.mine f.seen f.stand) refl (prefix_length (list first) r.log r.begins) counted));
-          marks = ⊎_elim (λ (a : faults first + total (λ (u : V). marks u.mine) s.views ≤ faults x). inl (omega arith)) (λ (a : last_count ≤ faults x). inr a) home.3;
+          marks = ⊎_elim (λ (a : faults first + total (λ (u : V). marks u.mine) s.views ≤ faults x). inl (omega arith)) (λ (a : last_count ≤ faults x). inr a) home.3.marks;
+          unmarked = λ none. home.3.unmarked (marked_all ∙ none);
         },
       )

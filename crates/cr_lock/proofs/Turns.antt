@@ -41,6 +41,10 @@ served start log serving risen v t n e f = subst (λ role. FitsRole start log se
 marked_more : (a n c : ℕ) → n ≤ c → (a ≤ n) ⊎ (last_count ≤ n) → (a + (if has_risen n c then 1 else 0) ≤ c) ⊎ (last_count ≤ c)
 marked_more a n c le h = ⊎_elim (λ (p : a ≤ n). dite (dec_le last_count c) (λ full. inr full) (λ less. inl (grind (arith, nat_tests)))) (λ (p : last_count ≤ n). inr (omega arith)) h
 
+-- where it has not risen, it is what it was
+unmarked_same : (n c : ℕ) → n ≤ c → ◌≡◌ {A = ℕ} (if has_risen n c then 1 else 0) 0 → c ≡ n
+unmarked_same n c le zero_more = grind (arith, nat_tests)
+
 module _ {T E : Type 0} (list : T → List E) (faults : T → ℕ) (first : T) where
   abbrev V : Type 0
   V = View E
@@ -164,8 +168,11 @@ module _ {T E : Type 0} (list : T → List E) (faults : T → ℕ) (first : T) w
       let now : (get_or s.words 2 0 + k) % 2 ^ 64 ≡ length (list x) = (let e : get_or s.words 2 0 + k ≡ length (list x) = omega arith in let q : (get_or s.words 2 0 + k) % 2 ^ 64 ≡ get_or s.words 2 0 + k = mod-eq_of_lt (omega arith) in q ∙ e) in
       let more : total (λ (u : V). marks u.mine) vs' + marks v.mine ≡ total (λ (u : V). marks u.mine) s.views + marks w.mine = total_set (λ (u : V). marks u.mine) s.views id v w at in
       let mark : marks w.mine ≡ marks v.mine + (if flag then 1 else 0) = (let a : marks (v.mine ++ turn ∷ []) ≡ marks v.mine + ((if flag then 1 else 0) + 0) = total_append (λ (z : Turn E). if z.marked then 1 else 0) v.mine (turn ∷ []) in omega arith) in
-      let up : Up vs' (faults x) = (let h = marked_more (faults first + total (λ (u : V). marks u.mine) s.views) n (faults x) le mine.2 in
-      ⊎_elim (λ (a : faults first + total (λ (u : V). marks u.mine) s.views + (if flag then 1 else 0) ≤ faults x). inl (omega arith)) (λ (a : last_count ≤ faults x). inr a) h) in
+      let up : Up vs' (faults x) = record {
+        marks = (let h = marked_more (faults first + total (λ (u : V). marks u.mine) s.views) n (faults x) le mine.2.marks in
+            ⊎_elim (λ (a : faults first + total (λ (u : V). marks u.mine) s.views + (if flag then 1 else 0) ≤ faults x). inl (omega arith)) (λ (a : last_count ≤ faults x). inr a) h);
+        unmarked = λ none. unmarked_same n (faults x) le (omega arith) ∙ mine.2.unmarked (omega arith);
+      } in
       let one : total (λ (u : V). has_value u.role) vs' ≡ 1 = (let a : has_value v.role ≡ 1 = ap has_value has in let b = out.1 in
       let c : total (λ (u : V). has_value u.role) vs' + has_value v.role ≡ total (λ (u : V). has_value u.role) s.views + 1 = total_set (λ (u : V). has_value u.role) s.views id v w at in omega arith) in
       let alive = alive_share v (λ idle. absurd (cc (idle, has))) f.alive in

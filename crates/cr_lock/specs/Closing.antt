@@ -18,5 +18,7 @@ module _ {T E : Type 0} (list : T → List E) (faults : T → ℕ) (first : T) (
     pub places : Stand p
     -- the groups in order are what came behind the first list
     pub whole : list x ≡ list first ++ groups_of p.mine
-    -- the count of faults rose by at least the number of marks, its last value aside
+    -- where no turn is marked, the count of faults is what it was at first
+    pub unmarked : marks p.mine ≡ 0 → faults x ≡ faults first
+    -- it rose by at least the number of marks, its last value aside
     pub marks : (faults first + marks p.mine ≤ faults x) ⊎ (last_count ≤ faults x)

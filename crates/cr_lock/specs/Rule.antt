@@ -50,9 +50,12 @@ module _ {E : Type 0} (start : ℕ) (log : List E) (serving : ℕ) (risen : ℕ 
     pub alive : ((0 < v.share) × (start ≤ length v.seen)) ⊎ (v ≡ spent_view)
 
 module _ {T E : Type 0} (list : T → List E) (faults : T → ℕ) (first : T) where
-  -- since `first` the count of faults has risen by at least the number of marks, its last value aside
-  abbrev pub Risen : List (View E) → ℕ → Type 0
-  Risen views n = (faults first + total (λ v. marks v.mine) views ≤ n) ⊎ (last_count ≤ n)
+  -- what a count n of faults owes to the marks of all passes
+  pub record Risen (views : List (View E)) (n : ℕ) : Type 0 where
+    -- where there are none, it is what it was at first
+    pub unmarked : total (λ v. marks v.mine) views ≡ 0 → n ≡ faults first
+    -- since then it has risen by at least their number, its last value aside
+    pub marks : (faults first + total (λ v. marks v.mine) views ≤ n) ⊎ (last_count ≤ n)
 
   -- the value is in the slot and stands for the history, and no pass has it
   abbrev pub Home : List E → State (Option T) (View E) → Type 0

@@ -304,7 +304,7 @@ impl<T: Stands> HistoryLock<T> {
     ///
     /// It stands for what the pass has seen. Every entry since `new` is in exactly one group of the pass's turns, and the
     /// groups in order are what came behind the first list. The count of faults rose by at least the number of marks,
-    /// unless it stands at its last value.
+    /// unless it stands at its last value; where no turn is marked, it is what it was at `new`.
     pub fn close(self, pass: Pass<T>) -> T
         requires own { pass.lock ≡ self.lock }
         requires whole { pass.share ≡ 64 }
