@@ -3,6 +3,8 @@ pub mod Runs
 pub mod WishRuns
 pub mod Turns
 pub mod Passes
+pub mod Alone
+pub mod Endings
 pub mod TurnLaws
 pub mod Requests
 pub mod NoFurther

@@ -17,7 +17,7 @@ use Rattle.cr_session.specs.declared.serve.Why.TheVariants as whys
 use Rattle.cr_session.specs.Reading.{ReadsWish, StandsWish}
 use Rattle.cr_session.specs.Replay.{JudgedWish, answer_to, wishes_of}
 use Rattle.cr_session.specs.Passing.{KnownPass, TakesTurns}
-use Rattle.cr_session.specs.Serving.{World, ConnectionInHistory, GoesOnInHistory, WritesRefusal, TellsWantOfMemory, MayLackMemory, EndsAs, EndsSource, EndsTurns, CountsReads, ReadsNoFurther}
+use Rattle.cr_session.specs.Serving.{World, ConnectionInHistory, GoesOnInHistory, WritesRefusal, TellsWantOfMemory, MayLackMemory, EndsAs, EndsSource, CountsReads, ReadsNoFurther}
 use Rattle.cr_session.specs.Turning.{TurnsInVain, ServesRequest}
 use Rattle.cr_session.specs.Wishes.{Spells}
 use Rattle.cr_ports.specs.Writing.{Outlet, Writes, BreaksOff}
@@ -26,6 +26,7 @@ use Rattle.cr_http.proofs.Moving.{and_left-nil}
 use Rattle.cr_http.specs.ToHead.{IsToHead}
 use Rattle.cr_http.proofs.HeadsRead.{to_head_of}
 use Rattle.cr_session.proofs.NoFurther.{no_further-one, no_further-still}
+use Rattle.cr_session.proofs.Endings.{no_turns}
 use Rattle.cr_session.proofs.Passes.{takes-one}
 use Rattle.cr_ports.proofs.WritingLaws.{writes-nil}
 
@@ -61,15 +62,6 @@ unwritten s s' e = subst (λ (x : Outlet). Writes [] s x) (sym e) (writes-nil s)
 
 to_wish : (text : List ℕ) (w : Wish) (rest : List ℕ) → StandsWish text w rest → IsToHead text w.is_head
 to_wish text w rest s = to_head_of text (whole s.request.head s.request.body rest) w.is_head s.stands (ap (λ (x : Wish). x.is_head) s.wish)
-
--- no turn was taken
-still : (ending : Ending) (p p' : KnownPass) → p' ≡ p → EndsTurns ending p p'
-still endings.Clean p p' same = same
-still endings.Cut p p' same = same
-still (endings.Closed why) p p' same = same
-still endings.ReadFault p p' same = same
-still endings.WriteFault p p' same = same
-still endings.OutOfMemory p p' same = tt
 
 module _ {S : Type 0} (left : S → Option (List ℕ)) (gives : S → S → List ℕ → Type 0) where
   -- ---- a whole request
@@ -192,7 +184,7 @@ module _ {S : Type 0} (left : S → Option (List ℕ)) (gives : S → S → List
     failed = None;
     judged = w.state;
     turns = refl;
-    settled = still ending w.state w'.state same;
+    settled = no_turns ending w.state w'.state same;
     ends = ends;
     ended = ended;
     counts = counts;
