@@ -31,7 +31,7 @@ grows-turn : (j : JudgedWish) (p q : KnownPass) → TakesTurn j p q → (grown q
 grows-turn j p q t =
     let group : History = drop (length j.seen) (history_after j) in
     let a : grown q ≡ length (groups_of p.mine ++ group) =
-        ap (λ (x : KnownPass). grown x) t.turn ∙ ap length (groups-snoc p.mine (turn_at (length j.seen) group t.faults t.faults')) in
+    ap (λ (x : KnownPass). grown x) t.turn ∙ ap length (groups-snoc p.mine (turn_at (length j.seen) group t.faults t.faults')) in
     let b : length (groups_of p.mine ++ group) ≡ grown p + length group = length-append (groups_of p.mine) group in
     let c : length (j.seen ++ group) ≡ length (history_after j) = ap length (prefix_drop j.seen (history_after j) (after-begins j)) in
     let d : length (j.seen ++ group) ≡ length j.seen + length group = length-append j.seen group in
@@ -119,7 +119,7 @@ none-rises (j ∷ js) p q r none =
     let t = r.1 in
     let one = rises-turn j.lost t.faults t.faults' (lost_count js) t.counted none in
     let here : rises r.0.mine ≡ rises p.mine + (t.faults' - t.faults) =
-        ap (λ (x : KnownPass). rises x.mine) t.turn ∙ rises-snoc p.mine (turn_at (length j.seen) (drop (length j.seen) (history_after j)) t.faults t.faults') in
+    ap (λ (x : KnownPass). rises x.mine) t.turn ∙ rises-snoc p.mine (turn_at (length j.seen) (drop (length j.seen) (history_after j)) t.faults t.faults') in
     let rest = none-rises js r.0 q r.2 one.1 in
     let zero_rise = one.0 in
     omega (arith, here, rest, zero_rise)
@@ -149,8 +149,7 @@ replays-alone (j ∷ js) p q f g r alone c =
     let saw = prefix_length p.seen j.seen r.1.saw in
     let rest = grows-all js r.0 q r.2 in
     let sum = one.0 in
-    let both = counts-first j.lost (lost_count js) f g c in
-    (
+    let both = counts-first j.lost (lost_count js) f g c in (
       ledger r.0 both.between,
       turned-alone j p r.0 f both.between r.1 (omega (arith, alone, rest, sum)) both.first,
       replays-alone js r.0 q both.between g r.2 (omega (arith, alone, saw, sum)) both.rest,

@@ -13,7 +13,7 @@ use Rattle.cr_session.specs.declared.serve.Why.TheVariants as whys
 use Rattle.cr_session.specs.Replay.{JudgedWish, Ledger, Replays}
 use Rattle.cr_session.specs.Passing.{KnownPass, TakesTurns}
 use Rattle.cr_session.specs.Turning.{MayWantMemory, TurnsInVain}
-use Rattle.cr_session.specs.Serving.{World, MayLackMemory, EndsAs, EndsTurns, ConnectionInHistory, ConnectionBytes, StaysInVain}
+use Rattle.cr_session.specs.Serving.{World, MayLackMemory, EndsAs, EndsTurns, ConnectionInHistory, ConnectionBytes, WholeBytes, StaysInVain}
 use Rattle.cr_session.proofs.Alone.{StaysBehind, behind-none, behind-vain, seen-closed, replays-closed}
 use Rattle.cr_wire.specs.declared.what.Wish.{Wish}
 
@@ -59,6 +59,34 @@ ends_alike endings.ReadFault n came text answered None q p b s s' vain e = e
 ends_alike endings.WriteFault n came text answered None q p b s s' vain e = e
 ends_alike endings.OutOfMemory n came text answered None q p b s s' vain e = (e.0, e.1, lacks_alike q p b e.0 vain e.2, e.3, e.4, e.5)
 
+-- a ledger stays behind the turns of the wishes
+pub ledger_stays : (ending : Ending) (n : ℕ) (came text : List ℕ) (answered : List JudgedWish) (failed : Option JudgedWish) (b b' : Ledger) (s s' : Outlet)
+    → EndsTurns ending b b' → EndsAs Replays StaysInVain ending n came text answered failed b b' s s' → b' ≡ b
+ledger_stays endings.Clean n came text answered failed b b' s s' same e = same
+ledger_stays endings.Cut n came text answered failed b b' s s' same e = same
+ledger_stays (endings.Closed why) n came text answered failed b b' s s' same e = same
+ledger_stays endings.ReadFault n came text answered failed b b' s s' same e = same
+ledger_stays endings.WriteFault n came text answered failed b b' s s' same e = same
+ledger_stays endings.OutOfMemory n came text answered (Some failed) b b' s s' same e = absurd (cc (e.0))
+ledger_stays endings.OutOfMemory n came text answered None b b' s s' same e = by e.2
+  where
+    by : MayLackMemory Replays StaysInVain b b' e.0 → b' ≡ b
+    by (inl lacks) = lacks.1
+    by (inr lacks) = lacks.3.0
+
+-- so Replay leads to the ledger at the end
+pub replayed : {S : Type 0} (left : S → Option (List ℕ)) (gives : S → S → List ℕ → Type 0) (ending : Ending) (n : ℕ) (i : List ℕ) (w w' : World Ledger S)
+    → (c : ConnectionBytes left gives ending n i w w') → Replays (c.answered ++ listed c.failed) w.state w'.state
+replayed left gives ending n i w w' c =
+    subst (λ (b : Ledger). Replays (c.answered ++ listed c.failed) w.state b)
+    (sym (ledger_stays ending n (i ++ c.got) (i ++ c.got) c.answered c.failed c.judged w'.state w.sink w'.sink c.settled c.ends)) c.turns
+
+pub replayed_whole : {S : Type 0} (left : S → Option (List ℕ)) (ending : Ending) (b : List ℕ) (w w' : World Ledger S)
+    → (c : WholeBytes left ending b w w') → Replays (c.answered ++ listed c.failed) w.state w'.state
+replayed_whole left ending b w w' c =
+    subst (λ (x : Ledger). Replays (c.answered ++ listed c.failed) w.state x)
+    (sym (ledger_stays ending 0 c.came b c.answered c.failed c.judged w'.state w.sink w'.sink c.settled c.ends)) c.turns
+
 -- On the one pass of a lock that is closed, ConnectionInHistory is ConnectionBytes, from the first ledger to the last.
 module _ {T S : Type 0} (list : T → List Stamped) (faults : T → ℕ) (first : T) (lock : TableId) (x : T) (left : S → Option (List ℕ)) (gives : S → S → List ℕ → Type 0) (ending : Ending)
     (p p' : KnownPass) (source source' : S) (f f' : ℕ) (s s' : Outlet) where
@@ -78,7 +106,7 @@ module _ {T S : Type 0} (list : T → List Stamped) (faults : T → ℕ) (first 
       let all : List JudgedWish = c.answered ++ listed c.failed in
       let turns : TakesTurns all (first_pass lock (list first)) c.judged = subst (λ (y : KnownPass). TakesTurns all y c.judged) opened c.turns in
       let vain : (w : Wish) → TurnsInVain w c.judged p' → MayWantMemory (list x) w = λ w v.
-          subst (λ (H : History). MayWantMemory H w) (sym (ap (λ (y : KnownPass). y.seen) v.turn) ∙ sym closes.stands) v.wants in
+      subst (λ (H : History). MayWantMemory H w) (sym (ap (λ (y : KnownPass). y.seen) v.turn) ∙ sym closes.stands) v.wants in
       record {
         got = c.got;
         given = c.given;

@@ -8,6 +8,7 @@ pub mod Endings
 pub mod TurnLaws
 pub mod Requests
 pub mod NoFurther
+pub mod NoMemory
 pub mod Rounds
 pub mod ReadLaws
 pub mod Connections

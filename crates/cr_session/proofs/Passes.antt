@@ -59,9 +59,6 @@ stays-then m n p q r x y = record {
   few = (let a = x.few in let b = y.few in omega (arith, a, b));
 }
 
-pub stays-within : (m n : ℕ) (p q : KnownPass) → m ≤ n → StaysPass m p q → StaysPass n p q
-stays-within m n p q le x = record { lock = x.lock; share = x.share; few = (let a = x.few in omega (arith, a, le)) }
-
 -- ---- marks
 
 -- the count rose or stands at its last value, so the turn is marked
