@@ -20,6 +20,7 @@ ghost use Rattle.cr_book.specs.Sound.{IsKept, Accepts};
 use crate::opening::{OpenError, read_all};
 use crate::rows::{copies_of, rows_of};
 use cr_base::{Command, Digest, Query, Receipt, Reply, Rule, Short, Stamped, UserNo};
+use cr_lock::Stands;
 use cr_ports::{Keeper, KeeperError, Sink};
 use cr_sights::{ViewError, view_len, write_view};
 use cr_view::{AnswerError, Draw, Live};
@@ -248,5 +249,18 @@ impl<K: Keeper> Book<K> {
         ensures { IfOk result (λ n. n ≡ length (view (Some user) self.now.log)) }
     {
         view_len(self.alloc, &self.live, &self.log, user)
+    }
+}
+
+/// Behind a lock a book stands for its history, and its count of faults is its keeper's.
+impl<K: Keeper> Stands for Book<K> {
+    type Entry = Stamped;
+
+    ghost list = { λ b. b.log };
+
+    ghost faults = { λ b. K.faults b.keeper };
+
+    fn entries(&self) -> u64 {
+        self.log.len() as u64
     }
 }

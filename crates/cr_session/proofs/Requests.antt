@@ -1,6 +1,8 @@
 -- From what one turn did to what one request did.
 use Rattle.std.proofs.Common.{◌≡◌, ◌∙◌, ℕ, List, [], Bool, true, false, refl, sym, ap, subst}
+use mathlib.Core.List.{IsPrefix}
 use Rattle.cr_base.specs.History.{History}
+use Rattle.cr_lock.specs.Passes.{after_turn}
 use Rattle.cr_wire.specs.declared.what.Wish.{Wish}
 use Rattle.cr_session.specs.declared.turn.Turn.{Turn}
 use Rattle.cr_session.specs.declared.turn.Turn.TheVariants as turns
@@ -8,9 +10,10 @@ use Rattle.cr_session.specs.declared.serve.Served.{Served}
 use Rattle.cr_session.specs.declared.serve.Served.TheVariants as served
 use Rattle.cr_session.specs.Told.{form_of, told, unkept, step}
 use Rattle.cr_session.specs.Replay.{JudgedWish, Ledger, answer_to, history_after}
+use Rattle.cr_session.specs.Passing.{KnownPass}
 use Rattle.cr_wire.specs.Wishes.{closes}
 use Rattle.cr_ports.specs.Writing.{Outlet, Writes, BreaksOff}
-use Rattle.cr_session.specs.Turning.{Turns, AnswersWish, turn_text, MayWantToPrint, MayWantMemory, Sends, JudgesInTurn, ServesRequest}
+use Rattle.cr_session.specs.Turning.{Turns, AnswersWish, turn_text, MayWantToPrint, MayWantMemory, Sends, JudgesInTurn, TurnsInVain, ServesRequest}
 
 -- ---- what was judged
 
@@ -30,62 +33,95 @@ history_after-lost : (w : Wish) (old : History) → history_after (record { wish
 unfolding history_after
 history_after-lost w old = refl
 
--- a turn came to this, and the request was judged with that answer
-record WasJudged (turn : Turn) (n : ℕ) (w : Wish) (b b' : Ledger) : Type 0 where
-  judges : JudgesInTurn w b b'
-  text : turn_text turn (form_of w (closes n w)) ≡ answer_to n judges.judged
+-- One turn of the pass on a ledger, which it left so.
+module _ (w : Wish) (b b' : Ledger) (p p' : KnownPass) (saw : IsPrefix p.seen b.history) (is : p' ≡ after_turn p b.history b'.history b.faults b'.faults) where
+  -- it came to this, and the request was judged with that answer
+  record WasJudged (turn : Turn) (n : ℕ) : Type 0 where
+    judges : JudgesInTurn w p p'
+    text : turn_text turn (form_of w (closes n w)) ≡ answer_to n judges.judged
 
-kept-judged : (turn : Turn) (n : ℕ) (w : Wish) (b b' : Ledger) → AnswersWish turn w b b' → WasJudged turn n w b b'
-kept-judged turn n w b b' a =
-    let j : JudgedWish = record { wish = w; seen = b.history; lost = false } in
-    record {
-      judges = record {
-        judged = j;
-        wish = refl;
-        turned = record { seen = refl; lost = tt; history = a.stepped ∙ sym (history_after-kept w b.history); counted = a.steady };
-      };
-      text = a.told_is (closes n w) ∙ sym (answer_to-kept n w b.history);
-    }
+  -- the turn's history, however it is told
+  turned : (H : History) → b'.history ≡ H → p' ≡ after_turn p b.history H b.faults b'.faults
+  turned H e = is ∙ ap (λ (h : History). after_turn p b.history h b.faults b'.faults) e
 
-was_judged : (turn : Turn) (n : ℕ) (w : Wish) (b b' : Ledger) → (turn ≡ turns.OutOfMemory → ⊥) → Turns turn w b b' → WasJudged turn n w b b'
-was_judged (turns.Refused refused) n w b b' memory t = kept-judged (turns.Refused refused) n w b b' t
-was_judged (turns.Accepted receipt) n w b b' memory t = kept-judged (turns.Accepted receipt) n w b b' t
-was_judged (turns.Answered reply) n w b b' memory t = kept-judged (turns.Answered reply) n w b b' t.0
-was_judged turns.Lost n w b b' memory t =
-    let j : JudgedWish = record { wish = w; seen = b.history; lost = true } in
-    record {
-      judges = record {
-        judged = j;
-        wish = refl;
-        turned = record { seen = refl; lost = t.0; history = t.1 ∙ sym (history_after-lost w b.history); counted = t.2 };
-      };
-      text = sym (answer_to-lost n w b.history);
-    }
-was_judged turns.OutOfMemory n w b b' memory t = absurd (memory refl)
+  kept-judged : (turn : Turn) (n : ℕ) → AnswersWish turn w b b' → WasJudged turn n
+  kept-judged turn n a =
+      let j : JudgedWish = record { wish = w; seen = b.history; lost = false } in
+      record {
+        judges = record {
+          judged = j;
+          wish = refl;
+          turned = record {
+            saw = saw;
+            lost = tt;
+            faults = b.faults;
+            faults' = b'.faults;
+            counted = a.steady;
+            turn = turned (history_after j) (a.stepped ∙ sym (history_after-kept w b.history));
+          };
+        };
+        text = a.told_is (closes n w) ∙ sym (answer_to-kept n w b.history);
+      }
 
--- ---- what was served
+  was_judged : (turn : Turn) (n : ℕ) → (turn ≡ turns.OutOfMemory → ⊥) → Turns turn w b b' → WasJudged turn n
+  was_judged (turns.Refused refused) n memory t = kept-judged (turns.Refused refused) n t
+  was_judged (turns.Accepted receipt) n memory t = kept-judged (turns.Accepted receipt) n t
+  was_judged (turns.Answered reply) n memory t = kept-judged (turns.Answered reply) n t.0
+  was_judged turns.Lost n memory t =
+      let j : JudgedWish = record { wish = w; seen = b.history; lost = true } in
+      record {
+        judges = record {
+          judged = j;
+          wish = refl;
+          turned = record {
+            saw = saw;
+            lost = t.0;
+            faults = b.faults;
+            faults' = b'.faults;
+            counted = t.2;
+            turn = turned (history_after j) (t.1 ∙ sym (history_after-lost w b.history));
+          };
+        };
+        text = sym (answer_to-lost n w b.history);
+      }
+  was_judged turns.OutOfMemory n memory t = absurd (memory refl)
 
--- the answer was sent
-pub serves_sent : (turn : Turn) (sent : Served) (n : ℕ) (w : Wish) (close : Bool) (reply : List ℕ) (b b' : Ledger) (s s' : Outlet) → (turn ≡ turns.OutOfMemory → ⊥)
-    → Turns turn w b b' → close ≡ closes n w → reply ≡ turn_text turn (form_of w close) → Sends sent close reply s s' → ServesRequest sent n w b b' s s'
-serves_sent turn sent n w close reply b b' s s' memory t closing is sends = by sent sends
-  where
-    j : WasJudged turn n w b b'
-    j = was_judged turn n w b b' memory t
+  -- ---- what was served
 
-    text : reply ≡ answer_to n j.judges.judged
-    text = is ∙ ap (λ (b : Bool). turn_text turn (form_of w b)) closing ∙ j.text
+  -- the answer was sent
+  pub serves_sent : (turn : Turn) (sent : Served) (n : ℕ) (close : Bool) (reply : List ℕ) (s s' : Outlet) → (turn ≡ turns.OutOfMemory → ⊥)
+      → Turns turn w b b' → close ≡ closes n w → reply ≡ turn_text turn (form_of w close) → Sends sent close reply s s' → ServesRequest sent n w p p' s s'
+  serves_sent turn sent n close reply s s' memory t closing text_is sends = by sent sends
+    where
+      j : WasJudged turn n
+      j = was_judged turn n memory t
 
-    by : (x : Served) → Sends x close reply s s' → ServesRequest x n w b b' s s'
-    by served.Goes x = (j.judges, sym closing ∙ x.0, subst (λ (r : List ℕ). Writes r s s') text x.1)
-    by served.Closes x = (j.judges, sym closing ∙ x.0, subst (λ (r : List ℕ). Writes r s s') text x.1)
-    by served.WriteFault x = (j.judges, subst (λ (r : List ℕ). BreaksOff [] r s s') text x)
-    by served.OutOfMemory x = absurd x
+      text : reply ≡ answer_to n j.judges.judged
+      text = text_is ∙ ap (λ (c : Bool). turn_text turn (form_of w c)) closing ∙ j.text
 
--- writing the answer wanted memory, and nothing had changed
-pub stays_unprinted : (turn : Turn) (w : Wish) (b b' : Ledger) → Turns turn w b b' → MayWantToPrint turn → (b' ≡ b) × MayWantMemory b.history w
-stays_unprinted (turns.Refused refused) w b b' t may = absurd may
-stays_unprinted (turns.Accepted receipt) w b b' t may = absurd may
-stays_unprinted (turns.Answered reply) w b b' t may = (t.1, t.2 may)
-stays_unprinted turns.Lost w b b' t may = absurd may
-stays_unprinted turns.OutOfMemory w b b' t may = absurd may
+      by : (x : Served) → Sends x close reply s s' → ServesRequest x n w p p' s s'
+      by served.Goes x = (j.judges, sym closing ∙ x.0, subst (λ (r : List ℕ). Writes r s s') text x.1)
+      by served.Closes x = (j.judges, sym closing ∙ x.0, subst (λ (r : List ℕ). Writes r s s') text x.1)
+      by served.WriteFault x = (j.judges, subst (λ (r : List ℕ). BreaksOff [] r s s') text x)
+      by served.OutOfMemory x = absurd x
+
+  -- memory was wanting in the turn
+  vain : (b' ≡ b) → MayWantMemory b.history w → TurnsInVain w p p'
+  vain same wants = record {
+    seen = b.history;
+    saw = saw;
+    wants = wants;
+    faults = b.faults;
+    turn = is ∙ ap (λ (x : Ledger). after_turn p b.history x.history b.faults x.faults) same;
+  }
+
+  pub turned_in_vain : (turn : Turn) → turn ≡ turns.OutOfMemory → Turns turn w b b' → TurnsInVain w p p'
+  turned_in_vain turn none t = let stays = subst (λ (x : Turn). Turns x w b b') none t in vain stays.0 stays.1
+
+  -- or in writing its answer
+  pub unprinted : (turn : Turn) → Turns turn w b b' → MayWantToPrint turn → TurnsInVain w p p'
+  unprinted (turns.Refused refused) t may = absurd may
+  unprinted (turns.Accepted receipt) t may = absurd may
+  unprinted (turns.Answered reply) t may = vain t.1 (t.2 may)
+  unprinted turns.Lost t may = absurd may
+  unprinted turns.OutOfMemory t may = absurd may

@@ -4,7 +4,6 @@ use Rattle.std.specs.Prelude.{MatchBool, ◌||◌, ◌==◌}
 use Rattle.cr_http.specs.declared.refusal.Refusal.{Refusal}
 use Rattle.cr_http.specs.Found.{whole, refused, clean, cut, StandsAt}
 use Rattle.cr_http.specs.Requests.{RequestText, End, SpellsFrom, ReachesFrom, ended_clean, ended_cut, asked, closed}
-use Rattle.cr_ports.specs.Stream.{and_left}
 use Rattle.cr_print.specs.Answers.{closing_text}
 use Rattle.cr_wire.specs.declared.what.Wish.{Wish}
 use Rattle.cr_wire.specs.Wish.{wish_text}
@@ -15,17 +14,19 @@ use Rattle.cr_session.specs.declared.serve.Ending.TheVariants as endings
 use Rattle.cr_session.specs.declared.serve.Served.TheVariants as served
 use Rattle.cr_session.specs.declared.serve.Why.TheVariants as whys
 use Rattle.cr_session.specs.Reading.{ReadsWish, StandsWish}
-use Rattle.cr_session.specs.Replay.{JudgedWish, Ledger, answer_to, wishes_of}
-use Rattle.cr_session.specs.Serving.{World, Connection, GoesOn, WritesRefusal, TellsWantOfMemory, MayLackMemory, EndsAs, EndsSource, CountsReads, ReadsNoFurther}
-use Rattle.cr_session.specs.Turning.{ServesRequest}
+use Rattle.cr_session.specs.Replay.{JudgedWish, answer_to, wishes_of}
+use Rattle.cr_session.specs.Passing.{KnownPass, TakesTurns}
+use Rattle.cr_session.specs.Serving.{World, ConnectionInHistory, GoesOnInHistory, WritesRefusal, TellsWantOfMemory, EndsAs, EndsSource, CountsReads}
+use Rattle.cr_session.specs.Turning.{TurnsInVain, ServesRequest}
 use Rattle.cr_session.specs.Wishes.{Spells}
 use Rattle.cr_ports.specs.Writing.{Outlet, Writes, BreaksOff}
 use Rattle.cr_wire.specs.Wishes.{closes, closes_behind}
-use Rattle.cr_http.proofs.Moving.{and_left-nil}
 use Rattle.cr_http.specs.ToHead.{IsToHead}
 use Rattle.cr_http.proofs.HeadsRead.{to_head_of}
-use Rattle.cr_session.proofs.NoFurther.{no_further-one, no_further-still}
-use Rattle.cr_session.proofs.Turns.{replays-one}
+use Rattle.cr_session.proofs.NoFurther.{no_further-one}
+use Rattle.cr_session.proofs.Endings.{no_turns}
+use Rattle.cr_session.proofs.NoMemory.{no_memory}
+use Rattle.cr_session.proofs.Passes.{takes-one}
 use Rattle.cr_ports.proofs.WritingLaws.{writes-nil}
 
 closes_behind-is : (n : ℕ) (r : RequestText) → closes_behind n r ≡ ((wish_text r).asks_close || n == 1048575)
@@ -64,14 +65,14 @@ to_wish text w rest s = to_head_of text (whole s.request.head s.request.body res
 module _ {S : Type 0} (left : S → Option (List ℕ)) (gives : S → S → List ℕ → Type 0) where
   -- ---- a whole request
 
-  pub round_goes : (n : ℕ) (wish : Wish) (i i' : List ℕ) (w w' : World S) → ReadsWish left gives w.source w'.source i i' (reads.Wish wish)
-      → ServesRequest served.Goes n wish w.ledger w'.ledger w.sink w'.sink → w'.read_faults ≡ w.read_faults → GoesOn left gives 1 n i i' w w'
+  pub round_goes : (n : ℕ) (wish : Wish) (i i' : List ℕ) (w w' : World KnownPass S) → ReadsWish left gives w.source w'.source i i' (reads.Wish wish)
+      → ServesRequest served.Goes n wish w.state w'.state w.sink w'.sink → w'.read_faults ≡ w.read_faults → GoesOnInHistory left gives 1 n i i' w w'
   round_goes n wish i i' w w' x y counts = record {
     got = x.got;
     given = x.given;
     answered = y.0.judged ∷ [];
     counted = refl;
-    replays = replays-one y.0.judged w.ledger w'.ledger y.0.turned;
+    turns = takes-one y.0.judged w.state w'.state y.0.turned;
     reaches = record {
       requests = x.says.request ∷ [];
       wish = one_wish y.0.judged wish x.says.request y.0.wish x.says.wish;
@@ -82,14 +83,16 @@ module _ {S : Type 0} (left : S → Option (List ℕ)) (gives : S → S → List
     needed = no_further-one left gives n (y.0.judged ∷ []) w.source w'.source i (i ++ x.got) x.needed;
   }
 
-  pub round_closes : (n : ℕ) (wish : Wish) (i i' : List ℕ) (w w' : World S) → ReadsWish left gives w.source w'.source i i' (reads.Wish wish)
-      → ServesRequest served.Closes n wish w.ledger w'.ledger w.sink w'.sink → w'.read_faults ≡ w.read_faults → Connection left gives (endings.Closed whys.Asked) n i w w'
+  pub round_closes : (n : ℕ) (wish : Wish) (i i' : List ℕ) (w w' : World KnownPass S) → ReadsWish left gives w.source w'.source i i' (reads.Wish wish)
+      → ServesRequest served.Closes n wish w.state w'.state w.sink w'.sink → w'.read_faults ≡ w.read_faults → ConnectionInHistory left gives (endings.Closed whys.Asked) n i w w'
   round_closes n wish i i' w w' x y counts = record {
     got = x.got;
     given = x.given;
     answered = y.0.judged ∷ [];
     failed = None;
-    replays = replays-one y.0.judged w.ledger w'.ledger y.0.turned;
+    judged = w'.state;
+    turns = takes-one y.0.judged w.state w'.state y.0.turned;
+    settled = refl;
     ends = (
       record {
         requests = x.says.request ∷ [];
@@ -103,14 +106,16 @@ module _ {S : Type 0} (left : S → Option (List ℕ)) (gives : S → S → List
     needed = no_further-one left gives n (y.0.judged ∷ []) w.source w'.source i (i ++ x.got) x.needed;
   }
 
-  pub round_write_fault : (n : ℕ) (wish : Wish) (i i' : List ℕ) (w w' : World S) → ReadsWish left gives w.source w'.source i i' (reads.Wish wish)
-      → ServesRequest served.WriteFault n wish w.ledger w'.ledger w.sink w'.sink → w'.read_faults ≡ w.read_faults → Connection left gives endings.WriteFault n i w w'
+  pub round_write_fault : (n : ℕ) (wish : Wish) (i i' : List ℕ) (w w' : World KnownPass S) → ReadsWish left gives w.source w'.source i i' (reads.Wish wish)
+      → ServesRequest served.WriteFault n wish w.state w'.state w.sink w'.sink → w'.read_faults ≡ w.read_faults → ConnectionInHistory left gives endings.WriteFault n i w w'
   round_write_fault n wish i i' w w' x y counts = record {
     got = x.got;
     given = x.given;
     answered = [];
     failed = Some y.0.judged;
-    replays = replays-one y.0.judged w.ledger w'.ledger y.0.turned;
+    judged = w'.state;
+    turns = takes-one y.0.judged w.state w'.state y.0.turned;
+    settled = refl;
     ends = (
       refl,
       record {
@@ -127,64 +132,42 @@ module _ {S : Type 0} (left : S → Option (List ℕ)) (gives : S → S → List
 
   -- ---- no memory
 
-  no_memory : (n : ℕ) (i got : List ℕ) (head : Bool) (w w' : World S) → IsToHead (i ++ got) head → MayLackMemory w'.ledger.history (i ++ got)
-      → left w.source ≡ and_left got (left w'.source) → w'.ledger ≡ w.ledger → TellsWantOfMemory [] head w.sink w'.sink → w'.read_faults ≡ w.read_faults
-      → ReadsNoFurther left gives n [] w.source w'.source i (i ++ got) → Connection left gives endings.OutOfMemory n i w w'
-  no_memory n i got head w w' to may given same notes counts needed = record {
-    got = got;
-    given = given;
-    answered = [];
-    failed = None;
-    replays = same;
-    ends = (i ++ got, record { requests = []; wish = refl; reaches = refl }, may, head, to, notes);
-    ended = tt;
-    counts = counts;
-    needed = needed;
-  }
-
   -- a request was read, and memory was wanting in its turn
-  pub round_no_memory : (n : ℕ) (wish : Wish) (i i' : List ℕ) (w w' : World S) (b : Ledger) (s : Outlet) → ReadsWish left gives w.source w'.source i i' (reads.Wish wish)
-      → ServesRequest served.OutOfMemory n wish w.ledger b w.sink s → w'.ledger ≡ b → TellsWantOfMemory [] wish.is_head s w'.sink → w'.read_faults ≡ w.read_faults → Connection left gives endings.OutOfMemory n i w w'
-  round_no_memory n wish i i' w w' b s x y same notes counts =
-      let stood : w'.ledger ≡ w.ledger = same ∙ y.0 in
-      no_memory n i x.got wish.is_head w w' (to_wish (i ++ x.got) wish i' x.says)
-      (subst (λ (l : Ledger). MayLackMemory l.history (i ++ x.got)) (sym stood) (inr (wish, i', x.says, y.2)))
-      x.given stood (subst (λ (o : Outlet). TellsWantOfMemory [] wish.is_head o w'.sink) y.1 notes) counts
+  pub round_no_memory : (n : ℕ) (wish : Wish) (i i' : List ℕ) (w w' : World KnownPass S) (s : Outlet) → ReadsWish left gives w.source w'.source i i' (reads.Wish wish)
+      → ServesRequest served.OutOfMemory n wish w.state w'.state w.sink s → TellsWantOfMemory [] wish.is_head s w'.sink → w'.read_faults ≡ w.read_faults → ConnectionInHistory left gives endings.OutOfMemory n i w w'
+  round_no_memory n wish i i' w w' s x y notes counts =
+      no_memory TakesTurns TurnsInVain (λ p. refl) left gives n i x.got wish.is_head w w' (to_wish (i ++ x.got) wish i' x.says) (inr (wish, i', x.says, y.1))
+      x.given (subst (λ (o : Outlet). TellsWantOfMemory [] wish.is_head o w'.sink) y.0 notes) counts
       (no_further-one left gives n [] w.source w'.source i (i ++ x.got) x.needed)
 
   -- memory was wanting in reading
-  pub round_unread : (n : ℕ) (head : Bool) (i i' : List ℕ) (w w' : World S) → ReadsWish left gives w.source w'.source i i' (reads.OutOfMemory head) → w'.ledger ≡ w.ledger
-      → TellsWantOfMemory [] head w.sink w'.sink → w'.read_faults ≡ w.read_faults → Connection left gives endings.OutOfMemory n i w w'
+  pub round_unread : (n : ℕ) (head : Bool) (i i' : List ℕ) (w w' : World KnownPass S) → ReadsWish left gives w.source w'.source i i' (reads.OutOfMemory head) → w'.state ≡ w.state
+      → TellsWantOfMemory [] head w.sink w'.sink → w'.read_faults ≡ w.read_faults → ConnectionInHistory left gives endings.OutOfMemory n i w w'
   round_unread n head i i' w w' x same notes counts =
-      no_memory n i x.got head w w' x.says.0 (inl x.says.1) x.given same notes counts (no_further-one left gives n [] w.source w'.source i (i ++ x.got) x.needed)
-
-  -- memory was wanting before anything was read
-  pub round_unbegun : (n : ℕ) (w w' : World S) → w'.source ≡ w.source → w'.ledger ≡ w.ledger → TellsWantOfMemory [] false w.sink w'.sink → w'.read_faults ≡ w.read_faults
-      → Connection left gives endings.OutOfMemory n [] w w'
-  round_unbegun n w w' source same notes counts =
-      no_memory n [] [] false w w' refl (inl (inl (inl refl))) (sym (ap left source) ∙ sym (and_left-nil (left w'.source))) same notes counts
-      (subst (λ (s : S). ReadsNoFurther left gives n [] w.source s [] []) (sym source) (no_further-still left gives n [] w.source []))
+      no_memory TakesTurns TurnsInVain (λ p. refl) left gives n i x.got head w w' x.says.0 (inl (x.says.1, same)) x.given notes counts (no_further-one left gives n [] w.source w'.source i (i ++ x.got) x.needed)
 
   -- ---- no request
 
   -- no wish was judged: what stands there, or a fault, ended the connection
-  unanswered : (ending : Ending) (n : ℕ) (i i' : List ℕ) (w w' : World S) (read : WishRead) (x : ReadsWish left gives w.source w'.source i i' read)
-      → EndsAs ending n (i ++ x.got) (i ++ x.got) [] None w'.ledger.history w.sink w'.sink → EndsSource ending (left w'.source)
-      → CountsReads ending w.read_faults w'.read_faults → w'.ledger ≡ w.ledger → Connection left gives ending n i w w'
+  unanswered : (ending : Ending) (n : ℕ) (i i' : List ℕ) (w w' : World KnownPass S) (read : WishRead) (x : ReadsWish left gives w.source w'.source i i' read)
+      → EndsAs TakesTurns TurnsInVain ending n (i ++ x.got) (i ++ x.got) [] None w.state w'.state w.sink w'.sink → EndsSource ending (left w'.source)
+      → CountsReads ending w.read_faults w'.read_faults → w'.state ≡ w.state → ConnectionInHistory left gives ending n i w w'
   unanswered ending n i i' w w' read x ends ended counts same = record {
     got = x.got;
     given = x.given;
     answered = [];
     failed = None;
-    replays = same;
+    judged = w.state;
+    turns = refl;
+    settled = no_turns ending w.state w'.state same;
     ends = ends;
     ended = ended;
     counts = counts;
     needed = no_further-one left gives n [] w.source w'.source i (i ++ x.got) x.needed;
   }
 
-  pub round_refused : (ending : Ending) (n : ℕ) (why : Refusal) (head : Bool) (i i' : List ℕ) (w w' : World S) → ReadsWish left gives w.source w'.source i i' (reads.Malformed why head)
-      → WritesRefusal ending why head w.sink w'.sink → w'.ledger ≡ w.ledger → w'.read_faults ≡ w.read_faults → Connection left gives ending n i w w'
+  pub round_refused : (ending : Ending) (n : ℕ) (why : Refusal) (head : Bool) (i i' : List ℕ) (w w' : World KnownPass S) → ReadsWish left gives w.source w'.source i i' (reads.Malformed why head)
+      → WritesRefusal ending why head w.sink w'.sink → w'.state ≡ w.state → w'.read_faults ≡ w.read_faults → ConnectionInHistory left gives ending n i w w'
   round_refused endings.Clean n why head i i' w w' x y same counts = absurd y
   round_refused endings.Cut n why head i i' w w' x y same counts = absurd y
   round_refused endings.ReadFault n why head i i' w w' x y same counts = absurd y
@@ -202,22 +185,22 @@ module _ {S : Type 0} (left : S → Option (List ℕ)) (gives : S → S → List
       (why, head, spells-none n (i ++ x.got) (closed why head) (refused why head, x.says, refl), y)
       tt counts same
 
-  pub round_cut : (n : ℕ) (i i' : List ℕ) (w w' : World S) → ReadsWish left gives w.source w'.source i i' reads.Cut → w'.ledger ≡ w.ledger → w'.sink ≡ w.sink
-      → w'.read_faults ≡ w.read_faults → Connection left gives endings.Cut n i w w'
+  pub round_cut : (n : ℕ) (i i' : List ℕ) (w w' : World KnownPass S) → ReadsWish left gives w.source w'.source i i' reads.Cut → w'.state ≡ w.state → w'.sink ≡ w.sink
+      → w'.read_faults ≡ w.read_faults → ConnectionInHistory left gives endings.Cut n i w w'
   round_cut n i i' w w' x same sink counts =
       unanswered endings.Cut n i i' w w' reads.Cut x
       (spells-none n (i ++ x.got) ended_cut (cut, x.says, refl), unwritten w.sink w'.sink sink)
       x.ended counts same
 
-  pub round_clean : (n : ℕ) (i i' : List ℕ) (w w' : World S) → ReadsWish left gives w.source w'.source i i' reads.Clean → w'.ledger ≡ w.ledger → w'.sink ≡ w.sink
-      → w'.read_faults ≡ w.read_faults → Connection left gives endings.Clean n i w w'
+  pub round_clean : (n : ℕ) (i i' : List ℕ) (w w' : World KnownPass S) → ReadsWish left gives w.source w'.source i i' reads.Clean → w'.state ≡ w.state → w'.sink ≡ w.sink
+      → w'.read_faults ≡ w.read_faults → ConnectionInHistory left gives endings.Clean n i w w'
   round_clean n i i' w w' x same sink counts =
       unanswered endings.Clean n i i' w w' reads.Clean x
       (spells-none n (i ++ x.got) ended_clean (clean, x.says, refl), unwritten w.sink w'.sink sink)
       x.ended counts same
 
-  pub round_read_fault : (n : ℕ) (i i' : List ℕ) (w w' : World S) → ReadsWish left gives w.source w'.source i i' reads.ReadFault → CountsReads endings.ReadFault w.read_faults w'.read_faults
-      → w'.ledger ≡ w.ledger → w'.sink ≡ w.sink → Connection left gives endings.ReadFault n i w w'
+  pub round_read_fault : (n : ℕ) (i i' : List ℕ) (w w' : World KnownPass S) → ReadsWish left gives w.source w'.source i i' reads.ReadFault → CountsReads endings.ReadFault w.read_faults w'.read_faults
+      → w'.state ≡ w.state → w'.sink ≡ w.sink → ConnectionInHistory left gives endings.ReadFault n i w w'
   round_read_fault n i i' w w' x rises same sink =
       unanswered endings.ReadFault n i i' w w' reads.ReadFault x (which x.says, unwritten w.sink w'.sink sink) tt rises same
     where
@@ -227,7 +210,7 @@ module _ {S : Type 0} (left : S → Option (List ℕ)) (gives : S → S → List
 
   -- ---- the last request that may come closes
 
-  pub not_last : (n : ℕ) (i i' : List ℕ) (w w' : World S) → GoesOn left gives 1 n i i' w w' → n ≡ 1048575 → ⊥
+  pub not_last : (n : ℕ) (i i' : List ℕ) (w w' : World KnownPass S) → GoesOnInHistory left gives 1 n i i' w w' → n ≡ 1048575 → ⊥
   not_last n i i' w w' x last = one x.answered x.reaches.requests x.counted x.reaches.wish x.reaches.reaches
     where
       or_true : (p q : Bool) → q ≡ true → p || q ≡ false → ⊥

@@ -1,7 +1,6 @@
 -- What was judged of the bytes that came is what the whole text spells.
 use Rattle.std.proofs.Common.{◌≡◌, ◌∙◌, ◌⊎◌, ℕ, List, [], ◌∷◌, ◌++◌, Option, Some, None, sym, ap, subst, append-nil, inl, inr}
 use Rattle.cr_base.specs.Lists.{listed}
-use Rattle.cr_base.specs.History.{History}
 use Rattle.cr_ports.specs.Count.{Rises}
 use Rattle.cr_ports.specs.Stream.{and_left}
 use Rattle.cr_http.specs.Filling.{IsAtEnd}
@@ -35,62 +34,65 @@ spells_closed came b rest ws end is closing s = subst (λ (t : List ℕ). Spells
 begins_all : (came b rest : List ℕ) (ws : List Wish) → b ≡ came ++ rest → Begins 0 came ws → Begins 0 b ws
 begins_all came b rest ws is s = subst (λ (t : List ℕ). Begins 0 t ws) (sym is) (Begins-more 0 came rest ws s)
 
-ends_whole : (ending : Ending) (came b rest : List ℕ) (left' : Option (List ℕ)) (answered : List JudgedWish) (failed : Option JudgedWish) (H : History) (s s' : Outlet)
-    → left' ≡ Some rest → b ≡ came ++ rest → EndsSource ending left' → EndsAs ending 0 came came answered failed H s s' → EndsAs ending 0 came b answered failed H s s'
-ends_whole ending came b rest left' answered (Some j) H s s' told is end e = (e.0, begins_all came b rest (wishes_of (answered ++ j ∷ [])) is e.1, e.2)
-ends_whole endings.Clean came b rest left' answered None H s s' told is end e = (spells_all came b rest left' (wishes_of answered) ended_clean told is end e.0, e.1)
-ends_whole endings.Cut came b rest left' answered None H s s' told is end e = (spells_all came b rest left' (wishes_of answered) ended_cut told is end e.0, e.1)
-ends_whole (endings.Closed whys.Asked) came b rest left' answered None H s s' told is end e = (spells_closed came b rest (wishes_of answered) asked is tt e.0, e.1)
-ends_whole (endings.Closed (whys.Refused why)) came b rest left' answered None H s s' told is end e =
-    (e.0, spells_closed came b rest (wishes_of answered) (closed why e.0) is tt e.1, e.2)
-ends_whole endings.ReadFault came b rest left' answered None H s s' told is end e = e
-ends_whole endings.WriteFault came b rest left' answered None H s s' told is end e =
-    (e.0, e.1, spells_closed came b rest (wishes_of answered) (closed e.0 e.1) is tt e.2, e.3)
-ends_whole endings.OutOfMemory came b rest left' answered None H s s' told is end e = e
+module _ {B : Type 0} (Judges : List JudgedWish → B → B → Type 0) (Lacks : Wish → B → B → Type 0) where
+  ends_whole : (ending : Ending) (came b rest : List ℕ) (left' : Option (List ℕ)) (answered : List JudgedWish) (failed : Option JudgedWish) (p p' : B) (s s' : Outlet)
+      → left' ≡ Some rest → b ≡ came ++ rest → EndsSource ending left' → EndsAs Judges Lacks ending 0 came came answered failed p p' s s' → EndsAs Judges Lacks ending 0 came b answered failed p p' s s'
+  ends_whole ending came b rest left' answered (Some j) p p' s s' told is end e = (e.0, begins_all came b rest (wishes_of (answered ++ j ∷ [])) is e.1, e.2)
+  ends_whole endings.Clean came b rest left' answered None p p' s s' told is end e = (spells_all came b rest left' (wishes_of answered) ended_clean told is end e.0, e.1)
+  ends_whole endings.Cut came b rest left' answered None p p' s s' told is end e = (spells_all came b rest left' (wishes_of answered) ended_cut told is end e.0, e.1)
+  ends_whole (endings.Closed whys.Asked) came b rest left' answered None p p' s s' told is end e = (spells_closed came b rest (wishes_of answered) asked is tt e.0, e.1)
+  ends_whole (endings.Closed (whys.Refused why)) came b rest left' answered None p p' s s' told is end e =
+      (e.0, spells_closed came b rest (wishes_of answered) (closed why e.0) is tt e.1, e.2)
+  ends_whole endings.ReadFault came b rest left' answered None p p' s s' told is end e = e
+  ends_whole endings.WriteFault came b rest left' answered None p p' s s' told is end e =
+      (e.0, e.1, spells_closed came b rest (wishes_of answered) (closed e.0 e.1) is tt e.2, e.3)
+  ends_whole endings.OutOfMemory came b rest left' answered None p p' s s' told is end e = e
 
-begins_judged : (ending : Ending) (came : List ℕ) (answered : List JudgedWish) (failed : Option JudgedWish) (H : History) (s s' : Outlet)
-    → EndsAs ending 0 came came answered failed H s s' → Begins 0 came (wishes_of (answered ++ listed failed))
-begins_judged ending came answered (Some j) H s s' e = e.1
-begins_judged ending came answered None H s s' e =
-    subst (λ (all : List JudgedWish). Begins 0 came (wishes_of all)) (sym (append-nil answered)) (by ending e)
-  where
-    either : Spells 0 came (wishes_of answered) ended_clean ⊎ Spells 0 came (wishes_of answered) ended_cut → Begins 0 came (wishes_of answered)
-    either (inl is) = Spells-begins 0 came (wishes_of answered) ended_clean is
-    either (inr is) = Spells-begins 0 came (wishes_of answered) ended_cut is
-
-    by : (x : Ending) → EndsAs x 0 came came answered None H s s' → Begins 0 came (wishes_of answered)
-    by endings.Clean x = Spells-begins 0 came (wishes_of answered) ended_clean x.0
-    by endings.Cut x = Spells-begins 0 came (wishes_of answered) ended_cut x.0
-    by (endings.Closed whys.Asked) x = Spells-begins 0 came (wishes_of answered) asked x.0
-    by (endings.Closed (whys.Refused why)) x = Spells-begins 0 came (wishes_of answered) (closed why x.0) x.1
-    by endings.ReadFault x = either x.0
-    by endings.WriteFault x = Spells-begins 0 came (wishes_of answered) (closed x.0 x.1) x.2
-    by endings.OutOfMemory x = Reaches-begins 0 came (wishes_of answered) x.0 x.1
-
-module _ {S : Type 0} (left : S → Option (List ℕ)) (gives : S → S → List ℕ → Type 0) where
-  pub whole_text : (ending : Ending) (b : List ℕ) (w w' : World S) → Connection left gives ending 0 [] w w' → left w.source ≡ Some b → WholeText left ending b w w'
-  whole_text ending b w w' c told =
-      let rest = told_rest (left w'.source) c.got b (sym told ∙ c.given) in
-      record {
-        came = c.got;
-        rest = rest.0;
-        parts = rest.2;
-        left_is = rest.1;
-        answered = c.answered;
-        failed = c.failed;
-        replays = c.replays;
-        begins = begins_all c.got b rest.0 (wishes_of (c.answered ++ listed c.failed)) rest.2 (begins_judged ending c.got c.answered c.failed w'.ledger.history w.sink w'.sink c.ends);
-        ends = ends_whole ending c.got b rest.0 (left w'.source) c.answered c.failed w'.ledger.history w.sink w'.sink rest.1 rest.2 c.ended c.ends;
-      }
-
-  -- the causes of faults
-  pub read_rises : (ending : Ending) (n : ℕ) (i : List ℕ) (w w' : World S) → Connection left gives ending n i w w' → ending ≡ endings.ReadFault → Rises w.read_faults w'.read_faults
-  read_rises ending n i w w' c is = (subst (λ (e : Ending). CountsReads e w.read_faults w'.read_faults) is c.counts).1
-
-  pub write_rises : (ending : Ending) (n : ℕ) (i : List ℕ) (w w' : World S) → Connection left gives ending n i w w' → ending ≡ endings.WriteFault → Rises w.sink.faults w'.sink.faults
-  write_rises ending n i w w' c is =
-      by c.failed (subst (λ (e : Ending). EndsAs e n (i ++ c.got) (i ++ c.got) c.answered c.failed w'.ledger.history w.sink w'.sink) is c.ends)
+  begins_judged : (ending : Ending) (came : List ℕ) (answered : List JudgedWish) (failed : Option JudgedWish) (p p' : B) (s s' : Outlet)
+      → EndsAs Judges Lacks ending 0 came came answered failed p p' s s' → Begins 0 came (wishes_of (answered ++ listed failed))
+  begins_judged ending came answered (Some j) p p' s s' e = e.1
+  begins_judged ending came answered None p p' s s' e =
+      subst (λ (all : List JudgedWish). Begins 0 came (wishes_of all)) (sym (append-nil answered)) (by ending e)
     where
-      by : (failed : Option JudgedWish) → EndsAs endings.WriteFault n (i ++ c.got) (i ++ c.got) c.answered failed w'.ledger.history w.sink w'.sink → Rises w.sink.faults w'.sink.faults
-      by (Some j) e = e.2.rises
-      by None e = e.3.rises
+      either : Spells 0 came (wishes_of answered) ended_clean ⊎ Spells 0 came (wishes_of answered) ended_cut → Begins 0 came (wishes_of answered)
+      either (inl is) = Spells-begins 0 came (wishes_of answered) ended_clean is
+      either (inr is) = Spells-begins 0 came (wishes_of answered) ended_cut is
+
+      by : (x : Ending) → EndsAs Judges Lacks x 0 came came answered None p p' s s' → Begins 0 came (wishes_of answered)
+      by endings.Clean x = Spells-begins 0 came (wishes_of answered) ended_clean x.0
+      by endings.Cut x = Spells-begins 0 came (wishes_of answered) ended_cut x.0
+      by (endings.Closed whys.Asked) x = Spells-begins 0 came (wishes_of answered) asked x.0
+      by (endings.Closed (whys.Refused why)) x = Spells-begins 0 came (wishes_of answered) (closed why x.0) x.1
+      by endings.ReadFault x = either x.0
+      by endings.WriteFault x = Spells-begins 0 came (wishes_of answered) (closed x.0 x.1) x.2
+      by endings.OutOfMemory x = Reaches-begins 0 came (wishes_of answered) x.0 x.1
+
+  module _ {S : Type 0} (left : S → Option (List ℕ)) (gives : S → S → List ℕ → Type 0) where
+    pub whole_text : (ending : Ending) (b : List ℕ) (w w' : World B S) → Connection Judges Lacks left gives ending 0 [] w w' → left w.source ≡ Some b → WholeText Judges Lacks left ending b w w'
+    whole_text ending b w w' c told =
+        let rest = told_rest (left w'.source) c.got b (sym told ∙ c.given) in
+        record {
+          came = c.got;
+          rest = rest.0;
+          parts = rest.2;
+          left_is = rest.1;
+          answered = c.answered;
+          failed = c.failed;
+          judged = c.judged;
+          turns = c.turns;
+          settled = c.settled;
+          begins = begins_all c.got b rest.0 (wishes_of (c.answered ++ listed c.failed)) rest.2 (begins_judged ending c.got c.answered c.failed c.judged w'.state w.sink w'.sink c.ends);
+          ends = ends_whole ending c.got b rest.0 (left w'.source) c.answered c.failed c.judged w'.state w.sink w'.sink rest.1 rest.2 c.ended c.ends;
+        }
+
+    -- the causes of faults
+    pub read_rises : (ending : Ending) (n : ℕ) (i : List ℕ) (w w' : World B S) → Connection Judges Lacks left gives ending n i w w' → ending ≡ endings.ReadFault → Rises w.read_faults w'.read_faults
+    read_rises ending n i w w' c is = (subst (λ (e : Ending). CountsReads e w.read_faults w'.read_faults) is c.counts).1
+
+    pub write_rises : (ending : Ending) (n : ℕ) (i : List ℕ) (w w' : World B S) → Connection Judges Lacks left gives ending n i w w' → ending ≡ endings.WriteFault → Rises w.sink.faults w'.sink.faults
+    write_rises ending n i w w' c is =
+        by c.failed (subst (λ (e : Ending). EndsAs Judges Lacks e n (i ++ c.got) (i ++ c.got) c.answered c.failed c.judged w'.state w.sink w'.sink) is c.ends)
+      where
+        by : (failed : Option JudgedWish) → EndsAs Judges Lacks endings.WriteFault n (i ++ c.got) (i ++ c.got) c.answered failed c.judged w'.state w.sink w'.sink → Rises w.sink.faults w'.sink.faults
+        by (Some j) e = e.2.rises
+        by None e = e.3.rises

@@ -1,8 +1,7 @@
--- ConnectionBytes: what one connection did, from its first byte to its end.
+-- What one connection did, from its first byte to its end, however its turns are taken: ConnectionInHistory where they are
+-- those of a pass, and ConnectionBytes where they are all the turns that there are.
 use Rattle.std.specs.Prelude.{◌≡◌, ◌⊎◌, ℕ, ◌+◌, ◌≤◌, length, List, [], ◌∷◌, ◌++◌, Option, Some, None, Bool}
 use Rattle.cr_base.specs.Lists.{listed}
-use Rattle.cr_base.specs.History.{History}
-use Rattle.cr_book.specs.Seen.{SeenBook}
 use Rattle.cr_ports.specs.Count.{Rises}
 use Rattle.cr_ports.specs.Stream.{and_left}
 use Rattle.cr_http.specs.declared.refusal.Refusal.{Refusal}
@@ -15,23 +14,25 @@ use Rattle.cr_session.specs.declared.serve.Ending.{Ending}
 use Rattle.cr_session.specs.declared.serve.Ending.TheVariants as endings
 use Rattle.cr_session.specs.declared.serve.Why.TheVariants as whys
 use Rattle.cr_session.specs.Reading.{StandsWish, MayWantToRead}
-use Rattle.cr_session.specs.Replay.{JudgedWish, Ledger, ledger_of, Replays, answers, answer_to, wishes_of}
-use Rattle.cr_session.specs.Turning.{MayWantMemory}
+use Rattle.cr_session.specs.Replay.{JudgedWish, Ledger, Replays, answers, answer_to, wishes_of}
+use Rattle.cr_session.specs.Passing.{KnownPass, TakesTurns}
+use Rattle.cr_session.specs.Turning.{MayWantMemory, TurnsInVain}
 use Rattle.cr_session.specs.Wishes.{Spells, Begins, Reaches}
 use Rattle.cr_ports.specs.Writing.{Outlet, outlet_of, Writes, BreaksOff}
 use Rattle.cr_wire.specs.declared.what.Wish.{Wish}
 
--- what a connection works on: the ledger, the source with its count of faults, and the sink
-pub record World (S : Type 0) : Type 0 where
-  pub ledger : Ledger
+-- what a connection works on: its turns, which change a state B, as what a pass knows; the source with its count of
+-- faults, and the sink
+pub record World (B S : Type 0) : Type 0 where
+  pub state : B
   pub source : S
   pub read_faults : ℕ
   pub sink : Outlet
 
--- the world of a book, a source and a sink
-abbrev pub world_of : {K S O : Type 0} → (K → ℕ) → (S → ℕ) → (O → Option (List ℕ)) → (O → ℕ) → SeenBook K → S → O → World S
-world_of keeper_faults read_faults taken write_faults book source sink = record {
-  ledger = ledger_of keeper_faults book;
+-- the world of a state, a source and a sink
+abbrev pub world_of : {B S O : Type 0} → (S → ℕ) → (O → Option (List ℕ)) → (O → ℕ) → B → S → O → World B S
+world_of read_faults taken write_faults state source sink = record {
+  state = state;
   source = source;
   read_faults = read_faults source;
   sink = outlet_of taken write_faults sink;
@@ -39,39 +40,11 @@ world_of keeper_faults read_faults taken write_faults book source sink = record 
 
 -- ---- want of memory
 
--- behind the answers so far: in reading what comes next, or in the turn of the wish that was read
-abbrev pub MayLackMemory : History → List ℕ → Type 0
-MayLackMemory H rest = MayWantToRead rest ⊎ ((w : Wish) × (after : List ℕ) × StandsWish rest w after × MayWantMemory H w)
-
 -- the note of it was written behind the answers, or its write broke off
 abbrev pub TellsWantOfMemory : List ℕ → Bool → Outlet → Outlet → Type 0
 TellsWantOfMemory before head s s' = Writes (before ++ no_memory_text head) s s' ⊎ BreaksOff before (no_memory_text head) s s'
 
 -- ---- by the ending
-
--- From request number n on, where these bytes came of this text: which wishes were answered whole, which one was judged
--- and its answer's write failed, and what the sink took.
-abbrev pub EndsAs : Ending → ℕ → List ℕ → List ℕ → List JudgedWish → Option JudgedWish → History → Outlet → Outlet → Type 0
-EndsAs ending n came text answered (Some failed) H s s' =
-    (ending ≡ endings.WriteFault) × Begins n text (wishes_of (answered ++ failed ∷ []))
-    × BreaksOff (answers n answered) (answer_to (n + length answered) failed) s s'
-EndsAs endings.Clean n came text answered None H s s' =
-    Spells n text (wishes_of answered) ended_clean × Writes (answers n answered) s s'
-EndsAs endings.Cut n came text answered None H s s' =
-    Spells n text (wishes_of answered) ended_cut × Writes (answers n answered) s s'
-EndsAs (endings.Closed whys.Asked) n came text answered None H s s' =
-    Spells n text (wishes_of answered) asked × Writes (answers n answered) s s'
-EndsAs (endings.Closed (whys.Refused why)) n came text answered None H s s' =
-    (head : Bool) × Spells n text (wishes_of answered) (closed why head) × Writes (answers n answered ++ closing_text why head) s s'
-EndsAs endings.ReadFault n came text answered None H s s' =
-    (Spells n came (wishes_of answered) ended_clean ⊎ Spells n came (wishes_of answered) ended_cut)
-    × Writes (answers n answered) s s'
-EndsAs endings.WriteFault n came text answered None H s s' =
-    (why : Refusal) × (head : Bool) × Spells n text (wishes_of answered) (closed why head)
-    × BreaksOff (answers n answered) (closing_text why head) s s'
-EndsAs endings.OutOfMemory n came text answered None H s s' =
-    (rest : List ℕ) × Reaches n came (wishes_of answered) rest × MayLackMemory H rest
-    × (head : Bool) × IsToHead rest head × TellsWantOfMemory (answers n answered) head s s'
 
 -- the source is at its end where the stream ended
 abbrev pub EndsSource : Ending → Option (List ℕ) → Type 0
@@ -90,6 +63,25 @@ CountsReads (endings.Closed why) faults faults' = faults' ≡ faults
 CountsReads endings.ReadFault faults faults' = (faults ≤ faults') × Rises faults faults'
 CountsReads endings.WriteFault faults faults' = faults' ≡ faults
 CountsReads endings.OutOfMemory faults faults' = faults' ≡ faults
+
+-- what the turns behind the wishes that were judged left: there are none, unless memory was wanting
+abbrev pub EndsTurns : {B : Type 0} → Ending → B → B → Type 0
+EndsTurns endings.Clean b b' = b' ≡ b
+EndsTurns endings.Cut b b' = b' ≡ b
+EndsTurns (endings.Closed why) b b' = b' ≡ b
+EndsTurns endings.ReadFault b b' = b' ≡ b
+EndsTurns endings.WriteFault b b' = b' ≡ b
+EndsTurns endings.OutOfMemory b b' = Unit {0}
+
+-- what writing a closing refusal did
+abbrev pub WritesRefusal : Ending → Refusal → Bool → Outlet → Outlet → Type 0
+WritesRefusal (endings.Closed (whys.Refused said)) why head s s' = (said ≡ why) × Writes (closing_text why head) s s'
+WritesRefusal (endings.Closed whys.Asked) why head s s' = ⊥
+WritesRefusal endings.WriteFault why head s s' = BreaksOff [] (closing_text why head) s s'
+WritesRefusal endings.Clean why head s s' = ⊥
+WritesRefusal endings.Cut why head s s' = ⊥
+WritesRefusal endings.ReadFault why head s s' = ⊥
+WritesRefusal endings.OutOfMemory why head s s' = ⊥
 
 -- ---- nothing is read ahead
 
@@ -110,57 +102,106 @@ ReadsNoFurther left gives n answered source source' old new = ReadsWhile left gi
 
 -- ---- a whole connection
 
--- A connection from request number n on, with these bytes in the inbox, up to its ending.
-pub record Connection {S : Type 0} (left : S → Option (List ℕ)) (gives : S → S → List ℕ → Type 0) (ending : Ending) (n : ℕ) (inbox : List ℕ) (w w' : World S) : Type 0 where
-  -- the bytes that the source gave
-  pub got : List ℕ
-  pub given : left w.source ≡ and_left got (left w'.source)
-  -- the wishes that were judged, in order: those answered whole, and the one whose answer's write failed
-  pub answered : List JudgedWish
-  pub failed : Option JudgedWish
-  pub replays : Replays (answered ++ listed failed) w.ledger w'.ledger
-  pub ends : EndsAs ending n (inbox ++ got) (inbox ++ got) answered failed w'.ledger.history w.sink w'.sink
-  pub ended : EndsSource ending (left w'.source)
-  pub counts : CountsReads ending w.read_faults w'.read_faults
-  pub needed : ReadsNoFurther left gives n answered w.source w'.source inbox (inbox ++ got)
+-- Of turns on a state of the type B: these wishes were judged in turn from one state to the other, and memory was wanting in
+-- the turn of this wish.
+module _ {B : Type 0} (Judges : List JudgedWish → B → B → Type 0) (Lacks : Wish → B → B → Type 0) where
+  -- memory was wanting behind the answers so far: in reading what comes next, or in the turn of the wish that was read
+  abbrev pub MayLackMemory : B → B → List ℕ → Type 0
+  MayLackMemory b b' rest = (MayWantToRead rest × (b' ≡ b)) ⊎ ((w : Wish) × (after : List ℕ) × StandsWish rest w after × Lacks w b b')
 
--- The same up to a request that doesn't close, behind so many requests.
-pub record GoesOn {S : Type 0} (left : S → Option (List ℕ)) (gives : S → S → List ℕ → Type 0) (count n : ℕ) (inbox inbox' : List ℕ) (w w' : World S) : Type 0 where
-  pub got : List ℕ
-  pub given : left w.source ≡ and_left got (left w'.source)
-  pub answered : List JudgedWish
-  pub counted : length answered ≡ count
-  pub replays : Replays answered w.ledger w'.ledger
-  pub reaches : Reaches n (inbox ++ got) (wishes_of answered) inbox'
-  pub writes : Writes (answers n answered) w.sink w'.sink
-  pub counts : w'.read_faults ≡ w.read_faults
-  pub needed : ReadsNoFurther left gives n answered w.source w'.source inbox (inbox ++ got)
+  -- From request number n on, where these bytes came of this text: which wishes were answered whole, which one was judged
+  -- and its answer's write failed, and what the sink took.
+  abbrev pub EndsAs : Ending → ℕ → List ℕ → List ℕ → List JudgedWish → Option JudgedWish → B → B → Outlet → Outlet → Type 0
+  EndsAs ending n came text answered (Some failed) b b' s s' =
+      (ending ≡ endings.WriteFault) × Begins n text (wishes_of (answered ++ failed ∷ []))
+      × BreaksOff (answers n answered) (answer_to (n + length answered) failed) s s'
+  EndsAs endings.Clean n came text answered None b b' s s' =
+      Spells n text (wishes_of answered) ended_clean × Writes (answers n answered) s s'
+  EndsAs endings.Cut n came text answered None b b' s s' =
+      Spells n text (wishes_of answered) ended_cut × Writes (answers n answered) s s'
+  EndsAs (endings.Closed whys.Asked) n came text answered None b b' s s' =
+      Spells n text (wishes_of answered) asked × Writes (answers n answered) s s'
+  EndsAs (endings.Closed (whys.Refused why)) n came text answered None b b' s s' =
+      (head : Bool) × Spells n text (wishes_of answered) (closed why head) × Writes (answers n answered ++ closing_text why head) s s'
+  EndsAs endings.ReadFault n came text answered None b b' s s' =
+      (Spells n came (wishes_of answered) ended_clean ⊎ Spells n came (wishes_of answered) ended_cut)
+      × Writes (answers n answered) s s'
+  EndsAs endings.WriteFault n came text answered None b b' s s' =
+      (why : Refusal) × (head : Bool) × Spells n text (wishes_of answered) (closed why head)
+      × BreaksOff (answers n answered) (closing_text why head) s s'
+  EndsAs endings.OutOfMemory n came text answered None b b' s s' =
+      (rest : List ℕ) × Reaches n came (wishes_of answered) rest × MayLackMemory b b' rest
+      × (head : Bool) × IsToHead rest head × TellsWantOfMemory (answers n answered) head s s'
+
+  -- A connection from request number n on, with these bytes in the inbox, up to its ending.
+  pub record Connection {S : Type 0} (left : S → Option (List ℕ)) (gives : S → S → List ℕ → Type 0) (ending : Ending) (n : ℕ) (inbox : List ℕ) (w w' : World B S) : Type 0 where
+    -- the bytes that the source gave
+    pub got : List ℕ
+    pub given : left w.source ≡ and_left got (left w'.source)
+    -- the wishes that were judged, in order: those answered whole, and the one whose answer's write failed
+    pub answered : List JudgedWish
+    pub failed : Option JudgedWish
+    -- the state behind their turns
+    pub judged : B
+    pub turns : Judges (answered ++ listed failed) w.state judged
+    pub settled : EndsTurns ending judged w'.state
+    pub ends : EndsAs ending n (inbox ++ got) (inbox ++ got) answered failed judged w'.state w.sink w'.sink
+    pub ended : EndsSource ending (left w'.source)
+    pub counts : CountsReads ending w.read_faults w'.read_faults
+    pub needed : ReadsNoFurther left gives n answered w.source w'.source inbox (inbox ++ got)
+
+  -- The same up to a request that doesn't close, behind so many requests.
+  pub record GoesOn {S : Type 0} (left : S → Option (List ℕ)) (gives : S → S → List ℕ → Type 0) (count n : ℕ) (inbox inbox' : List ℕ) (w w' : World B S) : Type 0 where
+    pub got : List ℕ
+    pub given : left w.source ≡ and_left got (left w'.source)
+    pub answered : List JudgedWish
+    pub counted : length answered ≡ count
+    pub turns : Judges answered w.state w'.state
+    pub reaches : Reaches n (inbox ++ got) (wishes_of answered) inbox'
+    pub writes : Writes (answers n answered) w.sink w'.sink
+    pub counts : w'.read_faults ≡ w.read_faults
+    pub needed : ReadsNoFurther left gives n answered w.source w'.source inbox (inbox ++ got)
+
+  -- A connection over a source that had this text left: what came of it, and what is left.
+  pub record WholeText {S : Type 0} (left : S → Option (List ℕ)) (ending : Ending) (b : List ℕ) (w w' : World B S) : Type 0 where
+    pub came : List ℕ
+    pub rest : List ℕ
+    pub parts : b ≡ came ++ rest
+    pub left_is : left w'.source ≡ Some rest
+    pub answered : List JudgedWish
+    pub failed : Option JudgedWish
+    pub judged : B
+    pub turns : Judges (answered ++ listed failed) w.state judged
+    pub settled : EndsTurns ending judged w'.state
+    pub begins : Begins 0 b (wishes_of (answered ++ listed failed))
+    pub ends : EndsAs ending 0 came b answered failed judged w'.state w.sink w'.sink
+
+-- ---- the turns of a pass: between them others may take theirs
+
+abbrev pub ConnectionInHistory : {S : Type 0} → (S → Option (List ℕ)) → (S → S → List ℕ → Type 0) → Ending → ℕ → List ℕ → World KnownPass S → World KnownPass S → Type 0
+ConnectionInHistory left gives ending n inbox w w' = Connection TakesTurns TurnsInVain left gives ending n inbox w w'
+
+-- the same of the whole text that the source had left
+abbrev pub WholeInHistory : {S : Type 0} → (S → Option (List ℕ)) → Ending → List ℕ → World KnownPass S → World KnownPass S → Type 0
+WholeInHistory left ending b w w' = WholeText TakesTurns TurnsInVain left ending b w w'
+
+-- up to a request that doesn't close
+abbrev pub GoesOnInHistory : {S : Type 0} → (S → Option (List ℕ)) → (S → S → List ℕ → Type 0) → ℕ → ℕ → List ℕ → List ℕ → World KnownPass S → World KnownPass S → Type 0
+GoesOnInHistory left gives count n inbox inbox' w w' = GoesOn TakesTurns TurnsInVain left gives count n inbox inbox' w w'
 
 -- what one round of the loop did
-abbrev pub OneRound : {S : Type 0} → (S → Option (List ℕ)) → (S → S → List ℕ → Type 0) → Option Ending → ℕ → List ℕ → List ℕ → World S → World S → Type 0
-OneRound left gives None n inbox inbox' w w' = GoesOn left gives 1 n inbox inbox' w w'
-OneRound left gives (Some ending) n inbox inbox' w w' = Connection left gives ending n inbox w w'
+abbrev pub OneRound : {S : Type 0} → (S → Option (List ℕ)) → (S → S → List ℕ → Type 0) → Option Ending → ℕ → List ℕ → List ℕ → World KnownPass S → World KnownPass S → Type 0
+OneRound left gives None n inbox inbox' w w' = GoesOnInHistory left gives 1 n inbox inbox' w w'
+OneRound left gives (Some ending) n inbox inbox' w w' = ConnectionInHistory left gives ending n inbox w w'
 
--- what writing a closing refusal did
-abbrev pub WritesRefusal : Ending → Refusal → Bool → Outlet → Outlet → Type 0
-WritesRefusal (endings.Closed (whys.Refused said)) why head s s' = (said ≡ why) × Writes (closing_text why head) s s'
-WritesRefusal (endings.Closed whys.Asked) why head s s' = ⊥
-WritesRefusal endings.WriteFault why head s s' = BreaksOff [] (closing_text why head) s s'
-WritesRefusal endings.Clean why head s s' = ⊥
-WritesRefusal endings.Cut why head s s' = ⊥
-WritesRefusal endings.ReadFault why head s s' = ⊥
-WritesRefusal endings.OutOfMemory why head s s' = ⊥
+-- ---- turns on a ledger, one from where the other left it
 
--- ---- the whole text that the source had left
+-- memory was wanting, and the ledger stays
+abbrev pub StaysInVain : Wish → Ledger → Ledger → Type 0
+StaysInVain w b b' = (b' ≡ b) × MayWantMemory b.history w
 
--- A connection over a source that had this text left: what came of it, and what is left.
-pub record WholeText {S : Type 0} (left : S → Option (List ℕ)) (ending : Ending) (b : List ℕ) (w w' : World S) : Type 0 where
-  pub came : List ℕ
-  pub rest : List ℕ
-  pub parts : b ≡ came ++ rest
-  pub left_is : left w'.source ≡ Some rest
-  pub answered : List JudgedWish
-  pub failed : Option JudgedWish
-  pub replays : Replays (answered ++ listed failed) w.ledger w'.ledger
-  pub begins : Begins 0 b (wishes_of (answered ++ listed failed))
-  pub ends : EndsAs ending 0 came b answered failed w'.ledger.history w.sink w'.sink
+abbrev pub ConnectionBytes : {S : Type 0} → (S → Option (List ℕ)) → (S → S → List ℕ → Type 0) → Ending → ℕ → List ℕ → World Ledger S → World Ledger S → Type 0
+ConnectionBytes left gives ending n inbox w w' = Connection Replays StaysInVain left gives ending n inbox w w'
+
+abbrev pub WholeBytes : {S : Type 0} → (S → Option (List ℕ)) → Ending → List ℕ → World Ledger S → World Ledger S → Type 0
+WholeBytes left ending b w w' = WholeText Replays StaysInVain left ending b w w'

@@ -1,4 +1,5 @@
 -- What one turn and one request do.
+use mathlib.Core.List.{IsPrefix}
 use Rattle.std.specs.Prelude.{◌≡◌, ◌≢◌, ℕ, List, [], Bool, true, false, Option, IsSome, Err, IsOk}
 use Rattle.cr_base.specs.declared.command.Command.{Command}
 use Rattle.cr_base.specs.declared.command.Query.{Query}
@@ -20,7 +21,9 @@ use Rattle.cr_session.specs.declared.turn.Turn.TheVariants as turns
 use Rattle.cr_session.specs.declared.serve.Served.{Served}
 use Rattle.cr_session.specs.declared.serve.Served.TheVariants as served
 use Rattle.cr_session.specs.Told.{form_of, told, is_unauthorized, drawn, step}
-use Rattle.cr_session.specs.Replay.{JudgedWish, Ledger, Turned, CountsLoss, answer_to}
+use Rattle.cr_lock.specs.Passes.{after_turn}
+use Rattle.cr_session.specs.Replay.{JudgedWish, Ledger, CountsLoss, answer_to}
+use Rattle.cr_session.specs.Passing.{KnownPass, TakesTurn}
 use Rattle.cr_ports.specs.Writing.{Outlet, Writes, BreaksOff}
 use Rattle.cr_wire.specs.Wishes.{closes}
 
@@ -98,16 +101,25 @@ Sends served.Closes close reply s s' = (close ≡ true) × Writes reply s s'
 Sends served.WriteFault close reply s s' = BreaksOff [] reply s s'
 Sends served.OutOfMemory close reply s s' = ⊥
 
--- a wish was judged in one turn
-pub record JudgesInTurn (w : Wish) (b b' : Ledger) : Type 0 where
+-- a wish was judged in one turn of the pass
+pub record JudgesInTurn (w : Wish) (p p' : KnownPass) : Type 0 where
   pub judged : JudgedWish
   pub wish : judged.wish ≡ w
-  pub turned : Turned judged b b'
+  pub turned : TakesTurn judged p p'
+
+-- memory was wanting in the turn of a wish, at this history: nothing was added, and no count rose
+pub record TurnsInVain (w : Wish) (p p' : KnownPass) : Type 0 where
+  pub seen : History
+  pub saw : IsPrefix p.seen seen
+  pub wants : MayWantMemory seen w
+  -- the keeper's count in this turn
+  pub faults : ℕ
+  pub turn : p' ≡ after_turn p seen seen faults faults
 
 -- what one request did, as number n: it was judged once and answered once, or its answer's write failed, or memory was
--- wanting where it may be, and then nothing changed
-abbrev pub ServesRequest : Served → ℕ → Wish → Ledger → Ledger → Outlet → Outlet → Type 0
-ServesRequest served.Goes n w b b' s s' = (j : JudgesInTurn w b b') × (closes n w ≡ false) × Writes (answer_to n j.judged) s s'
-ServesRequest served.Closes n w b b' s s' = (j : JudgesInTurn w b b') × (closes n w ≡ true) × Writes (answer_to n j.judged) s s'
-ServesRequest served.WriteFault n w b b' s s' = (j : JudgesInTurn w b b') × BreaksOff [] (answer_to n j.judged) s s'
-ServesRequest served.OutOfMemory n w b b' s s' = (b' ≡ b) × (s' ≡ s) × MayWantMemory b.history w
+-- wanting where it may be, and then nothing was added or written
+abbrev pub ServesRequest : Served → ℕ → Wish → KnownPass → KnownPass → Outlet → Outlet → Type 0
+ServesRequest served.Goes n w p p' s s' = (j : JudgesInTurn w p p') × (closes n w ≡ false) × Writes (answer_to n j.judged) s s'
+ServesRequest served.Closes n w p p' s s' = (j : JudgesInTurn w p p') × (closes n w ≡ true) × Writes (answer_to n j.judged) s s'
+ServesRequest served.WriteFault n w p p' s s' = (j : JudgesInTurn w p p') × BreaksOff [] (answer_to n j.judged) s s'
+ServesRequest served.OutOfMemory n w p p' s s' = (s' ≡ s) × TurnsInVain w p p'

@@ -1,5 +1,7 @@
 //! Laws over the definitions alone.
 ghost use Rattle.std.specs.Prelude.{◌≡◌, ◌≤◌, ◌<◌, ◌+◌, ◌-◌, ◌^◌, List};
+ghost use Rattle.cr_lock.specs.Turns.{marks};
+ghost use Rattle.cr_session.specs.Passing.{KnownPass, TakesTurns};
 ghost use Rattle.cr_session.specs.Replay.{JudgedWish, Ledger, Replays, lost_count};
 ghost use Rattle.cr_session.specs.TwoRuns.{TwoRuns};
 
@@ -18,4 +20,9 @@ pub fn law_counted_faults()
         → b.faults + lost_count judged ≤ b'.faults }
     ensures steady { (judged : List JudgedWish) (b b' : Ledger) → Replays judged b b' → lost_count judged ≡ 0
         → b'.faults ≡ b.faults }
+{}
+
+/// Over any turns of a pass at most as many commands are lost as the pass has marks more.
+pub fn law_marked_losses()
+    ensures { (judged : List JudgedWish) (p p' : KnownPass) → TakesTurns judged p p' → marks p.mine + lost_count judged ≤ marks p'.mine }
 {}

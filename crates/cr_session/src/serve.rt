@@ -1,21 +1,23 @@
 //! The loop over the requests of one connection.
-ghost use Rattle.std.specs.Prelude.{◌≡◌, ◌≤◌, [], List, ℕ, Some, vec_capacity};
+ghost use Rattle.std.specs.Prelude.{◌≡◌, ◌≤◌, ◌<◌, ◌+◌, ◌-◌, ◌^◌, [], List, ℕ, Some, vec_capacity};
 ghost use Rattle.cr_ports.specs.Count.{Rises};
 ghost use Rattle.cr_wire.specs.Bounds.{IsBoundedWhat};
 ghost use Rattle.cr_wire.specs.Wishes.{closes};
-ghost use Rattle.cr_session.specs.Replay.{ledger_of};
-ghost use Rattle.cr_session.specs.Serving.{Connection, TellsWantOfMemory, WritesRefusal, OneRound, WholeText, world_of};
+ghost use Rattle.cr_session.specs.Passing.{StaysPass};
+ghost use Rattle.cr_session.specs.Serving.{ConnectionInHistory, TellsWantOfMemory, WritesRefusal, OneRound, WholeInHistory, world_of};
 ghost use Rattle.cr_session.specs.Turning.{Sends, ServesRequest};
 ghost use Rattle.cr_ports.specs.Writing.{outlet_of};
 
 use crate::reading::{Inbox, WishRead, read_wish};
-use crate::turn::{Turn, print_turn, take_turn};
+use crate::turn::{Turn, in_turn, print_turn};
 use cr_book::Book;
 use cr_http::Refusal;
+use cr_lock::{HistoryLock, Pass};
 use cr_ports::{Keeper, Sink, Source, write_all};
 use cr_print::{ANSWER_ROOM, Form, Refused, no_memory_text, print_refusal};
 use cr_wire::Wish;
 use std::alloc::Global;
+use std::sync::Wait;
 
 /// Why a connection was closed before its stream ended.
 #[derive(Clone, Copy, Debug, PartialEq, Eq)]
@@ -52,7 +54,7 @@ pub enum Served {
     Closes,
     /// It was judged, and its answer's write failed.
     WriteFault,
-    /// Memory is wanting; nothing changed.
+    /// Memory is wanting; nothing was added.
     OutOfMemory,
 }
 
@@ -66,18 +68,22 @@ fn closes(wish: &Wish, number: usize) -> bool
     wish.asks_close || number == LAST_REQUEST
 }
 
-/// Judges one request and writes its answer, in room that was made when the connection began.
-fn serve_request<K: Keeper, O: Sink>(
-    book: &mut Book<K>,
+/// Judges one request in one turn, and writes its answer, in room that was made when the connection began.
+fn serve_request<R: Wait, K: Keeper, O: Sink>(
+    rt: &R,
+    lock: &HistoryLock<Book<K>>,
+    pass: &mut Pass<Book<K>>,
     sink: &mut O,
     reply: &mut Vec<u8>,
     wish: Wish,
     number: usize,
 ) -> Served
+    requires own { pass.old.lock ≡ lock.now.lock }
+    requires few { pass.old.turns < 2 ^ 40 }
     requires bounded { IsBoundedWhat wish.what }
     requires room { 512 ≤ vec_capacity reply.old }
-    ensures serves { ServesRequest result number wish (ledger_of K.faults book.old) (ledger_of K.faults book.new)
-        (outlet_of O.taken O.faults sink.old) (outlet_of O.taken O.faults sink.new) }
+    ensures serves { ServesRequest result number wish pass.old pass.new (outlet_of O.taken O.faults sink.old) (outlet_of O.taken O.faults sink.new) }
+    ensures pass { StaysPass 1 pass.old pass.new }
     ensures room { 512 ≤ vec_capacity reply.new }
 {
     let close = closes(&wish, number);
@@ -86,7 +92,7 @@ fn serve_request<K: Keeper, O: Sink>(
         closes: close,
     };
     reply.clear();
-    let turn = take_turn(book, wish);
+    let turn = in_turn(rt, lock, pass, wish);
     if let Turn::OutOfMemory = turn {
         return Served::OutOfMemory;
     }
@@ -125,8 +131,8 @@ fn refuse<O: Sink>(sink: &mut O, reply: &mut Vec<u8>, why: Refusal, is_head: boo
     }
 }
 
-/// Writes that memory is wanting, as far as the sink takes it. Takes no memory.
-fn note_no_memory<O: Sink>(sink: &mut O, is_head: bool) -> Ending
+/// Writes that memory is wanting, as far as the sink takes it, and tells that the connection ended so. Takes no memory.
+pub fn note_no_memory<O: Sink>(sink: &mut O, is_head: bool) -> Ending
     ensures notes { TellsWantOfMemory [] is_head (outlet_of O.taken O.faults sink.old) (outlet_of O.taken O.faults sink.new) }
     ensures ending { result ≡ Ending.OutOfMemory }
 {
@@ -135,24 +141,29 @@ fn note_no_memory<O: Sink>(sink: &mut O, is_head: bool) -> Ending
 }
 
 /// Reads request number `number` and serves it; an ending where it is the last.
-fn serve_next<K: Keeper, S: Source, O: Sink>(
+fn serve_next<R: Wait, K: Keeper, S: Source, O: Sink>(
+    rt: &R,
     alloc: Global,
-    book: &mut Book<K>,
+    lock: &HistoryLock<Book<K>>,
+    pass: &mut Pass<Book<K>>,
     source: &mut S,
     sink: &mut O,
     inbox: &mut Inbox,
     reply: &mut Vec<u8>,
     number: usize,
 ) -> Option<Ending>
-    requires { 512 ≤ vec_capacity reply.old }
-    ensures round { let world = world_of K.faults S.faults O.taken O.faults in
-        OneRound S.left S.read_gives result number inbox.old inbox.new (world book.old source.old sink.old) (world book.new source.new sink.new) }
+    requires own { pass.old.lock ≡ lock.now.lock }
+    requires few { pass.old.turns < 2 ^ 40 }
+    requires room { 512 ≤ vec_capacity reply.old }
+    ensures round { let world = world_of S.faults O.taken O.faults in
+        OneRound S.left S.read_gives result number inbox.old inbox.new (world pass.old source.old sink.old) (world pass.new source.new sink.new) }
+    ensures pass { StaysPass 1 pass.old pass.new }
     ensures room { 512 ≤ vec_capacity reply.new }
 {
     match read_wish(alloc, source, inbox) {
         WishRead::Wish(wish) => {
             let is_head = wish.is_head;
-            match serve_request(book, sink, reply, wish, number) {
+            match serve_request(rt, lock, pass, sink, reply, wish, number) {
                 Served::Goes => None,
                 Served::Closes => Some(Ending::Closed(Why::Asked)),
                 Served::WriteFault => Some(Ending::WriteFault),
@@ -167,8 +178,13 @@ fn serve_next<K: Keeper, S: Source, O: Sink>(
     }
 }
 
-/// Serves a connection to its end: reads requests from the source, judges each in its turn on the book,
-/// and writes each answer to the sink before the next request is read.
+/// Serves a connection to its end: reads requests from the source, judges each in one turn of the lock, and writes each
+/// answer to the sink before the next request is read. Reading and writing are outside of the turns, in which other
+/// passes take theirs.
+///
+/// Each answer is the one that is told on the history at its turn's place, which holds all that the pass had seen; what an
+/// accepted command adds stands there once. 503 comes only at a turn that is marked, for an accepted command, which then
+/// adds nothing. The pass takes one turn a request, at most 1,048,576, and no other.
 ///
 /// Each ending's cause is in the contract: `Clean`, `Cut` and `Closed` exactly by what the bytes spell,
 /// `ReadFault` and `WriteFault` only where that count of faults rose, or stands at its last value, and no
@@ -178,19 +194,27 @@ fn serve_next<K: Keeper, S: Source, O: Sink>(
 /// `OutOfMemory` comes for want of memory alone. The room for answers is made at the beginning: where it
 /// can't be had, the connection ends before anything is read. Later, memory may be wanting for more bytes,
 /// for reading a body, for an accepted command and for a query that isn't refused, and for nothing else.
-pub fn serve_connection<K: Keeper, S: Source, O: Sink>(
+pub fn serve_connection<R: Wait, K: Keeper, S: Source, O: Sink>(
+    rt: &R,
     alloc: Global,
-    book: &mut Book<K>,
+    lock: &HistoryLock<Book<K>>,
+    pass: &mut Pass<Book<K>>,
     source: &mut S,
     sink: &mut O,
 ) -> Ending
-    ensures connection { let world = world_of K.faults S.faults O.taken O.faults in
-        Connection S.left S.read_gives result 0 [] (world book.old source.old sink.old) (world book.new source.new sink.new) }
+    requires own { pass.old.lock ≡ lock.now.lock }
+    requires few { pass.old.turns ≤ 2 ^ 40 - 2 ^ 20 }
+    ensures connection { let world = world_of S.faults O.taken O.faults in
+        ConnectionInHistory S.left S.read_gives result 0 [] (world pass.old source.old sink.old) (world pass.new source.new sink.new) }
 
     // The same of the whole text that the source had left.
-    ensures whole { let world = world_of K.faults S.faults O.taken O.faults in
+    ensures whole { let world = world_of S.faults O.taken O.faults in
         (b : List ℕ) → S.left source.old ≡ Some b
-        → WholeText S.left result b (world book.old source.old sink.old) (world book.new source.new sink.new) }
+        → WholeInHistory S.left result b (world pass.old source.old sink.old) (world pass.new source.new sink.new) }
+
+    // The pass is of the same lock and has its share, and took at most one turn a request.
+    ensures own { (pass.new.lock ≡ pass.old.lock) × (pass.new.share ≡ pass.old.share) }
+    ensures turns { pass.new.turns ≤ pass.old.turns + 2 ^ 20 }
     ensures read_fault { result ≡ Ending.ReadFault → Rises (S.faults source.old) (S.faults source.new) }
     ensures write_fault { result ≡ Ending.WriteFault → Rises (O.faults sink.old) (O.faults sink.new) }
 {
@@ -203,7 +227,7 @@ pub fn serve_connection<K: Keeper, S: Source, O: Sink>(
     let mut number = 0;
     'serving: loop {
         if let Some(ending) = serve_next(
-            alloc, book, source, sink, &mut inbox, &mut reply, number,
+            rt, alloc, lock, pass, source, sink, &mut inbox, &mut reply, number,
         ) {
             return ending;
         }

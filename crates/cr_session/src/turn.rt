@@ -1,20 +1,24 @@
 //! One turn: a wish is judged or answered by the book.
-ghost use Rattle.std.specs.Prelude.{◌≡◌, ◌≤◌, [], OnOk, OnErr, vec_capacity};
+ghost use Rattle.std.specs.Prelude.{◌≡◌, ◌≤◌, ◌<◌, ◌^◌, [], ℕ, OnOk, OnErr, vec_capacity};
+ghost use mathlib.Core.List.{IsPrefix};
 ghost use Rattle.cr_base.specs.Logins.{query_wants_login};
+ghost use Rattle.cr_lock.specs.Passes.{after_turn};
 ghost use Rattle.cr_policy.specs.Legal.{IsAllowed, MayAsk};
 ghost use Rattle.cr_print.specs.Put.{HasRoom};
 ghost use Rattle.cr_wire.specs.Bounds.{IsBoundedWhat};
 ghost use Rattle.cr_wire.specs.Caller.{caller};
-ghost use Rattle.cr_session.specs.Replay.{ledger_of};
+ghost use Rattle.cr_session.specs.Replay.{Ledger, ledger_of};
 ghost use Rattle.cr_session.specs.Told.{is_unauthorized};
 ghost use Rattle.cr_session.specs.Turning.{Turns, JudgesCommand, AnswersQuery, turn_text, MayWantToPrint};
 
 use cr_base::{Command, Query, Receipt, Reply, UserNo};
 use cr_book::{AnswerError, Book, BookError};
+use cr_lock::{HistoryLock, Pass};
 use cr_ports::Keeper;
 use cr_print::{Form, Refused, print_receipt, print_refusal, print_reply};
 use cr_wire::{What, Wish};
 use std::alloc::AllocError;
+use std::sync::Wait;
 
 /// What a turn came to.
 #[derive(Drop)]
@@ -29,6 +33,24 @@ pub(crate) enum Turn {
     Lost,
     /// Memory is wanting: nothing changed.
     OutOfMemory,
+}
+
+/// Judges or answers a wish in one turn of the lock, on a history that begins with what the pass had seen.
+pub(crate) fn in_turn<R: Wait, K: Keeper>(
+    rt: &R,
+    lock: &HistoryLock<Book<K>>,
+    pass: &mut Pass<Book<K>>,
+    wish: Wish,
+) -> Turn
+    requires own { pass.old.lock ≡ lock.now.lock }
+    requires few { pass.old.turns < 2 ^ 40 }
+    requires bounded { IsBoundedWhat wish.what }
+    ensures { (b b' : Ledger)
+        × IsPrefix pass.old.seen b.history
+        × Turns result wish b b'
+        × (pass.new ≡ after_turn pass.old b.history b'.history b.faults b'.faults) }
+{
+    lock.turn(rt, pass, |book: &mut Book<K>| take_turn(book, wish))
 }
 
 /// Judges or answers a wish. Takes no memory on a refusal: `Turn::OutOfMemory` comes only for a command

@@ -1,80 +1,98 @@
 use Rattle.std.proofs.Common.{refl, sym, arith, subst, []}
 use Rattle.cr_session.specs.declared.serve.Ending.{Ending}
-use Rattle.cr_session.specs.Serving.{world_of, Connection, GoesOn}
+use Rattle.cr_session.specs.Serving.{world_of, ConnectionInHistory, GoesOnInHistory}
+use Rattle.cr_session.specs.Passing.{TakesTurns}
+use Rattle.cr_session.specs.Turning.{TurnsInVain}
 use Rattle.cr_session.proofs.Connections.{started, ends_after, goes_after}
-use Rattle.cr_session.proofs.Rounds.{round_unbegun, not_last}
+use Rattle.cr_session.proofs.NoMemory.{round_unbegun}
+use Rattle.cr_session.proofs.Rounds.{not_last}
+use Rattle.cr_session.proofs.Passes.{stays-now, stays-then}
 use Rattle.cr_session.proofs.Whole.{whole_text, read_rises, write_rises}
 use Rattle.cr_session.proofs.serve.serve_connection.Goals as goal
 
 pub returns-in_default-clause-connection : goal.returns-in_default-clause-connection
 returns-in_default-clause-connection g c =
-    let w = world_of g.K.Keeper.faults g.S.Source.faults g.O.Sink.taken g.O.Sink.faults c.args.book.now c.args.source.now c.args.sink.now in
-    let w' = world_of g.K.Keeper.faults g.S.Source.faults g.O.Sink.taken g.O.Sink.faults c.args.book.now c.args.source.now c.note_no_memory.new.sink in
-    subst (λ (e : Ending). Connection g.S.Source.left g.S.Source.read_gives e 0 [] w w') (sym c.note_no_memory.ensures.ending)
-    (round_unbegun g.S.Source.left g.S.Source.read_gives 0 w w' refl refl c.note_no_memory.ensures.notes refl)
+    let w = world_of g.S.Source.faults g.O.Sink.taken g.O.Sink.faults c.args.pass.now c.args.source.now c.args.sink.now in
+    let w' = world_of g.S.Source.faults g.O.Sink.taken g.O.Sink.faults c.args.pass.now c.args.source.now c.note_no_memory.new.sink in
+    subst (λ (e : Ending). ConnectionInHistory g.S.Source.left g.S.Source.read_gives e 0 [] w w') (sym c.note_no_memory.ensures.ending)
+    (round_unbegun TakesTurns TurnsInVain (λ p. refl) g.S.Source.left g.S.Source.read_gives 0 w w' refl refl c.note_no_memory.ensures.notes refl)
 
 pub returns-in_default-clause-whole : goal.returns-in_default-clause-whole
 returns-in_default-clause-whole g c b told =
-    let w = world_of g.K.Keeper.faults g.S.Source.faults g.O.Sink.taken g.O.Sink.faults c.args.book.now c.args.source.now c.args.sink.now in
-    let w' = world_of g.K.Keeper.faults g.S.Source.faults g.O.Sink.taken g.O.Sink.faults c.args.book.now c.args.source.now c.note_no_memory.new.sink in
-    whole_text g.S.Source.left g.S.Source.read_gives c.note_no_memory.result b w w' (returns-in_default-clause-connection g c) told
+    let w = world_of g.S.Source.faults g.O.Sink.taken g.O.Sink.faults c.args.pass.now c.args.source.now c.args.sink.now in
+    let w' = world_of g.S.Source.faults g.O.Sink.taken g.O.Sink.faults c.args.pass.now c.args.source.now c.note_no_memory.new.sink in
+    whole_text TakesTurns TurnsInVain g.S.Source.left g.S.Source.read_gives c.note_no_memory.result b w w' (returns-in_default-clause-connection g c) told
 
 pub returns-in_default-with_capacity-clause-connection : goal.returns-in_default-with_capacity-clause-connection
 returns-in_default-with_capacity-clause-connection g c =
-    let w = world_of g.K.Keeper.faults g.S.Source.faults g.O.Sink.taken g.O.Sink.faults c.args.book.now c.args.source.now c.args.sink.now in
-    let w' = world_of g.K.Keeper.faults g.S.Source.faults g.O.Sink.taken g.O.Sink.faults c.args.book.now c.args.source.now c.note_no_memory-in_default-with_capacity.new.sink in
-    subst (λ (e : Ending). Connection g.S.Source.left g.S.Source.read_gives e 0 [] w w') (sym c.note_no_memory-in_default-with_capacity.ensures.ending)
-    (round_unbegun g.S.Source.left g.S.Source.read_gives 0 w w' refl refl c.note_no_memory-in_default-with_capacity.ensures.notes refl)
+    let w = world_of g.S.Source.faults g.O.Sink.taken g.O.Sink.faults c.args.pass.now c.args.source.now c.args.sink.now in
+    let w' = world_of g.S.Source.faults g.O.Sink.taken g.O.Sink.faults c.args.pass.now c.args.source.now c.note_no_memory-in_default-with_capacity.new.sink in
+    subst (λ (e : Ending). ConnectionInHistory g.S.Source.left g.S.Source.read_gives e 0 [] w w') (sym c.note_no_memory-in_default-with_capacity.ensures.ending)
+    (round_unbegun TakesTurns TurnsInVain (λ p. refl) g.S.Source.left g.S.Source.read_gives 0 w w' refl refl c.note_no_memory-in_default-with_capacity.ensures.notes refl)
 
 pub returns-in_default-with_capacity-clause-whole : goal.returns-in_default-with_capacity-clause-whole
 returns-in_default-with_capacity-clause-whole g c b told =
-    let w = world_of g.K.Keeper.faults g.S.Source.faults g.O.Sink.taken g.O.Sink.faults c.args.book.now c.args.source.now c.args.sink.now in
-    let w' = world_of g.K.Keeper.faults g.S.Source.faults g.O.Sink.taken g.O.Sink.faults c.args.book.now c.args.source.now c.note_no_memory-in_default-with_capacity.new.sink in
-    whole_text g.S.Source.left g.S.Source.read_gives c.note_no_memory-in_default-with_capacity.result b w w' (returns-in_default-with_capacity-clause-connection g c) told
+    let w = world_of g.S.Source.faults g.O.Sink.taken g.O.Sink.faults c.args.pass.now c.args.source.now c.args.sink.now in
+    let w' = world_of g.S.Source.faults g.O.Sink.taken g.O.Sink.faults c.args.pass.now c.args.source.now c.note_no_memory-in_default-with_capacity.new.sink in
+    whole_text TakesTurns TurnsInVain g.S.Source.left g.S.Source.read_gives c.note_no_memory-in_default-with_capacity.result b w w' (returns-in_default-with_capacity-clause-connection g c) told
 
 pub serving-init : goal.serving-init
 serving-init g c =
-    let w = world_of g.K.Keeper.faults g.S.Source.faults g.O.Sink.taken g.O.Sink.faults c.args.book.now c.args.source.now c.args.sink.now in
+    let w = world_of g.S.Source.faults g.O.Sink.taken g.O.Sink.faults c.args.pass.now c.args.source.now c.args.sink.now in
     record {
-      goes_on = subst (λ i. GoesOn g.S.Source.left g.S.Source.read_gives 0 0 [] i w w) (sym c.in-Ok.ensures) (started g.S.Source.left g.S.Source.read_gives w);
+      goes_on = subst (λ i. GoesOnInHistory g.S.Source.left g.S.Source.read_gives 0 0 [] i w w) (sym c.in-Ok.ensures) (started g.S.Source.left g.S.Source.read_gives w);
       few = omega arith;
+      pass = stays-now c.args.pass.now;
       room = c.in-Ok-with_capacity.ensures.capacity;
     }
 
 pub returns-in-Some-clause-connection : goal.returns-in-Some-clause-connection
 returns-in-Some-clause-connection g c =
-    let w = world_of g.K.Keeper.faults g.S.Source.faults g.O.Sink.taken g.O.Sink.faults c.args.book.now c.args.source.now c.args.sink.now in
-    let v = world_of g.K.Keeper.faults g.S.Source.faults g.O.Sink.taken g.O.Sink.faults c.serving.book c.serving.source c.serving.sink in
-    let u = world_of g.K.Keeper.faults g.S.Source.faults g.O.Sink.taken g.O.Sink.faults c.serve_next.new.book c.serve_next.new.source c.serve_next.new.sink in
+    let w = world_of g.S.Source.faults g.O.Sink.taken g.O.Sink.faults c.args.pass.now c.args.source.now c.args.sink.now in
+    let v = world_of g.S.Source.faults g.O.Sink.taken g.O.Sink.faults c.serving.pass c.serving.source c.serving.sink in
+    let u = world_of g.S.Source.faults g.O.Sink.taken g.O.Sink.faults c.serve_next.new.pass c.serve_next.new.source c.serve_next.new.sink in
     ends_after g.S.Source.left g.S.Source.read_gives c.in-Some.ending c.serving.number [] c.serving.inbox w v u c.serving.invariant.goes_on c.in-Some.ensures.round
 
 pub returns-in-Some-clause-whole : goal.returns-in-Some-clause-whole
 returns-in-Some-clause-whole g c b told =
-    let w = world_of g.K.Keeper.faults g.S.Source.faults g.O.Sink.taken g.O.Sink.faults c.args.book.now c.args.source.now c.args.sink.now in
-    let u = world_of g.K.Keeper.faults g.S.Source.faults g.O.Sink.taken g.O.Sink.faults c.serve_next.new.book c.serve_next.new.source c.serve_next.new.sink in
-    whole_text g.S.Source.left g.S.Source.read_gives c.in-Some.ending b w u (returns-in-Some-clause-connection g c) told
+    let w = world_of g.S.Source.faults g.O.Sink.taken g.O.Sink.faults c.args.pass.now c.args.source.now c.args.sink.now in
+    let u = world_of g.S.Source.faults g.O.Sink.taken g.O.Sink.faults c.serve_next.new.pass c.serve_next.new.source c.serve_next.new.sink in
+    whole_text TakesTurns TurnsInVain g.S.Source.left g.S.Source.read_gives c.in-Some.ending b w u (returns-in-Some-clause-connection g c) told
 
 pub returns-in-Some-clause-read_fault : goal.returns-in-Some-clause-read_fault
 returns-in-Some-clause-read_fault g c is =
-    let w = world_of g.K.Keeper.faults g.S.Source.faults g.O.Sink.taken g.O.Sink.faults c.args.book.now c.args.source.now c.args.sink.now in
-    let u = world_of g.K.Keeper.faults g.S.Source.faults g.O.Sink.taken g.O.Sink.faults c.serve_next.new.book c.serve_next.new.source c.serve_next.new.sink in
-    read_rises g.S.Source.left g.S.Source.read_gives c.in-Some.ending 0 [] w u (returns-in-Some-clause-connection g c) is
+    let w = world_of g.S.Source.faults g.O.Sink.taken g.O.Sink.faults c.args.pass.now c.args.source.now c.args.sink.now in
+    let u = world_of g.S.Source.faults g.O.Sink.taken g.O.Sink.faults c.serve_next.new.pass c.serve_next.new.source c.serve_next.new.sink in
+    read_rises TakesTurns TurnsInVain g.S.Source.left g.S.Source.read_gives c.in-Some.ending 0 [] w u (returns-in-Some-clause-connection g c) is
 
 pub returns-in-Some-clause-write_fault : goal.returns-in-Some-clause-write_fault
 returns-in-Some-clause-write_fault g c is =
-    let w = world_of g.K.Keeper.faults g.S.Source.faults g.O.Sink.taken g.O.Sink.faults c.args.book.now c.args.source.now c.args.sink.now in
-    let u = world_of g.K.Keeper.faults g.S.Source.faults g.O.Sink.taken g.O.Sink.faults c.serve_next.new.book c.serve_next.new.source c.serve_next.new.sink in
-    write_rises g.S.Source.left g.S.Source.read_gives c.in-Some.ending 0 [] w u (returns-in-Some-clause-connection g c) is
+    let w = world_of g.S.Source.faults g.O.Sink.taken g.O.Sink.faults c.args.pass.now c.args.source.now c.args.sink.now in
+    let u = world_of g.S.Source.faults g.O.Sink.taken g.O.Sink.faults c.serve_next.new.pass c.serve_next.new.source c.serve_next.new.sink in
+    write_rises TakesTurns TurnsInVain g.S.Source.left g.S.Source.read_gives c.in-Some.ending 0 [] w u (returns-in-Some-clause-connection g c) is
 
 pub serving-preserved : goal.serving-preserved
 serving-preserved g c =
-    let w = world_of g.K.Keeper.faults g.S.Source.faults g.O.Sink.taken g.O.Sink.faults c.args.book.now c.args.source.now c.args.sink.now in
-    let v = world_of g.K.Keeper.faults g.S.Source.faults g.O.Sink.taken g.O.Sink.faults c.serving.book c.serving.source c.serving.sink in
-    let u = world_of g.K.Keeper.faults g.S.Source.faults g.O.Sink.taken g.O.Sink.faults c.serve_next.new.book c.serve_next.new.source c.serve_next.new.sink in
+    let w = world_of g.S.Source.faults g.O.Sink.taken g.O.Sink.faults c.args.pass.now c.args.source.now c.args.sink.now in
+    let v = world_of g.S.Source.faults g.O.Sink.taken g.O.Sink.faults c.serving.pass c.serving.source c.serving.sink in
+    let u = world_of g.S.Source.faults g.O.Sink.taken g.O.Sink.faults c.serve_next.new.pass c.serve_next.new.source c.serve_next.new.sink in
     let last = not_last g.S.Source.left g.S.Source.read_gives c.serving.number c.serving.inbox c.serve_next.new.inbox v u c.in_default-serve_next.ensures.round in
     let few = c.serving.invariant.few in
     record {
       goes_on = goes_after g.S.Source.left g.S.Source.read_gives c.serving.number 1 [] c.serving.inbox c.serve_next.new.inbox w v u c.serving.invariant.goes_on c.in_default-serve_next.ensures.round;
       few = omega (arith, last, few);
+      pass = stays-then c.serving.number 1 c.args.pass.now c.serving.pass c.serve_next.new.pass c.serving.invariant.pass c.serve_next.ensures.pass;
       room = c.serve_next.ensures.room;
     }
+
+pub returns-in-Some-clause-own : goal.returns-in-Some-clause-own
+returns-in-Some-clause-own g c =
+    let now = stays-then c.serving.number 1 c.args.pass.now c.serving.pass c.serve_next.new.pass c.serving.invariant.pass c.in-Some.ensures.pass in
+    (now.lock, now.share)
+
+pub returns-in-Some-clause-turns : goal.returns-in-Some-clause-turns
+returns-in-Some-clause-turns g c =
+    let few = c.serving.invariant.few in
+    let now = stays-then c.serving.number 1 c.args.pass.now c.serving.pass c.serve_next.new.pass c.serving.invariant.pass c.in-Some.ensures.pass in
+    let most = now.few in
+    omega (arith, few, most)

@@ -1,13 +1,15 @@
 use Rattle.std.proofs.Common.{◌≤◌, ◌-◌, [], vec_capacity}
-use Rattle.cr_session.specs.Serving.{GoesOn, world_of}
+use Rattle.cr_session.specs.Serving.{GoesOnInHistory, world_of}
+use Rattle.cr_session.specs.Passing.{StaysPass}
 use Rattle.cr_session.proofs.serve.serve_connection.Given as goal
 
 abbrev pub invariant-serving : goal.invariant-serving
 invariant-serving g l = record {
-  goes_on : GoesOn g.S.Source.left g.S.Source.read_gives l.number 0 [] l.inbox
-      (world_of g.K.Keeper.faults g.S.Source.faults g.O.Sink.taken g.O.Sink.faults l.initial.book l.initial.source l.initial.sink)
-      (world_of g.K.Keeper.faults g.S.Source.faults g.O.Sink.taken g.O.Sink.faults l.book l.source l.sink);
+  goes_on : GoesOnInHistory g.S.Source.left g.S.Source.read_gives l.number 0 [] l.inbox
+      (world_of g.S.Source.faults g.O.Sink.taken g.O.Sink.faults l.initial.pass l.initial.source l.initial.sink)
+      (world_of g.S.Source.faults g.O.Sink.taken g.O.Sink.faults l.pass l.source l.sink);
   few : l.number ≤ 1048575;
+  pass : StaysPass l.number l.initial.pass l.pass;
   room : 512 ≤ vec_capacity l.reply;
 }
 

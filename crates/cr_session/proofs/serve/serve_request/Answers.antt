@@ -1,13 +1,15 @@
 use Rattle.std.proofs.Common.{refl}
-use Rattle.cr_session.proofs.Requests.{serves_sent, stays_unprinted}
+use Rattle.cr_session.proofs.Passes.{stays-turn}
+use Rattle.cr_session.proofs.Requests.{serves_sent, turned_in_vain, unprinted}
 use Rattle.cr_session.proofs.serve.serve_request.Goals as goal
 
 pub returns-in-Ok-clause-serves : goal.returns-in-Ok-clause-serves
 returns-in-Ok-clause-serves g c =
-    serves_sent c.take_turn-turn.result c.send.result c.args.number c.args.wish c.closes-close.result c.print_turn.new.reply.items _ _ _ _
-    c.in_default.not-OutOfMemory c.take_turn-turn.ensures c.closes-close.ensures c.in-Ok.ensures.ok (rw c.deref.ensures.value at c.send.ensures)
+    let t = c.in_turn-turn.ensures in
+    serves_sent c.args.wish t.0 t.1 c.args.pass.now c.in_turn-turn.new.pass t.2 t.4 c.in_turn-turn.result c.send.result c.args.number c.closes-close.result c.print_turn.new.reply.items _ _
+    c.in_default.not-OutOfMemory t.3 c.closes-close.ensures c.in-Ok.ensures.ok (rw c.deref.ensures.value at c.send.ensures)
 
 pub returns-clause-serves : goal.returns-clause-serves
 returns-clause-serves g c =
-    let stays = stays_unprinted c.take_turn-turn.result c.args.wish _ _ c.take_turn-turn.ensures c.in-Err.ensures.err in
-    (stays.0, refl, stays.1)
+    let t = c.in_turn-turn.ensures in
+    (refl, unprinted c.args.wish t.0 t.1 c.args.pass.now c.in_turn-turn.new.pass t.2 t.4 c.in_turn-turn.result t.3 c.in-Err.ensures.err)

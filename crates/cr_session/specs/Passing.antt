@@ -1,0 +1,36 @@
+-- Wishes that are judged in turns of one pass of the book's lock: between two of its turns other passes may take theirs.
+use Rattle.std.specs.Prelude.{ℕ, ◌≡◌, ◌≤◌, ◌+◌, List, [], ◌∷◌, IsSome, MatchBool}
+use mathlib.Core.List.{IsPrefix}
+use Rattle.cr_base.specs.declared.entry.Stamped.{Stamped}
+use Rattle.cr_lock.specs.Passes.{Known, after_turn}
+use Rattle.cr_session.specs.Told.{drawn}
+use Rattle.cr_session.specs.Replay.{JudgedWish, CountsLoss, history_after}
+
+-- what a pass of a book's lock knows
+abbrev pub KnownPass : Type 0
+KnownPass = Known Stamped
+
+-- A wish was judged in one turn of the pass. The turn's group is what the wish adds to the history at the turn's place, and
+-- nothing where that was lost. It is marked where something was lost, and elsewhere only where the keeper's count of
+-- faults stands at its last value.
+pub record TakesTurn (j : JudgedWish) (p p' : KnownPass) : Type 0 where
+  -- the history at the turn's place holds all that the pass had seen
+  pub saw : IsPrefix p.seen j.seen
+  -- only what Judge accepts can be lost
+  pub lost : MatchBool j.lost (IsSome (drawn j.seen j.wish)) (Unit {0})
+  -- the keeper's count as the turn found it, and as it left it
+  pub faults : ℕ
+  pub faults' : ℕ
+  pub counted : CountsLoss j.lost faults faults'
+  pub turn : p' ≡ after_turn p j.seen (history_after j) faults faults'
+
+-- a turn for each of the wishes, in order, and no other turn of this pass
+abbrev pub TakesTurns : List JudgedWish → KnownPass → KnownPass → Type 0
+TakesTurns [] p p' = p' ≡ p
+TakesTurns (j ∷ js) p p' = (next : KnownPass) × TakesTurn j p next × TakesTurns js next p'
+
+-- it is of the same lock and has the same share, and took so many turns at most
+pub record StaysPass (most : ℕ) (p p' : KnownPass) : Type 0 where
+  pub lock : p'.lock ≡ p.lock
+  pub share : p'.share ≡ p.share
+  pub few : p'.turns ≤ p.turns + most
