@@ -1,11 +1,11 @@
 //! What one entry shows a reader.
-ghost use Rattle.std.specs.Prelude.{◌≡◌, ◌||◌, ◌&&◌, Bool, not, Some};
+ghost use Rattle.std.specs.Prelude.{◌≡◌, ◌||◌, ◌&&◌, ◌∷◌, [], Bool, not, Some};
 ghost use Rattle.cr_base.specs.Lists.{listed};
 ghost use Rattle.cr_base.specs.Page.{is_clear_member, is_clear_chair};
 ghost use Rattle.cr_base.specs.Phases.{is_from};
 ghost use Rattle.cr_base.specs.Words.{is_anonymous, is_member};
 ghost use Rattle.cr_base.specs.declared.words.Phase.TheVariants as phases;
-ghost use Rattle.cr_base.specs.declared.entry.Entry.TheVariants.{Conflict};
+ghost use Rattle.cr_base.specs.declared.entry.Entry.TheVariants.{Submitted, Conflict};
 ghost use Rattle.cr_policy.specs.Triggers.{Place, none_alike};
 ghost use Rattle.cr_policy.specs.Sighting.{blank as blank_sighting};
 ghost use Rattle.cr_policy.specs.View.{is_seen, sight as sight_at};
@@ -141,6 +141,48 @@ fn tells_conflict(live: &Live, reader: UserNo, maker: UserNo, user: UserNo, pape
     user == reader || wrote && by.author || shows_conflicts(&by) || maker == reader
 }
 
+/// What a submission shows her: its paper, and who made it, its title and its abstract where she may know them.
+fn submission<'a>(
+    live: &Live,
+    reader: UserNo,
+    maker: UserNo,
+    is_last: bool,
+    paper: PaperNo,
+    title: &'a Text,
+    abstract_: &'a Text,
+) -> Sighting<'a>
+    ensures { (at : Place) (more : Bool) → none_alike (Submitted paper title.now abstract_.now) at.after ≡ is_last → result ∷ [] ≡ sight_at (reader_in live.now.tables (Some reader)) at (record { maker = maker; more = more; entry = Submitted paper title.now abstract_.now }) }
+{
+    let mine = reader == maker;
+    let by = live.standing(&Some(reader), &Some(paper));
+    Sighting {
+        paper: Some(paper),
+        by: shows_maker(&by).then_some(maker),
+        title: shows_title(&by, mine, is_last).then_some(title),
+        abstract_: shows_abstract(&by, mine, is_last).then_some(abstract_),
+        ..blank(EntryKind::Submitted, mine)
+    }
+}
+
+/// What a conflict shows her: all of it, or nothing where she isn't told of it.
+fn conflict<'a>(
+    live: &Live,
+    reader: UserNo,
+    maker: UserNo,
+    paper: PaperNo,
+    user: UserNo,
+    on: bool,
+) -> Option<Sighting<'a>>
+    ensures { (at : Place) (more : Bool) → listed result ≡ sight_at (reader_in live.now.tables (Some reader)) at (record { maker = maker; more = more; entry = Conflict paper user on }) }
+{
+    tells_conflict(live, reader, maker, user, paper).then_some(Sighting {
+        paper: Some(paper),
+        user: Some(user),
+        on: Some(on),
+        ..blank(EntryKind::Conflict, reader == maker)
+    })
+}
+
 /// What an entry shows a user by the tables of the whole history, and none where it shows her nothing. `is_last`
 /// tells whether no later entry is of the same matter: gives its paper texts. A few look-ups; takes no memory.
 pub fn sight<'a>(
@@ -151,7 +193,8 @@ pub fn sight<'a>(
 ) -> Option<Sighting<'a>>
     ensures { (at : Place) → none_alike stamped.now.entry at.after ≡ is_last → listed result ≡ sight_at (reader_in live.now.tables (Some reader)) at stamped.now }
 {
-    let mine = reader == stamped.maker;
+    let maker = stamped.maker;
+    let mine = reader == maker;
     match &stamped.entry {
         Entry::Registered { user, name, digest } => Some(Sighting {
             user: Some(*user),
@@ -176,26 +219,9 @@ pub fn sight<'a>(
             paper,
             title,
             abstract_,
-        } => {
-            let by = live.standing(&Some(reader), &Some(*paper));
-            Some(Sighting {
-                paper: Some(*paper),
-                by: shows_maker(&by).then_some(stamped.maker),
-                title: shows_title(&by, mine, is_last).then_some(title),
-                abstract_: shows_abstract(&by, mine, is_last).then_some(abstract_),
-                ..blank(EntryKind::Submitted, mine)
-            })
-        }
-        Entry::Conflict { paper, user, on } => {
-            if !tells_conflict(live, reader, stamped.maker, *user, *paper) {
-                return None;
-            }
-            Some(Sighting {
-                paper: Some(*paper),
-                user: Some(*user),
-                on: Some(*on),
-                ..blank(EntryKind::Conflict, mine)
-            })
-        }
+        } => Some(submission(
+            live, reader, maker, is_last, *paper, title, abstract_,
+        )),
+        Entry::Conflict { paper, user, on } => conflict(live, reader, maker, *paper, *user, *on),
     }
 }
