@@ -128,6 +128,10 @@ stamped-row_of s h = restamp s _ _ (bit-back s.more) (built-row_of s.entry s.mak
 
 -- ---- the kind of a row
 
+-- a number tells one kind: the search splits both
+one_kind : (j k : EntryKind) → kind_number j ≡ kind_number k → j ≡ k
+one_kind j k e = grind (arith, e)
+
 kind_of-built : (k : EntryKind) (r : Row) → kind_of (built k r) ≡ k
 kind_of-built kind.Registered r = refl
 kind_of-built k r = refl
@@ -151,6 +155,12 @@ row_fits k r s only h e = subst (λ (j : EntryKind). FitsShape (shape_of j) r) (
 -- a row spells no other entry
 pub only_one : (k : EntryKind) (r : Row) (s : Stamped) → ((j : EntryKind) → kind_number j ≡ r.kind → j ≡ k) → IsBoundedEntry s → row_of s ≡ r → stamped k r ≡ s
 only_one k r s only h e = subst (λ (j : EntryKind). stamped j r ≡ s) (kind_of-row k r s only e) (subst (λ (q : Row). stamped (kind_of s.entry) q ≡ s) e (stamped-row_of s h))
+
+-- entries within their bounds that have the same row are the same
+pub same_entry : (s s' : Stamped) → IsBoundedEntry s → IsBoundedEntry s' → row_of s ≡ row_of s' → s ≡ s'
+same_entry s s' b b' e =
+    let only = λ (j : EntryKind). one_kind j (kind_of s'.entry) in
+    sym (only_one (kind_of s'.entry) (row_of s') s only b e) ∙ only_one (kind_of s'.entry) (row_of s') s' only b' refl
 
 -- the entry that a row spells, from its parts
 pub stamped-parts : (k : EntryKind) (r : Row) (m : ℕ) (e : Entry) → m ≡ r.maker → e ≡ built k r → ◌≡◌ {A = Stamped} (stamped k r) (record { maker = m; more = r.more == 1; entry = e })

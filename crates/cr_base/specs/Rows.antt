@@ -1,5 +1,5 @@
 -- The row of each entry, and the entry of a row, kind by kind.
-use Rattle.std.specs.Prelude.{ℕ, Bool, ◌==◌, List, [], if◌then◌else◌, map}
+use Rattle.std.specs.Prelude.{ℕ, Bool, ◌==◌, List, [], codes, if◌then◌else◌, map}
 use Rattle.cr_base.specs.declared.entry.EntryKind.{EntryKind}
 use Rattle.cr_base.specs.declared.entry.EntryKind.TheVariants as kind
 use Rattle.cr_base.specs.declared.entry.Entry.{Entry}
@@ -19,6 +19,15 @@ kind_number kind.PhaseSet = 3
 kind_number kind.ModeSet = 4
 kind_number kind.Submitted = 5
 kind_number kind.Conflict = 10
+
+-- the word for the kind: its name in lower case
+abbrev pub kind_name : EntryKind → List ℕ
+kind_name kind.Registered = codes "registered"
+kind_name kind.Named = codes "named"
+kind_name kind.PhaseSet = codes "phaseset"
+kind_name kind.ModeSet = codes "modeset"
+kind_name kind.Submitted = codes "submitted"
+kind_name kind.Conflict = codes "conflict"
 
 -- the fields of each kind, a line a kind
 abbrev pub shape_of : EntryKind → Shape

@@ -1,7 +1,7 @@
 //! The row of an entry, and the entry of a row, kind by kind.
 ghost use Rattle.std.specs.Prelude.{◌≡◌, ◌≢◌, [], length, IfOk, IfSome, IfNone, Some};
 ghost use Rattle.cr_base.specs.Shapes.{FitsShape};
-ghost use Rattle.cr_base.specs.Rows.{kind_number, shape_of, row_of, bit_number, built, IsBoundedEntry};
+ghost use Rattle.cr_base.specs.Rows.{kind_name, kind_number, shape_of, row_of, bit_number, built, IsBoundedEntry};
 ghost use Rattle.cr_base.specs.declared.entry.EntryKind.{EntryKind};
 ghost use Rattle.cr_base.specs.declared.entry.Stamped.{Stamped};
 
@@ -42,6 +42,20 @@ impl EntryKind {
             5 => Some(EntryKind::Submitted),
             10 => Some(EntryKind::Conflict),
             _ => None,
+        }
+    }
+
+    /// The word for it in the lines of a view.
+    pub fn name(self) -> &'static str
+        ensures { result.now ≡ kind_name self }
+    {
+        match self {
+            EntryKind::Registered => "registered",
+            EntryKind::Named => "named",
+            EntryKind::PhaseSet => "phaseset",
+            EntryKind::ModeSet => "modeset",
+            EntryKind::Submitted => "submitted",
+            EntryKind::Conflict => "conflict",
         }
     }
 

@@ -39,7 +39,7 @@ use Rattle.cr_history.specs.Invariants.{IsRegistered}
 use Rattle.cr_policy.specs.View.{view}
 use Rattle.cr_policy.proofs.LegalLaws.{Legal-fits, Legal-judge}
 use Rattle.cr_history.proofs.LineTies.{accounts_of-tables}
-use Rattle.cr_book.specs.Rebuilding.{name_told, giver_told, command_told, is_known, drawn_told}
+use Rattle.cr_book.specs.Rebuilding.{name_told, giver_told, command_told, user_command_told, is_known, drawn_told}
 
 -- ---- who is known
 
@@ -253,18 +253,23 @@ module _ (H : History) (legal : Legal H) where
   registered : (user : ℕ) → is_known t (Some user) ≡ true → IsRegistered H user
   registered user known = registered-known H user legal ∙ known
 
-  -- it is allowed, where the entry is within its bounds
+  -- a user's is allowed, where the entry is within its bounds
+  user-allowed : (maker : ℕ) (more : Bool) (e : Entry) (command : Command) → IsBoundedEntry (record { maker = maker; more = more; entry = e }) → IsRegistered H maker → user_command_told t e ≡ Some command → IsAllowed H (record { caller = Some maker; command = command })
+  user-allowed maker more (PhaseSet to) command bounded made told = subst (λ (c : Command). IsAllowed H (record { caller = Some maker; command = c })) (some_is (SetPhase to) command told) (record { caller = made; bounded = tt })
+  user-allowed maker more (ModeSet to) command bounded made told = subst (λ (c : Command). IsAllowed H (record { caller = Some maker; command = c })) (some_is (SetMode to) command told) (record { caller = made; bounded = tt })
+  user-allowed maker more (Submitted paper title abstract) command bounded made told = subst (λ (c : Command). IsAllowed H (record { caller = Some maker; command = c })) (some_is (Submit title abstract) command told) (record { caller = made; bounded = (bounded.b1, bounded.b2) })
+  user-allowed maker more (Named user role) command bounded made told =
+      let name = told-name (name_told t user) (λ name. Name (Some name) role) command told in
+      subst (λ (c : Command). IsAllowed H (record { caller = Some maker; command = c })) name.1 (record { caller = made; bounded = member_named role bounded.n2.0 })
+  user-allowed maker more (Conflict paper user on) command bounded made told =
+      let name = told-name (name_told t user) (λ name. SetConflict (Some paper) (Some name) on) command told in
+      subst (λ (c : Command). IsAllowed H (record { caller = Some maker; command = c })) name.1 (record { caller = made; bounded = tt })
+  user-allowed maker more e command bounded made told = absurd (none_some command told)
+
+  -- and so is any
   told-allowed : (maker : ℕ) (more : Bool) (e : Entry) (command : Command) → IsBoundedEntry (record { maker = maker; more = more; entry = e }) → is_known t (giver_told maker e) ≡ true → command_told t e ≡ Some command → IsAllowed H (record { caller = giver_told maker e; command = command })
   told-allowed maker more (Registered user name digest) command bounded known told = subst (λ (c : Command). IsAllowed H (record { caller = None; command = c })) (some_is (Register name digest) command told) (record { caller = refl; bounded = (bounded.b1, bounded.b2) })
-  told-allowed maker more (PhaseSet to) command bounded known told = subst (λ (c : Command). IsAllowed H (record { caller = Some maker; command = c })) (some_is (SetPhase to) command told) (record { caller = registered maker known; bounded = tt })
-  told-allowed maker more (ModeSet to) command bounded known told = subst (λ (c : Command). IsAllowed H (record { caller = Some maker; command = c })) (some_is (SetMode to) command told) (record { caller = registered maker known; bounded = tt })
-  told-allowed maker more (Submitted paper title abstract) command bounded known told = subst (λ (c : Command). IsAllowed H (record { caller = Some maker; command = c })) (some_is (Submit title abstract) command told) (record { caller = registered maker known; bounded = (bounded.b1, bounded.b2) })
-  told-allowed maker more (Named user role) command bounded known told =
-      let name = told-name (name_told t user) (λ name. Name (Some name) role) command told in
-      subst (λ (c : Command). IsAllowed H (record { caller = Some maker; command = c })) name.1 (record { caller = registered maker known; bounded = member_named role bounded.n2.0 })
-  told-allowed maker more (Conflict paper user on) command bounded known told =
-      let name = told-name (name_told t user) (λ name. SetConflict (Some paper) (Some name) on) command told in
-      subst (λ (c : Command). IsAllowed H (record { caller = Some maker; command = c })) name.1 (record { caller = registered maker known; bounded = tt })
+  told-allowed maker more e command bounded known told = user-allowed maker more e command bounded (registered maker known) told
 
   -- so an allowed call adds what the call of such an entry draws
   pub told-adds : (first : Stamped) (drawn : Drawn) → IsBoundedEntry first → drawn_told t first ≡ Some drawn → MayAdd H drawn.group

@@ -2,32 +2,14 @@
 use Rattle.std.proofs.Common.{true, false, cond, ◌≡◌, List, [], ◌∷◌, ◌++◌, length, take, refl, sym, ap, ◌∙◌, arith}
 use Rattle.std.specs.List.{AllByRecursion}
 use Rattle.std.proofs.lemmas.Bool.{true≢false}
-use Rattle.cr_base.specs.declared.entry.EntryKind.{EntryKind}
-use Rattle.cr_base.specs.declared.entry.EntryKind.TheVariants as kinds
 use Rattle.cr_base.specs.declared.entry.Stamped.{Stamped}
 use Rattle.cr_base.specs.declared.row.Row.{Row}
 use Rattle.cr_base.specs.History.{History}
-use Rattle.cr_base.specs.Rows.{kind_number, kind_of, row_of, rows_of, IsBoundedEntry}
-use Rattle.cr_base.proofs.RowLaws.{only_one}
+use Rattle.cr_base.specs.Rows.{row_of, rows_of, IsBoundedEntry}
+use Rattle.cr_base.proofs.RowLaws.{same_entry}
 use Rattle.cr_book.specs.Reading.{IsOpen, IsGroup}
 
 -- ---- rows
-
--- a number tells one kind
-one_kind : (j k : EntryKind) → kind_number j ≡ kind_number k → j ≡ k
-one_kind kinds.Registered kinds.Registered e = refl
-one_kind kinds.Named kinds.Named e = refl
-one_kind kinds.PhaseSet kinds.PhaseSet e = refl
-one_kind kinds.ModeSet kinds.ModeSet e = refl
-one_kind kinds.Submitted kinds.Submitted e = refl
-one_kind kinds.Conflict kinds.Conflict e = refl
-one_kind j k e = absurd (omega (arith, e))
-
--- entries within their bounds that have the same row are the same
-same_entry : (s s' : Stamped) → IsBoundedEntry s → IsBoundedEntry s' → row_of s ≡ row_of s' → s ≡ s'
-same_entry s s' b b' e =
-    let only = λ (j : EntryKind). one_kind j (kind_of s'.entry) in
-    sym (only_one (kind_of s'.entry) (row_of s') s only b e) ∙ only_one (kind_of s'.entry) (row_of s') s' only b' refl
 
 pub head_is : {A : Type 0} (x y : A) (xs ys : List A) → x ∷ xs ≡ y ∷ ys → x ≡ y
 head_is x y xs ys e = cc (e)

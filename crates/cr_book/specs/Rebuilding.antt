@@ -26,14 +26,19 @@ abbrev pub giver_told : ℕ → Entry → Option ℕ
 giver_told maker (Registered user name digest) = None
 giver_told maker e = Some maker
 
--- what it was, where the users that it names are there
+-- what a user's command was, where the users that it names are there; an entry that begins no such command's has none
+abbrev pub user_command_told : Tables → Entry → Option Command
+user_command_told t (Named user role) = option_map (λ name. commands.Name (Some name) role) (name_told t user)
+user_command_told t (PhaseSet phase) = Some (commands.SetPhase phase)
+user_command_told t (ModeSet mode) = Some (commands.SetMode mode)
+user_command_told t (Submitted paper title abstract) = Some (commands.Submit title abstract)
+user_command_told t (Conflict paper user on) = option_map (λ name. commands.SetConflict (Some paper) (Some name) on) (name_told t user)
+user_command_told t _ = None
+
+-- what it was, by whomever it was given
 abbrev pub command_told : Tables → Entry → Option Command
 command_told t (Registered user name digest) = Some (commands.Register name digest)
-command_told t (Named user role) = option_map (λ name. commands.Name (Some name) role) (name_told t user)
-command_told t (PhaseSet phase) = Some (commands.SetPhase phase)
-command_told t (ModeSet mode) = Some (commands.SetMode mode)
-command_told t (Submitted paper title abstract) = Some (commands.Submit title abstract)
-command_told t (Conflict paper user on) = option_map (λ name. commands.SetConflict (Some paper) (Some name) on) (name_told t user)
+command_told t e = user_command_told t e
 
 -- nobody, or a user who has registered
 abbrev pub is_known : Tables → Option ℕ → Bool

@@ -3,7 +3,7 @@ ghost use Rattle.std.specs.Prelude.{◌≡◌, ◌<◌, ◌↔◌, IfOk, IfSome,
 ghost use Rattle.std.specs.Option.{option_map};
 ghost use Rattle.cr_base.specs.Tables.{FitInTurn};
 ghost use Rattle.cr_view.specs.Draws.{drawn_by};
-ghost use Rattle.cr_book.specs.Rebuilding.{giver_told, command_told, drawn_told, is_known, IsBegun, NoneBegun};
+ghost use Rattle.cr_book.specs.Rebuilding.{giver_told, command_told, user_command_told, drawn_told, is_known, IsBegun, NoneBegun};
 ghost use Rattle.cr_base.specs.declared.row.Row.{Row};
 
 use crate::rows::rows_of;
@@ -32,12 +32,21 @@ fn is_known(live: &Live, caller: &Option<UserNo>) -> bool
 }
 
 /// The command of a group with this first entry, which gives it its texts; none where it names a user
-/// who isn't there.
+/// who isn't there, or where no command's group begins so.
 fn command_of(live: &Live, first: Entry) -> Option<Command>
     ensures { result ≡ command_told live.now.tables first }
 {
     match first {
         Entry::Registered { name, digest, .. } => Some(Command::Register { name, digest }),
+        other => user_command_of(live, other),
+    }
+}
+
+/// The same, where a user gave it.
+fn user_command_of(live: &Live, first: Entry) -> Option<Command>
+    ensures { result ≡ user_command_told live.now.tables first }
+{
+    match first {
         Entry::PhaseSet { phase } => Some(Command::SetPhase { phase }),
         Entry::ModeSet { mode } => Some(Command::SetMode { mode }),
         Entry::Submitted {
@@ -60,6 +69,7 @@ fn command_of(live: &Live, first: Entry) -> Option<Command>
                 on,
             })
         }
+        _ => None,
     }
 }
 

@@ -1,4 +1,3 @@
 pub mod Places
 pub mod LastLaws
-pub mod SightLaws
 pub mod WalkLaws

@@ -4,25 +4,15 @@ use Rattle.std.specs.List.{flat_map}
 use Rattle.std.specs.Option.{option_map}
 use Rattle.hex.specs.Hex.{encode_lower}
 use Rattle.json.specs.Print.{quoted}
-use Rattle.cr_base.specs.declared.entry.EntryKind.{EntryKind}
-use Rattle.cr_base.specs.declared.entry.EntryKind.TheVariants.{Registered, Named, PhaseSet, ModeSet, Submitted, Conflict}
 use Rattle.cr_base.specs.declared.words.Phase.{Phase}
 use Rattle.cr_base.specs.declared.words.Mode.{Mode}
 use Rattle.cr_base.specs.declared.words.Role.{Role}
 use Rattle.cr_base.specs.Page.{where_told}
+use Rattle.cr_base.specs.Rows.{kind_name}
 use Rattle.cr_base.specs.Words.{mode_name, phase_name, role_name}
 use Rattle.cr_policy.specs.Sighting.{Sighting}
 use Rattle.cr_policy.specs.View.{View}
 use Rattle.cr_print.specs.Json.{Member, told, object_text, truth_text}
-
--- the word for a kind of entry: its name in lower case
-abbrev pub kind_name : EntryKind → List ℕ
-kind_name Registered = codes "registered"
-kind_name Named = codes "named"
-kind_name PhaseSet = codes "phaseset"
-kind_name ModeSet = codes "modeset"
-kind_name Submitted = codes "submitted"
-kind_name Conflict = codes "conflict"
 
 -- the value of a member: a text, a digest in lower-case hexadecimal digits, a word, a number
 abbrev pub bytes_value : Option (List ℕ) → Option (List ℕ)

@@ -3,27 +3,13 @@ ghost use Rattle.std.specs.Prelude.{◌≡◌, OnOk, option_map};
 ghost use Rattle.cr_base.specs.Lists.{listed};
 ghost use Rattle.cr_print.specs.Json.{Adds};
 ghost use Rattle.cr_print.specs.Put.{Appends};
-ghost use Rattle.cr_sights.specs.Lines.{first_members, kind_name, last_members, line_text, lines_text, middle_members};
+ghost use Rattle.cr_sights.specs.Lines.{first_members, last_members, line_text, lines_text, middle_members};
 
 use crate::members::{add_bytes, add_digest, add_mode, add_paper, add_phase, add_role, add_user};
 use crate::sighting::Sighting;
-use cr_base::{EntryKind, Short, Text};
+use cr_base::{Short, Text};
 use cr_print::Object;
 use std::alloc::AllocError;
-
-/// The word for a kind of entry.
-fn kind_name(kind: EntryKind) -> &'static str
-    ensures { result.now ≡ kind_name kind }
-{
-    match kind {
-        EntryKind::Registered => "registered",
-        EntryKind::Named => "named",
-        EntryKind::PhaseSet => "phaseset",
-        EntryKind::ModeSet => "modeset",
-        EntryKind::Submitted => "submitted",
-        EntryKind::Conflict => "conflict",
-    }
-}
 
 /// Writes the members up to `kind`.
 fn add_first(object: &mut Object, into: &mut Vec<u8>, sighting: &Sighting) -> Result<(), AllocError>
@@ -32,7 +18,7 @@ fn add_first(object: &mut Object, into: &mut Vec<u8>, sighting: &Sighting) -> Re
     add_bytes(object, into, "abstract", text_bytes(&sighting.abstract_))?;
     add_user(object, into, "by", &sighting.by)?;
     add_digest(object, into, "digest", sighting.digest)?;
-    object.string(into, "kind", kind_name(sighting.kind).as_bytes())?;
+    object.string(into, "kind", sighting.kind.name().as_bytes())?;
     Ok(())
 }
 

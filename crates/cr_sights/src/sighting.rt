@@ -1,14 +1,14 @@
 //! What one entry shows a reader.
-ghost use Rattle.std.specs.Prelude.{◌≡◌, ◌||◌, ◌&&◌, Bool, not, Some};
+ghost use Rattle.std.specs.Prelude.{◌≡◌, ◌||◌, ◌&&◌, ◌∷◌, [], Bool, not, Some};
 ghost use Rattle.cr_base.specs.Lists.{listed};
 ghost use Rattle.cr_base.specs.Page.{is_clear_member, is_clear_chair};
 ghost use Rattle.cr_base.specs.Phases.{is_from};
 ghost use Rattle.cr_base.specs.Words.{is_anonymous, is_member};
 ghost use Rattle.cr_base.specs.declared.words.Phase.TheVariants as phases;
-ghost use Rattle.cr_base.specs.declared.entry.Entry.TheVariants.{Conflict};
-ghost use Rattle.cr_policy.specs.Triggers.{Place, none_alike};
+ghost use Rattle.cr_base.specs.declared.entry.Entry.TheVariants.{Submitted, Conflict};
+ghost use Rattle.cr_policy.specs.Triggers.{Place, authors, clear_chairs, from, none_alike, user_named};
 ghost use Rattle.cr_policy.specs.Sighting.{blank as blank_sighting};
-ghost use Rattle.cr_policy.specs.View.{is_seen, sight as sight_at};
+ghost use Rattle.cr_policy.specs.View.{sight as sight_at};
 ghost use Rattle.cr_sights.specs.Readers.{reader_in};
 
 use cr_base::{
@@ -134,11 +134,59 @@ fn shows_conflicts(by: &Standing) -> bool
 /// Whether she is told that a user is in conflict with a paper, or no longer: who made the entry is, the user
 /// herself, an author where an author made it, and whoever is shown all of the paper's conflicts.
 fn tells_conflict(live: &Live, reader: UserNo, maker: UserNo, user: UserNo, paper: PaperNo) -> bool
-    ensures { (at : Place) (more on : Bool) → is_seen (reader_in live.now.tables (Some reader)) at (record { maker = maker; more = more; entry = Conflict paper user on }) ≡ result }
+    ensures { let r = reader_in live.now.tables (Some reader) in result ≡ (user_named r user || ((r.wrote maker paper && authors r paper) || ((clear_chairs r paper && from r phases.Bidding) || user_named r maker))) }
 {
     let by = live.standing(&Some(reader), &Some(paper));
     let wrote = live.standing(&Some(maker), &Some(paper)).author;
     user == reader || wrote && by.author || shows_conflicts(&by) || maker == reader
+}
+
+/// What a submission with these parts shows her: its paper, and who made it, its title and its abstract where she may
+/// know them.
+fn submission<'a>(
+    live: &Live,
+    reader: UserNo,
+    stamped: &'a Stamped,
+    is_last: bool,
+    paper: PaperNo,
+    title: &'a Text,
+    abstract_: &'a Text,
+) -> Sighting<'a>
+    requires { stamped.now.entry ≡ Submitted paper title.now abstract_.now }
+    ensures { (at : Place) → none_alike stamped.now.entry at.after ≡ is_last → result ∷ [] ≡ sight_at (reader_in live.now.tables (Some reader)) at stamped.now }
+{
+    let mine = reader == stamped.maker;
+    let by = live.standing(&Some(reader), &Some(paper));
+    Sighting {
+        paper: Some(paper),
+        by: shows_maker(&by).then_some(stamped.maker),
+        title: shows_title(&by, mine, is_last).then_some(title),
+        abstract_: shows_abstract(&by, mine, is_last).then_some(abstract_),
+        ..blank(EntryKind::Submitted, mine)
+    }
+}
+
+/// What a conflict with these parts shows her: all of it, or nothing where she isn't told of it.
+fn conflict<'a>(
+    live: &Live,
+    reader: UserNo,
+    stamped: &'a Stamped,
+    paper: PaperNo,
+    user: UserNo,
+    on: bool,
+) -> Option<Sighting<'a>>
+    requires { stamped.now.entry ≡ Conflict paper user on }
+    ensures { (at : Place) → listed result ≡ sight_at (reader_in live.now.tables (Some reader)) at stamped.now }
+{
+    if !tells_conflict(live, reader, stamped.maker, user, paper) {
+        return None;
+    }
+    Some(Sighting {
+        paper: Some(paper),
+        user: Some(user),
+        on: Some(on),
+        ..blank(EntryKind::Conflict, reader == stamped.maker)
+    })
 }
 
 /// What an entry shows a user by the tables of the whole history, and none where it shows her nothing. `is_last`
@@ -176,26 +224,7 @@ pub fn sight<'a>(
             paper,
             title,
             abstract_,
-        } => {
-            let by = live.standing(&Some(reader), &Some(*paper));
-            Some(Sighting {
-                paper: Some(*paper),
-                by: shows_maker(&by).then_some(stamped.maker),
-                title: shows_title(&by, mine, is_last).then_some(title),
-                abstract_: shows_abstract(&by, mine, is_last).then_some(abstract_),
-                ..blank(EntryKind::Submitted, mine)
-            })
-        }
-        Entry::Conflict { paper, user, on } => {
-            if !tells_conflict(live, reader, stamped.maker, *user, *paper) {
-                return None;
-            }
-            Some(Sighting {
-                paper: Some(*paper),
-                user: Some(*user),
-                on: Some(*on),
-                ..blank(EntryKind::Conflict, mine)
-            })
-        }
+        } => Some(submission(live, reader, stamped, is_last, *paper, title, abstract_)),
+        Entry::Conflict { paper, user, on } => conflict(live, reader, stamped, *paper, *user, *on),
     }
 }
