@@ -38,8 +38,7 @@ pub enum Rule {
     NotMember,
     /// The caller is in conflict with the paper.
     Conflict,
-    /// The paper was withdrawn. No entry withdraws one yet, so no request breaks this rule; the tables' calls
-    /// that ask it are told by their caller.
+    /// The paper was withdrawn. No entry withdraws one yet, so no request breaks this rule.
     Withdrawn,
     /// The user named is an author of the paper, and stays in conflict with it.
     AuthorConflict,

@@ -127,7 +127,9 @@ impl Live {
         let by = self.standing(&Some(maker), paper);
         // No entry withdraws a paper yet.
         let withdrawn = false;
-        let kept = self.ties.judge_conflict(&by, maker, paper, &target, on, withdrawn);
+        let kept = self
+            .ties
+            .judge_conflict(&by, maker, paper, &target, on, withdrawn);
         kept.and(Ok(Draw::Conflict {
             maker,
             paper: *number,

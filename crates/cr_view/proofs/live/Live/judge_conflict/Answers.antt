@@ -1,4 +1,4 @@
-use Rattle.std.proofs.Common.{Bool, false, ◌≡◌, sym, ◌∙◌, ap}
+use Rattle.std.proofs.Common.{false, ◌≡◌, sym, ◌∙◌, ap}
 use Rattle.std.specs.Prelude.{is_some}
 use Rattle.std.specs.Option.{option_map}
 use Rattle.cr_base.specs.Lists.{at_some}
