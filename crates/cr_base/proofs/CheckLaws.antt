@@ -1,7 +1,7 @@
 -- What a list of checks answers.
-use Rattle.std.proofs.Common.{Bool, true, false, cond, ◌≡◌, List, [], ◌∷◌, refl, ap, Result, Ok, Err}
+use Rattle.std.proofs.Common.{Bool, true, false, cond, ◌≡◌, List, [], ◌∷◌, ◌++◌, refl, ap, Result, Ok, Err}
 use Rattle.cr_base.specs.declared.reply.Rule.{Rule}
-use Rattle.cr_base.specs.Checks.{Check, judged}
+use Rattle.cr_base.specs.Checks.{Check, ◌breaks◌, judged}
 
 -- none of the checks is broken
 abbrev pub NoneBroken : List Check → Type 0
@@ -34,3 +34,16 @@ judged-Err {A} {B} (check ∷ checks) x y rule h = by check.broken h (judged-Err
     by : (b : Bool) → ◌≡◌ {A = Result A Rule} (cond b (Err check.rule) (judged checks x)) (Err rule) → (◌≡◌ {A = Result A Rule} (judged checks x) (Err rule) → ◌≡◌ {A = Result B Rule} (judged checks y) (Err rule)) → ◌≡◌ {A = Result B Rule} (cond b (Err check.rule) (judged checks y)) (Err rule)
     by true h rest = let e : check.rule ≡ rule = cc in ap (λ (r : Rule). Err r) e
     by false h rest = rest h
+
+-- a check is asked only where none of those before it is broken: so where it stands alike then, the answer is the same
+pub asked-behind : {A : Type 0} (before : List Check) (v w : Bool) (rule : Rule) (rest : List Check) (drawn : A) → (NoneBroken before → v ≡ w)
+    → judged (before ++ (v breaks rule ∷ rest)) drawn ≡ judged (before ++ (w breaks rule ∷ rest)) drawn
+asked-behind [] v w rule rest drawn same = ap (λ (b : Bool). judged (b breaks rule ∷ rest) drawn) (same tt)
+asked-behind {A} (check ∷ before) v w rule rest drawn same = by check.broken (λ is. asked-behind before v w rule rest drawn (λ none. same (is, none)))
+  where
+    after : Bool → Result A Rule
+    after b = judged (before ++ (b breaks rule ∷ rest)) drawn
+
+    by : (b : Bool) → (b ≡ false → after v ≡ after w) → ◌≡◌ {A = Result A Rule} (cond b (Err check.rule) (after v)) (cond b (Err check.rule) (after w))
+    by true deeper = refl
+    by false deeper = deeper refl

@@ -69,7 +69,7 @@ module _ (t : Tables) (within : AreWithin (paper_count t.papers) t.ties) (maker 
       let facts : Facts = facts_of_tables t (Some maker) in
       let target : Option ℕ = user_among (lines_of t.accounts) name in
       let k = judged-Ok
-      (conflict_checks (standing_at t (Some maker) paper) (paper_named facts paper) (target_named facts (shown_in_tables t) (Some maker) paper target) on)
+      (conflict_checks (standing_at t (Some maker) paper) (paper_named facts (shown_in_tables t) paper) (target_named facts (shown_in_tables t) (Some maker) paper target) on)
       (conflict_drawn maker (unwrap_or paper 0) (unwrap_or target 0) on) drawn accepted in
       let there = paper_within t.papers.papers paper k.0.0 in
       subst (λ (d : Drawn). FitInTurn t d.group) k.1 (record { accounts = target-in t target _ k.0.1.0; papers = there; ties = tt }, tt)

@@ -7,9 +7,9 @@ use Rattle.cr_base.specs.declared.page.Page.{Page}
 use Rattle.cr_base.specs.declared.reply.Reply.{Reply}
 use Rattle.cr_base.specs.declared.reply.Reply.TheVariants as replies
 use Rattle.cr_base.specs.declared.reply.Rule.{Rule}
-use Rattle.cr_base.specs.Checks.{Check, judged, page_checks}
+use Rattle.cr_base.specs.Checks.{Check, judged, of_there, page_checks}
 use Rattle.cr_base.specs.Page.{page_of}
-use Rattle.cr_base.specs.Sources.{Facts, Shown, names_in, name_in, paper_named, maker_of, facts_of_tables, shown_in_tables}
+use Rattle.cr_base.specs.Sources.{Facts, Shown, names_in, name_in, has_paper, maker_of, facts_of_tables, shown_in_tables}
 use Rattle.cr_base.specs.Tables.{Tables}
 
 -- the rules of a query
@@ -17,7 +17,7 @@ abbrev pub query_checks : Facts → Query → List Check
 query_checks facts queries.Accounts = []
 query_checks facts queries.Phase = []
 query_checks facts queries.Me = []
-query_checks facts (queries.Page paper) = page_checks (facts.standing paper) (paper_named facts paper)
+query_checks facts (queries.Page paper) = page_checks (facts.standing paper) (of_there (has_paper facts paper))
 
 -- the page of a paper that is there
 abbrev pub page_by : Facts → Shown → ℕ → Page

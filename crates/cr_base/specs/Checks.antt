@@ -29,9 +29,14 @@ judged (check ∷ checks) drawn = if check.broken then Err check.rule else judge
 
 -- ---- what is named
 
--- what the rules ask of the paper that a command or a query names: whether it is there
+-- what the rules ask of the paper that a command or a query names: whether it is there, and withdrawn
 pub record NamedPaper : Type 0 where
   pub there : Bool
+  pub withdrawn : Bool
+
+-- what is asked of a paper, where no rule asks for more than whether it is there
+abbrev pub of_there : Bool → NamedPaper
+of_there there = record { there = there; withdrawn = false }
 
 -- what is asked of a user, where no rule asks for more than her role
 abbrev pub of_role : Role → Target
@@ -92,30 +97,33 @@ mode_checks by now =
     ∷ not (is_phase now Setup) breaks rules.WrongPhase
     ∷ []
 
--- ---- conflict
+-- ---- conflict: each list is of a paper that is there, and reads whether it is withdrawn
 
 -- it is bidding or later, and no later than the discussion
 abbrev pub is_in_committee : Phase → Bool
 is_in_committee phase = is_from Bidding phase && not (is_from Notification phase)
 
 -- on, in setup or submission: authors declare members
-abbrev pub declare_checks : Standing → Target → List Check
-declare_checks by target =
+abbrev pub declare_checks : Standing → Bool → Target → List Check
+declare_checks by withdrawn target =
     not by.author breaks rules.NotAuthor
+    ∷ withdrawn breaks rules.Withdrawn
     ∷ not (is_member target.role) breaks rules.NotAMember
     ∷ []
 
 -- on, from bidding to discussion: members declare themselves
-abbrev pub own_checks : Standing → List Check
-own_checks by =
+abbrev pub own_checks : Standing → Bool → List Check
+own_checks by withdrawn =
     not (is_member by.role) breaks rules.NotMember
+    ∷ withdrawn breaks rules.Withdrawn
     ∷ []
 
 -- on, from bidding to discussion: clear chairs declare other members
-abbrev pub other_checks : Standing → Target → List Check
-other_checks by target =
+abbrev pub other_checks : Standing → Bool → Target → List Check
+other_checks by withdrawn target =
     not (is_chair by.role) breaks rules.NotChair
     ∷ by.conflicted breaks rules.Conflict
+    ∷ withdrawn breaks rules.Withdrawn
     ∷ not (is_member target.role) breaks rules.NotAMember
     ∷ []
 
@@ -126,29 +134,30 @@ late_checks =
     ∷ []
 
 -- off: clear chairs, of members who are no authors
-abbrev pub off_checks : Standing → Target → List Check
-off_checks by target =
+abbrev pub off_checks : Standing → Bool → Target → List Check
+off_checks by withdrawn target =
     not (is_chair by.role) breaks rules.NotChair
     ∷ by.conflicted breaks rules.Conflict
     ∷ not (is_in_committee by.phase) breaks rules.WrongPhase
+    ∷ withdrawn breaks rules.Withdrawn
     ∷ not (is_member target.role) breaks rules.NotAMember
     ∷ target.author breaks rules.AuthorConflict
     ∷ []
 
 -- which of the five lists it is: on or off, bidding or later, and after the discussion
-abbrev pub conflict_case : Bool → Bool → Bool → Standing → Target → List Check
-conflict_case false bidding late by target = off_checks by target
-conflict_case true false late by target = declare_checks by target
-conflict_case true true true by target = late_checks
-conflict_case true true false by target = if target.herself then own_checks by else other_checks by target
+abbrev pub conflict_case : Bool → Bool → Bool → Standing → Bool → Target → List Check
+conflict_case false bidding late by withdrawn target = off_checks by withdrawn target
+conflict_case true false late by withdrawn target = declare_checks by withdrawn target
+conflict_case true true true by withdrawn target = late_checks
+conflict_case true true false by withdrawn target = if target.herself then own_checks by withdrawn else other_checks by withdrawn target
 
 -- on: by the phase
-abbrev pub on_checks : Standing → Target → List Check
-on_checks by target = conflict_case true (is_from Bidding by.phase) (is_from Notification by.phase) by target
+abbrev pub on_checks : Standing → Bool → Target → List Check
+on_checks by withdrawn target = conflict_case true (is_from Bidding by.phase) (is_from Notification by.phase) by withdrawn target
 
 -- conflict: the caller's standing at the paper, the paper, the user named, if there is one, and whether it is turned on
 abbrev pub conflict_checks : Standing → NamedPaper → Option Target → Bool → List Check
 conflict_checks by paper target on =
     not paper.there breaks rules.NoPaper
     ∷ is_none target breaks rules.NoUser
-    ∷ about target (λ (user : Target). conflict_case on (is_from Bidding by.phase) (is_from Notification by.phase) by user)
+    ∷ about target (λ (user : Target). conflict_case on (is_from Bidding by.phase) (is_from Notification by.phase) by paper.withdrawn user)

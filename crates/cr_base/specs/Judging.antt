@@ -21,7 +21,7 @@ name_judged facts caller target name role =
 abbrev pub conflict_judged : Facts → Shown → Option ℕ → Option ℕ → Option ℕ → Bool → Result Drawn Rule
 conflict_judged facts shown caller paper target on =
     judged
-    (conflict_checks (facts.standing paper) (paper_named facts paper) (target_named facts shown caller paper target) on)
+    (conflict_checks (facts.standing paper) (paper_named facts shown paper) (target_named facts shown caller paper target) on)
     (conflict_drawn (maker_of caller) (unwrap_or paper 0) (unwrap_or target 0) on)
 
 -- the first broken rule of a command's list, or what it adds and its receipt

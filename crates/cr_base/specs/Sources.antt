@@ -1,6 +1,6 @@
 -- What rules and answers read, over a record of facts and one of what is shown of a paper: filled by a view they make
 -- Judge and Answer, filled by the tables they make RoleAnswer.
-use Rattle.std.specs.Prelude.{ℕ, Bool, ◌==◌, List, Option, find, unwrap_or}
+use Rattle.std.specs.Prelude.{ℕ, Bool, false, ◌==◌, List, Option, find, unwrap_or}
 use Rattle.std.specs.Option.{option_map, option_and_then}
 use Rattle.std.specs.List.{flat_map, list_any}
 use Rattle.std.specs.Str.{bytes_eq}
@@ -25,13 +25,14 @@ pub record Facts : Type 0 where
   pub own_papers : ℕ
 
 -- what pages, and some rules, tell of a paper beside the standing: its texts, its authors, who is declared in conflict
--- with it, and whom its authors declared, both by user number
+-- with it, and whom its authors declared, both by user number; and whether it is withdrawn
 pub record Shown : Type 0 where
   pub title : ℕ → Option (List ℕ)
   pub abstract_ : ℕ → Option (List ℕ)
   pub authors : ℕ → List ℕ
   pub conflicts : ℕ → List ℕ
   pub declared : ℕ → List ℕ
+  pub withdrawn : ℕ → Bool
 
 -- how a user stands, by the tables
 abbrev pub standing_at : Tables → Option ℕ → Option ℕ → Standing
@@ -52,6 +53,11 @@ facts_of_tables t u = record {
   own_papers = own_count t.papers u;
 }
 
+-- No entry withdraws a paper yet, so that none is withdrawn holds by a view and by the tables alike, which both read it
+-- here; with such an entry each gets its own, and this goes.
+abbrev pub none_withdrawn : ℕ → Bool
+none_withdrawn paper = false
+
 abbrev pub shown_in_tables : Tables → Shown
 shown_in_tables t = record {
   title = title_at t.papers;
@@ -59,6 +65,7 @@ shown_in_tables t = record {
   authors = authors_in t.ties;
   conflicts = λ p. users_of p t.ties.conflicts;
   declared = λ p. users_of p t.ties.declared;
+  withdrawn = none_withdrawn;
 }
 
 -- who makes the entries of a caller's command: nobody makes any but a registration
@@ -88,8 +95,8 @@ abbrev pub has_paper : Facts → Option ℕ → Bool
 has_paper facts paper = at_some (λ p. list_any (λ q. q == p) facts.papers) paper
 
 -- the paper named, and the user named, if she has registered, as the rules ask of them
-abbrev pub paper_named : Facts → Option ℕ → NamedPaper
-paper_named facts paper = record { there = has_paper facts paper }
+abbrev pub paper_named : Facts → Shown → Option ℕ → NamedPaper
+paper_named facts shown paper = record { there = has_paper facts paper; withdrawn = at_some shown.withdrawn paper }
 
 abbrev pub target_named : Facts → Shown → Option ℕ → Option ℕ → Option ℕ → Option Target
 target_named facts shown caller paper user =

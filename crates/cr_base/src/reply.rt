@@ -38,6 +38,8 @@ pub enum Rule {
     NotMember,
     /// The caller is in conflict with the paper.
     Conflict,
+    /// The paper was withdrawn. No entry withdraws one yet, so no request breaks this rule.
+    Withdrawn,
     /// The user named is an author of the paper, and stays in conflict with it.
     AuthorConflict,
 }

@@ -156,7 +156,7 @@ module _ (t : Tables) (user : ℕ) (known : is_known t (Some user) ≡ true) (dr
 
   abbrev checks : Option ℕ → Option ℕ → Bool → List Check
   checks paper target on =
-      conflict_checks (standing_at t (Some user) paper) (paper_named (facts_of_tables t (Some user)) paper) (target_named (facts_of_tables t (Some user)) (shown_in_tables t) (Some user) paper target) on
+      conflict_checks (standing_at t (Some user) paper) (paper_named (facts_of_tables t (Some user)) (shown_in_tables t) paper) (target_named (facts_of_tables t (Some user)) (shown_in_tables t) (Some user) paper target) on
 
   conflict-told : (paper : Option ℕ) (name : Option (List ℕ)) (on : Bool) → judge_by_role t (Some user) (SetConflict paper name on) ≡ Ok drawn → Told t drawn
   conflict-told None name on accepted =

@@ -5,11 +5,14 @@ ghost use Rattle.cr_base.specs.Checks.{judged, declare_checks, own_checks, other
 use cr_base::{Phase, Rule, Standing, Target};
 
 /// In setup and submission: an author declares a member.
-fn declared(by: &Standing, target: &Target) -> Result<(), Rule>
-    ensures { result ≡ judged (declare_checks by.now target.now) tt }
+fn declared(by: &Standing, withdrawn: bool, target: &Target) -> Result<(), Rule>
+    ensures { result ≡ judged (declare_checks by.now withdrawn target.now) tt }
 {
     if !by.author {
         return Err(Rule::NotAuthor);
+    }
+    if withdrawn {
+        return Err(Rule::Withdrawn);
     }
     if !target.role.is_member() {
         return Err(Rule::NotAMember);
@@ -18,24 +21,30 @@ fn declared(by: &Standing, target: &Target) -> Result<(), Rule>
 }
 
 /// From bidding to discussion: a member declares herself.
-fn own(by: &Standing) -> Result<(), Rule>
-    ensures { result ≡ judged (own_checks by.now) tt }
+fn own(by: &Standing, withdrawn: bool) -> Result<(), Rule>
+    ensures { result ≡ judged (own_checks by.now withdrawn) tt }
 {
     if !by.role.is_member() {
         return Err(Rule::NotMember);
+    }
+    if withdrawn {
+        return Err(Rule::Withdrawn);
     }
     Ok(())
 }
 
 /// From bidding to discussion: a clear chair declares another member.
-fn other(by: &Standing, target: &Target) -> Result<(), Rule>
-    ensures { result ≡ judged (other_checks by.now target.now) tt }
+fn other(by: &Standing, withdrawn: bool, target: &Target) -> Result<(), Rule>
+    ensures { result ≡ judged (other_checks by.now withdrawn target.now) tt }
 {
     if !by.role.is_chair() {
         return Err(Rule::NotChair);
     }
     if by.conflicted {
         return Err(Rule::Conflict);
+    }
+    if withdrawn {
+        return Err(Rule::Withdrawn);
     }
     if !target.role.is_member() {
         return Err(Rule::NotAMember);
@@ -44,24 +53,24 @@ fn other(by: &Standing, target: &Target) -> Result<(), Rule>
 }
 
 /// On: by the phase, and whether the caller names herself.
-pub(crate) fn on(by: &Standing, target: &Target) -> Result<(), Rule>
-    ensures { result ≡ judged (on_checks by.now target.now) tt }
+pub(crate) fn on(by: &Standing, withdrawn: bool, target: &Target) -> Result<(), Rule>
+    ensures { result ≡ judged (on_checks by.now withdrawn target.now) tt }
 {
     if !by.phase.is_from(Phase::Bidding) {
-        return declared(by, target);
+        return declared(by, withdrawn, target);
     }
     if by.phase.is_from(Phase::Notification) {
         return Err(Rule::WrongPhase);
     }
     if target.herself {
-        return own(by);
+        return own(by, withdrawn);
     }
-    other(by, target)
+    other(by, withdrawn, target)
 }
 
 /// Off: a clear chair, of a member who is no author of the paper.
-pub(crate) fn off(by: &Standing, target: &Target) -> Result<(), Rule>
-    ensures { result ≡ judged (off_checks by.now target.now) tt }
+pub(crate) fn off(by: &Standing, withdrawn: bool, target: &Target) -> Result<(), Rule>
+    ensures { result ≡ judged (off_checks by.now withdrawn target.now) tt }
 {
     if !by.role.is_chair() {
         return Err(Rule::NotChair);
@@ -71,6 +80,9 @@ pub(crate) fn off(by: &Standing, target: &Target) -> Result<(), Rule>
     }
     if !by.phase.is_from(Phase::Bidding) || by.phase.is_from(Phase::Notification) {
         return Err(Rule::WrongPhase);
+    }
+    if withdrawn {
+        return Err(Rule::Withdrawn);
     }
     if !target.role.is_member() {
         return Err(Rule::NotAMember);

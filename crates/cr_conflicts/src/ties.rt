@@ -154,12 +154,14 @@ impl Ties {
 
     /// Whether the caller may turn this user's conflict with this paper on or off, or the first broken
     /// rule. `by` is her standing at the paper, `maker` her number; `paper` is none where there is no
-    /// such paper, `target` none where there is no such user. One binary search at most.
+    /// such paper, `target` none where there is no such user. Whether the paper is withdrawn stands in
+    /// none of the ties. One binary search at most.
     ///
-    /// First come `NoPaper` and `NoUser`. On, before the bidding: `NotAuthor`, `NotAMember`; from the
-    /// bidding to the discussion, of herself: `NotMember`, of another: `NotChair`, `Conflict` where she
-    /// is in conflict with the paper herself, `NotAMember`; later: `WrongPhase`. Off: `NotChair`,
-    /// `Conflict`, `WrongPhase`, `NotAMember`, `AuthorConflict`.
+    /// First come `NoPaper` and `NoUser`. On, before the bidding: `NotAuthor`, `Withdrawn`, `NotAMember`;
+    /// from the bidding to the discussion, of herself: `NotMember`, `Withdrawn`, of another: `NotChair`,
+    /// `Conflict` where she is in conflict with the paper herself, `Withdrawn`, `NotAMember`; later:
+    /// `WrongPhase`. Off: `NotChair`, `Conflict`, `WrongPhase`, `Withdrawn`, `NotAMember`,
+    /// `AuthorConflict`.
     pub fn judge_conflict(
         &self,
         by: &Standing,
@@ -167,8 +169,9 @@ impl Ties {
         paper: &Option<PaperNo>,
         target: &Option<(UserNo, Role)>,
         on: bool,
+        withdrawn: bool,
     ) -> Result<(), Rule>
-        ensures { result ≡ judged (conflict_checks by.now (record { there = is_some paper.now }) (target_of self.now.ties maker paper.now target.now) on) tt }
+        ensures { result ≡ judged (conflict_checks by.now (record { there = is_some paper.now; withdrawn = withdrawn }) (target_of self.now.ties maker paper.now target.now) on) tt }
     {
         let Some(paper) = paper else {
             return Err(Rule::NoPaper);
@@ -182,9 +185,9 @@ impl Ties {
             author: self.is_author(*user, *paper),
         };
         if on {
-            judging::on(by, &target)
+            judging::on(by, withdrawn, &target)
         } else {
-            judging::off(by, &target)
+            judging::off(by, withdrawn, &target)
         }
     }
 }

@@ -108,21 +108,21 @@ module _ (H : History) (maker paper user : ℕ) where
   abbrev named : Role → Bool → Bool → Target
   named role herself author = record { role = role; herself = herself; author = author }
 
-  case-ruled : (on bidding after : Bool) (role : Role) (herself author : Bool) → begun ≡ bidding → late ≡ after → role ≡ role_of (Some user) H → eqb user maker ≡ herself
-      → NoneBroken (conflict_case on bidding after by_maker (named role herself author)) → IsRuled H maker (Conflict paper user on)
-  case-ruled false bidding after role herself author b l r h none =
+  case-ruled : (on bidding after withdrawn : Bool) (role : Role) (herself author : Bool) → begun ≡ bidding → late ≡ after → role ≡ role_of (Some user) H → eqb user maker ≡ herself
+      → NoneBroken (conflict_case on bidding after by_maker withdrawn (named role herself author)) → IsRuled H maker (Conflict paper user on)
+  case-ruled false bidding after withdrawn role herself author b l r h none =
       let now = and_parts begun (not late) (not-false (begun && not late) none.1.1.0) in
-      conflict-ruled false (not-true late now.1) (ap is_member (sym r) ∙ not-false (is_member role) none.1.1.1.0)
+      conflict-ruled false (not-true late now.1) (ap is_member (sym r) ∙ not-false (is_member role) none.1.1.1.1.0)
       (clear-right begun (eqb user maker) false (is_chair by_maker.role) by_maker.conflicted by_maker.author now.0 (not-false (is_chair by_maker.role) none.0) none.1.0)
-  case-ruled true false after role herself author b l r h none =
-      conflict-ruled true (not_late (phase_of H) b) (ap is_member (sym r) ∙ not-false (is_member role) none.1.0)
+  case-ruled true false after withdrawn role herself author b l r h none =
+      conflict-ruled true (not_late (phase_of H) b) (ap is_member (sym r) ∙ not-false (is_member role) none.1.1.0)
       (author-right begun (eqb user maker) (is_chair by_maker.role) by_maker.conflicted by_maker.author b (not-false by_maker.author none.0))
-  case-ruled true true true role herself author b l r h none = absurd (true≢false none.0)
-  case-ruled true true false role true author b l r h none =
+  case-ruled true true true withdrawn role herself author b l r h none = absurd (true≢false none.0)
+  case-ruled true true false withdrawn role true author b l r h none =
       conflict-ruled true l (ap (λ n. is_member (role_of (Some n) H)) (eqb-true user maker h) ∙ not-false (is_member by_maker.role) none.0)
       (own-right begun (eqb user maker) (is_chair by_maker.role) by_maker.conflicted by_maker.author b h)
-  case-ruled true true false role false author b l r h none =
-      conflict-ruled true l (ap is_member (sym r) ∙ not-false (is_member role) none.1.1.0)
+  case-ruled true true false withdrawn role false author b l r h none =
+      conflict-ruled true l (ap is_member (sym r) ∙ not-false (is_member role) none.1.1.1.0)
       (clear-right begun (eqb user maker) true (is_chair by_maker.role) by_maker.conflicted by_maker.author b (not-false (is_chair by_maker.role) none.0) none.1.0)
 
 -- ---- all commands
@@ -145,7 +145,7 @@ module _ (H : History) (maker : ℕ) (shown : Shown) (registered : IsRegistered 
   standing = standing_of (Some maker) None H
 
   abbrev checks : Option ℕ → Option ℕ → Bool → List Check
-  checks paper target on = conflict_checks (standing_of (Some maker) paper H) (paper_named facts paper) (target_named facts shown (Some maker) paper target) on
+  checks paper target on = conflict_checks (standing_of (Some maker) paper H) (paper_named facts shown paper) (target_named facts shown (Some maker) paper target) on
 
   conflict-ruled_for : (paper target : Option ℕ) (on : Bool) → NoneBroken (checks paper target on) → IsRuled H maker (Conflict (unwrap_or paper 0) (unwrap_or target 0) on)
   conflict-ruled_for None target on none = absurd (true≢false none.0)
@@ -158,11 +158,11 @@ module _ (H : History) (maker : ℕ) (shown : Shown) (registered : IsRegistered 
       found : Option Role → Option Target
       found role = option_map (λ (r : Role). record { role = r; herself = eqb v maker; author = author }) role
 
-      by : (role : Option Role) → role_among facts.accounts (Some v) ≡ role → NoneBroken (conflict_checks (standing_of (Some maker) (Some p) H) (paper_named facts (Some p)) (found role) on) → IsRuled H maker (Conflict p v on)
+      by : (role : Option Role) → role_among facts.accounts (Some v) ≡ role → NoneBroken (conflict_checks (standing_of (Some maker) (Some p) H) (paper_named facts shown (Some p)) (found role) on) → IsRuled H maker (Conflict p v on)
       by None is none = absurd (true≢false none.1.0)
       by (Some role) is none =
           let held : role ≡ role_of (Some v) H = ap (λ (o : Option Role). unwrap_or o Account) (sym is) ∙ role-among H (Some v) (ap is_none is) in
-          case-ruled H maker p v on (is_from Bidding (phase_of H)) (is_from Notification (phase_of H)) role (eqb v maker) author refl refl held refl none.1.1
+          case-ruled H maker p v on (is_from Bidding (phase_of H)) (is_from Notification (phase_of H)) (shown.withdrawn p) role (eqb v maker) author refl refl held refl none.1.1
 
   pub command-adds : (command : Command) (drawn : Drawn) → IsBoundedCommand command → judge_by facts shown (Some maker) command ≡ Ok drawn → Adds H drawn.group
   command-adds (Register name digest) drawn bounded accepted = registration-adds H (Some maker) facts shown name digest drawn bounded accepted

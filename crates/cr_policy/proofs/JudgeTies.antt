@@ -1,8 +1,9 @@
 -- Where each entry fits in its turn, judgement by a view is that by the tables.
-use Rattle.std.proofs.Common.{ℕ, Bool, true, false, cond, ◌≡◌, [], ◌∷◌, refl, ap, ◌∙◌, ◌||◌, ◌&&◌, arith, Option, Some, None, Result, Err}
+use Rattle.std.proofs.Common.{ℕ, Bool, true, false, cond, ◌≡◌, List, [], ◌∷◌, refl, ap, ◌∙◌, ◌||◌, ◌&&◌, arith, Option, Some, None, Result, Err}
 use Rattle.std.specs.Prelude.{unwrap_or, not}
 use Rattle.std.specs.List.{list_any}
 use Rattle.std.specs.Option.{option_map}
+use Rattle.std.proofs.lemmas.Bool.{and_parts, not-false, or_left, or_right}
 use Rattle.cr_base.specs.declared.command.Command.{Command}
 use Rattle.cr_base.specs.declared.command.Command.TheVariants.{SetConflict}
 use Rattle.cr_base.specs.declared.reply.Rule.{Rule}
@@ -11,16 +12,18 @@ use Rattle.cr_base.specs.declared.standing.Standing.{Standing}
 use Rattle.cr_base.specs.declared.target.Target.{Target}
 use Rattle.cr_base.specs.declared.words.Phase.TheVariants.{Bidding, Notification}
 use Rattle.cr_base.specs.declared.words.Role.{Role}
-use Rattle.cr_base.specs.Checks.{◌breaks◌, judged, off_checks, conflict_case, conflict_checks}
+use Rattle.cr_base.specs.declared.words.Role.TheVariants.{Account, Member, Chair}
+use Rattle.cr_base.specs.Checks.{Check, ◌breaks◌, judged, is_in_committee, declare_checks, own_checks, other_checks, off_checks, conflict_case, conflict_checks}
 use Rattle.cr_base.specs.Lists.{is_number}
 use Rattle.cr_base.specs.History.{History}
-use Rattle.cr_base.specs.Page.{shows_author}
+use Rattle.cr_base.specs.Page.{bare_keys, shows_author}
 use Rattle.cr_base.specs.Phases.{is_from}
 use Rattle.cr_base.specs.Tables.{no_tables, tables_of, FitInTurn}
 use Rattle.cr_base.specs.Words.{is_anonymous, is_member, is_chair}
 use Rattle.cr_base.specs.Drawn.{Drawn, conflict_drawn}
 use Rattle.cr_base.specs.Judging.{conflict_judged, judge_by, judge_by_role}
 use Rattle.cr_base.specs.Sources.{Facts, Shown, maker_of, user_among, role_among, has_paper, paper_named, facts_of_tables, shown_in_tables}
+use Rattle.cr_base.proofs.CheckLaws.{asked-behind}
 use Rattle.cr_policy.specs.View.{view}
 use Rattle.cr_policy.specs.ViewFacts.{shown_in_view}
 use Rattle.cr_policy.specs.Judge.{judge}
@@ -32,32 +35,121 @@ use Rattle.cr_policy.proofs.FactTies.{facts_in_view-tables, authors-tables}
 abbrev named : Role → Bool → Bool → Target
 named role herself author = record { role = role; herself = herself; author = author }
 
--- whether the user named is an author is asked only after the rules that stand before have let through one whom the view
--- shows who is
-off-same : (by : Standing) (role : Role) (herself x y : Bool) (drawn : Drawn) → (shows_author by false ≡ true → x ≡ y) → judged (off_checks by (named role herself x)) drawn ≡ judged (off_checks by (named role herself y)) drawn
-off-same by role herself x y drawn same = clear (is_chair by.role) by.conflicted (is_from Bidding by.phase) (not (is_from Notification by.phase)) (not (is_member role)) refl refl refl
-  where
-    shown : (a chair conflicted begun m n : Bool) → chair ≡ true → conflicted ≡ false → begun ≡ true → (a || ((chair && not conflicted) && begun) || ((m && not conflicted) && n && begun) || false) ≡ true
-    shown a chair conflicted begun m n h1 h2 h3 = grind arith
+module _ (by : Standing) (drawn : Drawn) where
+  -- these lists of checks give the same answer
+  abbrev Alike : List Check → List Check → Type 0
+  Alike left right = ◌≡◌ {A = Result Drawn Rule} (judged left drawn) (judged right drawn)
 
-    clear : (chair conflicted begun still member : Bool) → is_chair by.role ≡ chair → by.conflicted ≡ conflicted → is_from Bidding by.phase ≡ begun
-        → judged (not chair breaks rules.NotChair ∷ conflicted breaks rules.Conflict ∷ not (begun && still) breaks rules.WrongPhase ∷ member breaks rules.NotAMember ∷ x breaks rules.AuthorConflict ∷ []) drawn
-        ≡ judged (not chair breaks rules.NotChair ∷ conflicted breaks rules.Conflict ∷ not (begun && still) breaks rules.WrongPhase ∷ member breaks rules.NotAMember ∷ y breaks rules.AuthorConflict ∷ []) drawn
-    clear false conflicted begun still member h1 h2 h3 = refl
-    clear true true begun still member h1 h2 h3 = refl
-    clear true false false still member h1 h2 h3 = refl
-    clear true false true still member h1 h2 h3 =
-        ap (λ z. judged (not (true && still) breaks rules.WrongPhase ∷ member breaks rules.NotAMember ∷ z breaks rules.AuthorConflict ∷ []) drawn)
-        (same (shown by.author (is_chair by.role) by.conflicted (is_from Bidding by.phase) (is_member by.role) (not (is_anonymous by.mode)) h1 h2 h3))
+  abbrev begun : Bool
+  begun = is_from Bidding by.phase
 
-case-same : (on bidding late : Bool) (by : Standing) (role : Role) (herself x y : Bool) (drawn : Drawn) → (shows_author by false ≡ true → x ≡ y) → judged (conflict_case on bidding late by (named role herself x)) drawn ≡ judged (conflict_case on bidding late by (named role herself y)) drawn
-case-same false bidding late by role herself x y drawn same = off-same by role herself x y drawn same
-case-same true false late by role herself x y drawn same = refl
-case-same true true true by role herself x y drawn same = refl
-case-same true true false by role herself x y drawn same = refl
+  abbrev still : Bool
+  still = not (is_from Notification by.phase)
 
--- what is shown of a paper matters to a conflict's judgement only where it is shown
-conflict-same : (facts : Facts) (shown tabled : Shown) (u paper target : Option ℕ) (on : Bool) → ((p : ℕ) → shows_author (facts.standing (Some p)) false ≡ true → shown.authors p ≡ tabled.authors p) → conflict_judged facts shown u paper target on ≡ conflict_judged facts tabled u paper target on
+  -- ---- whether the paper is withdrawn
+
+  -- the page of a paper tells her if it is withdrawn
+  abbrev gets_withdrawn : Bool
+  gets_withdrawn = (bare_keys by).withdrawn
+
+  told-author : not by.author ≡ false → gets_withdrawn ≡ true
+  told-author h = or_left by.author (is_member by.role && begun) (not-false by.author h)
+
+  told-member : not (is_member by.role) ≡ false → begun ≡ true → gets_withdrawn ≡ true
+  told-member h b = or_right by.author (is_member by.role && begun) (both (is_member by.role) begun (not-false (is_member by.role) h) b)
+    where
+      both : (x y : Bool) → x ≡ true → y ≡ true → (x && y) ≡ true
+      both true y hx hy = hy
+      both false y hx hy = hx
+
+  told-chair : not (is_chair by.role) ≡ false → begun ≡ true → gets_withdrawn ≡ true
+  told-chair h b = told-member (serves by.role h) b
+    where
+      serves : (role : Role) → not (is_chair role) ≡ false → not (is_member role) ≡ false
+      serves Account h = h
+      serves Member h = refl
+      serves Chair h = refl
+
+  in_committee : not (is_in_committee by.phase) ≡ false → begun ≡ true
+  in_committee h = (and_parts begun still (not-false (begun && still) h)).0
+
+  -- Of each list it is asked only behind rules that have let through one whom the page tells it.
+  declare-withdrawn : (v w : Bool) (user : Target) → (gets_withdrawn ≡ true → v ≡ w) → Alike (declare_checks by v user) (declare_checks by w user)
+  declare-withdrawn v w user same =
+      asked-behind
+      (not by.author breaks rules.NotAuthor ∷ [])
+      v w rules.Withdrawn
+      (not (is_member user.role) breaks rules.NotAMember ∷ []) drawn
+      (λ none. same (told-author none.0))
+
+  own-withdrawn : (v w : Bool) → begun ≡ true → (gets_withdrawn ≡ true → v ≡ w) → Alike (own_checks by v) (own_checks by w)
+  own-withdrawn v w b same =
+      asked-behind
+      (not (is_member by.role) breaks rules.NotMember ∷ [])
+      v w rules.Withdrawn [] drawn
+      (λ none. same (told-member none.0 b))
+
+  other-withdrawn : (v w : Bool) (user : Target) → begun ≡ true → (gets_withdrawn ≡ true → v ≡ w) → Alike (other_checks by v user) (other_checks by w user)
+  other-withdrawn v w user b same =
+      asked-behind
+      (not (is_chair by.role) breaks rules.NotChair ∷ by.conflicted breaks rules.Conflict ∷ [])
+      v w rules.Withdrawn
+      (not (is_member user.role) breaks rules.NotAMember ∷ []) drawn
+      (λ none. same (told-chair none.0 b))
+
+  off-withdrawn : (v w : Bool) (user : Target) → (gets_withdrawn ≡ true → v ≡ w) → Alike (off_checks by v user) (off_checks by w user)
+  off-withdrawn v w user same =
+      asked-behind
+      (not (is_chair by.role) breaks rules.NotChair ∷ by.conflicted breaks rules.Conflict
+      ∷ not (is_in_committee by.phase) breaks rules.WrongPhase ∷ [])
+      v w rules.Withdrawn
+      (not (is_member user.role) breaks rules.NotAMember ∷ user.author breaks rules.AuthorConflict ∷ []) drawn
+      (λ none. same (told-chair none.0 (in_committee none.1.1.0)))
+
+  case-withdrawn : (on bidding late herself : Bool) (role : Role) (author v w : Bool) → begun ≡ bidding → (gets_withdrawn ≡ true → v ≡ w)
+      → Alike (conflict_case on bidding late by v (named role herself author)) (conflict_case on bidding late by w (named role herself author))
+  case-withdrawn false bidding late herself role author v w b same = off-withdrawn v w (named role herself author) same
+  case-withdrawn true false late herself role author v w b same = declare-withdrawn v w (named role herself author) same
+  case-withdrawn true true true herself role author v w b same = refl
+  case-withdrawn true true false true role author v w b same = own-withdrawn v w b same
+  case-withdrawn true true false false role author v w b same = other-withdrawn v w (named role false author) b same
+
+  -- ---- whether the user named is an author
+
+  shown : (author chair clash b member open_ : Bool) → chair ≡ true → clash ≡ false → b ≡ true
+      → (author || ((chair && not clash) && b) || ((member && not clash) && open_ && b) || false) ≡ true
+  shown author chair clash b member open_ h1 h2 h3 = grind arith
+
+  told-clear_chair : not (is_chair by.role) ≡ false → by.conflicted ≡ false → begun ≡ true → shows_author by false ≡ true
+  told-clear_chair h clear b =
+      shown by.author (is_chair by.role) by.conflicted begun (is_member by.role) (not (is_anonymous by.mode)) (not-false (is_chair by.role) h) clear b
+
+  -- this is asked only behind those that have let through one whom the view shows who is
+  off-author : (withdrawn herself : Bool) (role : Role) (x y : Bool) → (shows_author by false ≡ true → x ≡ y)
+      → Alike (off_checks by withdrawn (named role herself x)) (off_checks by withdrawn (named role herself y))
+  off-author withdrawn herself role x y same =
+      asked-behind
+      (not (is_chair by.role) breaks rules.NotChair ∷ by.conflicted breaks rules.Conflict
+      ∷ not (is_in_committee by.phase) breaks rules.WrongPhase ∷ withdrawn breaks rules.Withdrawn
+      ∷ not (is_member role) breaks rules.NotAMember ∷ [])
+      x y rules.AuthorConflict [] drawn
+      (λ none. same (told-clear_chair none.0 none.1.0 (in_committee none.1.1.0)))
+
+  case-author : (on bidding late withdrawn herself : Bool) (role : Role) (x y : Bool) → (shows_author by false ≡ true → x ≡ y)
+      → Alike (conflict_case on bidding late by withdrawn (named role herself x)) (conflict_case on bidding late by withdrawn (named role herself y))
+  case-author false bidding late withdrawn herself role x y same = off-author withdrawn herself role x y same
+  case-author true false late withdrawn herself role x y same = refl
+  case-author true true true withdrawn herself role x y same = refl
+  case-author true true false withdrawn herself role x y same = refl
+
+-- what two sources show of papers is the same as far as a caller is told it
+record Agree (facts : Facts) (shown tabled : Shown) : Type 0 where
+  withdrawn : (p : ℕ) → (bare_keys (facts.standing (Some p))).withdrawn ≡ true → shown.withdrawn p ≡ tabled.withdrawn p
+  authors : (p : ℕ) → shows_author (facts.standing (Some p)) false ≡ true → shown.authors p ≡ tabled.authors p
+
+-- and matters to a conflict's judgement no further
+conflict-same : (facts : Facts) (shown tabled : Shown) (u paper target : Option ℕ) (on : Bool) → Agree facts shown tabled
+    → conflict_judged facts shown u paper target on ≡ conflict_judged facts tabled u paper target on
 conflict-same facts shown tabled u None target on same = refl
 conflict-same facts shown tabled u (Some p) target on same = by (role_among facts.accounts target)
   where
@@ -67,21 +159,36 @@ conflict-same facts shown tabled u (Some p) target on same = by (role_among fact
     drawn : Drawn
     drawn = conflict_drawn (maker_of u) p (unwrap_or target 0) on
 
+    bidding : Bool
+    bidding = is_from Bidding standing.phase
+
+    late : Bool
+    late = is_from Notification standing.phase
+
+    herself : Bool
+    herself = is_number target (maker_of u)
+
+    wrote : Shown → Bool
+    wrote source = list_any (is_number target) (source.authors p)
+
     judged_by : Shown → Option Role → Result Drawn Rule
-    judged_by source role = judged (conflict_checks standing (paper_named facts (Some p)) (option_map (λ (r : Role). named r (is_number target (maker_of u)) (list_any (is_number target) (source.authors p))) role) on) drawn
+    judged_by source role =
+        judged (conflict_checks standing (paper_named facts source (Some p)) (option_map (λ (r : Role). named r herself (wrote source)) role) on) drawn
 
     by : (role : Option Role) → judged_by shown role ≡ judged_by tabled role
     by None = refl
     by (Some role) =
         ap (λ (row : Result Drawn Rule). cond (not (has_paper facts (Some p))) (Err rules.NoPaper) row)
-        (case-same on (is_from Bidding standing.phase) (is_from Notification standing.phase) standing role (is_number target (maker_of u)) (list_any (is_number target) (shown.authors p)) (list_any (is_number target) (tabled.authors p)) drawn
-        (λ told. ap (list_any (is_number target)) (same p told)))
+        (case-withdrawn standing drawn on bidding late herself role (wrote shown) (shown.withdrawn p) (tabled.withdrawn p) refl (same.withdrawn p)
+        ∙ case-author standing drawn on bidding late (tabled.withdrawn p) herself role (wrote shown) (wrote tabled)
+        (λ told. ap (list_any (is_number target)) (same.authors p told)))
 
 -- by the same facts, what a view shows makes no other judgement than what the tables hold
 judge-shown : (u : Option ℕ) (H : History) (command : Command) → FitInTurn no_tables H → judge_by (facts_of_tables (tables_of H) u) (shown_in_view u (view u H)) u command ≡ judge_by_role (tables_of H) u command
 judge-shown u H (SetConflict paper name on) fits =
     let facts : Facts = facts_of_tables (tables_of H) u in
-    conflict-same facts (shown_in_view u (view u H)) (shown_in_tables (tables_of H)) u paper (user_among facts.accounts name) on (λ p told. authors-tables u H p fits told)
+    conflict-same facts (shown_in_view u (view u H)) (shown_in_tables (tables_of H)) u paper (user_among facts.accounts name) on
+    (record { withdrawn = λ p told. refl; authors = λ p told. authors-tables u H p fits told })
 judge-shown u H command fits = refl
 
 -- so the judgement by any user's view is the one by the tables

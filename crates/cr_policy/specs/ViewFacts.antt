@@ -16,7 +16,7 @@ use Rattle.cr_base.specs.Lists.{listed, last, last_or, is_number, at_some, until
 use Rattle.cr_base.specs.Phases.{is_phase}
 use Rattle.cr_base.specs.Rows.{kind_number}
 use Rattle.cr_base.specs.History.{Registration}
-use Rattle.cr_base.specs.Sources.{Facts, Shown}
+use Rattle.cr_base.specs.Sources.{Facts, Shown, none_withdrawn}
 use Rattle.cr_policy.specs.Sighting.{Sighting}
 use Rattle.cr_policy.specs.View.{View}
 
@@ -207,4 +207,5 @@ shown_in_view u V = record {
   authors = λ p. authors_in_view p V;
   conflicts = λ p. users_where (λ v. is_conflict_on_in_view (Some v) p V) V;
   declared = λ p. users_where (λ v. list_any (λ w. w == v) (declared_in_view u p V)) V;
+  withdrawn = none_withdrawn;
 }

@@ -2,7 +2,7 @@
 use Rattle.std.specs.Prelude.{ℕ, List, Some, codes}
 use Rattle.json.specs.Print.{quoted}
 use Rattle.cr_base.specs.declared.reply.Rule.{Rule as BaseRule}
-use Rattle.cr_base.specs.declared.reply.Rule.TheVariants.{NameTaken, FullAccounts, NotChair, WrongPhase, FullPapers, QuotaPapers, NoPaper, NotMember, NoUser, AlreadyNamed, NotAuthor, NotAMember, Conflict, AuthorConflict}
+use Rattle.cr_base.specs.declared.reply.Rule.TheVariants.{NameTaken, FullAccounts, NotChair, WrongPhase, FullPapers, QuotaPapers, NoPaper, NotMember, NoUser, AlreadyNamed, NotAuthor, NotAMember, Conflict, Withdrawn, AuthorConflict}
 use Rattle.cr_http.specs.declared.refusal.Refusal.{Refusal}
 use Rattle.cr_http.specs.declared.refusal.Refusal.TheVariants.{HeadTooLarge, BadHttp, NoHost, LengthRequired, BadLength, TooLarge}
 use Rattle.cr_print.specs.declared.refused.Refused.{Refused}
@@ -35,6 +35,7 @@ rule_name AlreadyNamed = codes "already_named"
 rule_name NotAuthor = codes "not_author"
 rule_name NotAMember = codes "not_a_member"
 rule_name Conflict = codes "conflict"
+rule_name Withdrawn = codes "withdrawn"
 rule_name AuthorConflict = codes "author_conflict"
 
 unfoldable pub name_of : Refused → List ℕ
@@ -69,6 +70,7 @@ rule_status AlreadyNamed = statuses.Conflict
 rule_status NotAuthor = statuses.Forbidden
 rule_status NotAMember = statuses.Conflict
 rule_status Conflict = statuses.Forbidden
+rule_status Withdrawn = statuses.Conflict
 rule_status AuthorConflict = statuses.Conflict
 
 unfoldable pub status_of : Refused → Status

@@ -55,6 +55,7 @@ fn rule_name(rule: Rule) -> &'static str
         Rule::NotAuthor => "not_author",
         Rule::NotAMember => "not_a_member",
         Rule::Conflict => "conflict",
+        Rule::Withdrawn => "withdrawn",
         Rule::AuthorConflict => "author_conflict",
     }
 }
@@ -105,6 +106,7 @@ fn rule_status(rule: Rule) -> Status
         | Rule::QuotaPapers
         | Rule::AlreadyNamed
         | Rule::NotAMember
+        | Rule::Withdrawn
         | Rule::AuthorConflict => Status::Conflict,
     }
 }

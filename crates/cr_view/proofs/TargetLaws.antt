@@ -11,10 +11,10 @@ use Rattle.cr_base.specs.declared.standing.Standing.{Standing}
 use Rattle.cr_base.specs.declared.target.Target.{Target}
 use Rattle.cr_base.specs.declared.words.Role.{Role}
 use Rattle.cr_base.specs.Accounts.{number_at, role_at, lines_of}
-use Rattle.cr_base.specs.Checks.{Check, judged, of_role, name_checks, conflict_checks}
+use Rattle.cr_base.specs.Checks.{Check, NamedPaper, judged, of_role, name_checks, conflict_checks}
 use Rattle.cr_base.specs.Drawn.{Drawn, naming_drawn, conflict_drawn}
 use Rattle.cr_base.specs.Judging.{name_judged, conflict_judged, judge_by_role}
-use Rattle.cr_base.specs.Sources.{has_paper, paper_named, user_among, standing_at, facts_of_tables, shown_in_tables}
+use Rattle.cr_base.specs.Sources.{has_paper, none_withdrawn, paper_named, user_among, standing_at, facts_of_tables, shown_in_tables}
 use Rattle.cr_base.specs.Lists.{at_some, is_number}
 use Rattle.cr_base.specs.Tables.{Tables}
 use Rattle.cr_base.specs.Ties.{TiesState, authors_in, is_author_in, is_conflicted_in}
@@ -66,7 +66,7 @@ judge-conflict t maker paper name on =
     let target : Option ℕ = target_at t.accounts name in
     let asked : Option Role → Option Target = λ now. option_map (λ (role : Role). record { role = role; herself = is_number target maker; author = at_some (is_author_in t.ties target) paper }) now in
     ap (λ (v : Option ℕ). conflict_judged (facts_of_tables t (Some maker)) (shown_in_tables t) (Some maker) paper v on) (target-among t.accounts name)
-    ∙ ap (λ (now : Option Role). judged (conflict_checks (standing_at t (Some maker) paper) (paper_named (facts_of_tables t None) paper) (asked now) on) (conflict_drawn maker (unwrap_or paper 0) (unwrap_or target 0) on)) (role_among-lines_of t.accounts target)
+    ∙ ap (λ (now : Option Role). judged (conflict_checks (standing_at t (Some maker) paper) (paper_named (facts_of_tables t None) (shown_in_tables t) paper) (asked now) on) (conflict_drawn maker (unwrap_or paper 0) (unwrap_or target 0) on)) (role_among-lines_of t.accounts target)
 
 -- ---- what is drawn
 
@@ -98,21 +98,25 @@ naming-drawn t maker name given user role by kept r is found stands judges told 
     ∙ sym (ap (λ (n : Option (List ℕ)). naming_at t maker n role) is)
 
 -- a conflict, where there are the paper and a user of the name
-pub conflict-drawn : (t : Tables) (maker : ℕ) (paper : Option ℕ) (number : ℕ) (name : Option (List ℕ)) (on found : Bool) (by : Standing) (target : Option (ℕ × Role)) (user : ℕ) (kept : Result (Unit {0}) Rule) (r : Result Draw Rule)
-    → paper ≡ Some number → found ≡ has_paper (facts_of_tables t None) paper → found ≡ true → by ≡ standing_at t (Some maker) paper
+pub conflict-drawn : (t : Tables) (maker : ℕ) (paper : Option ℕ) (number : ℕ) (name : Option (List ℕ)) (on found withdrawn : Bool) (by : Standing) (target : Option (ℕ × Role)) (user : ℕ) (kept : Result (Unit {0}) Rule) (r : Result Draw Rule)
+    → paper ≡ Some number → found ≡ has_paper (facts_of_tables t None) paper → found ≡ true → withdrawn ≡ at_some none_withdrawn paper → by ≡ standing_at t (Some maker) paper
     → option_map (λ (p : ℕ × Role). p.0) target ≡ Some user → option_map (λ (p : ℕ × Role). p.0) target ≡ target_at t.accounts name → option_map (λ (p : ℕ × Role). p.1) target ≡ option_and_then (role_at t.accounts) (target_at t.accounts name)
-    → kept ≡ judged (conflict_checks by (record { there = is_some paper }) (target_of t.ties maker paper target) on) tt → r ≡ result_and kept (Ok (draws.Conflict maker number user on))
+    → kept ≡ judged (conflict_checks by (record { there = is_some paper; withdrawn = withdrawn }) (target_of t.ties maker paper target) on) tt → r ≡ result_and kept (Ok (draws.Conflict maker number user on))
     → drawn_or_rule r ≡ conflict_at t maker paper name on
-conflict-drawn t maker paper number name on found by target user kept r is there held stands known named has judges told =
-    let checks : Standing → Bool → Option Target → List Check = λ s b asked. conflict_checks s (record { there = b }) asked on in
+conflict-drawn t maker paper number name on found withdrawn by target user kept r is there held left stands known named has judges told =
+    let checks : Standing → NamedPaper → Option Target → List Check = λ s p asked. conflict_checks s p asked on in
+    let named_paper : Bool → Bool → NamedPaper = λ there withdrawn. record { there = there; withdrawn = withdrawn } in
+    let given : NamedPaper = named_paper (is_some paper) withdrawn in
+    let due_paper : NamedPaper = paper_named (facts_of_tables t None) (shown_in_tables t) paper in
     let here : Standing = standing_at t (Some maker) paper in
     let asked : Option Target = target_of t.ties maker paper target in
     let draw : Draw = draws.Conflict maker number user on in
     let same : is_some paper ≡ has_paper (facts_of_tables t None) paper = ap is_some is ∙ sym held ∙ there in
-    let due : Option ℕ → Option ℕ → Result Drawn Rule = λ v p. judged (checks here (has_paper (facts_of_tables t None) paper) (asked_at t maker paper (target_at t.accounts name))) (conflict_drawn maker (unwrap_or p 0) (unwrap_or v 0) on) in
-    drawn-and (checks by (is_some paper) asked) draw kept r judges told
-    ∙ ap (λ (s : Standing). judged (checks s (is_some paper) asked) (drawn_by draw)) stands
-    ∙ ap (λ (b : Bool). judged (checks here b asked) (drawn_by draw)) same
-    ∙ ap (λ (a : Option Target). judged (checks here (has_paper (facts_of_tables t None) paper) a) (drawn_by draw)) (target-asked t maker paper target (target_at t.accounts name) named has)
+    let due : Option ℕ → Option ℕ → Result Drawn Rule = λ v p. judged (checks here due_paper (asked_at t maker paper (target_at t.accounts name))) (conflict_drawn maker (unwrap_or p 0) (unwrap_or v 0) on) in
+    drawn-and (checks by given asked) draw kept r judges told
+    ∙ ap (λ (s : Standing). judged (checks s given asked) (drawn_by draw)) stands
+    ∙ ap (λ (b : Bool). judged (checks here (named_paper b withdrawn) asked) (drawn_by draw)) same
+    ∙ ap (λ (b : Bool). judged (checks here (named_paper (has_paper (facts_of_tables t None) paper) b) asked) (drawn_by draw)) left
+    ∙ ap (λ (a : Option Target). judged (checks here due_paper a) (drawn_by draw)) (target-asked t maker paper target (target_at t.accounts name) named has)
     ∙ ap (λ (v : Option ℕ). due v (Some number)) (sym known ∙ named)
     ∙ ap (due (target_at t.accounts name)) (sym is)

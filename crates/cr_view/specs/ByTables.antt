@@ -9,7 +9,7 @@ use Rattle.cr_base.specs.Checks.{judged, of_role, register_checks, submit_checks
 use Rattle.cr_base.specs.Drawn.{Drawn, registration_drawn, submission_drawn, naming_drawn, conflict_drawn}
 use Rattle.cr_base.specs.Lists.{is_number, at_some}
 use Rattle.cr_base.specs.Papers.{paper_count, own_count}
-use Rattle.cr_base.specs.Sources.{standing_at, facts_of_tables, paper_named}
+use Rattle.cr_base.specs.Sources.{standing_at, facts_of_tables, shown_in_tables, paper_named}
 use Rattle.cr_base.specs.Tables.{Tables}
 use Rattle.cr_base.specs.Ties.{is_author_in}
 use Rattle.cr_view.specs.Targets.{target_at}
@@ -43,7 +43,7 @@ asked_at t maker paper user =
 abbrev pub conflict_of : Tables → ℕ → Option ℕ → Option ℕ → Bool → Result Drawn Rule
 conflict_of t maker paper target on =
     judged
-    (conflict_checks (standing_at t (Some maker) paper) (paper_named (facts_of_tables t None) paper) (asked_at t maker paper target) on)
+    (conflict_checks (standing_at t (Some maker) paper) (paper_named (facts_of_tables t None) (shown_in_tables t) paper) (asked_at t maker paper target) on)
     (conflict_drawn maker (unwrap_or paper 0) (unwrap_or target 0) on)
 
 abbrev pub conflict_at : Tables → ℕ → Option ℕ → Option (List ℕ) → Bool → Result Drawn Rule

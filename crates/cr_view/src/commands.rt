@@ -125,7 +125,11 @@ impl Live {
             return Err(Rule::NoUser);
         };
         let by = self.standing(&Some(maker), paper);
-        let kept = self.ties.judge_conflict(&by, maker, paper, &target, on);
+        // No entry withdraws a paper yet.
+        let withdrawn = false;
+        let kept = self
+            .ties
+            .judge_conflict(&by, maker, paper, &target, on, withdrawn);
         kept.and(Ok(Draw::Conflict {
             maker,
             paper: *number,
