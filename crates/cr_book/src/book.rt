@@ -1,7 +1,7 @@
 //! The book: one history, its tables and its keeper.
 ghost use Rattle.std.specs.Prelude.{◌≡◌, ◌≤◌, ◌++◌, ℕ, length, IfOk, IfErr, IsOk, OnOk, OnErr, IfSome, Ok, Err, Some, ◌≢◌};
 ghost use Rattle.cr_base.specs.declared.reply.Rule.{Rule};
-ghost use Rattle.cr_base.specs.Facts.{number_of, caller_of};
+ghost use Rattle.cr_base.specs.HistoryFacts.{number_of, caller_of};
 ghost use Rattle.cr_base.specs.Logins.{query_wants_login};
 ghost use Rattle.cr_base.specs.Tables.{tables_of, FitInTurn};
 ghost use Rattle.cr_policy.specs.Judge.{judge, answer};

@@ -7,7 +7,7 @@ use Rattle.cr_base.specs.declared.entry.Account.{Account}
 use Rattle.cr_base.specs.declared.entry.Entry.{Entry}
 use Rattle.cr_base.specs.declared.entry.Entry.TheVariants.{Registered}
 use Rattle.cr_base.specs.Accounts.{AccountsFit}
-use Rattle.cr_base.specs.Facts.{caller_of}
+use Rattle.cr_base.specs.HistoryFacts.{caller_of}
 use Rattle.cr_base.specs.History.{History, Registration, all_told, registration_told, caller_told}
 use Rattle.cr_base.specs.Lists.{last_from}
 use Rattle.cr_base.specs.Shapes.{InRange, users}

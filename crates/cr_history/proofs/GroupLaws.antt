@@ -17,7 +17,7 @@ use Rattle.cr_base.specs.declared.words.Role.{Role}
 use Rattle.cr_base.specs.declared.words.Role.TheVariants as role
 use Rattle.cr_base.specs.Accounts.{lines_from}
 use Rattle.cr_base.specs.Drawn.{grouped}
-use Rattle.cr_base.specs.Facts.{role_of, accounts_of}
+use Rattle.cr_base.specs.HistoryFacts.{role_of, accounts_of}
 use Rattle.cr_base.specs.History.{History, Registration, all_told, registration_told}
 use Rattle.cr_base.specs.Lists.{numbers_from}
 use Rattle.cr_base.specs.Rows.{IsBoundedEntry}

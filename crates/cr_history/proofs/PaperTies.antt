@@ -10,7 +10,7 @@ use Rattle.cr_base.specs.declared.entry.Stamped.{Stamped}
 use Rattle.cr_base.specs.declared.paper.Paper.{Paper}
 use Rattle.cr_base.specs.Lists.{given, last, last_from, is_number, numbered}
 use Rattle.cr_base.specs.History.{History, all_told, paper_told, own_paper_told, author_told, title_told, abstract_told}
-use Rattle.cr_base.specs.Facts.{papers_of, own_papers_of, authors_of, is_author, title_of, abstract_of}
+use Rattle.cr_base.specs.HistoryFacts.{papers_of, own_papers_of, authors_of, is_author, title_of, abstract_of}
 use Rattle.cr_base.specs.Papers.{PapersState, no_papers, counted, papers_after, paper_numbers, text_at, title_at, abstract_at, own_count, PapersFit}
 use Rattle.cr_base.specs.Ties.{TiesState, ties_after, authors_in, is_author_in}
 use Rattle.cr_base.specs.Tables.{Tables, no_tables, tables_of, FitInTurn}

@@ -11,7 +11,7 @@ use Rattle.cr_base.specs.declared.words.Role.{Role}
 use Rattle.cr_base.specs.declared.words.Role.TheVariants.{Account, Member, Chair}
 use Rattle.cr_base.specs.Lists.{given, is_nothing, is_number}
 use Rattle.cr_base.specs.History.{History, all_told, title_told}
-use Rattle.cr_base.specs.Facts.{phase_of, mode_of, role_of, is_author}
+use Rattle.cr_base.specs.HistoryFacts.{phase_of, mode_of, role_of, is_author}
 use Rattle.cr_base.specs.Phases.{is_from}
 use Rattle.cr_base.specs.Words.{is_anonymous, is_member, is_chair}
 use Rattle.cr_history.proofs.LineTies.{stamp}

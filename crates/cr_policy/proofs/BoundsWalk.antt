@@ -11,7 +11,7 @@ use Rattle.cr_base.specs.declared.entry.Entry.TheVariants.{Submitted}
 use Rattle.cr_base.specs.declared.entry.Stamped.{Stamped}
 use Rattle.cr_base.specs.Lists.{given, is_number}
 use Rattle.cr_base.specs.History.{History, author_told}
-use Rattle.cr_base.specs.Facts.{authors_of, is_author}
+use Rattle.cr_base.specs.HistoryFacts.{authors_of, is_author}
 use Rattle.cr_history.proofs.LineTies.{stamp}
 use Rattle.cr_policy.specs.Sighting.{Sighting}
 use Rattle.cr_policy.specs.Triggers.{reader, Place}

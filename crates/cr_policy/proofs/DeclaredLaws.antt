@@ -9,7 +9,7 @@ use Rattle.cr_base.specs.declared.entry.Stamped.{Stamped}
 use Rattle.cr_base.specs.declared.words.Phase.TheVariants.{Bidding}
 use Rattle.cr_base.specs.Lists.{given, listed, is_number, until, since}
 use Rattle.cr_base.specs.History.{History, opens, declared_told}
-use Rattle.cr_base.specs.Facts.{authors_of, is_author, is_conflict_on, declared_by_authors}
+use Rattle.cr_base.specs.HistoryFacts.{authors_of, is_author, is_conflict_on, declared_by_authors}
 use Rattle.cr_base.specs.Words.{is_chair}
 use Rattle.cr_history.specs.Invariants.{is_opening, ByAuthor, ByHerselfOrOther, Early, Late, DeclaresInTime}
 use Rattle.cr_policy.specs.Part as part

@@ -7,7 +7,7 @@ use Rattle.cr_base.specs.declared.entry.Stamped.{Stamped}
 use Rattle.cr_base.specs.declared.words.Phase.TheVariants.{Bidding}
 use Rattle.cr_base.specs.Lists.{given, is_nothing}
 use Rattle.cr_base.specs.History.{History, author_told, title_told, abstract_told}
-use Rattle.cr_base.specs.Facts.{standing_of, is_author, is_conflict_on, title_of, abstract_of, authors_of}
+use Rattle.cr_base.specs.HistoryFacts.{standing_of, is_author, is_conflict_on, title_of, abstract_of, authors_of}
 use Rattle.cr_base.specs.Page.{gets_title, gets_abstract, shows_author, gets_conflicts}
 use Rattle.cr_policy.specs.Part as part
 use Rattle.cr_policy.specs.Triggers.{reader, user_named, members, clear_members, clear_chairs, unless_anonymous, from, none_in}

@@ -11,7 +11,7 @@ use Rattle.cr_base.specs.declared.standing.Standing.{Standing}
 use Rattle.cr_base.specs.Accounts.{lines_of}
 use Rattle.cr_base.specs.Checks.{judged}
 use Rattle.cr_base.specs.History.{History}
-use Rattle.cr_base.specs.Facts.{standing_of}
+use Rattle.cr_base.specs.HistoryFacts.{standing_of}
 use Rattle.cr_base.specs.Page.{PaperTexts, page_of, where_told, gets_title, gets_abstract, shows_author, gets_conflict, gets_conflicts, gets_declared, bare_keys}
 use Rattle.cr_base.specs.Tables.{Tables, no_tables, tables_of, FitInTurn}
 use Rattle.cr_base.specs.Answering.{query_checks, page_by, reply_or_rule, answer_by, answer_by_role}

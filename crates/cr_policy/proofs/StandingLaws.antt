@@ -11,7 +11,7 @@ use Rattle.cr_base.specs.declared.words.Role.TheVariants.{Account}
 use Rattle.cr_base.specs.declared.reply.AccountLine.{AccountLine}
 use Rattle.cr_base.specs.Lists.{last, last_or, is_number, at_some}
 use Rattle.cr_base.specs.History.{History, Registration, all_told, phase_told, mode_told, paper_told, own_paper_told, author_told, conflict_told, registration_told, role_told, number_told}
-use Rattle.cr_base.specs.Facts.{phase_of, mode_of, role_of, papers_of, own_papers_of, accounts_of, number_of, authors_of, is_author, is_conflict_on, is_conflicted}
+use Rattle.cr_base.specs.HistoryFacts.{phase_of, mode_of, role_of, papers_of, own_papers_of, accounts_of, number_of, authors_of, is_author, is_conflict_on, is_conflicted}
 use Rattle.cr_policy.specs.Part as part
 use Rattle.cr_policy.specs.Triggers.{reader, Place}
 use Rattle.cr_policy.specs.View.{view}

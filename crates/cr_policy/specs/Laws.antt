@@ -5,7 +5,7 @@ use Rattle.cr_base.specs.declared.command.Command.{Command}
 use Rattle.cr_base.specs.declared.command.Query.{Query}
 use Rattle.cr_base.specs.declared.words.Role.TheVariants.{Chair}
 use Rattle.cr_base.specs.History.{History}
-use Rattle.cr_base.specs.Facts.{standing_of, role_of, is_author, is_conflicted, declared_by_authors, accounts_of, papers_of, own_papers_of, number_of}
+use Rattle.cr_base.specs.HistoryFacts.{standing_of, role_of, is_author, is_conflicted, declared_by_authors, accounts_of, papers_of, own_papers_of, number_of}
 use Rattle.cr_base.specs.Tables.{tables_of}
 use Rattle.cr_base.specs.Answering.{answer_by_role}
 use Rattle.cr_base.specs.Judging.{judge_by_role}

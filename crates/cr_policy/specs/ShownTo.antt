@@ -18,7 +18,7 @@ use Rattle.cr_base.specs.declared.words.Role.{Role}
 use Rattle.cr_base.specs.declared.words.Role.TheVariants.{Account, Member, Chair}
 use Rattle.cr_base.specs.Lists.{given, is_number}
 use Rattle.cr_base.specs.History.{History}
-use Rattle.cr_base.specs.Facts.{phase_of, mode_of, role_of, is_author, is_conflict_on}
+use Rattle.cr_base.specs.HistoryFacts.{phase_of, mode_of, role_of, is_author, is_conflict_on}
 use Rattle.cr_base.specs.Rows.{kind_of}
 
 -- ---- who reads

@@ -11,7 +11,7 @@ use Rattle.cr_base.specs.declared.words.Mode.{Mode}
 use Rattle.cr_base.specs.declared.words.Role.{Role}
 use Rattle.cr_base.specs.Lists.{is_nothing, is_number, until}
 use Rattle.cr_base.specs.History.{History, all_told, opens, title_told}
-use Rattle.cr_base.specs.Facts.{phase_of, mode_of, role_of, is_author, is_conflicted}
+use Rattle.cr_base.specs.HistoryFacts.{phase_of, mode_of, role_of, is_author, is_conflicted}
 use Rattle.cr_base.specs.Phases.{is_from}
 use Rattle.cr_base.specs.Words.{is_anonymous, is_member, is_chair}
 use Rattle.cr_policy.specs.Part as part

@@ -8,7 +8,7 @@ use Rattle.std.proofs.lemmas.Slice.Eq.{bytes_eq-Decides}
 use Rattle.cr_base.specs.declared.entry.Entry.{Entry}
 use Rattle.cr_base.specs.declared.entry.Entry.TheVariants.{Registered}
 use Rattle.cr_base.specs.declared.row.Row.{Row}
-use Rattle.cr_base.specs.Facts.{number_of}
+use Rattle.cr_base.specs.HistoryFacts.{number_of}
 use Rattle.cr_base.specs.Lists.{given, last}
 use Rattle.cr_base.specs.History.{History, all_told, number_told}
 use Rattle.cr_base.specs.Rows.{rows_of, IsBoundedEntry}

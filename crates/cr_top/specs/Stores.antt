@@ -4,7 +4,7 @@ use Rattle.std.specs.Prelude.{◌≡◌, ◌≢◌, ◌≤◌, ◌⊎◌, ℕ, L
 use Rattle.std.specs.Option.{option_map}
 use Rattle.cr_base.specs.declared.row.Row.{Row}
 use Rattle.cr_base.specs.History.{History}
-use Rattle.cr_base.specs.Facts.{number_of}
+use Rattle.cr_base.specs.HistoryFacts.{number_of}
 use Rattle.cr_base.specs.Rows.{rows_of}
 use Rattle.cr_ports.specs.Count.{Gains, Rises}
 use Rattle.cr_ports.specs.Shelving.{and_file}

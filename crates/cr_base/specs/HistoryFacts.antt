@@ -1,4 +1,4 @@
--- PublicFacts and Ties: what a history says of the conference, of its papers, and of a user.
+-- Facts of a history: what it says of the conference, of its papers, and of a user.
 use Rattle.std.specs.Prelude.{ℕ, Bool, false, ◌||◌, List, Option, length, map, Some}
 use Rattle.std.specs.List.{flat_map, list_any}
 use Rattle.cr_base.specs.declared.entry.Stamped.{Stamped}
