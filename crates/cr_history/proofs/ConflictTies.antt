@@ -17,7 +17,7 @@ use Rattle.cr_base.specs.Ties.{BareTies, TiesState, pair_of, bare_tie, switched,
 use Rattle.cr_base.specs.Tables.{Tables, no_tables, tables_after, tables_from, tables_of, FitInTurn}
 use Rattle.cr_base.proofs.LastLaws.{last_or-given}
 use Rattle.cr_base.proofs.PairLaws.{has_pair-with_tie}
-use Rattle.cr_base.proofs.TieLaws.{has_pair-switched, users_of-push}
+use Rattle.cr_base.proofs.TieLaws.{has_pair-switched, users_tied_to-push}
 use Rattle.cr_history.proofs.PaperTies.{turned, is_author-tables}
 use Rattle.cr_history.proofs.Folds.{told-always}
 
@@ -68,7 +68,7 @@ is_conflicted-tables u p H =
 -- the authors of a paper that is there stay the same
 author-entry : (p : ℕ) (state : PapersState) (ties : TiesState) (maker : ℕ) (e : Entry) → PapersFit state maker e → p ≤ paper_count state → (authors_in (ties_after ties maker e) p ≡ authors_in ties p) × (p ≤ paper_count (papers_after state maker e))
 author-entry p state ties maker (Submitted paper title abstract) fits h = (
-  users_of-push p ties.authors paper maker ∙ ap (λ b. authors_in ties p ++ given b maker) (ne_eqb p paper (let next = fits.0 in λ e. omega (arith, e, h, next))) ∙ append-nil (authors_in ties p),
+  users_tied_to-push p ties.authors paper maker ∙ ap (λ b. authors_in ties p ++ given b maker) (ne_eqb p paper (let next = fits.0 in λ e. omega (arith, e, h, next))) ∙ append-nil (authors_in ties p),
   (let n = length-append state.papers (record { title = title; abstract_ = abstract } ∷ []) in omega (arith, n, h)),
 )
 author-entry p state ties maker (Conflict paper user on) fits h = (refl, h)

@@ -16,7 +16,7 @@ use Rattle.cr_base.specs.Ties.{TiesState, ties_after, authors_in, is_author_in}
 use Rattle.cr_base.specs.Tables.{Tables, no_tables, tables_of, FitInTurn}
 use Rattle.cr_base.proofs.LastLaws.{last_from-given}
 use Rattle.cr_base.proofs.ListLaws.{numbered-nil, numbered-push, numbers_from-push}
-use Rattle.cr_base.proofs.TieLaws.{users_of-push}
+use Rattle.cr_base.proofs.TieLaws.{users_tied_to-push}
 use Rattle.cr_history.proofs.Folds.{told-always, told-fitting}
 
 -- two numbers are compared either way
@@ -141,7 +141,7 @@ abstract_of-tables p H fits = text-tables (λ (paper : Paper). paper.abstract_) 
 -- ---- the authors of a paper
 
 authors-entry : (p : ℕ) (ties : TiesState) (maker : ℕ) (e : Entry) → authors_in ties p ++ author_told p maker e ≡ authors_in (ties_after ties maker e) p
-authors-entry p ties maker (Submitted paper title abstract) = ap (λ b. authors_in ties p ++ given b maker) (turned paper p) ∙ sym (users_of-push p ties.authors paper maker)
+authors-entry p ties maker (Submitted paper title abstract) = ap (λ b. authors_in ties p ++ given b maker) (turned paper p) ∙ sym (users_tied_to-push p ties.authors paper maker)
 authors-entry p ties maker (Conflict paper user on) = append-nil (authors_in ties p)
 authors-entry p ties maker e = append-nil (authors_in ties p)
 
