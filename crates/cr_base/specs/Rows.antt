@@ -6,7 +6,7 @@ use Rattle.cr_base.specs.declared.entry.Entry.{Entry}
 use Rattle.cr_base.specs.declared.entry.Entry.TheVariants.{Registered, Named, PhaseSet, ModeSet, Submitted, Conflict}
 use Rattle.cr_base.specs.declared.entry.Stamped.{Stamped}
 use Rattle.cr_base.specs.declared.row.Row.{Row}
-use Rattle.cr_base.specs.Words.{phase_number, phase_at, mode_number, mode_at, role_number, role_at}
+use Rattle.cr_base.specs.Words.{phase_number, phase_numbered, mode_number, mode_numbered, role_number, role_numbered}
 use Rattle.cr_base.specs.declared.shape.Shape.{Shape}
 use Rattle.cr_base.specs.declared.shape.TextKind.TheVariants.{Nothing, Name, Digest, Title, Abstract}
 use Rattle.cr_base.specs.Shapes.{users, papers, phases, modes, bit, roles, unused, shape, FitsShape}
@@ -81,9 +81,9 @@ IsBoundedEntry s = FitsShape (shape_of (kind_of s.entry)) (row_of s)
 -- the entry of a kind that a row's fields spell
 abbrev pub built : EntryKind → Row → Entry
 built kind.Registered r = Registered r.n1 r.b1 r.b2
-built kind.Named r = Named r.n1 (role_at r.n2)
-built kind.PhaseSet r = PhaseSet (phase_at r.n1)
-built kind.ModeSet r = ModeSet (mode_at r.n1)
+built kind.Named r = Named r.n1 (role_numbered r.n2)
+built kind.PhaseSet r = PhaseSet (phase_numbered r.n1)
+built kind.ModeSet r = ModeSet (mode_numbered r.n1)
 built kind.Submitted r = Submitted r.n1 r.b1 r.b2
 built kind.Conflict r = Conflict r.n1 r.n2 (r.n3 == 1)
 
