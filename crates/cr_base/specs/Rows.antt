@@ -9,7 +9,7 @@ use Rattle.cr_base.specs.declared.row.Row.{Row}
 use Rattle.cr_base.specs.Words.{phase_number, phase_numbered, mode_number, mode_numbered, role_number, role_numbered}
 use Rattle.cr_base.specs.declared.shape.Shape.{Shape}
 use Rattle.cr_base.specs.declared.shape.TextKind.TheVariants.{Nothing, Name, Digest, Title, Abstract}
-use Rattle.cr_base.specs.Shapes.{users, papers, phases, modes, bit, roles, unused, shape, FitsShape}
+use Rattle.cr_base.specs.Shapes.{user_range, paper_range, phase_range, mode_range, bit, role_range, unused, shape, FitsShape}
 
 -- the number by which rows tell the kind
 abbrev pub kind_number : EntryKind → ℕ
@@ -22,12 +22,12 @@ kind_number kind.Conflict = 10
 
 -- the fields of each kind, a line a kind
 abbrev pub shape_of : EntryKind → Shape
-shape_of kind.Registered = shape users unused unused Name Digest
-shape_of kind.Named = shape users roles unused Nothing Nothing
-shape_of kind.PhaseSet = shape phases unused unused Nothing Nothing
-shape_of kind.ModeSet = shape modes unused unused Nothing Nothing
-shape_of kind.Submitted = shape papers unused unused Title Abstract
-shape_of kind.Conflict = shape papers users bit Nothing Nothing
+shape_of kind.Registered = shape user_range unused unused Name Digest
+shape_of kind.Named = shape user_range role_range unused Nothing Nothing
+shape_of kind.PhaseSet = shape phase_range unused unused Nothing Nothing
+shape_of kind.ModeSet = shape mode_range unused unused Nothing Nothing
+shape_of kind.Submitted = shape paper_range unused unused Title Abstract
+shape_of kind.Conflict = shape paper_range user_range bit Nothing Nothing
 
 -- the kind of an entry
 abbrev pub kind_of : Entry → EntryKind
