@@ -40,8 +40,8 @@ reader u H = record {
   wrote = λ v p. is_author (Some v) p H;
 }
 
--- what comes before an entry and what after it
-pub record Place : Type 0 where
+-- what stands around an entry: the history before it, and what follows it
+pub record Around : Type 0 where
   pub before : History
   pub after : History
 
@@ -104,7 +104,7 @@ abbrev pub opens_discussion : Stamped → Bool
 opens_discussion e = opens Discussion e.entry
 
 -- the position of an entry that stands there
-abbrev pub position_of : Place → Entry → Position
+abbrev pub position_of : Around → Entry → Position
 position_of at e = record {
   first = none_alike e at.before;
   last = none_alike e at.after;

@@ -13,7 +13,7 @@ use Rattle.cr_base.specs.Page.{is_clear_chair, is_clear_member}
 use Rattle.cr_base.specs.Phases.{is_from}
 use Rattle.cr_base.specs.Words.{is_anonymous, is_member}
 use Rattle.cr_policy.specs.Sighting.{Sighting, blank, where_shown}
-use Rattle.cr_policy.specs.Triggers.{Reader, Place, authors, clear_chairs, clear_members, from, members, none_alike, unless_anonymous, user_named}
+use Rattle.cr_policy.specs.Triggers.{Reader, Around, authors, clear_chairs, clear_members, from, members, none_alike, unless_anonymous, user_named}
 use Rattle.cr_policy.specs.View.{is_seen, sight}
 
 -- how the reader stands to a paper
@@ -39,7 +39,7 @@ pub mapped-then_some : {A B : Type 0} (f : A → B) (b : Bool) (x : A) (o : Opti
 mapped-then_some f true x o is = ap (option_map f) is
 mapped-then_some f false x o is = ap (option_map f) is
 
-module _ (r : Reader) (at : Place) (s : Stamped) (paper : ℕ) where
+module _ (r : Reader) (at : Around) (s : Stamped) (paper : ℕ) where
   pub submission : (title abstract : List ℕ) (last own : Bool) (by : Standing) (v : Sighting) (shows_by shows_title shows_abstract : Bool) (maker' : Option ℕ) (title' abstract' : Option (List ℕ))
       → s.entry ≡ Submitted paper title abstract → none_alike s.entry at.after ≡ last → by ≡ stands r paper
       → own ≡ user_named r s.maker → v ≡ record (blank kinds.Submitted) { mine = own }

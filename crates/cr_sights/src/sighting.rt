@@ -6,7 +6,7 @@ ghost use Rattle.cr_base.specs.Phases.{is_from};
 ghost use Rattle.cr_base.specs.Words.{is_anonymous, is_member};
 ghost use Rattle.cr_base.specs.declared.words.Phase.TheVariants as phases;
 ghost use Rattle.cr_base.specs.declared.entry.Entry.TheVariants.{Conflict};
-ghost use Rattle.cr_policy.specs.Triggers.{Place, none_alike};
+ghost use Rattle.cr_policy.specs.Triggers.{Around, none_alike};
 ghost use Rattle.cr_policy.specs.Sighting.{blank as blank_sighting};
 ghost use Rattle.cr_policy.specs.View.{is_seen, sight as sight_at};
 ghost use Rattle.cr_sights.specs.Readers.{reader_in};
@@ -134,7 +134,7 @@ fn shows_conflicts(by: &Standing) -> bool
 /// Whether she is told that a user is in conflict with a paper, or no longer: who made the entry is, the user
 /// herself, an author where an author made it, and whoever is shown all of the paper's conflicts.
 fn tells_conflict(live: &Live, reader: UserNo, maker: UserNo, user: UserNo, paper: PaperNo) -> bool
-    ensures { (at : Place) (more on : Bool) → is_seen (reader_in live.now.tables (Some reader)) at (record { maker = maker; more = more; entry = Conflict paper user on }) ≡ result }
+    ensures { (at : Around) (more on : Bool) → is_seen (reader_in live.now.tables (Some reader)) at (record { maker = maker; more = more; entry = Conflict paper user on }) ≡ result }
 {
     let by = live.standing(&Some(reader), &Some(paper));
     let wrote = live.standing(&Some(maker), &Some(paper)).author;
@@ -149,7 +149,7 @@ pub fn sight<'a>(
     stamped: &'a Stamped,
     is_last: bool,
 ) -> Option<Sighting<'a>>
-    ensures { (at : Place) → none_alike stamped.now.entry at.after ≡ is_last → listed result ≡ sight_at (reader_in live.now.tables (Some reader)) at stamped.now }
+    ensures { (at : Around) → none_alike stamped.now.entry at.after ≡ is_last → listed result ≡ sight_at (reader_in live.now.tables (Some reader)) at stamped.now }
 {
     let mine = reader == stamped.maker;
     match &stamped.entry {
