@@ -10,11 +10,13 @@ use Rattle.cr_base.specs.declared.words.Phase.TheVariants.{Bidding}
 use Rattle.cr_base.specs.Lists.{given, listed, is_number, until, since}
 use Rattle.cr_base.specs.History.{History, opens, declared_told}
 use Rattle.cr_base.specs.HistoryFacts.{authors_of, is_author, is_conflict_on, declared_by_authors}
+use Rattle.cr_base.specs.Page.{is_clear_chair}
+use Rattle.cr_base.specs.Phases.{is_from}
 use Rattle.cr_base.specs.Words.{is_chair}
 use Rattle.cr_history.specs.Invariants.{is_opening, ByAuthor, ByHerselfOrOther, Early, Late, DeclaresInTime}
 use Rattle.cr_policy.specs.Part as part
 use Rattle.cr_policy.specs.Sighting.{Sighting, where_shown}
-use Rattle.cr_policy.specs.Triggers.{Reader, reader, Around, user_named, clear_chairs, from}
+use Rattle.cr_policy.specs.Triggers.{Reader, reader, Around, standing_to, user_named}
 use Rattle.cr_policy.specs.View.{view, sight, is_seen, joined}
 use Rattle.cr_policy.specs.ViewFacts.{only, is_user, conflict_user_seen, own_or_other_seen, bidding_seen, declared_in_view}
 use Rattle.cr_policy.proofs.Cuts.{CutsAt, sights-until, sights-since, kept_until-each, kept_since-each, flat_map-cut}
@@ -137,7 +139,7 @@ module _ (u p : ℕ) (H : History) (author : is_author (Some u) p H ≡ true) wh
       given_both _ (eqb paper p) (eqb u maker || not (eqb u user)) (is_author (Some maker) p H) user
       (λ same. let e : paper ≡ p = eqb-true paper p same in
       let a : r.author paper ≡ true = ap r.author e ∙ author in
-      late_shown (eqb u user) (r.wrote maker paper) (r.author paper) (clear_chairs r paper) (from r Bidding) (eqb u maker) a
+      late_shown (eqb u user) (r.wrote maker paper) (r.author paper) (is_clear_chair (standing_to r paper)) (is_from Bidding r.now) (eqb u maker) a
       (not_clear (is_chair r.rank) (r.author paper) (is_conflict_on (Some u) paper H) a)
       (λ own. ap (λ m. is_author (Some m) paper H) (sym (eqb-true u maker own)) ∙ a)
       (λ other named. h (ap (λ n. eqb n maker) (sym (eqb-true u user named)) ∙ other))

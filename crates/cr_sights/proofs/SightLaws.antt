@@ -13,12 +13,8 @@ use Rattle.cr_base.specs.Page.{is_clear_chair, is_clear_member}
 use Rattle.cr_base.specs.Phases.{is_from}
 use Rattle.cr_base.specs.Words.{is_anonymous, is_member}
 use Rattle.cr_policy.specs.Sighting.{Sighting, blank, where_shown}
-use Rattle.cr_policy.specs.Triggers.{Reader, Around, authors, clear_chairs, clear_members, from, members, none_alike, unless_anonymous, user_named}
+use Rattle.cr_policy.specs.Triggers.{Reader, Around, authors, members, none_alike, standing_to, unless_anonymous, user_named}
 use Rattle.cr_policy.specs.View.{is_seen, sight}
-
--- how the reader stands to a paper
-abbrev pub stands : Reader → ℕ → Standing
-stands r p = record { phase = r.now; mode = r.mode; role = r.rank; author = r.author p; conflicted = r.conflicted p }
 
 -- ---- a submission
 
@@ -41,7 +37,7 @@ mapped-then_some f false x o is = ap (option_map f) is
 
 module _ (r : Reader) (at : Around) (s : Stamped) (paper : ℕ) where
   pub submission : (title abstract : List ℕ) (last own : Bool) (by : Standing) (v : Sighting) (shows_by shows_title shows_abstract : Bool) (maker' : Option ℕ) (title' abstract' : Option (List ℕ))
-      → s.entry ≡ Submitted paper title abstract → none_alike s.entry at.after ≡ last → by ≡ stands r paper
+      → s.entry ≡ Submitted paper title abstract → none_alike s.entry at.after ≡ last → by ≡ standing_to r paper
       → own ≡ user_named r s.maker → v ≡ record (blank kinds.Submitted) { mine = own }
       → shows_by ≡ (by.author || (is_from Bidding by.phase && (is_clear_chair by || (is_clear_member by && not (is_anonymous by.mode)))))
       → shows_title ≡ (by.author || (((last && is_member by.role) && is_from Bidding by.phase) || own))
@@ -66,13 +62,13 @@ module _ (r : Reader) (at : Around) (s : Stamped) (paper : ℕ) where
       ends_so = sym ends ∙ ap (λ (e : Entry). none_alike e at.after) is
 
       table_by : Bool
-      table_by = authors r paper || ((clear_chairs r paper && from r Bidding) || (((clear_members r paper && unless_anonymous r) && from r Bidding) || false))
+      table_by = authors r paper || ((is_clear_chair (standing_to r paper) && is_from Bidding r.now) || (((is_clear_member (standing_to r paper) && unless_anonymous r) && is_from Bidding r.now) || false))
 
       table_title : Bool → Bool
-      table_title m = authors r paper || (((none_alike it at.after && members r) && from r Bidding) || (m || false))
+      table_title m = authors r paper || (((none_alike it at.after && members r) && is_from Bidding r.now) || (m || false))
 
       table_abstract : Bool → Bool
-      table_abstract m = authors r paper || (((none_alike it at.after && clear_members r paper) && from r Bidding) || (m || false))
+      table_abstract m = authors r paper || (((none_alike it at.after && is_clear_member (standing_to r paper)) && is_from Bidding r.now) || (m || false))
 
       shown_by : Option ℕ
       shown_by = where_shown table_by (Some s.maker)
@@ -83,19 +79,19 @@ module _ (r : Reader) (at : Around) (s : Stamped) (paper : ℕ) where
       by_table : shows_by ≡ table_by
       by_table =
           by_is ∙ ap (λ (b : Standing). b.author || (is_from Bidding b.phase && (is_clear_chair b || (is_clear_member b && not (is_anonymous b.mode))))) stands_so
-          ∙ maker-shown (authors r paper) (from r Bidding) (clear_chairs r paper) (clear_members r paper) (unless_anonymous r)
+          ∙ maker-shown (authors r paper) (is_from Bidding r.now) (is_clear_chair (standing_to r paper)) (is_clear_member (standing_to r paper)) (unless_anonymous r)
 
       title_table : shows_title ≡ table_title own
       title_table =
           title_is ∙ ap (λ (b : Standing). b.author || (((last && is_member b.role) && is_from Bidding b.phase) || own)) stands_so
-          ∙ ap (λ l. authors r paper || (((l && members r) && from r Bidding) || own)) ends_so
-          ∙ ap (λ o. authors r paper || (((none_alike it at.after && members r) && from r Bidding) || o)) (or_none own)
+          ∙ ap (λ l. authors r paper || (((l && members r) && is_from Bidding r.now) || own)) ends_so
+          ∙ ap (λ o. authors r paper || (((none_alike it at.after && members r) && is_from Bidding r.now) || o)) (or_none own)
 
       abstract_table : shows_abstract ≡ table_abstract own
       abstract_table =
           abstract_is ∙ ap (λ (b : Standing). b.author || (((last && is_clear_member b) && is_from Bidding b.phase) || own)) stands_so
-          ∙ ap (λ l. authors r paper || (((l && clear_members r paper) && from r Bidding) || own)) ends_so
-          ∙ ap (λ o. authors r paper || (((none_alike it at.after && clear_members r paper) && from r Bidding) || o)) (or_none own)
+          ∙ ap (λ l. authors r paper || (((l && is_clear_member (standing_to r paper)) && is_from Bidding r.now) || own)) ends_so
+          ∙ ap (λ o. authors r paper || (((none_alike it at.after && is_clear_member (standing_to r paper)) && is_from Bidding r.now) || o)) (or_none own)
 
   -- ---- a conflict
 
