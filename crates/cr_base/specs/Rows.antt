@@ -68,7 +68,18 @@ fields_of (Conflict paper user on) = fields paper user (bit_number on) [] []
 abbrev pub row_of : Stamped → Row
 row_of s =
     let f = fields_of s.entry in
-    record { kind = kind_number (kind_of s.entry); maker = s.maker; more = bit_number s.more; n1 = f.n1; n2 = f.n2; n3 = f.n3; n4 = f.n4; n5 = f.n5; b1 = f.b1; b2 = f.b2 }
+    record {
+      kind = kind_number (kind_of s.entry);
+      maker = s.maker;
+      more = bit_number s.more;
+      n1 = f.n1;
+      n2 = f.n2;
+      n3 = f.n3;
+      n4 = f.n4;
+      n5 = f.n5;
+      b1 = f.b1;
+      b2 = f.b2;
+    }
 
 -- RowsOf: one row for each entry, in order
 abbrev pub rows_of : List Stamped → List Row

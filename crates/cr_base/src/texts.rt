@@ -2,7 +2,8 @@
 ghost use Rattle.std.specs.Prelude.{◌≡◌, ℕ, ◌≤◌, ◌+◌, List, [], length, take, drop, replicate, IfOk, IsTrue, ◌↔◌};
 ghost use Rattle.std.specs.List.{list_all};
 ghost use Rattle.std.specs.Str.{is_utf8};
-ghost use Rattle.cr_base.specs.Texts.{IsName, IsTitle, IsAbstract, is_name as is_name_text, is_name_byte, is_title as is_title_text, is_title_byte, is_abstract as is_abstract_text};
+ghost use Rattle.cr_base.specs.Texts.{IsName, IsTitle, IsAbstract, is_name as is_name_text, is_name_byte};
+ghost use Rattle.cr_base.specs.Texts.{is_title as is_title_text, is_title_byte, is_abstract as is_abstract_text};
 
 use bytes::{ByteStr, Bytes};
 use std::alloc::{AllocError, Global};

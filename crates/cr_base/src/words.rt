@@ -1,6 +1,8 @@
 //! Phases, modes and roles, and the words by which requests and answers name them.
 ghost use Rattle.std.specs.Prelude.{◌≡◌, ◌≤◌, length};
-ghost use Rattle.cr_base.specs.Words.{phase_name, phase_named, phase_number, phase_numbered, mode_name, mode_named, mode_number, mode_numbered, is_anonymous, is_overt, role_name, role_named, role_number, role_numbered, is_member, is_chair};
+ghost use Rattle.cr_base.specs.Words.{phase_name, phase_named, phase_number, phase_numbered};
+ghost use Rattle.cr_base.specs.Words.{mode_name, mode_named, mode_number, mode_numbered, is_anonymous, is_overt};
+ghost use Rattle.cr_base.specs.Words.{role_name, role_named, role_number, role_numbered, is_member, is_chair};
 ghost use Rattle.cr_base.specs.Phases.{phase_place, is_from, is_phase, is_next};
 
 /// A phase of the conference (CoCon's phases). A conference starts in setup, and moves on to the next

@@ -2,7 +2,8 @@
 ghost use Rattle.std.specs.Prelude.{◌≡◌, IfOk, IsTrue};
 ghost use Rattle.cr_base.specs.Texts.{IsName};
 ghost use Rattle.cr_base.specs.Words.{is_member};
-ghost use Rattle.cr_bodies.specs.Field.{IsOf, admits as admits_text, digest_under, flag_under, mode_under, name_under, passing, phase_under, role_under, text_under, tested_under, user_under};
+ghost use Rattle.cr_bodies.specs.Field.{IsOf, admits as admits_text, digest_under, flag_under, mode_under, name_under};
+ghost use Rattle.cr_bodies.specs.Field.{passing, phase_under, role_under, text_under, tested_under, user_under};
 ghost use Rattle.cr_bodies.specs.Outcome.{Tells, TellsSeen};
 ghost use Rattle.cr_bodies.specs.declared.field.Grammar.TheVariants as grammars;
 ghost use Rattle.serde_json.specs.View.{view};

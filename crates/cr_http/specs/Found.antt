@@ -1,5 +1,6 @@
 -- What stands at the front of a text that is the whole rest of a stream.
-use Rattle.std.specs.Prelude.{◌≡◌, ◌⊎◌, ℕ, [], ◌==◌, nat_lt, nat_le, List, length, take, drop, slice_range, count_by, Bool, false, Option, Some, None, if◌then◌else◌, MatchBool, ◌++◌, ⊤}
+use Rattle.std.specs.Prelude.{◌≡◌, ◌⊎◌, ℕ, [], ◌==◌, nat_lt, nat_le, List, length, take, drop, slice_range}
+use Rattle.std.specs.Prelude.{count_by, Bool, false, Option, Some, None, if◌then◌else◌, MatchBool, ◌++◌, ⊤}
 use Rattle.httparse.specs.Grammar.{RequestHead, ReadsRequest}
 use Rattle.cr_http.specs.declared.framing.Framing.{Framing}
 use Rattle.cr_http.specs.declared.framing.Framing.TheVariants.{Body, Refuse}

@@ -13,10 +13,12 @@ use Rattle.cr_base.specs.Logins.{command_wants_login, query_wants_login}
 use Rattle.cr_history.specs.Invariants.{IsRegistered, Invariants}
 use Rattle.cr_policy.specs.Sighting.{Sighting}
 use Rattle.cr_policy.specs.View.{view}
-use Rattle.cr_policy.specs.ViewFacts.{is_user, standing_in_view, accounts_in_view, papers_in_view, own_papers_in_view, number_in_view, declared_in_view, authors_in_view, title_in_view, abstract_in_view}
+use Rattle.cr_policy.specs.ViewFacts.{is_user, standing_in_view, accounts_in_view, papers_in_view, own_papers_in_view}
+use Rattle.cr_policy.specs.ViewFacts.{number_in_view, declared_in_view, authors_in_view, title_in_view, abstract_in_view}
 use Rattle.cr_policy.specs.Judge.{judge, answer}
 use Rattle.cr_policy.specs.Legal.{Legal, MayAsk}
-use Rattle.cr_policy.specs.Witness.{two_registrations, seen_by_nobody, seen_by_alice, one_submission, submission_seen_by_alice, submission_seen_by_bob, bidding_opened}
+use Rattle.cr_policy.specs.Witness.{two_registrations, seen_by_nobody, seen_by_alice, one_submission}
+use Rattle.cr_policy.specs.Witness.{submission_seen_by_alice, submission_seen_by_bob, bidding_opened}
 
 -- StandingFromView: how a user stands, to any paper too, can be read off what she sees, whatever the history
 abbrev pub StandingFromView : Type 0

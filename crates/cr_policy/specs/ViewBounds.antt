@@ -13,7 +13,8 @@ use Rattle.cr_base.specs.HistoryFacts.{is_author}
 use Rattle.cr_policy.specs.Sighting.{Sighting, blank}
 use Rattle.cr_policy.specs.View.{view}
 use Rattle.cr_policy.specs.ViewFacts.{only, is_user}
-use Rattle.cr_policy.specs.ShownTo.{PartFor, each_told, serves, handles, kind_for, mark_for, paper_for, user_for, name_for, digest_for, role_for, phase_for, mode_for, maker_for, title_for, abstract_for, switch_for}
+use Rattle.cr_policy.specs.ShownTo.{PartFor, each_told, serves, handles, kind_for, mark_for, paper_for, user_for, name_for}
+use Rattle.cr_policy.specs.ShownTo.{digest_for, role_for, phase_for, mode_for, maker_for, title_for, abstract_for, switch_for}
 
 -- ---- each part
 

@@ -2,7 +2,9 @@
 use Rattle.std.specs.Prelude.{ℕ, List, Some, codes}
 use Rattle.json.specs.Print.{quoted}
 use Rattle.cr_base.specs.declared.reply.Rule.{Rule as BaseRule}
-use Rattle.cr_base.specs.declared.reply.Rule.TheVariants.{NameTaken, FullAccounts, NotChair, WrongPhase, FullPapers, QuotaPapers, NoPaper, NotMember, NoUser, AlreadyNamed, NotAuthor, NotAMember, Conflict, AuthorConflict}
+use Rattle.cr_base.specs.declared.reply.Rule.TheVariants.{NameTaken, FullAccounts, NotChair, WrongPhase, FullPapers}
+use Rattle.cr_base.specs.declared.reply.Rule.TheVariants.{QuotaPapers, NoPaper, NotMember, NoUser, AlreadyNamed}
+use Rattle.cr_base.specs.declared.reply.Rule.TheVariants.{NotAuthor, NotAMember, Conflict, AuthorConflict}
 use Rattle.cr_http.specs.declared.refusal.Refusal.{Refusal}
 use Rattle.cr_http.specs.declared.refusal.Refusal.TheVariants.{HeadTooLarge, BadHttp, NoHost, LengthRequired, BadLength, TooLarge}
 use Rattle.cr_print.specs.declared.refused.Refused.{Refused}
