@@ -13,7 +13,7 @@ use Rattle.cr_print.specs.declared.head.Extra.{Extra}
 use Rattle.cr_print.specs.declared.head.Extra.TheVariants.{Nothing, Challenge, Allow}
 use Rattle.cr_print.specs.declared.status.Status.{Status}
 use Rattle.cr_print.specs.declared.status.Status.TheVariants as statuses
-use Rattle.cr_print.specs.Json.{Member, told, object_text}
+use Rattle.cr_print.specs.Json.{Member, member_of, object_text}
 
 unfoldable pub closing_name : Refusal → List ℕ
 closing_name HeadTooLarge = codes "head_too_large"
@@ -96,7 +96,7 @@ extra_of NoMemory = Nothing
 
 -- why it was refused, before all else that it may tell
 unfoldable pub refusal_members : Refused → List Member
-refusal_members refused = told (codes "error") (Some (quoted (name_of refused)))
+refusal_members refused = member_of (codes "error") (Some (quoted (name_of refused)))
 
 unfoldable pub refusal_content : Refused → List ℕ
 refusal_content refused = object_text (refusal_members refused)

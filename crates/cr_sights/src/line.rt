@@ -1,7 +1,7 @@
 //! A sighting as a line.
 ghost use Rattle.std.specs.Prelude.{◌≡◌, OnOk, option_map};
 ghost use Rattle.cr_base.specs.Lists.{listed};
-ghost use Rattle.cr_print.specs.Json.{Adds};
+ghost use Rattle.cr_print.specs.Json.{AddsMembers};
 ghost use Rattle.cr_print.specs.Put.{Appends};
 ghost use Rattle.cr_sights.specs.Lines.{first_members, kind_name, last_members, line_text, lines_text, middle_members};
 
@@ -27,7 +27,7 @@ fn kind_name(kind: EntryKind) -> &'static str
 
 /// Writes the members up to `kind`.
 fn add_first(object: &mut Object, into: &mut Vec<u8>, sighting: &Sighting) -> Result<(), AllocError>
-    ensures { Adds result into.old into.new object.old.is_first object.new.is_first (first_members sighting.now) }
+    ensures { AddsMembers result into.old into.new object.old.is_first object.new.is_first (first_members sighting.now) }
 {
     add_bytes(object, into, "abstract", text_bytes(&sighting.abstract_))?;
     add_user(object, into, "by", &sighting.by)?;
@@ -42,7 +42,7 @@ fn add_middle(
     into: &mut Vec<u8>,
     sighting: &Sighting,
 ) -> Result<(), AllocError>
-    ensures { Adds result into.old into.new object.old.is_first object.new.is_first (middle_members sighting.now) }
+    ensures { AddsMembers result into.old into.new object.old.is_first object.new.is_first (middle_members sighting.now) }
 {
     object.fixed(into, "mine", sighting.mine, "true")?;
     add_mode(object, into, "mode", sighting.mode)?;
@@ -53,7 +53,7 @@ fn add_middle(
 
 /// Writes the members from `paper` on.
 fn add_last(object: &mut Object, into: &mut Vec<u8>, sighting: &Sighting) -> Result<(), AllocError>
-    ensures { Adds result into.old into.new object.old.is_first object.new.is_first (last_members sighting.now) }
+    ensures { AddsMembers result into.old into.new object.old.is_first object.new.is_first (last_members sighting.now) }
 {
     add_paper(object, into, "paper", &sighting.paper)?;
     add_phase(object, into, "phase", sighting.phase)?;
