@@ -6,7 +6,7 @@ use Rattle.cr_session.specs.declared.turn.Turn.{Turn}
 use Rattle.cr_session.specs.declared.turn.Turn.TheVariants as turns
 use Rattle.cr_session.specs.declared.serve.Served.{Served}
 use Rattle.cr_session.specs.declared.serve.Served.TheVariants as served
-use Rattle.cr_session.specs.Told.{form_of, told, unkept, step}
+use Rattle.cr_session.specs.Told.{form_of, told, unkept, after_wish}
 use Rattle.cr_session.specs.Replay.{JudgedWish, Ledger, answer_to, history_after}
 use Rattle.cr_wire.specs.Wishes.{closes}
 use Rattle.cr_ports.specs.Writing.{Outlet, Writes, BreaksOff}
@@ -18,7 +18,7 @@ answer_to-kept : (n : ℕ) (w : Wish) (old : History) → answer_to n (record { 
 unfolding answer_to
 answer_to-kept n w old = refl
 
-history_after-kept : (w : Wish) (old : History) → history_after (record { wish = w; seen = old; lost = false }) ≡ step old w
+history_after-kept : (w : Wish) (old : History) → history_after (record { wish = w; seen = old; lost = false }) ≡ after_wish old w
 unfolding history_after
 history_after-kept w old = refl
 

@@ -19,7 +19,7 @@ use Rattle.cr_session.specs.declared.turn.Turn.{Turn}
 use Rattle.cr_session.specs.declared.turn.Turn.TheVariants as turns
 use Rattle.cr_session.specs.declared.serve.Served.{Served}
 use Rattle.cr_session.specs.declared.serve.Served.TheVariants as served
-use Rattle.cr_session.specs.Told.{form_of, told, is_unauthorized, drawn, step}
+use Rattle.cr_session.specs.Told.{form_of, told, is_unauthorized, drawn, after_wish}
 use Rattle.cr_session.specs.Replay.{JudgedWish, Ledger, Turned, CountsLoss, answer_to}
 use Rattle.cr_ports.specs.Writing.{Outlet, Writes, BreaksOff}
 use Rattle.cr_wire.specs.Wishes.{closes}
@@ -53,7 +53,7 @@ MayWantMemory H w = MayWantFor (caller H w) (view (caller H w) H) w.what
 -- a wish was judged or answered: its answer is Told's, the history is stepped on, and the keeper's count stands
 pub record AnswersWish (turn : Turn) (w : Wish) (b b' : Ledger) : Type 0 where
   pub told_is : (close : Bool) → turn_text turn (form_of w close) ≡ told b.history w close
-  pub stepped : b'.history ≡ step b.history w
+  pub stepped : b'.history ≡ after_wish b.history w
   pub steady : b'.faults ≡ b.faults
 
 -- what one turn did to the history, and to the keeper's count of faults
