@@ -1,7 +1,7 @@
 //! From a path, a method and a body to what is wished.
 ghost use Rattle.std.specs.Prelude.{◌≡◌, option_and_then, option_map, IfOk, OnErr};
 ghost use Rattle.cr_base.specs.Bounds.{IsBoundedCommand};
-ghost use Rattle.cr_bodies.specs.Outcome.{Reads};
+ghost use Rattle.cr_bodies.specs.Outcome.{TellsBody};
 ghost use Rattle.cr_routes.specs.Asks.{ask_at as ask_of_place};
 ghost use Rattle.cr_routes.specs.Methods.{method_of};
 ghost use Rattle.cr_routes.specs.Parts.{seen};
@@ -36,7 +36,7 @@ fn ask_at(place: Place, method: &[u8]) -> Option<Ask>
 
 /// The command, where the body tells one.
 fn command(ask: Ask, read: Result<Command, BodyError>) -> Result<What, AllocError>
-    ensures told { (told : _) → Reads read told → Gives result (spec.command_of ask told) }
+    ensures told { (told : _) → TellsBody read told → Gives result (spec.command_of ask told) }
     ensures bounded { IfOk read IsBoundedCommand → IfOk result IsBoundedWhat }
     ensures sure { (told : _) → OnErr result (spec.LooksAtBody (spec.command_of ask told)) }
 {
