@@ -2,7 +2,7 @@
 ghost use Rattle.std.specs.Prelude.{◌≡◌, ◌≢◌, ◌≤◌, ◌<◌, ◌+◌, ◌-◌, [], length, take, drop, vec_len, OnOk};
 ghost use Rattle.cr_ports.specs.Count.{Rises};
 ghost use Rattle.cr_ports.specs.Stream.{FillsWithin, and_left, gave};
-ghost use Rattle.cr_http.specs.Filling.{Moves, IsAtEnd, Grows, ReadsWhile};
+ghost use Rattle.cr_http.specs.Filling.{Moves, IsAtEnd, GrowsAs, ReadsWhile};
 
 use crate::head_range::WINDOW;
 use cr_ports::{ReadStep, Source};
@@ -134,7 +134,7 @@ impl Buffer {
     pub fn read_more<S: Source>(&mut self, source: &mut S) -> Fill
         ensures moves { Moves (S.left source.old) (S.left source.new) (text_of self.old) (text_of self.new) }
         ensures once { ReadsWhile S.left S.read_gives (λ text. text ≡ text_of self.old) source.old source.new (text_of self.old) (text_of self.new) }
-        ensures grows { Grows result (text_of self.old) (text_of self.new) }
+        ensures grows { GrowsAs result (text_of self.old) (text_of self.new) }
         ensures ended { result ≡ Fill.Ended → IsAtEnd (S.left source.new) }
         ensures count { S.faults source.old ≤ S.faults source.new }
         ensures failed { result ≡ Fill.Failed → Rises (S.faults source.old) (S.faults source.new) }
