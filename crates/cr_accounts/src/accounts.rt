@@ -25,13 +25,13 @@ impl Model for Accounts {
     ghost use Rattle.std.specs.Prelude.{ℕ, ◌-◌, min, vec_len, vec_capacity};
     ghost use Rattle.indexmap.specs.IndexMap.{spare};
     ghost use Rattle.cr_accounts.specs.Seen.{SeenAccounts};
-    ghost use Rattle.cr_accounts.specs.Index.{IsIndexed};
+    ghost use Rattle.cr_accounts.specs.Index.{IsNameIndex};
 
     ghost Value = { SeenAccounts };
 
     ghost view = { λ t. record { accounts = t.accounts.items; room = min (vec_capacity t.accounts - vec_len t.accounts) (spare t.by_name) } };
 
-    ghost invariant = { λ t. IsIndexed t.accounts.items t.by_name };
+    ghost invariant = { λ t. IsNameIndex t.accounts.items t.by_name };
 }
 
 /// Whether the caller may give somebody who has the role `now` another one.
