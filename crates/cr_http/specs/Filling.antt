@@ -41,7 +41,8 @@ abbrev pub IsStill : {S : Type 0} → S → S → List ℕ → List ℕ → Type
 IsStill source source' bytes bytes' = (source' ≡ source) × (bytes' ≡ bytes)
 
 -- The read that was made last, from a state that those before it led to: it was made at a text that wants more.
-pub record LastRead {S : Type 0} (left : S → Option (List ℕ)) (gives : S → S → List ℕ → Type 0) (Wants : List ℕ → Type 0) (from to : S) (old new : List ℕ) : Type 0 where
+pub record LastRead {S : Type 0} (left : S → Option (List ℕ)) (gives : S → S → List ℕ → Type 0) (Wants : List ℕ → Type 0)
+    (from to : S) (old new : List ℕ) : Type 0 where
   pub at : S
   pub text : List ℕ
   pub before : Moves (left from) (left at) old text

@@ -29,7 +29,10 @@ impl Model for Papers {
 
     ghost Value = { SeenPapers };
 
-    ghost view = { λ t. record { papers = record { papers = t.papers.items; submitted = t.counts.counts }; room = if nat_le 10000 t.counts.capacity then vec_capacity t.papers - vec_len t.papers else 0 } };
+    ghost view = { λ t. record {
+      papers = record { papers = t.papers.items; submitted = t.counts.counts };
+      room = if nat_le 10000 t.counts.capacity then vec_capacity t.papers - vec_len t.papers else 0;
+    } };
 
     ghost invariant = { λ t. length t.papers.items ≤ 9999 };
 }
@@ -94,7 +97,8 @@ impl Papers {
     /// were submitted, else `QuotaPapers` where this maker has submitted 20. `by` is the maker's
     /// standing, where no paper is named. One read by number; takes no memory.
     pub fn judge_submit(&self, by: &Standing, maker: UserNo) -> Result<PaperNo, Rule>
-        ensures { result ≡ judged (submit_checks by.now (paper_count self.now.papers) (own_count self.now.papers (Some maker))) (paper_count self.now.papers + 1) }
+        ensures { let count = paper_count self.now.papers in
+            result ≡ judged (submit_checks by.now count (own_count self.now.papers (Some maker))) (count + 1) }
     {
         if !by.phase.is(Phase::Submission) {
             return Err(Rule::WrongPhase);

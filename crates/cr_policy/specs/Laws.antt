@@ -35,8 +35,10 @@ pub record PublicFactsFromView (u : Option ℕ) (H : History) : Type 0 where
 -- ViewSuffices: on a legal history, what checks of role on the tables give of a command or a query is what the caller's
 -- view alone gives
 pub record ViewSuffices : Type 0 where
-  pub commands : (u : Option ℕ) (H : History) (command : Command) → Legal H → MayAsk H (command_wants_login command) u → judge u (view u H) command ≡ judge_by_role (tables_of H) u command
-  pub queries : (u : Option ℕ) (H : History) (query : Query) → Legal H → MayAsk H (query_wants_login query) u → answer u (view u H) query ≡ answer_by_role (tables_of H) u query
+  pub commands : (u : Option ℕ) (H : History) (command : Command) → Legal H
+      → MayAsk H (command_wants_login command) u → judge u (view u H) command ≡ judge_by_role (tables_of H) u command
+  pub queries : (u : Option ℕ) (H : History) (query : Query) → Legal H
+      → MayAsk H (query_wants_login query) u → answer u (view u H) query ≡ answer_by_role (tables_of H) u query
 
 -- DeclaredFromView: on a legal history, whom a paper's authors declared in conflict with it can be read off what an author
 -- of it sees
@@ -67,7 +69,8 @@ TwoRegistrations = (alice bob : List ℕ) → length alice ≡ 32 → length bob
 
 -- nobody sees a digest in it, and alice no other than her own
 abbrev pub DigestsHidden : Type 0
-DigestsHidden = (alice bob : List ℕ) → (view None (two_registrations alice bob) ≡ seen_by_nobody) × (view (Some 1) (two_registrations alice bob) ≡ seen_by_alice alice)
+DigestsHidden =
+    (alice bob : List ℕ) → (view None (two_registrations alice bob) ≡ seen_by_nobody) × (view (Some 1) (two_registrations alice bob) ≡ seen_by_alice alice)
 
 -- with a submission after them the history is legal too; of the paper alice, a chair, sees its number alone, and bob, its
 -- author, the whole
@@ -97,4 +100,6 @@ pub record IsConflictWitness (H : History) : Type 0 where
 
 -- whatever the digests are
 abbrev pub OneConflict : Type 0
-OneConflict = (alice bob carol dave : List ℕ) → length alice ≡ 32 → length bob ≡ 32 → length carol ≡ 32 → length dave ≡ 32 → IsConflictWitness (bidding_opened alice bob carol dave)
+OneConflict =
+    (alice bob carol dave : List ℕ) → length alice ≡ 32 → length bob ≡ 32 → length carol ≡ 32 → length dave ≡ 32
+    → IsConflictWitness (bidding_opened alice bob carol dave)

@@ -160,7 +160,8 @@ title_for u H later maker _ = None
 
 -- an abstract: to the paper's authors, and the last one to those who handle the paper
 abbrev pub abstract_for : PartFor (Option (List ℕ))
-abstract_for u H later maker (Submitted paper title abstract) = where_known (is_author u paper H || (not (is_replaced paper later) && handles u paper H)) abstract
+abstract_for u H later maker (Submitted paper title abstract) =
+    where_known (is_author u paper H || (not (is_replaced paper later) && handles u paper H)) abstract
 abstract_for u H later maker _ = None
 
 -- whether a conflict is on: always

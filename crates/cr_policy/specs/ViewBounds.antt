@@ -87,11 +87,14 @@ IsLeft u titled kinds.Named s = ⊥
 IsLeft u titled kinds.PhaseSet s = ⊥
 IsLeft u titled kinds.ModeSet s = ⊥
 IsLeft u titled kinds.Submitted s = s ≡ record (blank kinds.Submitted) { paper = s.paper; title = if titled then s.title else None }
-IsLeft u titled kinds.Conflict s = IsTrue (s.mine || is_user u s.user) × (s ≡ record (blank kinds.Conflict) { mine = s.mine; paper = s.paper; user = s.user; on = s.on })
+IsLeft u titled kinds.Conflict s =
+    IsTrue (s.mine || is_user u s.user) × (s ≡ record (blank kinds.Conflict) { mine = s.mine; paper = s.paper; user = s.user; on = s.on })
 
 -- so of any other than an author: one in conflict, one who isn't on the committee, and all before the bidding
 abbrev pub OutsidersShown : Type 0
-OutsidersShown = (u : Option ℕ) (p : ℕ) (H : History) → IsFalse (is_author u p H || handles u p H) → All (λ (s : Sighting). IsTrue (is_number s.paper p) → IsLeft u (serves u H) s.kind s) (view u H)
+OutsidersShown =
+    (u : Option ℕ) (p : ℕ) (H : History) → IsFalse (is_author u p H || handles u p H)
+    → All (λ (s : Sighting). IsTrue (is_number s.paper p) → IsLeft u (serves u H) s.kind s) (view u H)
 
 -- ---- strangers, and nobody
 

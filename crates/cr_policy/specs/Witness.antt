@@ -62,7 +62,8 @@ paper_seen_alone = record (blank kinds.Submitted) { paper = Some 1 }
 
 -- the submission as bob sees it, who made it and so is the paper's author
 abbrev pub paper_seen_by_author : Sighting
-paper_seen_by_author = record (blank kinds.Submitted) { mine = true; paper = Some 1; by = Some 2; title = Some (codes "Proofs"); abstract = Some (codes "We prove.") }
+paper_seen_by_author =
+    record (blank kinds.Submitted) { mine = true; paper = Some 1; by = Some 2; title = Some (codes "Proofs"); abstract = Some (codes "We prove.") }
 
 -- what alice sees, a chair, before the bidding
 abbrev pub submission_seen_by_alice : List ℕ → View

@@ -50,7 +50,9 @@ fn append_word_alone(into: &mut Vec<u8>, key: &str, word: &str) -> Result<(), Al
 
 /// Appends what tells a user's role.
 fn append_named(into: &mut Vec<u8>, name: &Short, role: Role) -> Result<(), AllocError>
-    ensures text { Appends result into.old into.new (object_text (member_of (codes "name") (Some (quoted name.now)) ++ member_of (codes "role") (Some (quoted (role_name role))))) }
+    ensures text { Appends result into.old into.new (object_text (
+        member_of (codes "name") (Some (quoted name.now))
+        ++ member_of (codes "role") (Some (quoted (role_name role))))) }
     ensures room { Takes result into.old into.new 268 }
 {
     let mut object = Object::open(into)?;

@@ -67,7 +67,8 @@ IsAtHand reads.ReadFault request = ⊥
 
 -- The source gave these bytes; behind those of the inbox they are a text at whose front the answer stands. No read was
 -- made once that was settled.
-pub record ReadsWish {S : Type 0} (left : S → Option (List ℕ)) (gives : S → S → List ℕ → Type 0) (source source' : S) (inbox inbox' : List ℕ) (answer : WishRead) : Type 0 where
+pub record ReadsWish {S : Type 0} (left : S → Option (List ℕ)) (gives : S → S → List ℕ → Type 0)
+    (source source' : S) (inbox inbox' : List ℕ) (answer : WishRead) : Type 0 where
   pub got : List ℕ
   pub given : left source ≡ and_left got (left source')
   pub says : Says answer (inbox ++ got) inbox'

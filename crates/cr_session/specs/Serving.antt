@@ -111,7 +111,8 @@ ReadsNoFurther left gives n answered source source' old new = ReadsWhile left gi
 -- ---- a whole connection
 
 -- A connection from request number n on, with these bytes in the inbox, up to its ending.
-pub record Connection {S : Type 0} (left : S → Option (List ℕ)) (gives : S → S → List ℕ → Type 0) (ending : Ending) (n : ℕ) (inbox : List ℕ) (w w' : World S) : Type 0 where
+pub record Connection {S : Type 0} (left : S → Option (List ℕ)) (gives : S → S → List ℕ → Type 0)
+    (ending : Ending) (n : ℕ) (inbox : List ℕ) (w w' : World S) : Type 0 where
   -- the bytes that the source gave
   pub got : List ℕ
   pub given : left w.source ≡ and_left got (left w'.source)
@@ -125,7 +126,8 @@ pub record Connection {S : Type 0} (left : S → Option (List ℕ)) (gives : S �
   pub needed : ReadsNoFurther left gives n answered w.source w'.source inbox (inbox ++ got)
 
 -- The same up to a request that doesn't close, behind so many requests.
-pub record GoesOn {S : Type 0} (left : S → Option (List ℕ)) (gives : S → S → List ℕ → Type 0) (count n : ℕ) (inbox inbox' : List ℕ) (w w' : World S) : Type 0 where
+pub record GoesOn {S : Type 0} (left : S → Option (List ℕ)) (gives : S → S → List ℕ → Type 0)
+    (count n : ℕ) (inbox inbox' : List ℕ) (w w' : World S) : Type 0 where
   pub got : List ℕ
   pub given : left w.source ≡ and_left got (left w'.source)
   pub answered : List JudgedWish

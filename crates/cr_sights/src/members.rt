@@ -45,7 +45,8 @@ pub(crate) fn add_bytes(
     key: &str,
     bytes: Option<&[u8]>,
 ) -> Result<(), AllocError>
-    ensures { AddsMembers result into.old into.new object.old.is_first object.new.is_first (member_of key.now (bytes_value (option_map (λ b. b.now) bytes.entry))) }
+    ensures { AddsMembers result into.old into.new object.old.is_first object.new.is_first
+        (member_of key.now (bytes_value (option_map (λ b. b.now) bytes.entry))) }
 {
     match bytes {
         Some(bytes) => object.string(into, key, bytes),
@@ -69,7 +70,8 @@ pub(crate) fn add_digest(
     key: &str,
     digest: Option<&Digest>,
 ) -> Result<(), AllocError>
-    ensures { AddsMembers result into.old into.new object.old.is_first object.new.is_first (member_of key.now (digest_value (option_map (λ d. d.now) digest.entry))) }
+    ensures { AddsMembers result into.old into.new object.old.is_first object.new.is_first
+        (member_of key.now (digest_value (option_map (λ d. d.now) digest.entry))) }
 {
     match digest {
         Some(digest) => object.string(into, key, &digits_of(*digest)),

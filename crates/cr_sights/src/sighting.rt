@@ -104,7 +104,8 @@ fn is_bidding(by: &Standing) -> bool
 
 /// Whether she is shown who made a submission.
 fn shows_maker(by: &Standing) -> bool
-    ensures { result ≡ (by.now.author || (is_from phases.Bidding by.now.phase && (is_clear_chair by.now || (is_clear_member by.now && not (is_anonymous by.now.mode))))) }
+    ensures { result ≡ (by.now.author
+        || (is_from phases.Bidding by.now.phase && (is_clear_chair by.now || (is_clear_member by.now && not (is_anonymous by.now.mode))))) }
 {
     let handles = by.is_clear_chair() || by.is_clear_member() && !by.mode.is_anonymous();
     by.author || is_bidding(by) && handles
@@ -134,7 +135,8 @@ fn shows_conflicts(by: &Standing) -> bool
 /// Whether she is told that a user is in conflict with a paper, or no longer: who made the entry is, the user
 /// herself, an author where an author made it, and whoever is shown all of the paper's conflicts.
 fn tells_conflict(live: &Live, reader: UserNo, maker: UserNo, user: UserNo, paper: PaperNo) -> bool
-    ensures { (at : Around) (more on : Bool) → is_seen (reader_in live.now.tables (Some reader)) at (record { maker = maker; more = more; entry = Conflict paper user on }) ≡ result }
+    ensures { (at : Around) (more on : Bool) →
+        is_seen (reader_in live.now.tables (Some reader)) at (record { maker = maker; more = more; entry = Conflict paper user on }) ≡ result }
 {
     let by = live.standing(&Some(reader), &Some(paper));
     let wrote = live.standing(&Some(maker), &Some(paper)).author;
@@ -149,7 +151,8 @@ pub fn sight<'a>(
     stamped: &'a Stamped,
     is_last: bool,
 ) -> Option<Sighting<'a>>
-    ensures { (at : Around) → none_alike stamped.now.entry at.after ≡ is_last → listed result ≡ sight_at (reader_in live.now.tables (Some reader)) at stamped.now }
+    ensures { (at : Around) → none_alike stamped.now.entry at.after ≡ is_last
+        → listed result ≡ sight_at (reader_in live.now.tables (Some reader)) at stamped.now }
 {
     let mine = reader == stamped.maker;
     match &stamped.entry {

@@ -37,7 +37,8 @@ pub fn write_view<O: Sink>(
     reader: UserNo,
     sink: &mut O,
 ) -> Result<(), ViewError>
-    ensures { WritesView result (lines_text (sights (reader_in live.now.tables (Some reader)) [] log.now)) (outlet_of O.taken O.faults sink.old) (outlet_of O.taken O.faults sink.new) }
+    ensures { let outlet = outlet_of O.taken O.faults in
+        WritesView result (lines_text (sights (reader_in live.now.tables (Some reader)) [] log.now)) (outlet sink.old) (outlet sink.new) }
 {
     let Ok(last) = LastTexts::of(alloc, log) else {
         return Err(ViewError::OutOfMemory);

@@ -18,14 +18,16 @@ pub record IsUntouched {I : Type 0} (exit : Exit) (o o' : Outside I) (s s' : She
   pub stores : s' ≡ s
 
 -- one connection from the empty history on, or from that of a store on; or the view of a store, which reads no input
-abbrev pub DoesJob : {K I : Type 0} → (K → Option (List Row)) → (I → Option (List ℕ)) → (I → I → List ℕ → Type 0) → NamedJob → Exit → Outside I → Outside I → ShelfState → ShelfState → Type 0
+abbrev pub DoesJob : {K I : Type 0} → (K → Option (List Row)) → (I → Option (List ℕ)) → (I → I → List ℕ → Type 0)
+    → NamedJob → Exit → Outside I → Outside I → ShelfState → ShelfState → Type 0
 DoesJob rows left gives (pipe_job None) exit o o' s s' = ServesPipe left gives [] exit o o' × (s' ≡ s)
 DoesJob rows left gives (pipe_job (Some path)) exit o o' s s' = PipesStore rows path left gives exit o o' s s'
 DoesJob rows left gives (view_job path name) exit o o' s s' =
     TellsStore path name exit o.output o'.output s s' × (o'.input ≡ o.input) × (o'.read_faults ≡ o.read_faults)
 
 -- the same, unless memory was wanting before it began
-abbrev pub Does : {K I : Type 0} → (K → Option (List Row)) → (I → Option (List ℕ)) → (I → I → List ℕ → Type 0) → NamedJob → Exit → Outside I → Outside I → ShelfState → ShelfState → Type 0
+abbrev pub Does : {K I : Type 0} → (K → Option (List Row)) → (I → Option (List ℕ)) → (I → I → List ℕ → Type 0)
+    → NamedJob → Exit → Outside I → Outside I → ShelfState → ShelfState → Type 0
 Does rows left gives job exit o o' s s' = IsUntouched exit o o' s s' ⊎ DoesJob rows left gives job exit o o' s s'
 
 -- a store whose rows are a legal history's, over a shelf of which no call failed

@@ -82,7 +82,8 @@ pub record StaysShut (path : List ℕ) (exit : Exit) (s s' : ShelfState) : Type 
 
 -- From the history of the rows at the path on a connection was served to its ending, by which the exit is; the rows there
 -- are then those of the last history. The keeper counted so many faults, and the shelf's count rose by as many at least.
-pub record ServesStore {K I : Type 0} (rows : K → Option (List Row)) (path : List ℕ) (left : I → Option (List ℕ)) (gives : I → I → List ℕ → Type 0) (exit : Exit) (o o' : Outside I) (s s' : ShelfState) : Type 0 where
+pub record ServesStore {K I : Type 0} (rows : K → Option (List Row)) (path : List ℕ) (left : I → Option (List ℕ))
+    (gives : I → I → List ℕ → Type 0) (exit : Exit) (o o' : Outside I) (s s' : ShelfState) : Type 0 where
   pub opening : History
   pub opens : Legal opening
   pub found : IfSome s.files (λ files. rows_of opening ≡ files path)
@@ -97,7 +98,8 @@ pub record ServesStore {K I : Type 0} (rows : K → Option (List Row)) (path : L
   pub counted : Gains s.faults faults s'.faults
 
 -- a store that doesn't open leaves input and output as they were
-abbrev pub PipesStore : {K I : Type 0} → (K → Option (List Row)) → List ℕ → (I → Option (List ℕ)) → (I → I → List ℕ → Type 0) → Exit → Outside I → Outside I → ShelfState → ShelfState → Type 0
+abbrev pub PipesStore : {K I : Type 0} → (K → Option (List Row)) → List ℕ → (I → Option (List ℕ)) → (I → I → List ℕ → Type 0)
+    → Exit → Outside I → Outside I → ShelfState → ShelfState → Type 0
 PipesStore rows path left gives exit o o' s s' = (StaysShut path exit s s' × (o' ≡ o)) ⊎ ServesStore rows path left gives exit o o' s s'
 
 -- ---- a view of a store

@@ -49,7 +49,8 @@ fn do_job<I: Source, O: Sink, S: Shelf>(
     shelf: &mut S,
 ) -> Exit
     ensures does { let outside = outside_of I.faults O.taken O.faults in let stores = state_of S.rows S.faults in
-        Does S.Keeper.rows I.left I.read_gives (job_seen job.entry) result (outside input.old out.old) (outside input.new out.new) (stores shelf.old) (stores shelf.new) }
+        Does S.Keeper.rows I.left I.read_gives (job_seen job.entry) result
+        (outside input.old out.old) (outside input.new out.new) (stores shelf.old) (stores shelf.new) }
     ensures answers { let outside = outside_of I.faults O.taken O.faults in let stores = state_of S.rows S.faults in
         AnswersJob I.left (job_seen job.entry) result (outside input.old out.old) (outside input.new out.new) (stores shelf.old) (stores shelf.new) }
     ensures known { result ≢ Exit.Usage }

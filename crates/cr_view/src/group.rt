@@ -8,7 +8,8 @@ use std::alloc::{AllocError, Global};
 
 /// Marks the last entry as one that another of the same command follows.
 fn mark_last(group: &mut Vec<Stamped>)
-    ensures marked { (maker : ℕ) (entries : List Entry) (next : Entry) → group.old.items ≡ grouped maker entries → group.new.items ++ record { maker = maker; more = false; entry = next } ∷ [] ≡ grouped maker (entries ++ next ∷ []) }
+    ensures marked { (maker : ℕ) (entries : List Entry) (next : Entry) → group.old.items ≡ grouped maker entries
+        → group.new.items ++ record { maker = maker; more = false; entry = next } ∷ [] ≡ grouped maker (entries ++ next ∷ []) }
     ensures room { vec_capacity group.old - vec_len group.old ≤ vec_capacity group.new - vec_len group.new }
 {
     let count = group.len();

@@ -35,7 +35,10 @@ impl Model for Live {
 
     ghost Value = { SeenTables };
 
-    ghost view = { λ t. record { tables = record { stage = t.stage; accounts = t.accounts.accounts; papers = t.papers.papers; ties = t.ties.ties }; room = min t.accounts.room (min t.papers.room t.ties.room) } };
+    ghost view = { λ t. record {
+      tables = record { stage = t.stage; accounts = t.accounts.accounts; papers = t.papers.papers; ties = t.ties.ties };
+      room = min t.accounts.room (min t.papers.room t.ties.room);
+    } };
 
     // The papers that have ties are there.
     ghost invariant = { λ t. AreWithin (paper_count t.papers.papers) t.ties.ties };
