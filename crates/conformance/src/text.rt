@@ -7,7 +7,7 @@ use std::alloc::{AllocError, AllocFailed};
 pub enum LineError {
     /// It is none of the forms.
     NoForm,
-    /// Memory is wanting.
+    /// Out of memory.
     OutOfMemory,
 }
 

@@ -32,7 +32,7 @@ impl Blob {
         }
     }
 
-    /// A copy of these bytes, in a block of their own; an error only for want of memory.
+    /// A copy of these bytes, in a block of their own; an error only for lack of memory.
     pub fn from_slice(alloc: Global, bytes: &[u8]) -> Result<Blob, AllocError>
         ensures { IfOk result (λ b. b ≡ bytes.now) }
     {
@@ -56,7 +56,7 @@ impl Blob {
     }
 
     /// An equal one, which shares the bytes: its cost is the same whatever their number. An error only for
-    /// want of memory, of which a few bytes are taken for the count of those who share them.
+    /// lack of memory, of which a few bytes are taken for the count of those who share them.
     pub fn copy(&self) -> Result<Blob, AllocError>
         ensures { IfOk result (λ b. b ≡ self.now) }
     {
@@ -81,7 +81,7 @@ impl Model for Text {
 }
 
 impl Text {
-    /// A copy of a text, in a block of its own; an error only for want of memory.
+    /// A copy of a text, in a block of its own; an error only for lack of memory.
     pub fn from_str(alloc: Global, text: &str) -> Result<Text, AllocError>
         ensures { IfOk result (λ t. t ≡ text.now) }
     {
@@ -90,7 +90,7 @@ impl Text {
         })
     }
 
-    /// A text that is made of these bytes, which are UTF-8, and shares them; an error only for want of memory.
+    /// A text that is made of these bytes, which are UTF-8, and shares them; an error only for lack of memory.
     pub fn from_blob(bytes: &Blob) -> Result<Text, AllocError>
         requires { IsTrue (is_utf8 bytes.now) }
         ensures { IfOk result (λ t. t ≡ bytes.now) }
@@ -108,7 +108,7 @@ impl Text {
         self.text.as_str()
     }
 
-    /// Its bytes, which it shares; an error only for want of memory.
+    /// Its bytes, which it shares; an error only for lack of memory.
     pub fn to_blob(&self) -> Result<Blob, AllocError>
         ensures { IfOk result (λ b. b ≡ self.now) }
     {

@@ -191,7 +191,7 @@ impl Ties {
 
 /// What entries make of it.
 impl Ties {
-    /// Takes the memory that the entries of one command need; an error only for want of memory, and
+    /// Takes the memory that the entries of one command need; an error only for lack of memory, and
     /// the ties are the same either way.
     pub fn room(&mut self, group: &[Stamped]) -> Result<(), AllocError>
         ensures ok { OnOk result (length group.now ≤ self.new.room) }

@@ -45,7 +45,7 @@ impl Counts {
         }
     }
 
-    /// Takes the memory for the counts of all users, 10,000 bytes; an error only for want of memory,
+    /// Takes the memory for the counts of all users, 10,000 bytes; an error only for lack of memory,
     /// and the counts are the same either way.
     pub(crate) fn make_room(&mut self) -> Result<(), AllocError>
         ensures ok { OnOk result (10000 ≤ self.new.capacity) }

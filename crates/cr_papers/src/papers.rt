@@ -113,7 +113,7 @@ impl Papers {
     }
 
     /// Takes the memory that the entries of one command need, and the first time 10,000 bytes for the
-    /// counts; an error only for want of memory, and the papers are the same either way.
+    /// counts; an error only for lack of memory, and the papers are the same either way.
     pub fn room(&mut self, group: &[Stamped]) -> Result<(), AllocError>
         ensures ok { OnOk result (length group.now ≤ self.new.room) }
         ensures same { self.new.papers ≡ self.old.papers }

@@ -112,7 +112,7 @@ fn add_copies(alloc: Global, rows: &mut Vec<Row>, added: &[Row]) -> Result<(), A
 }
 
 /// Puts copies of `added` behind the rows that are there, or changes nothing. The one error is
-/// want of memory.
+/// lack of memory.
 fn keep_copies(alloc: Global, rows: &mut Vec<Row>, added: &[Row]) -> Result<(), KeeperError>
     ensures ok { OnOk result (rows.new.items ≡ rows.old.items ++ added.now) }
     ensures err { OnErr result (rows.new.items ≡ rows.old.items) }
@@ -124,7 +124,7 @@ fn keep_copies(alloc: Global, rows: &mut Vec<Row>, added: &[Row]) -> Result<(), 
     }
 }
 
-/// A copy of row number `at`. The one error is want of memory.
+/// A copy of row number `at`. The one error is a lack of memory.
 fn copy_at(rows: &[Row], at: u64) -> Result<Row, KeeperError>
     requires { at < length rows.now }
     ensures ok { IfOk result (λ row. slice_get rows.now at ≡ Some row) }
@@ -191,7 +191,7 @@ impl Keeper for MemKeeper {
     }
 }
 
-/// Rows in memory. No call fails but for want of memory: its count of faults is 0.
+/// Rows in memory. No call fails but for lack of memory: its count of faults is 0.
 ///
 /// Contracts see the rows.
 #[derive(Drop)]

@@ -1,4 +1,4 @@
--- The answer to want of memory, computed.
+-- The answer to a lack of memory, computed.
 use Rattle.std.proofs.Common.{◌≡◌, true, false, codes, refl}
 use Rattle.std.specs.Fmt.{digits}
 use Rattle.json.specs.Print.{escape_byte}

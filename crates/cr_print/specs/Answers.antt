@@ -78,7 +78,7 @@ reply_text (replies.Conference conference) form = conference_text conference for
 reply_text (replies.Page page) form = page_text page form
 reply_text (replies.Me me) form = me_text me form
 
--- want of memory, which ends the connection
+-- out of memory, which ends the connection
 abbrev pub no_memory_text : Bool → List ℕ
 no_memory_text is_head = refusal_text NoMemory (record { is_head = is_head; closes = true })
 

@@ -26,7 +26,7 @@ fn word_of(truth: bool) -> &'static str
 }
 
 impl Object {
-    /// Begins an object; an error only for want of memory, here and below. Behind one, `into` may have a part of
+    /// Begins an object; an error only for lack of memory, here and below. Behind one, `into` may have a part of
     /// what was to be written.
     pub fn open(into: &mut Vec<u8>) -> Result<Object, AllocError>
         ensures text { Appends result into.old into.new (codes "{") }

@@ -56,7 +56,7 @@ pub struct Routes {
 impl Routes {
     ghost use Rattle.cr_routes.specs.Parts.{found_at, seen};
 
-    /// The router over all paths. Fails only for want of memory.
+    /// The router over all paths. Fails only for lack of memory.
     pub fn new(alloc: Global) -> Result<Routes, AllocError> {
         let mut router = Router::new(alloc);
         add_all(&mut router, &PATHS)?;

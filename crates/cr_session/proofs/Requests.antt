@@ -82,7 +82,7 @@ serves_sent turn sent n w close reply b b' s s' memory t closing is sends = by s
     by served.WriteFault x = (j.judges, subst (λ (r : List ℕ). BreaksOff [] r s s') text x)
     by served.OutOfMemory x = absurd x
 
--- writing the answer wanted memory, and nothing had changed
+-- writing the answer ran out of memory, and nothing had changed
 pub stays_unprinted : (turn : Turn) (w : Wish) (b b' : Ledger) → Turns turn w b b' → MayWantToPrint turn → (b' ≡ b) × MayWantMemory b.history w
 stays_unprinted (turns.Refused refused) w b b' t may = absurd may
 stays_unprinted (turns.Accepted receipt) w b b' t may = absurd may

@@ -142,7 +142,7 @@ module _ {S : Type 0} (left : S → Option (List ℕ)) (gives : S → S → List
     needed = needed;
   }
 
-  -- a request was read, and memory was wanting in its turn
+  -- a request was read, and memory ran out in its turn
   pub round_no_memory : (n : ℕ) (wish : Wish) (i i' : List ℕ) (w w' : World S) (b : Ledger) (s : Outlet) → ReadsWish left gives w.source w'.source i i' (reads.Wish wish)
       → ServesRequest served.OutOfMemory n wish w.ledger b w.sink s → w'.ledger ≡ b → TellsWantOfMemory [] wish.is_head s w'.sink → w'.read_faults ≡ w.read_faults → Connection left gives endings.OutOfMemory n i w w'
   round_no_memory n wish i i' w w' b s x y same notes counts =
@@ -152,13 +152,13 @@ module _ {S : Type 0} (left : S → Option (List ℕ)) (gives : S → S → List
       x.given stood (subst (λ (o : Outlet). TellsWantOfMemory [] wish.is_head o w'.sink) y.1 notes) counts
       (no_further-one left gives n [] w.source w'.source i (i ++ x.got) x.needed)
 
-  -- memory was wanting in reading
+  -- memory ran out in reading
   pub round_unread : (n : ℕ) (head : Bool) (i i' : List ℕ) (w w' : World S) → ReadsWish left gives w.source w'.source i i' (reads.OutOfMemory head) → w'.ledger ≡ w.ledger
       → TellsWantOfMemory [] head w.sink w'.sink → w'.read_faults ≡ w.read_faults → Connection left gives endings.OutOfMemory n i w w'
   round_unread n head i i' w w' x same notes counts =
       no_memory n i x.got head w w' x.says.0 (inl x.says.1) x.given same notes counts (no_further-one left gives n [] w.source w'.source i (i ++ x.got) x.needed)
 
-  -- memory was wanting before anything was read
+  -- memory ran out before anything was read
   pub round_unbegun : (n : ℕ) (w w' : World S) → w'.source ≡ w.source → w'.ledger ≡ w.ledger → TellsWantOfMemory [] false w.sink w'.sink → w'.read_faults ≡ w.read_faults
       → Connection left gives endings.OutOfMemory n [] w w'
   round_unbegun n w w' source same notes counts =

@@ -37,7 +37,7 @@ world_of keeper_faults read_faults taken write_faults book source sink = record 
   sink = outlet_of taken write_faults sink;
 }
 
--- ---- want of memory
+-- ---- out of memory
 
 -- behind the answers so far: in reading what comes next, or in the turn of the wish that was read
 abbrev pub MayLackMemory : History → List ℕ → Type 0

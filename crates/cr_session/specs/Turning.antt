@@ -34,7 +34,7 @@ turn_text (turns.Answered reply) form = reply_text reply form
 turn_text turns.Lost form = refusal_text refused.KeeperFault form
 turn_text turns.OutOfMemory form = []
 
--- memory may be wanting in the turn of what a caller wishes on her view: for a command that Judge accepts, and for a query
+-- memory may run out in the turn of what a caller wishes on her view: for a command that Judge accepts, and for a query
 -- that Answer doesn't refuse
 abbrev pub WantsRoom : Option ℕ → View → What → Type 0
 WantsRoom u V whats.NoRoute = ⊥
@@ -81,7 +81,7 @@ AnswersQuery (turns.Answered reply) u query H = reply ≡ answer u (view u H) qu
 AnswersQuery turns.Lost u query H = ⊥
 AnswersQuery turns.OutOfMemory u query H = WantsRoom u (view u H) (whats.Query query)
 
--- writing what a turn came to may want memory only for a query's answer that is no brief one
+-- writing what a turn came to may run out of memory only for a query's answer that is no brief one
 abbrev pub MayWantToPrint : Turn → Type 0
 MayWantToPrint (turns.Refused refused) = ⊥
 MayWantToPrint (turns.Accepted receipt) = ⊥

@@ -63,7 +63,7 @@ fn add_last(object: &mut Object, into: &mut Vec<u8>, sighting: &Sighting) -> Res
     Ok(())
 }
 
-/// Appends a sighting as one JSON object and a line feed; an error only for want of memory.
+/// Appends a sighting as one JSON object and a line feed; an error only for lack of memory.
 fn append_line(into: &mut Vec<u8>, sighting: &Sighting) -> Result<(), AllocError>
     ensures { Appends result into.old into.new (line_text sighting.now) }
 {
@@ -76,7 +76,7 @@ fn append_line(into: &mut Vec<u8>, sighting: &Sighting) -> Result<(), AllocError
     Ok(())
 }
 
-/// Makes the buffer hold a sighting's line, or nothing where there is none; an error only for want of memory.
+/// Makes the buffer hold a sighting's line, or nothing where there is none; an error only for lack of memory.
 pub(crate) fn fill(line: &mut Vec<u8>, sighting: &Option<Sighting>) -> Result<(), AllocError>
     ensures { OnOk result (line.new.items ≡ lines_text (listed sighting.now)) }
 {

@@ -127,7 +127,7 @@ impl<S: Alter> SqliteKeeper<S> {
         self.reason
     }
 
-    /// Counts a fault and keeps its reason. Want of memory is none.
+    /// Counts a fault and keeps its reason. Running out of memory is none.
     fn refused(&mut self, refusal: Refusal) -> KeeperError
         ensures { HasCause {T = ℕ} self.old self.new (Err result) }
     {

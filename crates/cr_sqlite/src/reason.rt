@@ -56,7 +56,7 @@ impl fmt::Display for Reason {
 pub enum Refusal {
     /// A fault, which was counted.
     Failed(Reason),
-    /// Want of memory, which isn't counted as a fault.
+    /// Out of memory, which isn't counted as a fault.
     OutOfMemory,
 }
 

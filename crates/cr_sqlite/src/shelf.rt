@@ -45,7 +45,7 @@ impl SqliteShelf {
         self.reason
     }
 
-    /// Counts a fault and keeps its reason. Want of memory is none.
+    /// Counts a fault and keeps its reason. Running out of memory is none.
     fn refused(&mut self, refusal: Refusal) -> KeeperError
         ensures { HasCause {T = ℕ} self.old self.new (Err result) }
     {

@@ -143,7 +143,7 @@ pub the-history : {K : Type 0} (rows : K → Option (List Row)) (faults : K → 
 the-history rows faults path book s m opens files told H legal spells =
     sym (subst (λ (f : Option Files). IfSome f (λ files. (H : History) → Legal H → rows_of H ≡ files path → H ≡ book.log)) told opens.only H legal spells)
 
--- a store of a legal history's rows opens where nothing fails, or memory is wanting
+-- a store of a legal history's rows opens where nothing fails, or memory runs out
 pub opens-or-memory : (path : List ℕ) (exit : Exit) (s s' : ShelfState) → StaysShut path exit s s' → (Rises s.faults s'.faults → ⊥) → (files : Files) → s.files ≡ Some files → (H : History) → Legal H → rows_of H ≡ files path
     → exit ≡ exits.OutOfMemory
 opens-or-memory path exits.OutOfMemory s s' shut idle files told H legal spells = refl

@@ -65,7 +65,7 @@ pub record IsBadStore (rows : List Row) (row kind : ℕ) : Type 0 where
   pub bad : IsBadAt rows row found
   pub none : (H : History) → Legal H → rows_of H ≢ rows
 
--- why it doesn't open, by the exit: the shelf or its keeper failed, which was counted; a row is bad; or memory is wanting
+-- why it doesn't open, by the exit: the shelf or its keeper failed, which was counted; a row is bad; or memory runs out
 abbrev pub IsWhyShut : List ℕ → Exit → ShelfState → ShelfState → Type 0
 IsWhyShut path exits.KeeperFault s s' = Rises s.faults s'.faults
 IsWhyShut path (exits.BadStore row kind) s s' = IfSome s.files (λ files. IsBadStore (files path) row kind)
@@ -105,7 +105,7 @@ PipesStore rows path left gives exit o o' s s' = (StaysShut path exit s s' × (o
 -- ---- a view of a store
 
 -- What was told of a user's view of a history, by the exit: all its lines; a part of them, behind which a write failed or
--- memory was wanting; or that nobody has registered the name.
+-- memory ran out; or that nobody has registered the name.
 abbrev pub TellsView : History → List ℕ → Exit → Outlet → Outlet → Type 0
 TellsView H name exits.Done s s' = (user : ℕ) × (number_of name H ≡ Some user) × Writes (lines_text (view (Some user) H)) s s'
 TellsView H name exits.WriteFault s s' = (user : ℕ) × (number_of name H ≡ Some user) × BreaksOff [] (lines_text (view (Some user) H)) s s'

@@ -29,7 +29,7 @@ pub enum Exit {
     KeeperFault,
     /// Nobody has registered the name in the store.
     NoUser,
-    /// Memory is wanting.
+    /// Out of memory.
     OutOfMemory,
 }
 

@@ -77,7 +77,7 @@ pub fn pipe_store<S: Shelf, I: Source, O: Sink>(
         (outside input.old out.old) (outside input.new out.new) (stores shelf.old) (stores shelf.new) }
 
     // Where nothing fails and the rows are a legal history's, all that the input's bytes spell is answered from that history
-    // on, or memory is wanting.
+    // on, or memory runs out.
     ensures answers { let outside = outside_of I.faults O.taken O.faults in
         (b : List ℕ) → I.left input.old ≡ Some b → IsFaultless (outside input.old out.old) (outside input.new out.new)
         → (Rises (S.faults shelf.old) (S.faults shelf.new) → ⊥)

@@ -58,7 +58,7 @@ impl Live {
         }
     }
 
-    /// Takes the memory that the entries of one command need; an error only for want of memory,
+    /// Takes the memory that the entries of one command need; an error only for lack of memory,
     /// and the tables are the same either way.
     pub fn room(&mut self, group: &[Stamped]) -> Result<(), AllocError>
         ensures ok { OnOk result (length group.now ≤ self.new.room) }

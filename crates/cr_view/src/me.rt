@@ -12,7 +12,7 @@ use cr_base::{Me, PaperNo, PaperNos, Short, Tie, UserNo};
 use std::alloc::{AllocError, Global};
 
 impl Live {
-    /// What a user is told of herself; an error only for want of memory. A few look-ups by number, and
+    /// What a user is told of herself; an error only for lack of memory. A few look-ups by number, and
     /// a walk over her own papers and those with which she is declared in conflict.
     pub fn me(&self, alloc: Global, user: UserNo) -> Result<Me, AllocError>
         ensures { IfOk result (λ me. me ≡ me_by (facts_of_tables self.now.tables (Some user)) user) }
@@ -53,7 +53,7 @@ impl Live {
     }
 }
 
-/// Adds a paper, where it is told; an error only for want of memory.
+/// Adds a paper, where it is told; an error only for lack of memory.
 fn push_where(papers: &mut Vec<PaperNo>, told: bool, paper: PaperNo) -> Result<(), AllocError>
     ensures { OnOk result (papers.new.items ≡ papers.old.items ++ given told paper) }
 {
@@ -63,7 +63,7 @@ fn push_where(papers: &mut Vec<PaperNo>, told: bool, paper: PaperNo) -> Result<(
     Ok(())
 }
 
-/// The papers of these ties; an error only for want of memory.
+/// The papers of these ties; an error only for lack of memory.
 fn papers_of(alloc: Global, ties: &[Tie<()>]) -> Result<PaperNos, AllocError>
     ensures { IfOk result (λ papers. papers ≡ map (λ tie. tie.pair.paper) ties.now) }
 {

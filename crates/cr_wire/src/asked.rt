@@ -65,7 +65,7 @@ fn asked(alloc: Global, ask: Ask, found: Found<'_>, body: &[u8]) -> Result<What,
     }
 }
 
-/// What a request of this method, this target and this body wishes. Fails only for want of memory, which the reading of
+/// What a request of this method, this target and this body wishes. Fails only for lack of memory, which the reading of
 /// a JSON body alone takes.
 pub(crate) fn what_of(
     alloc: Global,
