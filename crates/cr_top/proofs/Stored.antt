@@ -146,16 +146,16 @@ the-history rows faults path book s m opens files told H legal spells =
 -- a store of a legal history's rows opens where nothing fails, or memory runs out
 pub opens-or-memory : (path : List ℕ) (exit : Exit) (s s' : ShelfState) → StaysShut path exit s s' → (Rises s.faults s'.faults → ⊥) → (files : Files) → s.files ≡ Some files → (H : History) → Legal H → rows_of H ≡ files path
     → exit ≡ exits.OutOfMemory
-opens-or-memory path exits.OutOfMemory s s' shut idle files told H legal spells = refl
-opens-or-memory path exits.KeeperFault s s' shut idle files told H legal spells = absurd (idle shut.refused)
-opens-or-memory path (exits.BadStore row kind) s s' shut idle files told H legal spells =
-    absurd ((subst (λ (f : Option Files). IfSome f (λ files. IsBadStore (files path) row kind)) told shut.refused).none H legal spells)
-opens-or-memory path exits.Done s s' shut idle files told H legal spells = absurd shut.refused
-opens-or-memory path exits.Cut s s' shut idle files told H legal spells = absurd shut.refused
-opens-or-memory path exits.Usage s s' shut idle files told H legal spells = absurd shut.refused
-opens-or-memory path exits.ReadFault s s' shut idle files told H legal spells = absurd shut.refused
-opens-or-memory path exits.WriteFault s s' shut idle files told H legal spells = absurd shut.refused
-opens-or-memory path exits.NoUser s s' shut idle files told H legal spells = absurd shut.refused
+opens-or-memory path exits.OutOfMemory s s' stays idle files told H legal spells = refl
+opens-or-memory path exits.KeeperFault s s' stays idle files told H legal spells = absurd (idle stays.refused)
+opens-or-memory path (exits.BadStore row kind) s s' stays idle files told H legal spells =
+    absurd ((subst (λ (f : Option Files). IfSome f (λ files. IsBadStore (files path) row kind)) told stays.refused).none H legal spells)
+opens-or-memory path exits.Done s s' stays idle files told H legal spells = absurd stays.refused
+opens-or-memory path exits.Cut s s' stays idle files told H legal spells = absurd stays.refused
+opens-or-memory path exits.Usage s s' stays idle files told H legal spells = absurd stays.refused
+opens-or-memory path exits.ReadFault s s' stays idle files told H legal spells = absurd stays.refused
+opens-or-memory path exits.WriteFault s s' stays idle files told H legal spells = absurd stays.refused
+opens-or-memory path exits.NoUser s s' stays idle files told H legal spells = absurd stays.refused
 
 -- the keeper of a book that was read alone was taken back
 pub views-store : {K : Type 0} (rows : K → Option (List Row)) (faults : K → ℕ) (path name : List ℕ) (exit : Exit) (book : SeenBook K) (keeper' : K) (o o' : Outlet) (s m s' : ShelfState)
