@@ -5,7 +5,6 @@ use Rattle.cr_base.specs.Logins.{command_ask}
 use Rattle.cr_base.specs.declared.ask.Ask.{Ask}
 use Rattle.cr_base.specs.declared.ask.Ask.TheVariants as asks
 use Rattle.cr_base.specs.declared.command.Command.{Command}
-use Rattle.cr_base.specs.declared.command.Command.TheVariants as commands
 use Rattle.cr_bodies.specs.Bodies.{command_in, command_read}
 use Rattle.cr_bodies.specs.Field.{◌>>=◌, abstract_under, digest_under, flag_under, mode_under, name_under, phase_under, role_under, title_under, user_under}
 use Rattle.cr_bodies.specs.Json.{json_of}
