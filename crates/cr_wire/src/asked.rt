@@ -13,12 +13,12 @@ use crate::paper::paper_of;
 use crate::what::What;
 use cr_base::{Ask, Command, Query};
 use cr_bodies::{BodyError, before_first, read_command};
-use cr_routes::{Found, Method, Place, Routes};
+use cr_routes::{Matched, Method, Place, Routes};
 use std::alloc::{AllocError, Global};
 use std::str::from_utf8;
 
 /// What a path is found to be, which is text.
-fn find<'p>(routes: &Routes, path: &'p [u8]) -> Option<Found<'p>>
+fn find<'p>(routes: &Routes, path: &'p [u8]) -> Option<Matched<'p>>
     ensures { option_map seen result ≡ spec.find_at path.now }
 {
     match from_utf8(path) {
@@ -48,7 +48,7 @@ fn command(ask: Ask, read: Result<Command, BodyError>) -> Result<What, AllocErro
 }
 
 /// What is asked for, by its path and its body too.
-fn asked(alloc: Global, ask: Ask, found: Found<'_>, body: &[u8]) -> Result<What, AllocError>
+fn asked(alloc: Global, ask: Ask, found: Matched<'_>, body: &[u8]) -> Result<What, AllocError>
     ensures told { Gives result (spec.asked ask (seen found.entry) body.now) }
     ensures bounded { IfOk result IsBoundedWhat }
     ensures sure { OnErr result (spec.LooksAtBody (spec.asked ask (seen found.entry) body.now)) }

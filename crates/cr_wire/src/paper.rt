@@ -5,7 +5,7 @@ ghost use Rattle.cr_wire.specs.Paper as spec;
 
 use cr_base::PaperNo;
 use cr_http::{all_digits, decimal_value};
-use cr_routes::Found;
+use cr_routes::Matched;
 
 /// Whether a text has from one to four bytes.
 fn is_short(text: &[u8]) -> bool
@@ -34,7 +34,7 @@ fn paper_spelt(text: &[u8]) -> Option<PaperNo>
 
 /// The paper that a path is about: Some exactly where its first parameter is a number from 1 to 9,999 in decimal, without
 /// a sign and without a zero in front. Looks at four bytes at most and costs no allocation.
-pub(crate) fn paper_of(found: Found<'_>) -> Option<PaperNo>
+pub(crate) fn paper_of(found: Matched<'_>) -> Option<PaperNo>
     ensures { result ≡ spec.paper_of (seen found.entry) }
 {
     paper_spelt(found.first?.as_bytes())
