@@ -2,7 +2,7 @@
 
 use crate::message::{add_answer, add_request};
 use crate::store::{add_row, copied, read_row};
-use crate::text::{LineError, add_raw, number_of};
+use crate::text::{LineError, add_raw, read_number};
 use cr_base::Row;
 use cr_top::Exit;
 use std::alloc::{AllocError, Global};
@@ -112,7 +112,7 @@ impl Case {
             return self.add_line(alloc, number, line);
         };
         let (count, line) = repeated.split_once(' ').ok_or(LineError::NoForm)?;
-        for time in 0..number_of(count)? {
+        for time in 0..read_number(count)? {
             let time = format!(in alloc; "{}", time.saturating_add(1))?;
             let line = line.replace(alloc, "\\#", time.as_str())?;
             self.add_line(alloc, number, line.as_str())?;
@@ -205,13 +205,13 @@ impl Case {
             ("=bad_store", _) => {
                 let (row, kind) = rest.split_once(' ').ok_or(LineError::NoForm)?;
                 self.exit = Exit::BadStore {
-                    row: number_of(row)? as u64,
-                    kind: number_of(kind)? as u64,
+                    row: read_number(row)? as u64,
+                    kind: read_number(kind)? as u64,
                 };
             }
             ("=unread", "") => self.unread = Some(self.sent.len()),
             ("=rows", _) => {
-                let rows = number_of(rest)? as u64;
+                let rows = read_number(rest)? as u64;
                 let last = self.answers.last_mut().ok_or(LineError::NoForm)?;
                 last.rows = Some(rows);
             }
@@ -223,7 +223,7 @@ impl Case {
 
 // One less than a number from 1.
 fn before(text: &str) -> Result<u64, LineError> {
-    let number = number_of(text)?.checked_sub(1).ok_or(LineError::NoForm)?;
+    let number = read_number(text)?.checked_sub(1).ok_or(LineError::NoForm)?;
     Ok(number as u64)
 }
 
@@ -232,7 +232,7 @@ fn behind(count: usize, more: &str) -> Result<usize, LineError> {
     if more.is_empty() {
         return Ok(count);
     }
-    count.checked_add(number_of(more)?).ok_or(LineError::NoForm)
+    count.checked_add(read_number(more)?).ok_or(LineError::NoForm)
 }
 
 // The words of a command line.

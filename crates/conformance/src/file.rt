@@ -9,7 +9,7 @@ use std::alloc::{AllocError, AllocFailed, Global};
 pub enum FileError {
     /// This line, from 1, is none of the forms.
     NoForm(usize),
-    /// Memory is wanting.
+    /// Out of memory.
     OutOfMemory,
 }
 

@@ -1,6 +1,6 @@
 //! The rows of a store, as lines of a case tell them.
 
-use crate::text::{LineError, add_text, byte_of, number_of};
+use crate::text::{LineError, add_text, byte_of, read_number};
 use cr_base::{Blob, Row};
 use cr_ports::{Keeper, KeeperError, MemShelf, Shelf};
 use std::alloc::{AllocError, Global};
@@ -116,7 +116,7 @@ pub fn add_row(rows: &mut Vec<Row>, place: &str, row: Row) -> Result<(), LineErr
         rows.push(row)?;
         return Ok(());
     }
-    let place = number_of(place)?;
+    let place = read_number(place)?;
     match rows.get_mut(place) {
         Some(old) => {
             *old = row;

@@ -7,7 +7,7 @@ use std::alloc::{AllocError, AllocFailed};
 pub enum LineError {
     /// It is none of the forms.
     NoForm,
-    /// Memory is wanting.
+    /// Out of memory.
     OutOfMemory,
 }
 
@@ -76,7 +76,7 @@ pub fn byte_of(digits: &str) -> Result<u8, LineError> {
 }
 
 /// The number that a text is in decimal.
-pub fn number_of(text: &str) -> Result<usize, LineError> {
+pub fn read_number(text: &str) -> Result<usize, LineError> {
     match text.parse::<u32>() {
         Ok(number) => Ok(number as usize),
         Err(_) => Err(LineError::NoForm),
@@ -85,7 +85,7 @@ pub fn number_of(text: &str) -> Result<usize, LineError> {
 
 // Adds a text so many times, as it is.
 fn add_times(into: &mut Vec<u8>, count: &str, text: &str) -> Result<(), LineError> {
-    for _ in 0..number_of(count)? {
+    for _ in 0..read_number(count)? {
         into.extend_from_slice(text.as_bytes())?;
     }
     Ok(())
@@ -96,7 +96,7 @@ pub fn add_raw(into: &mut Vec<u8>, count: &str, text: &str) -> Result<(), LineEr
     let count = if count.is_empty() {
         1
     } else {
-        number_of(count)?
+        read_number(count)?
     };
     for _ in 0..count {
         add_text(into, text)?;

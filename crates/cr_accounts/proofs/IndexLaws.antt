@@ -12,14 +12,14 @@ use Rattle.cr_base.specs.declared.entry.Entry.{Entry}
 use Rattle.cr_base.specs.declared.entry.Entry.TheVariants.{Named}
 use Rattle.cr_base.specs.Accounts.{number_at, with_role, accounts_after, AccountsFit}
 use Rattle.cr_base.proofs.AccountLaws.{number_at-push}
-use Rattle.cr_accounts.specs.Index.{IsIndexed}
+use Rattle.cr_accounts.specs.Index.{IsNameIndex}
 
 -- the map stays an index where an account is pushed and its name inserted
 pub indexed-push : (accounts pushed : List Account) (old new : IndexMap (List ℕ) ℕ (BuildHasherDefault FoldHasher)) (a : Account) (user : ℕ)
-    → IsIndexed accounts old → (user ≡ length accounts + 1) × (user ≤ 9999) × (number_at accounts a.name ≡ None)
+    → IsNameIndex accounts old → (user ≡ length accounts + 1) × (user ≤ 9999) × (number_at accounts a.name ≡ None)
     → pushed ≡ accounts ++ a ∷ []
     → ((name : List ℕ) → get bytes_eq new name ≡ cond (bytes_eq a.name name) (Some user) (get bytes_eq old name))
-    → IsIndexed pushed new
+    → IsNameIndex pushed new
 indexed-push accounts pushed old new a user was fits items puts =
     record {
       few = let n = ap length items ∙ length-append accounts (a ∷ []) in omega (arith, n, fits.0, fits.1);

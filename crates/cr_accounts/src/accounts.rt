@@ -25,13 +25,13 @@ impl Model for Accounts {
     ghost use Rattle.std.specs.Prelude.{ℕ, ◌-◌, min, vec_len, vec_capacity};
     ghost use Rattle.indexmap.specs.IndexMap.{spare};
     ghost use Rattle.cr_accounts.specs.Seen.{SeenAccounts};
-    ghost use Rattle.cr_accounts.specs.Index.{IsIndexed};
+    ghost use Rattle.cr_accounts.specs.Index.{IsNameIndex};
 
     ghost Value = { SeenAccounts };
 
     ghost view = { λ t. record { accounts = t.accounts.items; room = min (vec_capacity t.accounts - vec_len t.accounts) (spare t.by_name) } };
 
-    ghost invariant = { λ t. IsIndexed t.accounts.items t.by_name };
+    ghost invariant = { λ t. IsNameIndex t.accounts.items t.by_name };
 }
 
 /// Whether the caller may give somebody who has the role `now` another one.
@@ -158,7 +158,7 @@ impl Accounts {
         may_name(by, now, role)
     }
 
-    /// Every account, by user number, as everyone sees it; an error only for want of memory. Reads
+    /// Every account, by user number, as everyone sees it; an error only for lack of memory. Reads
     /// and copies each account.
     pub fn lines(&self, alloc: Global) -> Result<AccountLines, AllocError>
         ensures { IfOk result (λ lines. lines ≡ lines_of self.now.accounts) }
@@ -174,7 +174,7 @@ impl Accounts {
         Ok(AccountLines::from_vec(lines))
     }
 
-    /// Takes the memory that the entries of one command need; an error only for want of memory,
+    /// Takes the memory that the entries of one command need; an error only for lack of memory,
     /// and the accounts are the same either way.
     pub fn room(&mut self, group: &[Stamped]) -> Result<(), AllocError>
         ensures ok { OnOk result (length group.now ≤ self.new.room) }

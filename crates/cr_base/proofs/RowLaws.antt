@@ -3,7 +3,7 @@ use Rattle.std.proofs.Common.{ℕ, Bool, true, false, cond, ◌≡◌, ◌≤◌
 use Rattle.std.proofs.lemmas.Bool.Decides.{nat_tests}
 use Rattle.std.proofs.lemmas.List.{drop-replicate}
 use Rattle.std.proofs.lemmas.Slice.{drop-append-drop}
-use Rattle.cr_base.specs.Words.{phase_number, phase_at, mode_number, mode_at, role_number, role_at}
+use Rattle.cr_base.specs.Words.{phase_number, phase_numbered, mode_number, mode_numbered, role_number, role_numbered}
 use Rattle.cr_base.specs.Shapes.{FitsShape, HasText, InRange, unused}
 use Rattle.cr_base.specs.Rows.{kind_number, shape_of, kind_of, row_of, built, stamped, IsBoundedEntry}
 use Rattle.cr_base.specs.declared.entry.EntryKind.{EntryKind}
@@ -29,42 +29,42 @@ role_number-cond : (b : Bool) (x y : Role) → role_number (cond b x y) ≡ cond
 role_number-cond true x y = refl
 role_number-cond false x y = refl
 
-role_number-at : (n : ℕ) → 1 ≤ n → n ≤ 2 → role_number (role_at n) ≡ n
-role_number-at n l h = simp role_number-cond (grind (arith, nat_tests))
+role_number-numbered : (n : ℕ) → 1 ≤ n → n ≤ 2 → role_number (role_numbered n) ≡ n
+role_number-numbered n l h = simp role_number-cond (grind (arith, nat_tests))
 
-role_at-number : (x : Role) → 1 ≤ role_number x → role_at (role_number x) ≡ x
-role_at-number Account h = absurd (omega arith)
-role_at-number Member h = refl
-role_at-number Chair h = refl
+role_numbered-number : (x : Role) → 1 ≤ role_number x → role_numbered (role_number x) ≡ x
+role_numbered-number Account h = absurd (omega arith)
+role_numbered-number Member h = refl
+role_numbered-number Chair h = refl
 
 -- a phase by its number, where the numbers are tested one after another
 phase_number-cond : (b : Bool) (x y : Phase) → phase_number (cond b x y) ≡ cond b (phase_number x) (phase_number y)
 phase_number-cond true x y = refl
 phase_number-cond false x y = refl
 
-phase_number-at : (n : ℕ) → n ≤ 6 → phase_number (phase_at n) ≡ n
-phase_number-at n h = simp phase_number-cond (grind (arith, nat_tests))
+phase_number-numbered : (n : ℕ) → n ≤ 6 → phase_number (phase_numbered n) ≡ n
+phase_number-numbered n h = simp phase_number-cond (grind (arith, nat_tests))
 
-phase_at-number : (x : Phase) → phase_at (phase_number x) ≡ x
-phase_at-number Setup = refl
-phase_at-number Submission = refl
-phase_at-number Bidding = refl
-phase_at-number Reviewing = refl
-phase_at-number Discussion = refl
-phase_at-number Notification = refl
-phase_at-number Closed = refl
+phase_numbered-number : (x : Phase) → phase_numbered (phase_number x) ≡ x
+phase_numbered-number Setup = refl
+phase_numbered-number Submission = refl
+phase_numbered-number Bidding = refl
+phase_numbered-number Reviewing = refl
+phase_numbered-number Discussion = refl
+phase_numbered-number Notification = refl
+phase_numbered-number Closed = refl
 
 mode_number-cond : (b : Bool) (x y : Mode) → mode_number (cond b x y) ≡ cond b (mode_number x) (mode_number y)
 mode_number-cond true x y = refl
 mode_number-cond false x y = refl
 
-mode_number-at : (n : ℕ) → n ≤ 2 → mode_number (mode_at n) ≡ n
-mode_number-at n h = simp mode_number-cond (grind (arith, nat_tests))
+mode_number-numbered : (n : ℕ) → n ≤ 2 → mode_number (mode_numbered n) ≡ n
+mode_number-numbered n h = simp mode_number-cond (grind (arith, nat_tests))
 
-mode_at-number : (x : Mode) → mode_at (mode_number x) ≡ x
-mode_at-number Overt = refl
-mode_at-number Blind = refl
-mode_at-number Anonymous = refl
+mode_numbered-number : (x : Mode) → mode_numbered (mode_number x) ≡ x
+mode_numbered-number Overt = refl
+mode_numbered-number Blind = refl
+mode_numbered-number Anonymous = refl
 
 bit : (n : ℕ) → n ≤ 1 → cond (n == 1) 1 0 ≡ n
 bit n h = grind (arith, nat_tests)
@@ -105,17 +105,17 @@ plain_text-is text bytes h = refl
 
 -- the entry that a row spells has that row: a line for each kind with a word in it
 pub row_of-stamped : (k : EntryKind) (r : Row) → kind_number k ≡ r.kind → FitsShape (shape_of k) r → row_of (stamped k r) ≡ r
-row_of-stamped kind.Named r hk f = same_row r kind.Named _ _ _ _ _ hk f (unused-zero _ f.n4) (unused-zero _ f.n5) refl (role_number-at r.n2 f.n2.0 f.n2.1) (unused-zero _ f.n3) (sym f.b1) (sym f.b2)
-row_of-stamped kind.PhaseSet r hk f = same_row r kind.PhaseSet _ _ _ _ _ hk f (unused-zero _ f.n4) (unused-zero _ f.n5) (phase_number-at r.n1 f.n1.1) (unused-zero _ f.n2) (unused-zero _ f.n3) (sym f.b1) (sym f.b2)
-row_of-stamped kind.ModeSet r hk f = same_row r kind.ModeSet _ _ _ _ _ hk f (unused-zero _ f.n4) (unused-zero _ f.n5) (mode_number-at r.n1 f.n1.1) (unused-zero _ f.n2) (unused-zero _ f.n3) (sym f.b1) (sym f.b2)
+row_of-stamped kind.Named r hk f = same_row r kind.Named _ _ _ _ _ hk f (unused-zero _ f.n4) (unused-zero _ f.n5) refl (role_number-numbered r.n2 f.n2.0 f.n2.1) (unused-zero _ f.n3) (sym f.b1) (sym f.b2)
+row_of-stamped kind.PhaseSet r hk f = same_row r kind.PhaseSet _ _ _ _ _ hk f (unused-zero _ f.n4) (unused-zero _ f.n5) (phase_number-numbered r.n1 f.n1.1) (unused-zero _ f.n2) (unused-zero _ f.n3) (sym f.b1) (sym f.b2)
+row_of-stamped kind.ModeSet r hk f = same_row r kind.ModeSet _ _ _ _ _ hk f (unused-zero _ f.n4) (unused-zero _ f.n5) (mode_number-numbered r.n1 f.n1.1) (unused-zero _ f.n2) (unused-zero _ f.n3) (sym f.b1) (sym f.b2)
 row_of-stamped k r hk f =
     let s : Shape = shape_of k in
     same_row r k _ _ _ _ _ hk f (plain-is s.n4 r.n4 f.n4) (plain-is s.n5 r.n5 f.n5) (plain-is s.n1 r.n1 f.n1) (plain-is s.n2 r.n2 f.n2) (plain-is s.n3 r.n3 f.n3) (plain_text-is s.b1 r.b1 f.b1) (plain_text-is s.b2 r.b2 f.b2)
 
 built-row_of : (e : Entry) (m : ℕ) (o : Bool) → IsBoundedEntry (record { maker = m; more = o; entry = e }) → built (kind_of e) (row_of (record { maker = m; more = o; entry = e })) ≡ e
-built-row_of (Named user role) m o h = ap (λ x. Named user x) (role_at-number role h.n2.0)
-built-row_of (PhaseSet phase) m o h = ap (λ x. PhaseSet x) (phase_at-number phase)
-built-row_of (ModeSet mode) m o h = ap (λ x. ModeSet x) (mode_at-number mode)
+built-row_of (Named user role) m o h = ap (λ x. Named user x) (role_numbered-number role h.n2.0)
+built-row_of (PhaseSet phase) m o h = ap (λ x. PhaseSet x) (phase_numbered-number phase)
+built-row_of (ModeSet mode) m o h = ap (λ x. ModeSet x) (mode_numbered-number mode)
 built-row_of (Conflict paper user on) m o h = ap (λ x. Conflict paper user x) (bit-back on)
 built-row_of e m o h = refl
 

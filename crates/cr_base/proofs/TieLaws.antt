@@ -12,7 +12,7 @@ use Rattle.cr_base.specs.declared.pairs.Pair.{Pair}
 use Rattle.cr_base.specs.declared.pairs.Tie.{Tie}
 use Rattle.cr_base.specs.declared.paper.Paper.{Paper}
 use Rattle.cr_base.specs.Lists.{given}
-use Rattle.cr_base.specs.Pairs.{same_pair, is_tied, has_pair, ties_of, users_of}
+use Rattle.cr_base.specs.Pairs.{same_pair, is_tied, has_pair, ties_of, users_tied_to}
 use Rattle.cr_base.specs.Papers.{PapersState, papers_after, paper_count, PapersFit}
 use Rattle.cr_base.specs.Ties.{BareTies, TiesState, pair_of, bare_tie, switched, ties_after, are_before, are_within, AreWithin}
 use Rattle.cr_base.proofs.PairLaws.{same_pair-is, list_all-with_tie, list_all-filter, has_pair-with_tie, has_pair-without_pair}
@@ -27,15 +27,15 @@ has_pair-switched false q paper user ts = has_pair-without_pair q (pair_of paper
 -- ---- a paper's users
 
 -- with one tie more, its user comes last among those of its paper
-pub users_of-push : (p : ℕ) (ts : BareTies) (paper user : ℕ) → users_of p (ts ++ bare_tie paper user ∷ []) ≡ users_of p ts ++ given (eqb p paper) user
-users_of-push p [] paper user = by (eqb p paper)
+pub users_tied_to-push : (p : ℕ) (ts : BareTies) (paper user : ℕ) → users_tied_to p (ts ++ bare_tie paper user ∷ []) ≡ users_tied_to p ts ++ given (eqb p paper) user
+users_tied_to-push p [] paper user = by (eqb p paper)
   where
     by : (b : Bool) → map (λ (t : Tie (Unit {0})). t.pair.user) (cond b (bare_tie paper user ∷ []) []) ≡ given b user
     by true = refl
     by false = refl
-users_of-push p (t ∷ ts) paper user = by (eqb p t.pair.paper) (users_of-push p ts paper user)
+users_tied_to-push p (t ∷ ts) paper user = by (eqb p t.pair.paper) (users_tied_to-push p ts paper user)
   where
-    by : (b : Bool) → users_of p (ts ++ bare_tie paper user ∷ []) ≡ users_of p ts ++ given (eqb p paper) user → map (λ (x : Tie (Unit {0})). x.pair.user) (cond b (t ∷ ties_of ByPaper p (ts ++ bare_tie paper user ∷ [])) (ties_of ByPaper p (ts ++ bare_tie paper user ∷ []))) ≡ map (λ (x : Tie (Unit {0})). x.pair.user) (cond b (t ∷ ties_of ByPaper p ts) (ties_of ByPaper p ts)) ++ given (eqb p paper) user
+    by : (b : Bool) → users_tied_to p (ts ++ bare_tie paper user ∷ []) ≡ users_tied_to p ts ++ given (eqb p paper) user → map (λ (x : Tie (Unit {0})). x.pair.user) (cond b (t ∷ ties_of ByPaper p (ts ++ bare_tie paper user ∷ [])) (ties_of ByPaper p (ts ++ bare_tie paper user ∷ []))) ≡ map (λ (x : Tie (Unit {0})). x.pair.user) (cond b (t ∷ ties_of ByPaper p ts) (ties_of ByPaper p ts)) ++ given (eqb p paper) user
     by true rest = ap (λ us. t.pair.user ∷ us) rest
     by false rest = rest
 

@@ -3,8 +3,8 @@ pub mod Answering
 pub mod Bounds
 pub mod Checks
 pub mod Drawn
-pub mod Facts
 pub mod History
+pub mod HistoryFacts
 pub mod Judging
 pub mod Lists
 pub mod Logins

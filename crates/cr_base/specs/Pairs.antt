@@ -75,8 +75,8 @@ ties_of order n ts = filter (λ t. n == leads order t.pair) ts
 abbrev pub others_of : {V : Type 0} → Order → ℕ → List (Tie V) → List ℕ
 others_of {V} order n ts = map (λ (t : Tie V). follows order t.pair) (ties_of order n ts)
 
-abbrev pub users_of : {V : Type 0} → ℕ → List (Tie V) → List ℕ
-users_of p ts = others_of ByPaper p ts
+abbrev pub users_tied_to : {V : Type 0} → ℕ → List (Tie V) → List ℕ
+users_tied_to p ts = others_of ByPaper p ts
 
-abbrev pub papers_of : {V : Type 0} → ℕ → List (Tie V) → List ℕ
-papers_of u ts = others_of ByUser u ts
+abbrev pub papers_tied_to : {V : Type 0} → ℕ → List (Tie V) → List ℕ
+papers_tied_to u ts = others_of ByUser u ts

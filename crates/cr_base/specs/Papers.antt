@@ -19,17 +19,17 @@ abbrev pub no_papers : PapersState
 no_papers = record { papers = []; submitted = [] }
 
 -- the counts with one more at this index, with none before it that isn't there yet
-abbrev pub counted : ℕ → List ℕ → List ℕ
-counted zero [] = 1 ∷ []
-counted zero (n ∷ counts) = (n + 1) ∷ counts
-counted (suc i) [] = 0 ∷ counted i []
-counted (suc i) (n ∷ counts) = n ∷ counted i counts
+abbrev pub with_one_more : ℕ → List ℕ → List ℕ
+with_one_more zero [] = 1 ∷ []
+with_one_more zero (n ∷ counts) = (n + 1) ∷ counts
+with_one_more (suc i) [] = 0 ∷ with_one_more i []
+with_one_more (suc i) (n ∷ counts) = n ∷ with_one_more i counts
 
 -- the papers after one more entry, by this maker
 abbrev pub papers_after : PapersState → ℕ → Entry → PapersState
 papers_after state maker (Submitted paper title abstract) = record {
   papers = state.papers ++ record { title = title; abstract_ = abstract } ∷ [];
-  submitted = counted maker state.submitted;
+  submitted = with_one_more maker state.submitted;
 }
 papers_after state maker _ = state
 

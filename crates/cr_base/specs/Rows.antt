@@ -6,10 +6,10 @@ use Rattle.cr_base.specs.declared.entry.Entry.{Entry}
 use Rattle.cr_base.specs.declared.entry.Entry.TheVariants.{Registered, Named, PhaseSet, ModeSet, Submitted, Conflict}
 use Rattle.cr_base.specs.declared.entry.Stamped.{Stamped}
 use Rattle.cr_base.specs.declared.row.Row.{Row}
-use Rattle.cr_base.specs.Words.{phase_number, phase_at, mode_number, mode_at, role_number, role_at}
+use Rattle.cr_base.specs.Words.{phase_number, phase_numbered, mode_number, mode_numbered, role_number, role_numbered}
 use Rattle.cr_base.specs.declared.shape.Shape.{Shape}
 use Rattle.cr_base.specs.declared.shape.TextKind.TheVariants.{Nothing, Name, Digest, Title, Abstract}
-use Rattle.cr_base.specs.Shapes.{users, papers, phases, modes, bit, roles, unused, shape, FitsShape}
+use Rattle.cr_base.specs.Shapes.{user_range, paper_range, phase_range, mode_range, bit, role_range, unused, shape, FitsShape}
 
 -- the number by which rows tell the kind
 abbrev pub kind_number : EntryKind → ℕ
@@ -31,12 +31,12 @@ kind_name kind.Conflict = codes "conflict"
 
 -- the fields of each kind, a line a kind
 abbrev pub shape_of : EntryKind → Shape
-shape_of kind.Registered = shape users unused unused Name Digest
-shape_of kind.Named = shape users roles unused Nothing Nothing
-shape_of kind.PhaseSet = shape phases unused unused Nothing Nothing
-shape_of kind.ModeSet = shape modes unused unused Nothing Nothing
-shape_of kind.Submitted = shape papers unused unused Title Abstract
-shape_of kind.Conflict = shape papers users bit Nothing Nothing
+shape_of kind.Registered = shape user_range unused unused Name Digest
+shape_of kind.Named = shape user_range role_range unused Nothing Nothing
+shape_of kind.PhaseSet = shape phase_range unused unused Nothing Nothing
+shape_of kind.ModeSet = shape mode_range unused unused Nothing Nothing
+shape_of kind.Submitted = shape paper_range unused unused Title Abstract
+shape_of kind.Conflict = shape paper_range user_range bit Nothing Nothing
 
 -- the kind of an entry
 abbrev pub kind_of : Entry → EntryKind
@@ -77,7 +77,18 @@ fields_of (Conflict paper user on) = fields paper user (bit_number on) [] []
 abbrev pub row_of : Stamped → Row
 row_of s =
     let f = fields_of s.entry in
-    record { kind = kind_number (kind_of s.entry); maker = s.maker; more = bit_number s.more; n1 = f.n1; n2 = f.n2; n3 = f.n3; n4 = f.n4; n5 = f.n5; b1 = f.b1; b2 = f.b2 }
+    record {
+      kind = kind_number (kind_of s.entry);
+      maker = s.maker;
+      more = bit_number s.more;
+      n1 = f.n1;
+      n2 = f.n2;
+      n3 = f.n3;
+      n4 = f.n4;
+      n5 = f.n5;
+      b1 = f.b1;
+      b2 = f.b2;
+    }
 
 -- RowsOf: one row for each entry, in order
 abbrev pub rows_of : List Stamped → List Row
@@ -90,9 +101,9 @@ IsBoundedEntry s = FitsShape (shape_of (kind_of s.entry)) (row_of s)
 -- the entry of a kind that a row's fields spell
 abbrev pub built : EntryKind → Row → Entry
 built kind.Registered r = Registered r.n1 r.b1 r.b2
-built kind.Named r = Named r.n1 (role_at r.n2)
-built kind.PhaseSet r = PhaseSet (phase_at r.n1)
-built kind.ModeSet r = ModeSet (mode_at r.n1)
+built kind.Named r = Named r.n1 (role_numbered r.n2)
+built kind.PhaseSet r = PhaseSet (phase_numbered r.n1)
+built kind.ModeSet r = ModeSet (mode_numbered r.n1)
 built kind.Submitted r = Submitted r.n1 r.b1 r.b2
 built kind.Conflict r = Conflict r.n1 r.n2 (r.n3 == 1)
 

@@ -11,28 +11,28 @@ abbrev pub range : ℕ → ℕ → Range
 range low high = record { low = low; high = high }
 
 -- the numbers of users
-abbrev pub users : Range
-users = range 1 9999
+abbrev pub user_range : Range
+user_range = range 1 9999
 
 -- the numbers of papers
-abbrev pub papers : Range
-papers = range 1 9999
+abbrev pub paper_range : Range
+paper_range = range 1 9999
 
 -- setup to closed
-abbrev pub phases : Range
-phases = range 0 6
+abbrev pub phase_range : Range
+phase_range = range 0 6
 
 -- open, blind and anonymous
-abbrev pub modes : Range
-modes = range 0 2
+abbrev pub mode_range : Range
+mode_range = range 0 2
 
 -- off and on
 abbrev pub bit : Range
 bit = range 0 1
 
 -- member and chair
-abbrev pub roles : Range
-roles = range 1 2
+abbrev pub role_range : Range
+role_range = range 1 2
 
 -- an unused number is 0
 abbrev pub unused : Range
@@ -54,7 +54,7 @@ HasText Abstract bytes = IsAbstract bytes
 
 -- the row's fields are as the shape wants them; who made it, and the mark, are alike in every kind
 pub record FitsShape (s : Shape) (r : Row) : Type 0 where
-  pub maker : InRange users r.maker
+  pub maker : InRange user_range r.maker
   pub more : r.more ≤ 1
   pub n1 : InRange s.n1 r.n1
   pub n2 : InRange s.n2 r.n2

@@ -11,7 +11,7 @@ use Rattle.cr_base.specs.declared.words.Role.{Role}
 use Rattle.cr_base.specs.Accounts.{lines_of, role_in}
 use Rattle.cr_base.specs.Checks.{NamedPaper}
 use Rattle.cr_base.specs.Lists.{listed, is_number, at_some}
-use Rattle.cr_base.specs.Pairs.{users_of}
+use Rattle.cr_base.specs.Pairs.{users_tied_to}
 use Rattle.cr_base.specs.Papers.{paper_numbers, title_at, abstract_at, own_count}
 use Rattle.cr_base.specs.Tables.{Tables}
 use Rattle.cr_base.specs.Ties.{authors_in, is_author_in, is_conflicted_in}

@@ -7,7 +7,7 @@ use Rattle.cr_base.specs.declared.pairs.Order.TheVariants.{ByPaper}
 use Rattle.cr_base.specs.declared.pairs.Pair.{Pair}
 use Rattle.cr_base.specs.declared.pairs.Tie.{Tie}
 use Rattle.cr_base.specs.Lists.{is_number}
-use Rattle.cr_base.specs.Pairs.{with_tie, without_pair, has_pair, users_of}
+use Rattle.cr_base.specs.Pairs.{with_tie, without_pair, has_pair, users_tied_to}
 
 -- ---- the state
 
@@ -35,7 +35,7 @@ bare_tie paper user = record { pair = pair_of paper user; value = tt }
 
 -- the paper's authors, the submitter first
 abbrev pub authors_in : TiesState → ℕ → List ℕ
-authors_in ties p = users_of p ties.authors
+authors_in ties p = users_tied_to p ties.authors
 
 -- whether the user is an author of the paper
 abbrev pub is_author_in : TiesState → Option ℕ → ℕ → Bool

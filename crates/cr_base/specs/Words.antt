@@ -39,8 +39,8 @@ phase_number Notification = 5
 phase_number Closed = 6
 
 -- the phase of a number in rows, from 0 to 6
-abbrev pub phase_at : ℕ → Phase
-phase_at n =
+abbrev pub phase_numbered : ℕ → Phase
+phase_numbered n =
     if n == 0 then Setup
     else (if n == 1 then Submission
     else (if n == 2 then Bidding
@@ -72,8 +72,8 @@ mode_number Blind = 1
 mode_number Anonymous = 2
 
 -- the mode of a number in rows, from 0 to 2
-abbrev pub mode_at : ℕ → Mode
-mode_at n = if n == 0 then Overt else (if n == 1 then Blind else Anonymous)
+abbrev pub mode_numbered : ℕ → Mode
+mode_numbered n = if n == 0 then Overt else (if n == 1 then Blind else Anonymous)
 
 -- members other than chairs don't see who wrote
 abbrev pub is_anonymous : Mode → Bool
@@ -110,8 +110,8 @@ role_number Member = 1
 role_number Chair = 2
 
 -- the role that a row names a user to: 1 is a member, 2 a chair
-abbrev pub role_at : ℕ → Role
-role_at n = if n == 2 then Chair else Member
+abbrev pub role_numbered : ℕ → Role
+role_numbered n = if n == 2 then Chair else Member
 
 -- a chair is a member
 abbrev pub is_member : Role → Bool

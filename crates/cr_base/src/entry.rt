@@ -113,7 +113,7 @@ impl Entry {
         }
     }
 
-    /// An equal one, which shares its texts; an error only for want of memory.
+    /// An equal one, which shares its texts; an error only for lack of memory.
     pub fn copy(&self) -> Result<Entry, AllocError>
         ensures { IfOk result (λ entry. entry ≡ self.now) }
     {
@@ -148,7 +148,7 @@ impl Entry {
 }
 
 impl Stamped {
-    /// An equal one, which shares its texts; an error only for want of memory.
+    /// An equal one, which shares its texts; an error only for lack of memory.
     pub fn copy(&self) -> Result<Stamped, AllocError>
         ensures { IfOk result (λ stamped. stamped ≡ self.now) }
     {

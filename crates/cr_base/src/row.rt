@@ -31,7 +31,7 @@ pub struct Row {
 }
 
 impl Row {
-    /// An equal one, which shares its bytes; an error only for want of memory.
+    /// An equal one, which shares its bytes; an error only for lack of memory.
     pub fn copy(&self) -> Result<Row, AllocError>
         ensures { IfOk result (λ row. row ≡ self.now) }
     {

@@ -80,7 +80,7 @@ impl EntryKind {
 
 impl Entry {
     /// The row of an entry by this maker, where `more` says whether another entry of the same
-    /// command follows; an error only for want of memory.
+    /// command follows; an error only for lack of memory.
     pub fn to_row(&self, alloc: Global, maker: UserNo, more: bool) -> Result<Row, AllocError>
         ensures { IfOk result (λ made. made ≡ row_of (record { maker = maker; more = more; entry = self.now })) }
     {
@@ -183,7 +183,7 @@ fn entry_from(kind: EntryKind, row: &Row) -> Result<Entry, AllocError>
 impl Stamped {
     /// The entry of a row, with its maker and its mark, and none exactly where the row is no
     /// entry's: another kind, a number out of its range, bytes out of their grammar, or an unused
-    /// field that isn't empty. An error only for want of memory.
+    /// field that isn't empty. An error only for lack of memory.
     pub fn from_row(row: &Row) -> Result<Option<Stamped>, AllocError>
         ensures spells { IfOk result (λ found. IfSome found (λ s. IsBoundedEntry s × (row_of s ≡ row.now))) }
         ensures every { IfOk result (λ found. (s : Stamped) → IsBoundedEntry s → row_of s ≡ row.now → found ≡ Some s) }

@@ -2,7 +2,8 @@
 ghost use Rattle.std.specs.Prelude.{◌≡◌, ℕ, ◌≤◌, ◌+◌, List, [], length, take, drop, replicate, IfOk, IsTrue, ◌↔◌};
 ghost use Rattle.std.specs.List.{list_all};
 ghost use Rattle.std.specs.Str.{is_utf8};
-ghost use Rattle.cr_base.specs.Texts.{IsName, IsTitle, IsAbstract, is_name as is_name_text, is_name_byte, is_title as is_title_text, is_title_byte, is_abstract as is_abstract_text};
+ghost use Rattle.cr_base.specs.Texts.{IsName, IsTitle, IsAbstract, is_name as is_name_text, is_name_byte};
+ghost use Rattle.cr_base.specs.Texts.{is_title as is_title_text, is_title_byte, is_abstract as is_abstract_text};
 
 use bytes::{ByteStr, Bytes};
 use std::alloc::{AllocError, Global};
@@ -31,7 +32,7 @@ impl Blob {
         }
     }
 
-    /// A copy of these bytes, in a block of their own; an error only for want of memory.
+    /// A copy of these bytes, in a block of their own; an error only for lack of memory.
     pub fn from_slice(alloc: Global, bytes: &[u8]) -> Result<Blob, AllocError>
         ensures { IfOk result (λ b. b ≡ bytes.now) }
     {
@@ -55,7 +56,7 @@ impl Blob {
     }
 
     /// An equal one, which shares the bytes: its cost is the same whatever their number. An error only for
-    /// want of memory, of which a few bytes are taken for the count of those who share them.
+    /// lack of memory, of which a few bytes are taken for the count of those who share them.
     pub fn copy(&self) -> Result<Blob, AllocError>
         ensures { IfOk result (λ b. b ≡ self.now) }
     {
@@ -80,7 +81,7 @@ impl Model for Text {
 }
 
 impl Text {
-    /// A copy of a text, in a block of its own; an error only for want of memory.
+    /// A copy of a text, in a block of its own; an error only for lack of memory.
     pub fn from_str(alloc: Global, text: &str) -> Result<Text, AllocError>
         ensures { IfOk result (λ t. t ≡ text.now) }
     {
@@ -89,7 +90,7 @@ impl Text {
         })
     }
 
-    /// A text that is made of these bytes, which are UTF-8, and shares them; an error only for want of memory.
+    /// A text that is made of these bytes, which are UTF-8, and shares them; an error only for lack of memory.
     pub fn from_blob(bytes: &Blob) -> Result<Text, AllocError>
         requires { IsTrue (is_utf8 bytes.now) }
         ensures { IfOk result (λ t. t ≡ bytes.now) }
@@ -107,7 +108,7 @@ impl Text {
         self.text.as_str()
     }
 
-    /// Its bytes, which it shares; an error only for want of memory.
+    /// Its bytes, which it shares; an error only for lack of memory.
     pub fn to_blob(&self) -> Result<Blob, AllocError>
         ensures { IfOk result (λ b. b ≡ self.now) }
     {

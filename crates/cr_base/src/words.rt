@@ -1,6 +1,8 @@
 //! Phases, modes and roles, and the words by which requests and answers name them.
 ghost use Rattle.std.specs.Prelude.{◌≡◌, ◌≤◌, length};
-ghost use Rattle.cr_base.specs.Words.{phase_name, phase_named, phase_number, phase_at, mode_name, mode_named, mode_number, mode_at, is_anonymous, is_overt, role_name, role_named, role_number, role_at, is_member, is_chair};
+ghost use Rattle.cr_base.specs.Words.{phase_name, phase_named, phase_number, phase_numbered};
+ghost use Rattle.cr_base.specs.Words.{mode_name, mode_named, mode_number, mode_numbered, is_anonymous, is_overt};
+ghost use Rattle.cr_base.specs.Words.{role_name, role_named, role_number, role_numbered, is_member, is_chair};
 ghost use Rattle.cr_base.specs.Phases.{phase_place, is_from, is_phase, is_next};
 
 /// A phase of the conference (CoCon's phases). A conference starts in setup, and moves on to the next
@@ -96,7 +98,7 @@ impl Phase {
 
     /// The phase of a number in rows, from 0 to 6.
     pub(crate) fn from_number(number: u64) -> Phase
-        ensures { result ≡ phase_at number }
+        ensures { result ≡ phase_numbered number }
     {
         match number {
             0 => Phase::Setup,
@@ -185,7 +187,7 @@ impl Mode {
 
     /// The mode of a number in rows, from 0 to 2.
     pub(crate) fn from_number(number: u64) -> Mode
-        ensures { result ≡ mode_at number }
+        ensures { result ≡ mode_numbered number }
     {
         match number {
             0 => Mode::Overt,
@@ -273,7 +275,7 @@ impl Role {
 
     /// The role that a row names somebody to by 1 or 2.
     pub(crate) fn from_number(number: u64) -> Role
-        ensures { result ≡ role_at number }
+        ensures { result ≡ role_numbered number }
     {
         if number == 2 {
             Role::Chair

@@ -3,7 +3,7 @@ use Rattle.std.specs.Prelude.{ℕ, List, Option, Some, None, codes}
 use Rattle.serde_json.specs.Data.{Data}
 use Rattle.cr_base.specs.declared.command.Command.{Command}
 use Rattle.cr_base.specs.declared.command.Command.TheVariants as commands
-use Rattle.cr_bodies.specs.Field.{◌>>=◌, abstract_at, digest_at, flag_at, mode_at, name_at, phase_at, role_at, title_at, user_at}
+use Rattle.cr_bodies.specs.Field.{◌>>=◌, abstract_under, digest_under, flag_under, mode_under, name_under, phase_under, role_under, title_under, user_under}
 use Rattle.cr_bodies.specs.Json.{json_of}
 use Rattle.cr_base.specs.declared.ask.Ask.{Ask}
 use Rattle.cr_base.specs.declared.ask.Ask.TheVariants as asks
@@ -12,26 +12,26 @@ use Rattle.cr_base.specs.declared.ask.Ask.TheVariants as asks
 -- there. None is a bad body; a query has none
 abbrev pub command_in : Ask → Option ℕ → Data → Option Command
 command_in asks.Register paper d = do
-  name ← name_at (codes "name") d
-  digest ← digest_at (codes "secret") d
+  name ← name_under (codes "name") d
+  digest ← digest_under (codes "secret") d
   Some (commands.Register name digest)
 command_in asks.Name paper d = do
-  user ← user_at (codes "name") d
-  role ← role_at (codes "role") d
+  user ← user_under (codes "name") d
+  role ← role_under (codes "role") d
   Some (commands.Name user role)
 command_in asks.SetMode paper d = do
-  mode ← mode_at (codes "mode") d
+  mode ← mode_under (codes "mode") d
   Some (commands.SetMode mode)
 command_in asks.SetPhase paper d = do
-  phase ← phase_at (codes "phase") d
+  phase ← phase_under (codes "phase") d
   Some (commands.SetPhase phase)
 command_in asks.Submit paper d = do
-  title ← title_at (codes "title") d
-  abstract ← abstract_at (codes "abstract") d
+  title ← title_under (codes "title") d
+  abstract ← abstract_under (codes "abstract") d
   Some (commands.Submit title abstract)
 command_in asks.SetConflict paper d = do
-  on ← flag_at (codes "on") d
-  user ← user_at (codes "user") d
+  on ← flag_under (codes "on") d
+  user ← user_under (codes "user") d
   Some (commands.SetConflict paper user on)
 command_in asks.Accounts paper d = None
 command_in asks.Phase paper d = None

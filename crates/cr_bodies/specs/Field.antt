@@ -36,41 +36,41 @@ abbrev pub passing : (List ℕ → Bool) → List ℕ → Option (List ℕ)
 passing test text = if test text then Some text else None
 
 -- the text under a key
-abbrev pub text_at : List ℕ → Data → Option (List ℕ)
-text_at key d = get key d >>= as_str
+abbrev pub text_under : List ℕ → Data → Option (List ℕ)
+text_under key d = get key d >>= as_str
 
 -- the text under a key, where it is of a grammar
-abbrev pub tested_at : Grammar → List ℕ → Data → Option (List ℕ)
-tested_at grammar key d = text_at key d >>= passing (admits grammar)
+abbrev pub tested_under : Grammar → List ℕ → Data → Option (List ℕ)
+tested_under grammar key d = text_under key d >>= passing (admits grammar)
 
 -- the name, the title and the abstract under a key
-abbrev pub name_at : List ℕ → Data → Option (List ℕ)
-name_at key d = tested_at Name key d
+abbrev pub name_under : List ℕ → Data → Option (List ℕ)
+name_under key d = tested_under Name key d
 
-abbrev pub title_at : List ℕ → Data → Option (List ℕ)
-title_at key d = tested_at Title key d
+abbrev pub title_under : List ℕ → Data → Option (List ℕ)
+title_under key d = tested_under Title key d
 
-abbrev pub abstract_at : List ℕ → Data → Option (List ℕ)
-abstract_at key d = tested_at Abstract key d
+abbrev pub abstract_under : List ℕ → Data → Option (List ℕ)
+abstract_under key d = tested_under Abstract key d
 
 -- the digest of the secret under a key
-abbrev pub digest_at : List ℕ → Data → Option (List ℕ)
-digest_at key d = option_map sha256 (tested_at Secret key d)
+abbrev pub digest_under : List ℕ → Data → Option (List ℕ)
+digest_under key d = option_map sha256 (tested_under Secret key d)
 
 -- the user whose name is told under a key, None where the text there is no name
-abbrev pub user_at : List ℕ → Data → Option (Option (List ℕ))
-user_at key d = option_map (passing (admits Name)) (text_at key d)
+abbrev pub user_under : List ℕ → Data → Option (Option (List ℕ))
+user_under key d = option_map (passing (admits Name)) (text_under key d)
 
 -- what is true or false under a key
-abbrev pub flag_at : List ℕ → Data → Option Bool
-flag_at key d = get key d >>= as_bool
+abbrev pub flag_under : List ℕ → Data → Option Bool
+flag_under key d = get key d >>= as_bool
 
 -- the phase, the mode, and the role that somebody may be named to, whose word stands under a key
-abbrev pub phase_at : List ℕ → Data → Option Phase
-phase_at key d = text_at key d >>= phase_named
+abbrev pub phase_under : List ℕ → Data → Option Phase
+phase_under key d = text_under key d >>= phase_named
 
-abbrev pub mode_at : List ℕ → Data → Option Mode
-mode_at key d = text_at key d >>= mode_named
+abbrev pub mode_under : List ℕ → Data → Option Mode
+mode_under key d = text_under key d >>= mode_named
 
-abbrev pub role_at : List ℕ → Data → Option Role
-role_at key d = text_at key d >>= role_named
+abbrev pub role_under : List ℕ → Data → Option Role
+role_under key d = text_under key d >>= role_named

@@ -19,11 +19,11 @@ Fails Bad read = read ≡ None
 Fails OutOfMemory read = Unit {0}
 
 -- what is read, memory aside
-abbrev pub Reads : {A : Type 0} → Result A BodyError → Option A → Type 0
-Reads (Ok x) read = read ≡ Some x
-Reads (Err e) read = Fails e read
+abbrev pub TellsBody : {A : Type 0} → Result A BodyError → Option A → Type 0
+TellsBody (Ok x) read = read ≡ Some x
+TellsBody (Err e) read = Fails e read
 
 -- the same, where the value is seen by a function
-abbrev pub ReadsSeen : {X A : Type 0} → (X → A) → Result X BodyError → Option A → Type 0
-ReadsSeen see (Ok x) read = read ≡ Some (see x)
-ReadsSeen see (Err e) read = Fails e read
+abbrev pub TellsBodySeen : {X A : Type 0} → (X → A) → Result X BodyError → Option A → Type 0
+TellsBodySeen see (Ok x) read = read ≡ Some (see x)
+TellsBodySeen see (Err e) read = Fails e read

@@ -7,7 +7,7 @@ ghost use Rattle.cr_base.specs.Bounds.{IsBoundedCommand};
 ghost use Rattle.serde_json.specs.View.{view};
 ghost use Rattle.cr_bodies.specs.Json.{json_of};
 ghost use Rattle.cr_bodies.specs.Bodies.{command_in as command_in_text, command_read};
-ghost use Rattle.cr_bodies.specs.Outcome.{Reads, ReadsSeen};
+ghost use Rattle.cr_bodies.specs.Outcome.{TellsBody, TellsBodySeen};
 
 use crate::field::{Grammar, digest, flag, mode, name, phase, role, tested, user};
 use cr_base::{Ask, Command, PaperNo, Text};
@@ -36,7 +36,7 @@ impl From<AllocError> for BodyError {
 
 /// The JSON value of a body.
 fn read_json(alloc: Global, body: &[u8]) -> Result<Value, BodyError>
-    ensures { ReadsSeen view result (json_of body.now) }
+    ensures { TellsBodySeen view result (json_of body.now) }
 {
     match Value::from_slice(alloc, body) {
         Ok(value) => Ok(value),
@@ -53,7 +53,7 @@ fn command_in(
     paper: Option<PaperNo>,
     body: &Value,
 ) -> Result<Command, BodyError>
-    ensures told { Reads result (command_in_text ask paper (view body.now)) }
+    ensures told { TellsBody result (command_in_text ask paper (view body.now)) }
     ensures bounded { IfOk result IsBoundedCommand }
 {
     match ask {
@@ -100,7 +100,7 @@ pub fn read_command(
     paper: Option<PaperNo>,
     body: &[u8],
 ) -> Result<Command, BodyError>
-    ensures told { Reads result (command_read ask paper body.now) }
+    ensures told { TellsBody result (command_read ask paper body.now) }
     ensures bounded { IfOk result IsBoundedCommand }
 {
     let value = read_json(alloc, body)?;

@@ -2,7 +2,8 @@
 ghost use Rattle.std.specs.Prelude.{◌≡◌, IfOk, IsTrue};
 ghost use Rattle.cr_base.specs.Texts.{IsName};
 ghost use Rattle.cr_base.specs.Words.{is_member};
-ghost use Rattle.cr_bodies.specs.Field.{IsOf, admits as admits_text, digest_at, flag_at, mode_at, name_at, passing, phase_at, role_at, text_at, tested_at, user_at};
+ghost use Rattle.cr_bodies.specs.Field.{IsOf, admits as admits_text, digest_under, flag_under, mode_under, name_under};
+ghost use Rattle.cr_bodies.specs.Field.{passing, phase_under, role_under, text_under, tested_under, user_under};
 ghost use Rattle.cr_bodies.specs.Outcome.{Tells, TellsSeen};
 ghost use Rattle.cr_bodies.specs.declared.field.Grammar.TheVariants as grammars;
 ghost use Rattle.serde_json.specs.View.{view};
@@ -42,7 +43,7 @@ impl Grammar {
 
 /// The text under a key.
 fn text<'a>(body: &'a Value, key: &str) -> Result<&'a str, BodyError>
-    ensures { TellsSeen (λ t. t.now) result (text_at key.now (view body.now)) }
+    ensures { TellsSeen (λ t. t.now) result (text_under key.now (view body.now)) }
 {
     match body.get(key).and_then(Value::as_str) {
         Some(text) => Ok(text),
@@ -52,7 +53,7 @@ fn text<'a>(body: &'a Value, key: &str) -> Result<&'a str, BodyError>
 
 /// The text under a key, where it is of a grammar.
 pub(crate) fn tested<'a>(body: &'a Value, key: &str, grammar: Grammar) -> Result<&'a str, BodyError>
-    ensures told { TellsSeen (λ t. t.now) result (tested_at grammar key.now (view body.now)) }
+    ensures told { TellsSeen (λ t. t.now) result (tested_under grammar key.now (view body.now)) }
     ensures valid { IfOk result (λ t. IsOf grammar t.now) }
 {
     let text = text(body, key)?;
@@ -65,7 +66,7 @@ pub(crate) fn tested<'a>(body: &'a Value, key: &str, grammar: Grammar) -> Result
 
 /// The name under a key.
 pub(crate) fn name(body: &Value, key: &str) -> Result<Short, BodyError>
-    ensures told { Tells result (name_at key.now (view body.now)) }
+    ensures told { Tells result (name_under key.now (view body.now)) }
     ensures valid { IfOk result IsName }
 {
     let text = tested(body, key, Grammar::Name)?;
@@ -74,7 +75,7 @@ pub(crate) fn name(body: &Value, key: &str) -> Result<Short, BodyError>
 
 /// The digest of the secret under a key.
 pub(crate) fn digest(body: &Value, key: &str) -> Result<Digest, BodyError>
-    ensures { Tells result (digest_at key.now (view body.now)) }
+    ensures { Tells result (digest_under key.now (view body.now)) }
 {
     let text = tested(body, key, Grammar::Secret)?;
     Ok(digest_of(text.as_bytes()))
@@ -93,7 +94,7 @@ fn name_in(text: &str) -> Option<Short>
 
 /// The user whose name is told by the text under a key: None where the text is no name.
 pub(crate) fn user(body: &Value, key: &str) -> Result<Option<Short>, BodyError>
-    ensures { Tells result (user_at key.now (view body.now)) }
+    ensures { Tells result (user_under key.now (view body.now)) }
 {
     let text = text(body, key)?;
     Ok(name_in(text))
@@ -101,7 +102,7 @@ pub(crate) fn user(body: &Value, key: &str) -> Result<Option<Short>, BodyError>
 
 /// What is true or false under a key.
 pub(crate) fn flag(body: &Value, key: &str) -> Result<bool, BodyError>
-    ensures { Tells result (flag_at key.now (view body.now)) }
+    ensures { Tells result (flag_under key.now (view body.now)) }
 {
     match body.get(key).and_then(Value::as_bool) {
         Some(flag) => Ok(flag),
@@ -111,7 +112,7 @@ pub(crate) fn flag(body: &Value, key: &str) -> Result<bool, BodyError>
 
 /// The phase whose word stands under a key.
 pub(crate) fn phase(body: &Value, key: &str) -> Result<Phase, BodyError>
-    ensures { Tells result (phase_at key.now (view body.now)) }
+    ensures { Tells result (phase_under key.now (view body.now)) }
 {
     match Phase::from_name(text(body, key)?) {
         Some(phase) => Ok(phase),
@@ -121,7 +122,7 @@ pub(crate) fn phase(body: &Value, key: &str) -> Result<Phase, BodyError>
 
 /// The mode whose word stands under a key.
 pub(crate) fn mode(body: &Value, key: &str) -> Result<Mode, BodyError>
-    ensures { Tells result (mode_at key.now (view body.now)) }
+    ensures { Tells result (mode_under key.now (view body.now)) }
 {
     match Mode::from_name(text(body, key)?) {
         Some(mode) => Ok(mode),
@@ -131,7 +132,7 @@ pub(crate) fn mode(body: &Value, key: &str) -> Result<Mode, BodyError>
 
 /// The role that somebody may be named to, member or chair, whose word stands under a key.
 pub(crate) fn role(body: &Value, key: &str) -> Result<Role, BodyError>
-    ensures told { Tells result (role_at key.now (view body.now)) }
+    ensures told { Tells result (role_under key.now (view body.now)) }
     ensures member { IfOk result (λ role. IsTrue (is_member role)) }
 {
     match Role::from_name(text(body, key)?) {

@@ -31,7 +31,7 @@ pub record IsBadAt (rows : List Row) (at : ℕ) (found : Row) : Type 0 where
   pub before : Continue (take at rows)
   pub bad : (Continue (take (at + 1) rows) → ⊥) ⊎ ((at + 1 ≡ length rows) × AreCutOff rows found)
 
--- an error says of these rows at most that they are bad: faults of the keeper and want of memory say nothing of them
+-- an error says of these rows at most that they are bad: faults of the keeper and a lack of memory say nothing of them
 abbrev pub Explains : List Row → OpenError → Type 0
 Explains rows (errors.BadStore at found) = IsBadAt rows at found
 Explains rows errors.KeeperFault = Unit {0}

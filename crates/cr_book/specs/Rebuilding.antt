@@ -64,4 +64,6 @@ pub record IsBegun (t : Tables) (rows : List Row) (group : History) : Type 0 whe
 
 -- it has none that does
 abbrev pub NoneBegun : Tables → Row → List Row → Type 0
-NoneBegun t row rows = (first : Stamped) (drawn : Drawn) → IsBoundedEntry first → row_of first ≡ row → drawn_told t first ≡ Some drawn → take (length rows) (rows_of drawn.group) ≡ rows → ⊥
+NoneBegun t row rows =
+    (first : Stamped) (drawn : Drawn) → IsBoundedEntry first → row_of first ≡ row → drawn_told t first ≡ Some drawn
+    → take (length rows) (rows_of drawn.group) ≡ rows → ⊥

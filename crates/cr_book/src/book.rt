@@ -1,7 +1,7 @@
 //! The book: one history, its tables and its keeper.
 ghost use Rattle.std.specs.Prelude.{◌≡◌, ◌≤◌, ◌++◌, ℕ, length, IfOk, IfErr, IsOk, OnOk, OnErr, IfSome, Ok, Err, Some, ◌≢◌};
 ghost use Rattle.cr_base.specs.declared.reply.Rule.{Rule};
-ghost use Rattle.cr_base.specs.Facts.{number_of, caller_of};
+ghost use Rattle.cr_base.specs.HistoryFacts.{number_of, caller_of};
 ghost use Rattle.cr_base.specs.Logins.{query_wants_login};
 ghost use Rattle.cr_base.specs.Tables.{tables_of, FitInTurn};
 ghost use Rattle.cr_policy.specs.Judge.{judge, answer};
@@ -57,7 +57,7 @@ pub enum BookError {
     Rule(Rule),
     /// The keeper failed to keep what the command adds.
     KeeperFault,
-    /// Memory is wanting.
+    /// Out of memory.
     OutOfMemory,
 }
 
@@ -69,7 +69,7 @@ impl<K: Keeper> Book<K> {
     /// `OpenError::BadStore` comes exactly where no legal history has these rows, and tells the first that
     /// is no entry's or doesn't continue a legal history, or else the last one, where another of its
     /// command should follow. `KeeperFault` comes only where the keeper's count of faults rose, or stands
-    /// at its last value; with all else the count is as it was, and `OutOfMemory` comes for want of memory
+    /// at its last value; with all else the count is as it was, and `OutOfMemory` comes for lack of memory
     /// alone. No row changes.
     pub fn open(alloc: Global, mut keeper: K) -> Result<Book<K>, (OpenError, K)>
         ensures exact { IfSome (K.rows keeper) (λ rows. Opens rows result) }
@@ -111,7 +111,7 @@ impl<K: Keeper> Book<K> {
     /// each error the history and the keeper's rows stay as they were. A broken rule is told whatever
     /// memory there is, so both other errors come only for a command that is accepted. `KeeperFault`
     /// comes only where the keeper's count of faults rose, or stands at its last value; with all else
-    /// the count is as it was, and `OutOfMemory` comes for want of memory alone.
+    /// the count is as it was, and `OutOfMemory` comes for lack of memory alone.
     pub fn command(
         &mut self,
         caller: &Option<UserNo>,
@@ -187,7 +187,7 @@ impl<K: Keeper> Book<K> {
 
     /// The answer to a query of this caller, a registered user, or nobody where the query wants no
     /// login; or the first broken rule, which is told whatever memory there is. `AnswerError::OutOfMemory`
-    /// comes for want of memory alone, and never where the state of the conference is asked for. The
+    /// comes for lack of memory alone, and never where the state of the conference is asked for. The
     /// keeper isn't asked. `Query::Accounts` costs a walk over all accounts, `Query::Page` a few look-ups,
     /// one more for each name that is told, whatever the length of the texts, `Query::Me` a walk
     /// over her own papers and conflicts, `Query::Phase` nothing that grows.
@@ -236,7 +236,7 @@ impl<K: Keeper> Book<K> {
     /// Writes the user's view, one line a sighting: a compact JSON object with the parts that she is shown, its keys in
     /// the order of their bytes. Behind an error a part of the lines was written. `WriteFault` comes only where the
     /// sink's count of faults rose, or stands at its last value; else the count is as it was, and `OutOfMemory` comes
-    /// for want of memory alone. No view is made in memory: see `write_view` for the cost.
+    /// for lack of memory alone. No view is made in memory: see `write_view` for the cost.
     pub fn view_lines<O: Sink>(&self, user: UserNo, sink: &mut O) -> Result<(), ViewError>
         ensures { WritesView result (lines_text (view (Some user) self.now.log)) (outlet_of O.taken O.faults sink.old) (outlet_of O.taken O.faults sink.new) }
     {

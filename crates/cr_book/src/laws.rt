@@ -1,6 +1,6 @@
 //! A law over the definitions alone: what the tables tell of a user is what the history does.
 ghost use Rattle.std.specs.Prelude.{◌≡◌, ℕ, Option};
-ghost use Rattle.cr_base.specs.Facts.{standing_of};
+ghost use Rattle.cr_base.specs.HistoryFacts.{standing_of};
 ghost use Rattle.cr_base.specs.History.{History};
 ghost use Rattle.cr_base.specs.Sources.{standing_at};
 ghost use Rattle.cr_base.specs.Tables.{tables_of};

@@ -26,7 +26,7 @@ pub enum OpenError {
     },
     /// The keeper failed to tell its rows.
     KeeperFault,
-    /// Memory is wanting.
+    /// Out of memory.
     OutOfMemory,
 }
 

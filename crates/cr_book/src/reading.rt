@@ -17,7 +17,7 @@ use std::marker::Model;
 pub(crate) enum ReadError {
     /// It doesn't continue a legal history; the row as it was given.
     Bad(Row),
-    /// Memory is wanting.
+    /// Out of memory.
     OutOfMemory,
 }
 

@@ -10,7 +10,7 @@ use Rattle.cr_base.specs.declared.pairs.Order.TheVariants.{ByPaper, ByUser}
 use Rattle.cr_base.specs.declared.pairs.Pair.{Pair}
 use Rattle.cr_base.specs.declared.pairs.Tie.{Tie}
 use Rattle.cr_base.specs.Lists.{IsRising, is_number}
-use Rattle.cr_base.specs.Pairs.{same_pair, leads, follows, stands, IsSortedBy, IsAscending, has_pair, with_tie, users_of, papers_of}
+use Rattle.cr_base.specs.Pairs.{same_pair, leads, follows, stands, IsSortedBy, IsAscending, has_pair, with_tie, users_tied_to, papers_tied_to}
 use Rattle.cr_base.specs.Ties.{BareTies, pair_of, bare_tie, are_before}
 use Rattle.cr_base.proofs.PairLaws.{IsAscending-with_tie, has_pair-with_tie, list_any-others_of}
 use Rattle.cr_base.proofs.RisingLists.{rising-sorted, rising-others_of, others_of-same}
@@ -22,7 +22,7 @@ use Rattle.cr_conflicts.specs.Index.{is_told_before, AuthorsIndexed}
 -- ---- what is read
 
 -- an author is one whose pair is there
-pub author-pair : (authors : BareTies) (u p : ℕ) → list_any (is_number (Some u)) (users_of p authors) ≡ has_pair (pair_of p u) authors
+pub author-pair : (authors : BareTies) (u p : ℕ) → list_any (is_number (Some u)) (users_tied_to p authors) ≡ has_pair (pair_of p u) authors
 author-pair authors u p = list_any-others_of ByPaper p u authors
 
 -- the papers of the authors never fall
@@ -37,7 +37,7 @@ module _ (authors : BareTies) (users : Order) (authored : BareTies) (declared : 
   rises : (p q : Pair) → eqb u (leads ByUser p) ≡ true → eqb u (leads ByUser q) ≡ true → is_told_before p q ≡ true → nat_lt (follows ByUser p) (follows ByUser q) ≡ true
   rises p q here there before = grind (arith, nat_tests)
 
-  pub indexed-papers : (papers_of u authored ≡ papers_of u authors) × IsRising (papers_of u authors)
+  pub indexed-papers : (papers_tied_to u authored ≡ papers_tied_to u authors) × IsRising (papers_tied_to u authors)
   indexed-papers =
       let rising = rising-sorted is_told_before ByUser u rises authors index.told in
       (others_of-same ByUser u authored authors (rising-others_of ByUser ByUser u authored index.ascending) rising index.same, rising)

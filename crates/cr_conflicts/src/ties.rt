@@ -2,7 +2,7 @@
 ghost use Rattle.std.specs.Prelude.{◌≡◌, ◌≤◌, ◌<◌, ◌+◌, OnOk, Some, length, map, is_some, if◌then◌else◌};
 ghost use Rattle.cr_base.specs.Checks.{judged, conflict_checks};
 ghost use Rattle.cr_base.specs.Lists.{IsRising};
-ghost use Rattle.cr_base.specs.Pairs.{with_tie, users_of, papers_of};
+ghost use Rattle.cr_base.specs.Pairs.{with_tie, users_tied_to, papers_tied_to};
 ghost use Rattle.cr_base.specs.Ties.{no_ties, ties_after, switched, bare_tie, authors_in, is_author_in, is_conflicted_in, TiesFit};
 ghost use Rattle.cr_conflicts.specs.Targets.{target_of};
 
@@ -121,7 +121,7 @@ impl Ties {
     /// Who is declared in conflict with the paper, in the order of user numbers. Two binary searches;
     /// takes no memory.
     pub fn conflicts(&self, paper: PaperNo) -> &[Tie<()>]
-        ensures { map (λ t. t.pair.user) result.now ≡ users_of paper self.now.ties.conflicts }
+        ensures { map (λ t. t.pair.user) result.now ≡ users_tied_to paper self.now.ties.conflicts }
     {
         self.conflicts.of_paper(paper)
     }
@@ -129,7 +129,7 @@ impl Ties {
     /// Whom the paper's authors named in a conflict with it, in the order of user numbers. Two binary
     /// searches; takes no memory.
     pub fn declared(&self, paper: PaperNo) -> &[Tie<()>]
-        ensures { map (λ t. t.pair.user) result.now ≡ users_of paper self.now.ties.declared }
+        ensures { map (λ t. t.pair.user) result.now ≡ users_tied_to paper self.now.ties.declared }
     {
         self.declared.of_paper(paper)
     }
@@ -137,8 +137,8 @@ impl Ties {
     /// The papers whose author the user is, in the order of their numbers. Two binary searches; takes
     /// no memory.
     pub fn authored(&self, user: UserNo) -> &[Tie<()>]
-        ensures papers { map (λ t. t.pair.paper) result.now ≡ papers_of user self.now.ties.authors }
-        ensures rising { IsRising (papers_of user self.now.ties.authors) }
+        ensures papers { map (λ t. t.pair.paper) result.now ≡ papers_tied_to user self.now.ties.authors }
+        ensures rising { IsRising (papers_tied_to user self.now.ties.authors) }
     {
         self.authored.of_user(user)
     }
@@ -146,8 +146,8 @@ impl Ties {
     /// The papers with which the user is declared in conflict, in the order of their numbers. Two
     /// binary searches; takes no memory.
     pub fn conflicting(&self, user: UserNo) -> &[Tie<()>]
-        ensures papers { map (λ t. t.pair.paper) result.now ≡ papers_of user self.now.ties.conflicts }
-        ensures rising { IsRising (papers_of user self.now.ties.conflicts) }
+        ensures papers { map (λ t. t.pair.paper) result.now ≡ papers_tied_to user self.now.ties.conflicts }
+        ensures rising { IsRising (papers_tied_to user self.now.ties.conflicts) }
     {
         self.conflicts.of_user(user)
     }
@@ -194,7 +194,7 @@ impl Ties {
 
 /// What entries make of it.
 impl Ties {
-    /// Takes the memory that the entries of one command need; an error only for want of memory, and
+    /// Takes the memory that the entries of one command need; an error only for lack of memory, and
     /// the ties are the same either way.
     pub fn room(&mut self, group: &[Stamped]) -> Result<(), AllocError>
         ensures ok { OnOk result (length group.now ≤ self.new.room) }

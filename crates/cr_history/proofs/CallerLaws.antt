@@ -7,10 +7,10 @@ use Rattle.cr_base.specs.declared.entry.Account.{Account}
 use Rattle.cr_base.specs.declared.entry.Entry.{Entry}
 use Rattle.cr_base.specs.declared.entry.Entry.TheVariants.{Registered}
 use Rattle.cr_base.specs.Accounts.{AccountsFit}
-use Rattle.cr_base.specs.Facts.{caller_of}
+use Rattle.cr_base.specs.HistoryFacts.{caller_of}
 use Rattle.cr_base.specs.History.{History, Registration, all_told, registration_told, caller_told}
 use Rattle.cr_base.specs.Lists.{last_from}
-use Rattle.cr_base.specs.Shapes.{InRange, users}
+use Rattle.cr_base.specs.Shapes.{InRange, user_range}
 use Rattle.cr_base.specs.Tables.{Tables, tables_after, FitInTurn}
 use Rattle.cr_base.proofs.LastLaws.{last_from-given}
 use Rattle.cr_history.specs.Invariants.{IsRegistered}
@@ -21,16 +21,16 @@ is_of user r = eqb r.user user
 
 -- ---- numbers of users
 
-numbered-entry : (accounts : List Account) (e : Entry) (user : ℕ) (rest : List Registration) → AccountsFit accounts e → (list_any (is_of user) rest ≡ true → InRange users user) → list_any (is_of user) (registration_told e ++ rest) ≡ true → InRange users user
+numbered-entry : (accounts : List Account) (e : Entry) (user : ℕ) (rest : List Registration) → AccountsFit accounts e → (list_any (is_of user) rest ≡ true → InRange user_range user) → list_any (is_of user) (registration_told e ++ rest) ≡ true → InRange user_range user
 numbered-entry accounts (Registered v name digest) user rest fits later h = by (eqb v user) refl h
   where
-    by : (b : Bool) → eqb v user ≡ b → (b || list_any (is_of user) rest) ≡ true → InRange users user
+    by : (b : Bool) → eqb v user ≡ b → (b || list_any (is_of user) rest) ≡ true → InRange user_range user
     by true same h = let e : v ≡ user = eqb-true v user same in let next = fits.0 in let few = fits.1 in (omega (arith, e, next), omega (arith, e, few))
     by false same h = later h
 numbered-entry accounts e user rest fits later h = later h
 
 -- who has registered has a number that a row can hold
-pub registered-from : (t : Tables) (H : History) (user : ℕ) → FitInTurn t H → list_any (is_of user) (all_told registration_told H) ≡ true → InRange users user
+pub registered-from : (t : Tables) (H : History) (user : ℕ) → FitInTurn t H → list_any (is_of user) (all_told registration_told H) ≡ true → InRange user_range user
 registered-from t [] user fits h = cc
 registered-from t (s ∷ H) user fits h = numbered-entry t.accounts s.entry user (all_told registration_told H) fits.0.accounts (registered-from (tables_after t s) H user fits.1) h
 

@@ -10,14 +10,14 @@ use Rattle.cr_base.specs.declared.pairs.Order.TheVariants.{ByPaper}
 use Rattle.cr_base.specs.declared.pairs.Pair.{Pair}
 use Rattle.cr_base.specs.Lists.{given, last_or, is_number}
 use Rattle.cr_base.specs.History.{History, all_told, conflict_told, declared_told}
-use Rattle.cr_base.specs.Facts.{is_conflict_on, is_conflicted, declared_by_authors}
+use Rattle.cr_base.specs.HistoryFacts.{is_conflict_on, is_conflicted, declared_by_authors}
 use Rattle.cr_base.specs.Pairs.{same_pair, with_tie, has_pair}
 use Rattle.cr_base.specs.Papers.{PapersState, papers_after, paper_count, PapersFit}
 use Rattle.cr_base.specs.Ties.{BareTies, TiesState, pair_of, bare_tie, switched, ties_after, authors_in, is_author_in, is_conflict_on_in, is_conflicted_in}
 use Rattle.cr_base.specs.Tables.{Tables, no_tables, tables_after, tables_from, tables_of, FitInTurn}
 use Rattle.cr_base.proofs.LastLaws.{last_or-given}
 use Rattle.cr_base.proofs.PairLaws.{has_pair-with_tie}
-use Rattle.cr_base.proofs.TieLaws.{has_pair-switched, users_of-push}
+use Rattle.cr_base.proofs.TieLaws.{has_pair-switched, users_tied_to-push}
 use Rattle.cr_history.proofs.PaperTies.{turned, is_author-tables}
 use Rattle.cr_history.proofs.Folds.{told-always}
 
@@ -68,7 +68,7 @@ is_conflicted-tables u p H =
 -- the authors of a paper that is there stay the same
 author-entry : (p : ℕ) (state : PapersState) (ties : TiesState) (maker : ℕ) (e : Entry) → PapersFit state maker e → p ≤ paper_count state → (authors_in (ties_after ties maker e) p ≡ authors_in ties p) × (p ≤ paper_count (papers_after state maker e))
 author-entry p state ties maker (Submitted paper title abstract) fits h = (
-  users_of-push p ties.authors paper maker ∙ ap (λ b. authors_in ties p ++ given b maker) (ne_eqb p paper (let next = fits.0 in λ e. omega (arith, e, h, next))) ∙ append-nil (authors_in ties p),
+  users_tied_to-push p ties.authors paper maker ∙ ap (λ b. authors_in ties p ++ given b maker) (ne_eqb p paper (let next = fits.0 in λ e. omega (arith, e, h, next))) ∙ append-nil (authors_in ties p),
   (let n = length-append state.papers (record { title = title; abstract_ = abstract } ∷ []) in omega (arith, n, h)),
 )
 author-entry p state ties maker (Conflict paper user on) fits h = (refl, h)

@@ -17,11 +17,11 @@ use Rattle.cr_base.specs.declared.words.Role.{Role}
 use Rattle.cr_base.specs.declared.words.Role.TheVariants as role
 use Rattle.cr_base.specs.Accounts.{lines_from}
 use Rattle.cr_base.specs.Drawn.{grouped}
-use Rattle.cr_base.specs.Facts.{role_of, accounts_of}
+use Rattle.cr_base.specs.HistoryFacts.{role_of, accounts_of}
 use Rattle.cr_base.specs.History.{History, Registration, all_told, registration_told}
 use Rattle.cr_base.specs.Lists.{numbers_from}
 use Rattle.cr_base.specs.Rows.{IsBoundedEntry}
-use Rattle.cr_base.specs.Shapes.{InRange, users, roles, unused}
+use Rattle.cr_base.specs.Shapes.{InRange, user_range, role_range, unused}
 use Rattle.cr_base.specs.Tables.{no_tables, tables_of, Fits, FitInTurn}
 use Rattle.cr_base.specs.Words.{phase_number, mode_number, role_number}
 use Rattle.cr_base.proofs.AccountLaws.{length-lines_of}
@@ -104,7 +104,7 @@ mode_number-few Blind = omega arith
 mode_number-few Anonymous = omega arith
 
 -- the role to which a user rises is a member's or a chair's
-raised_number : (before to : Role) → role_number before < role_number to → InRange roles (role_number to)
+raised_number : (before to : Role) → role_number before < role_number to → InRange role_range (role_number to)
 raised_number before role.Account h = (omega (arith, h), omega (arith, h))
 raised_number before role.Member h = (omega arith, omega arith)
 raised_number before role.Chair h = (omega arith, omega arith)
@@ -116,7 +116,7 @@ module _ (H : History) (fits : FitInTurn no_tables H) where
   sized = sized-tables H fits
 
   -- who has registered has a number that a row can hold
-  numbered : (user : ℕ) → IsRegistered H user → InRange users user
+  numbered : (user : ℕ) → IsRegistered H user → InRange user_range user
   numbered user registered = registered-from no_tables H user fits registered
 
   bounded-entry : (maker : ℕ) (more : Bool) (e : Entry) → IsMadeByUser H maker e → IsRuled H maker e → Fits (tables_of H) (stamp maker more e) → IsBoundedEntry (stamp maker more e)

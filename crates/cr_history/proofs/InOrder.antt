@@ -5,7 +5,7 @@ use Rattle.cr_base.specs.declared.entry.Entry.{Entry}
 use Rattle.cr_base.specs.declared.entry.Entry.TheVariants.{Registered, Named}
 use Rattle.cr_base.specs.declared.entry.Stamped.{Stamped}
 use Rattle.cr_base.specs.declared.words.Role.TheVariants.{Chair}
-use Rattle.cr_base.specs.Facts.{accounts_of}
+use Rattle.cr_base.specs.HistoryFacts.{accounts_of}
 use Rattle.cr_base.specs.History.{History}
 use Rattle.cr_base.specs.Drawn.{grouped}
 use Rattle.cr_base.specs.Tables.{no_tables, tables_of, FitInTurn}

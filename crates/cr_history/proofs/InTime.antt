@@ -13,7 +13,7 @@ use Rattle.cr_base.specs.declared.words.Phase.{Phase}
 use Rattle.cr_base.specs.declared.words.Phase.TheVariants.{Setup, Submission, Bidding, Reviewing, Discussion, Notification, Closed}
 use Rattle.cr_base.specs.Lists.{last_or, is_number, until, since}
 use Rattle.cr_base.specs.History.{History, all_told, opens, phase_told, author_told}
-use Rattle.cr_base.specs.Facts.{phase_of, authors_of, is_author}
+use Rattle.cr_base.specs.HistoryFacts.{phase_of, authors_of, is_author}
 use Rattle.cr_base.specs.Phases.{phase_place, is_from, is_phase}
 use Rattle.cr_base.specs.Drawn.{grouped}
 use Rattle.cr_base.proofs.LastLaws.{last_or-cons}

@@ -13,7 +13,7 @@ use Rattle.cr_base.specs.declared.words.Role.TheVariants as role
 use Rattle.cr_base.specs.declared.reply.AccountLine.{AccountLine}
 use Rattle.cr_base.specs.Lists.{given, last_or}
 use Rattle.cr_base.specs.History.{History, Registration, all_told, registration_told, role_told}
-use Rattle.cr_base.specs.Facts.{accounts_of, role_of}
+use Rattle.cr_base.specs.HistoryFacts.{accounts_of, role_of}
 use Rattle.cr_base.specs.Accounts.{with_role, accounts_after, lines_from, lines_of, AccountsFit}
 use Rattle.cr_base.specs.Tables.{Tables, no_tables, tables_after, tables_from, tables_of, FitInTurn}
 use Rattle.cr_base.proofs.AccountLaws.{length-with_role, with_role-suc}

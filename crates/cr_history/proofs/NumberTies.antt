@@ -12,7 +12,7 @@ use Rattle.cr_base.specs.declared.entry.Stamped.{Stamped}
 use Rattle.cr_base.specs.declared.words.Role.TheVariants as role
 use Rattle.cr_base.specs.Lists.{last_from}
 use Rattle.cr_base.specs.History.{History, number_told, caller_told}
-use Rattle.cr_base.specs.Facts.{number_of, caller_of}
+use Rattle.cr_base.specs.HistoryFacts.{number_of, caller_of}
 use Rattle.cr_base.specs.Accounts.{with_role, accounts_after, number_at, has_digest, caller_at, AccountsFit}
 use Rattle.cr_base.specs.Tables.{Tables, no_tables, tables_of, FitInTurn}
 use Rattle.cr_base.proofs.AccountLaws.{number_at-from, number_at-push, number_at-with_role}

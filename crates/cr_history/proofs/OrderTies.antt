@@ -13,7 +13,7 @@ use Rattle.cr_base.specs.declared.reply.AccountLine.{AccountLine}
 use Rattle.cr_base.specs.Accounts.{lines_from, lines_of, accounts_after, AccountsFit}
 use Rattle.cr_base.specs.History.{History}
 use Rattle.cr_base.specs.Lists.{numbers_from}
-use Rattle.cr_base.specs.Pairs.{same_pair, IsAscending, with_tie, without_pair, has_pair, users_of}
+use Rattle.cr_base.specs.Pairs.{same_pair, IsAscending, with_tie, without_pair, has_pair, users_tied_to}
 use Rattle.cr_base.specs.Ties.{BareTies, TiesState, pair_of, bare_tie, switched, ties_after, is_author_in}
 use Rattle.cr_base.specs.Tables.{Tables, no_tables, tables_after, tables_from, tables_of, FitInTurn}
 use Rattle.cr_base.proofs.PairLaws.{same_pair-is, IsAscending-with_tie, IsAscending-without_pair, has_pair-with_tie, has_pair-without_pair}
@@ -95,7 +95,7 @@ users-lines_from n [] = refl
 users-lines_from n (a ∷ accounts) = ap (λ ns. n ∷ ns) (users-lines_from (n + 1) accounts)
 
 -- of the users with accounts, those who are tied to the paper are its users, in the same order
-pub users-users_of : (test : ℕ → Bool) (p : ℕ) (accounts : List Account) (ts : BareTies) → IsOrdered (length accounts) ts → ((v : ℕ) → test v ≡ has_pair (pair_of p v) ts) → filter test (map (λ (a : AccountLine). a.user) (lines_of accounts)) ≡ users_of p ts
-users-users_of test p accounts ts ordered same =
+pub users-tied_to : (test : ℕ → Bool) (p : ℕ) (accounts : List Account) (ts : BareTies) → IsOrdered (length accounts) ts → ((v : ℕ) → test v ≡ has_pair (pair_of p v) ts) → filter test (map (λ (a : AccountLine). a.user) (lines_of accounts)) ≡ users_tied_to p ts
+users-tied_to test p accounts ts ordered same =
     ap (filter test) (users-lines_from 1 accounts)
     ∙ numbers-others_of test ByPaper p accounts ts (rising-others_of ByPaper ByPaper p ts ordered.ascending) (λ v there. ordered.within (pair_of p v) there) same

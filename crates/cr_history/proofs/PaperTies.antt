@@ -10,13 +10,13 @@ use Rattle.cr_base.specs.declared.entry.Stamped.{Stamped}
 use Rattle.cr_base.specs.declared.paper.Paper.{Paper}
 use Rattle.cr_base.specs.Lists.{given, last, last_from, is_number, numbered}
 use Rattle.cr_base.specs.History.{History, all_told, paper_told, own_paper_told, author_told, title_told, abstract_told}
-use Rattle.cr_base.specs.Facts.{papers_of, own_papers_of, authors_of, is_author, title_of, abstract_of}
-use Rattle.cr_base.specs.Papers.{PapersState, no_papers, counted, papers_after, paper_numbers, text_at, title_at, abstract_at, own_count, PapersFit}
+use Rattle.cr_base.specs.HistoryFacts.{papers_of, own_papers_of, authors_of, is_author, title_of, abstract_of}
+use Rattle.cr_base.specs.Papers.{PapersState, no_papers, with_one_more, papers_after, paper_numbers, text_at, title_at, abstract_at, own_count, PapersFit}
 use Rattle.cr_base.specs.Ties.{TiesState, ties_after, authors_in, is_author_in}
 use Rattle.cr_base.specs.Tables.{Tables, no_tables, tables_of, FitInTurn}
 use Rattle.cr_base.proofs.LastLaws.{last_from-given}
 use Rattle.cr_base.proofs.ListLaws.{numbered-nil, numbered-push, numbers_from-push}
-use Rattle.cr_base.proofs.TieLaws.{users_of-push}
+use Rattle.cr_base.proofs.TieLaws.{users_tied_to-push}
 use Rattle.cr_history.proofs.Folds.{told-always, told-fitting}
 
 -- two numbers are compared either way
@@ -42,30 +42,30 @@ papers_of-tables H fits = told-fitting ◌++◌ append-nil (λ (t : Tables). pap
 -- ---- how many are the user's own
 
 -- one more is counted at its index, and what is counted at every other stays
-get-counted : (i k : ℕ) (counts : List ℕ) → get_or (counted i counts) k 0 ≡ cond (eqb k i) (get_or counts k 0 + 1) (get_or counts k 0)
-get-counted zero zero [] = refl
-get-counted zero zero (n ∷ counts) = refl
-get-counted zero (suc k) [] = ap (λ b. cond b 1 0) (never k)
+get-with_one_more : (i k : ℕ) (counts : List ℕ) → get_or (with_one_more i counts) k 0 ≡ cond (eqb k i) (get_or counts k 0 + 1) (get_or counts k 0)
+get-with_one_more zero zero [] = refl
+get-with_one_more zero zero (n ∷ counts) = refl
+get-with_one_more zero (suc k) [] = ap (λ b. cond b 1 0) (never k)
   where
     never : (k : ℕ) → false ≡ eqb (suc k) 0
     never k = grind (arith, nat_tests)
-get-counted zero (suc k) (n ∷ counts) = ap (λ b. cond b (get_or counts k 0 + 1) (get_or counts k 0)) (never k)
+get-with_one_more zero (suc k) (n ∷ counts) = ap (λ b. cond b (get_or counts k 0 + 1) (get_or counts k 0)) (never k)
   where
     never : (k : ℕ) → false ≡ eqb (suc k) 0
     never k = grind (arith, nat_tests)
-get-counted (suc i) zero [] = ap (λ b. cond b 1 0) (never i)
+get-with_one_more (suc i) zero [] = ap (λ b. cond b 1 0) (never i)
   where
     never : (i : ℕ) → false ≡ eqb 0 (suc i)
     never i = grind (arith, nat_tests)
-get-counted (suc i) zero (n ∷ counts) = ap (λ b. cond b (n + 1) n) (never i)
+get-with_one_more (suc i) zero (n ∷ counts) = ap (λ b. cond b (n + 1) n) (never i)
   where
     never : (i : ℕ) → false ≡ eqb 0 (suc i)
     never i = grind (arith, nat_tests)
-get-counted (suc i) (suc k) [] = get-counted i k [] ∙ ap (λ b. cond b 1 0) (step k i)
+get-with_one_more (suc i) (suc k) [] = get-with_one_more i k [] ∙ ap (λ b. cond b 1 0) (step k i)
   where
     step : (k i : ℕ) → eqb k i ≡ eqb (suc k) (suc i)
     step k i = grind (arith, nat_tests)
-get-counted (suc i) (suc k) (n ∷ counts) = get-counted i k counts ∙ ap (λ b. cond b (get_or counts k 0 + 1) (get_or counts k 0)) (step k i)
+get-with_one_more (suc i) (suc k) (n ∷ counts) = get-with_one_more i k counts ∙ ap (λ b. cond b (get_or counts k 0 + 1) (get_or counts k 0)) (step k i)
   where
     step : (k i : ℕ) → eqb k i ≡ eqb (suc k) (suc i)
     step k i = grind (arith, nat_tests)
@@ -73,7 +73,7 @@ get-counted (suc i) (suc k) (n ∷ counts) = get-counted i k counts ∙ ap (λ b
 own-entry : (u : Option ℕ) (state : PapersState) (maker : ℕ) (e : Entry) (n : ℕ) → own_count state u + (length (own_paper_told u maker e) + n) ≡ own_count (papers_after state maker e) u + n
 own-entry None state maker (Submitted paper title abstract) n = omega arith
 own-entry (Some v) state maker (Submitted paper title abstract) n =
-    by (eqb v maker) (get_or state.submitted v 0) ∙ ap (λ m. m + n) (sym (get-counted maker v state.submitted))
+    by (eqb v maker) (get_or state.submitted v 0) ∙ ap (λ m. m + n) (sym (get-with_one_more maker v state.submitted))
   where
     by : (b : Bool) (m : ℕ) → m + (length (given b paper) + n) ≡ cond b (m + 1) m + n
     by true m = omega arith
@@ -141,7 +141,7 @@ abstract_of-tables p H fits = text-tables (λ (paper : Paper). paper.abstract_) 
 -- ---- the authors of a paper
 
 authors-entry : (p : ℕ) (ties : TiesState) (maker : ℕ) (e : Entry) → authors_in ties p ++ author_told p maker e ≡ authors_in (ties_after ties maker e) p
-authors-entry p ties maker (Submitted paper title abstract) = ap (λ b. authors_in ties p ++ given b maker) (turned paper p) ∙ sym (users_of-push p ties.authors paper maker)
+authors-entry p ties maker (Submitted paper title abstract) = ap (λ b. authors_in ties p ++ given b maker) (turned paper p) ∙ sym (users_tied_to-push p ties.authors paper maker)
 authors-entry p ties maker (Conflict paper user on) = append-nil (authors_in ties p)
 authors-entry p ties maker e = append-nil (authors_in ties p)
 

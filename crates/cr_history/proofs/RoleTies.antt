@@ -10,7 +10,7 @@ use Rattle.cr_base.specs.declared.words.Role.{Role}
 use Rattle.cr_base.specs.declared.words.Role.TheVariants as role
 use Rattle.cr_base.specs.Lists.{last_or}
 use Rattle.cr_base.specs.History.{History, all_told, role_told}
-use Rattle.cr_base.specs.Facts.{role_of}
+use Rattle.cr_base.specs.HistoryFacts.{role_of}
 use Rattle.cr_base.specs.Accounts.{accounts_after, role_in, AccountsFit}
 use Rattle.cr_base.specs.Tables.{Tables, no_tables, tables_of, FitInTurn}
 use Rattle.cr_base.proofs.LastLaws.{last_or-given}

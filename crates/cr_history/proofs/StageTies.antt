@@ -7,7 +7,7 @@ use Rattle.cr_base.specs.declared.words.Mode.{Mode}
 use Rattle.cr_base.specs.declared.words.Phase.{Phase}
 use Rattle.cr_base.specs.Lists.{last_or}
 use Rattle.cr_base.specs.History.{History, phase_told, mode_told}
-use Rattle.cr_base.specs.Facts.{phase_of, mode_of}
+use Rattle.cr_base.specs.HistoryFacts.{phase_of, mode_of}
 use Rattle.cr_base.specs.Stage.{StageState, stage_after}
 use Rattle.cr_base.specs.Tables.{Tables, no_tables, tables_of}
 use Rattle.cr_base.proofs.LastLaws.{last_or-cons}

@@ -26,4 +26,5 @@ pub record IsRuled (H : History) (maker : ℕ) (e : Entry) : Type 0 where
 -- one entry, or the registration of the first user and the role that comes with it
 pub data Adds (H : History) : History → Type 0 where
   single : (maker : ℕ) (e : Entry) → IsMadeByUser H maker e → IsMarked false e → IsRuled H maker e → Adds H (grouped maker (e ∷ []))
-  first_user : (user : ℕ) (name digest : List ℕ) → user ≡ 1 → HasTexts (Registered user name digest) → Adds H (grouped user (Registered user name digest ∷ Named user Chair ∷ []))
+  first_user : (user : ℕ) (name digest : List ℕ) → user ≡ 1 → HasTexts (Registered user name digest)
+      → Adds H (grouped user (Registered user name digest ∷ Named user Chair ∷ []))

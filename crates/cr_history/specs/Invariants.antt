@@ -5,7 +5,7 @@ use Rattle.cr_base.specs.declared.entry.Entry.{Entry}
 use Rattle.cr_base.specs.declared.entry.Entry.TheVariants.{Registered, Named, PhaseSet, ModeSet, Submitted, Conflict}
 use Rattle.cr_base.specs.declared.entry.Stamped.{Stamped}
 use Rattle.cr_base.specs.declared.words.Phase.TheVariants.{Setup, Submission, Bidding, Notification}
-use Rattle.cr_base.specs.Facts.{phase_of, role_of, accounts_of, papers_of, number_of, is_author, is_conflicted}
+use Rattle.cr_base.specs.HistoryFacts.{phase_of, role_of, accounts_of, papers_of, number_of, is_author, is_conflicted}
 use Rattle.cr_base.specs.History.{History, Registration, all_told, registration_told, opens}
 use Rattle.cr_base.specs.Lists.{until, since}
 use Rattle.cr_base.specs.Phases.{is_from, is_phase, is_next}

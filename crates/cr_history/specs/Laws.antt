@@ -2,7 +2,8 @@
 use Rattle.std.specs.Prelude.{ℕ, ◌≡◌, ◌==◌, List, [], ◌++◌, Option}
 use Rattle.std.specs.List.{list_any}
 use Rattle.cr_base.specs.Accounts.{lines_of, number_at, caller_at}
-use Rattle.cr_base.specs.Facts.{standing_of, accounts_of, number_of, caller_of, papers_of, own_papers_of, title_of, abstract_of, authors_of, is_conflict_on, declared_by_authors}
+use Rattle.cr_base.specs.HistoryFacts.{standing_of, accounts_of, number_of, caller_of, papers_of, own_papers_of}
+use Rattle.cr_base.specs.HistoryFacts.{title_of, abstract_of, authors_of, is_conflict_on, declared_by_authors}
 use Rattle.cr_base.specs.History.{History}
 use Rattle.cr_base.specs.Sources.{standing_at}
 use Rattle.cr_base.specs.Pairs.{has_pair}

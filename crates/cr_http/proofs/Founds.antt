@@ -6,7 +6,7 @@ use Rattle.cr_http.specs.declared.framing.Framing.{Framing}
 use Rattle.cr_http.specs.declared.framing.Framing.TheVariants.{Body, Refuse}
 use Rattle.cr_http.specs.declared.refusal.Refusal.TheVariants.{HeadTooLarge}
 use Rattle.cr_http.specs.HeadRange.{blank_end_from, head_at}
-use Rattle.cr_http.specs.Head.{HeadText, head_text, framing_of}
+use Rattle.cr_http.specs.Head.{HeadText, head_of, framing_of}
 use Rattle.cr_http.specs.Found.{Found, whole, refused, clean, cut, without_head, with_body, line_feeds, StandsAfter, StandsFrom, StandsAt, IsFinal, found_and}
 use Rattle.cr_http.specs.Reading.{IsSettled}
 use Rattle.cr_http.proofs.Windows.{head_at-append, head_at-full, head_at_bounds}
@@ -31,8 +31,8 @@ with_body-back h framing rest more final = sym (with_body-append h framing rest 
 
 after-append : (bytes rest more : List ℕ) (found : Found) → IsFinal found → StandsAfter bytes rest found → StandsAfter bytes (rest ++ more) (found_and found more)
 after-append bytes rest more found final (inl is) =
-    let final' : IsFinal (with_body (head_text is.0) (framing_of (head_text is.0)) rest) = subst IsFinal is.2 final in
-    inl (is.0, is.1, ap (λ f. found_and f more) is.2 ∙ with_body-back (head_text is.0) (framing_of (head_text is.0)) rest more final')
+    let final' : IsFinal (with_body (head_of is.0) (framing_of (head_of is.0)) rest) = subst IsFinal is.2 final in
+    inl (is.0, is.1, ap (λ f. found_and f more) is.2 ∙ with_body-back (head_of is.0) (framing_of (head_of is.0)) rest more final')
 after-append bytes rest more found final (inr is) = inr (is.0, ap (λ f. found_and f more) is.1)
 
 without_head-append : (text more : List ℕ) (found : Found) → found ≡ without_head text → IsFinal found

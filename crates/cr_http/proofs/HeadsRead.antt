@@ -5,7 +5,7 @@ use Rattle.cr_http.specs.declared.framing.Framing.{Framing}
 use Rattle.cr_http.specs.declared.framing.Framing.TheVariants.{Body, Refuse}
 use Rattle.cr_http.specs.declared.refusal.Refusal.TheVariants.{HeadTooLarge}
 use Rattle.cr_http.specs.Found.{Found, whole, refused, clean, cut, with_body, line_feeds, StandsAfter, StandsFrom, StandsAt, IsFramed}
-use Rattle.cr_http.specs.Head.{HeadText, head_text, framing_of, is_head_method}
+use Rattle.cr_http.specs.Head.{HeadText, head_of, framing_of, is_head_method}
 use Rattle.cr_http.specs.HeadRange.{blank_end_from, head_at}
 use Rattle.cr_http.specs.ToHead.{IsToHead, IsToHeadBy, IsToHeadFrom}
 
@@ -26,7 +26,7 @@ by_body h (Body n) rest found is_head e tells = fits (nat_le n (length rest)) e
     fits false e = absurd (subst (λ (f : Found). TellsHead f is_head) e tells)
 
 by_after : (bytes rest : List ℕ) (found : Found) (is_head : Bool) → StandsAfter bytes rest found → TellsHead found is_head → IsToHeadBy bytes is_head
-by_after bytes rest found is_head (inl is) tells = inl (is.0, is.1, by_body (head_text is.0) (framing_of (head_text is.0)) rest found is_head is.2 tells)
+by_after bytes rest found is_head (inl is) tells = inl (is.0, is.1, by_body (head_of is.0) (framing_of (head_of is.0)) rest found is_head is.2 tells)
 by_after bytes rest found is_head (inr is) tells = inr (is.0, subst (λ (f : Found). TellsHead f is_head) is.1 tells)
 
 by_place : (text : List ℕ) (range : Option (ℕ × ℕ)) (found : Found) (is_head : Bool) → StandsFrom text range found → TellsHead found is_head → IsToHeadFrom text range is_head

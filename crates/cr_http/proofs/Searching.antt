@@ -5,7 +5,7 @@ use Rattle.std.proofs.Math.ListN.{drop_of_length-le}
 use Rattle.std.proofs.lemmas.List.{drop-append-le, drop-drop}
 use Rattle.std.specs.Prelude.{◌==◌}
 use Rattle.cr_http.specs.HeadRange.{empty_line_len, blank_end_from, head_end_from, or_later, starting_at, window, head_at}
-use Rattle.cr_http.specs.Search.{IsLine, reached, found_from, LeadsTo, Looks, StandsThere}
+use Rattle.cr_http.specs.Search.{IsLine, reached, found_from, FindsSame, Looks, StandsThere}
 use Rattle.cr_http.specs.declared.head_range.Line.{Line}
 use Rattle.cr_http.specs.declared.head_range.Line.TheVariants as lines
 use Rattle.cr_http.specs.declared.head_range.Search.{Search}
@@ -16,16 +16,16 @@ use Rattle.cr_http.proofs.Places.{blank_end_from-goes_on, blank_end_from-stops}
 use Rattle.cr_http.proofs.Windows.{front_grows}
 
 -- what was found now, where nothing follows
-found_now : (bytes : List ℕ) (from to : Search) → LeadsTo bytes from to → found_from from bytes ≡ found_from to bytes
+found_now : (bytes : List ℕ) (from to : Search) → FindsSame bytes from to → found_from from bytes ≡ found_from to bytes
 found_now bytes from to l = subst (λ (t : List ℕ). found_from from t ≡ found_from to t) (append-nil bytes) (l.same [])
 
 -- a look from the later state says the same of the earlier one
-pub looks_on : (bytes : List ℕ) (from to : Search) (look : Look) → LeadsTo bytes from to → Looks bytes to look → Looks bytes from look
+pub looks_on : (bytes : List ℕ) (from to : Search) (look : Look) → FindsSame bytes from to → Looks bytes to look → Looks bytes from look
 looks_on bytes from to (looks.Found range) l is = found_now bytes from to l ∙ is
 looks_on bytes from to (looks.NotYet next) l is =
     (found_now bytes from to l ∙ is.0, record { within = is.1.within; same = λ more. l.same more ∙ is.1.same more })
 
-pub looks_to : (bytes : List ℕ) (from to : Search) → LeadsTo bytes from to → found_from to bytes ≡ None → Looks bytes from (looks.NotYet to)
+pub looks_to : (bytes : List ℕ) (from to : Search) → FindsSame bytes from to → found_from to bytes ≡ None → Looks bytes from (looks.NotYet to)
 looks_to bytes from to l none = (found_now bytes from to l ∙ none, l)
 
 -- what skipping finds depends on where the empty lines end
@@ -34,8 +34,8 @@ skipped : (at to : ℕ) (bytes : List ℕ) → blank_end_from at (drop at bytes)
 skipped at to bytes e = ap (λ n. starting_at n (head_end_from n (drop n bytes))) e
 
 -- an empty line is skipped
-pub skips : (bytes : List ℕ) (from at n : ℕ) → LeadsTo bytes (searches.Skipping from) (searches.Skipping at) → IsLine (lines.Empty n) (drop at bytes)
-    → LeadsTo bytes (searches.Skipping from) (searches.Skipping (at + n))
+pub skips : (bytes : List ℕ) (from at n : ℕ) → FindsSame bytes (searches.Skipping from) (searches.Skipping at) → IsLine (lines.Empty n) (drop at bytes)
+    → FindsSame bytes (searches.Skipping from) (searches.Skipping (at + n))
 skips bytes from at n l line =
     let d = length-drop at bytes in
     record { within = omega (arith, d, line.0, line.1, l.within); same = λ more. l.same more ∙ skipped at (at + n) (bytes ++ more) (goes_on more) }
@@ -48,8 +48,8 @@ skips bytes from at n l line =
         on ∙ rw some (rw (drop-drop n at (bytes ++ more)) refl)
 
 -- the head begins where something else than an empty line does
-pub begins : (bytes : List ℕ) (from at : ℕ) → LeadsTo bytes (searches.Skipping from) (searches.Skipping at) → IsLine lines.Other (drop at bytes)
-    → LeadsTo bytes (searches.Skipping from) (searches.InHead at at)
+pub begins : (bytes : List ℕ) (from at : ℕ) → FindsSame bytes (searches.Skipping from) (searches.Skipping at) → IsLine lines.Other (drop at bytes)
+    → FindsSame bytes (searches.Skipping from) (searches.InHead at at)
 begins bytes from at l line = record { within = l.within; same = λ more. l.same more ∙ stops more }
   where
     stops : (more : List ℕ) → found_from (searches.Skipping at) (bytes ++ more) ≡ found_from (searches.InHead at at) (bytes ++ more)
@@ -58,7 +58,7 @@ begins bytes from at l line = record { within = l.within; same = λ more. l.same
         ap (λ n. starting_at n (head_end_from n (drop n (bytes ++ more)))) (blank_end_from-stops at (drop at (bytes ++ more)) none)
 
 -- the bytes end before it is known what begins there
-pub waits : (bytes : List ℕ) (from at : ℕ) → LeadsTo bytes (searches.Skipping from) (searches.Skipping at) → IsLine lines.Open (drop at bytes)
+pub waits : (bytes : List ℕ) (from at : ℕ) → FindsSame bytes (searches.Skipping from) (searches.Skipping at) → IsLine lines.Open (drop at bytes)
     → Looks bytes (searches.Skipping from) (looks.NotYet (searches.Skipping at))
 waits bytes from at l line =
     looks_to bytes (searches.Skipping from) (searches.Skipping at) l
@@ -75,7 +75,7 @@ is_lf : (at b : ℕ) (rest : List ℕ) → b ≡ 10 → head_end_from at (b ∷ 
 is_lf at b rest e = rw e refl
 
 -- an LF and an empty line behind it end the head
-pub ends : (bytes : List ℕ) (start from at n : ℕ) → LeadsTo bytes (searches.InHead start from) (searches.InHead start at) → at < length bytes
+pub ends : (bytes : List ℕ) (start from at n : ℕ) → FindsSame bytes (searches.InHead start from) (searches.InHead start at) → at < length bytes
     → get_or bytes at 0 ≡ 10 → IsLine (lines.Empty n) (drop (at + 1) bytes)
     → found_from (searches.InHead start from) bytes ≡ Some (start, at + 1 + n)
 ends bytes start from at n l lt e line =
@@ -89,7 +89,7 @@ ends bytes start from at n l lt e line =
         ap (λ k. or_later at k (head_end_from (at + 1) (drop (at + 1) bytes))) is ∙ rw some refl
 
 -- the bytes end before it is known what follows the LF
-pub waits_at_lf : (bytes : List ℕ) (start from at : ℕ) → LeadsTo bytes (searches.InHead start from) (searches.InHead start at) → at < length bytes
+pub waits_at_lf : (bytes : List ℕ) (start from at : ℕ) → FindsSame bytes (searches.InHead start from) (searches.InHead start at) → at < length bytes
     → get_or bytes at 0 ≡ 10 → IsLine lines.Open (drop (at + 1) bytes)
     → Looks bytes (searches.InHead start from) (looks.NotYet (searches.InHead start at))
 waits_at_lf bytes start from at l lt e line =
@@ -98,7 +98,7 @@ waits_at_lf bytes start from at l lt e line =
     ∙ ap (λ k. or_later at k (head_end_from (at + 1) (drop (at + 1) bytes))) line.0 ∙ (line.1 (at + 1)).1))
 
 -- all bytes were looked at
-pub waits_at_end : (bytes : List ℕ) (start from at : ℕ) → LeadsTo bytes (searches.InHead start from) (searches.InHead start at) → length bytes ≤ at
+pub waits_at_end : (bytes : List ℕ) (start from at : ℕ) → FindsSame bytes (searches.InHead start from) (searches.InHead start at) → length bytes ≤ at
     → Looks bytes (searches.InHead start from) (looks.NotYet (searches.InHead start at))
 waits_at_end bytes start from at l le =
     looks_to bytes (searches.InHead start from) (searches.InHead start at) l
@@ -109,7 +109,7 @@ pub found_there : (text : List ℕ) (search : Search) → StandsThere text searc
 found_there text search s = subst (λ (t : List ℕ). head_at t ≡ found_from search (window t)) (append-nil text) (s.same [])
 
 -- the search goes on from where the look stopped, with the bytes that came since
-pub stands_on : (text got : List ℕ) (from to : Search) → StandsThere text from → LeadsTo (window text) from to → StandsThere (text ++ got) to
+pub stands_on : (text got : List ℕ) (from to : Search) → StandsThere text from → FindsSame (window text) from to → StandsThere (text ++ got) to
 stands_on text got from to s l = record { within = longer; same = same }
   where
     longer : reached to ≤ length (window (text ++ got))

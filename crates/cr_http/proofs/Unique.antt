@@ -4,14 +4,14 @@ use Rattle.std.specs.Prelude.{nat_lt, slice_range, MatchBool}
 use Rattle.httparse.proofs.GrammarLemmas.{request_unique}
 use Rattle.cr_http.specs.declared.refusal.Refusal.TheVariants.{HeadTooLarge}
 use Rattle.cr_http.specs.HeadRange.{head_at}
-use Rattle.cr_http.specs.Head.{head_text, framing_of}
+use Rattle.cr_http.specs.Head.{head_of, framing_of}
 use Rattle.cr_http.specs.Found.{Found, whole, refused, clean, cut, with_body, line_feeds, StandsAfter, StandsFrom, StandsAt}
 use Rattle.cr_http.specs.Requests.{RequestText, End, SpellsFrom, EndsBy, asked}
 
 after-unique : (bytes rest : List ℕ) (f g : Found) → StandsAfter bytes rest f → StandsAfter bytes rest g → f ≡ g
 after-unique bytes rest f g (inl x) (inl y) =
     let same = request_unique bytes x.0 y.0 [] [] x.1 y.1 in
-    x.2 ∙ ap (λ h. with_body (head_text h) (framing_of (head_text h)) rest) same.0 ∙ sym y.2
+    x.2 ∙ ap (λ h. with_body (head_of h) (framing_of (head_of h)) rest) same.0 ∙ sym y.2
 after-unique bytes rest f g (inl x) (inr y) = absurd (y.0 x.0 x.1)
 after-unique bytes rest f g (inr x) (inl y) = absurd (x.0 y.0 y.1)
 after-unique bytes rest f g (inr x) (inr y) = x.1 ∙ sym y.1

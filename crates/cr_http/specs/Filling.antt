@@ -18,11 +18,11 @@ abbrev pub IsAtEnd : Option (List ℕ) → Type 0
 IsAtEnd left = IfSome left (λ bytes. bytes ≡ [])
 
 -- the buffer has more bytes only after a read that gave some
-abbrev pub Grows : Fill → List ℕ → List ℕ → Type 0
-Grows fills.Grew old new = length old < length new
-Grows fills.Ended old new = new ≡ old
-Grows fills.Failed old new = new ≡ old
-Grows fills.OutOfMemory old new = new ≡ old
+abbrev pub GrowsAs : Fill → List ℕ → List ℕ → Type 0
+GrowsAs fills.Grew old new = length old < length new
+GrowsAs fills.Ended old new = new ≡ old
+GrowsAs fills.Failed old new = new ≡ old
+GrowsAs fills.OutOfMemory old new = new ≡ old
 
 -- what the inbox has when a search for a head's end is over
 abbrev pub FindsHead : HeadFill → List ℕ → Type 0
@@ -41,7 +41,8 @@ abbrev pub IsStill : {S : Type 0} → S → S → List ℕ → List ℕ → Type
 IsStill source source' bytes bytes' = (source' ≡ source) × (bytes' ≡ bytes)
 
 -- The read that was made last, from a state that those before it led to: it was made at a text that wants more.
-pub record LastRead {S : Type 0} (left : S → Option (List ℕ)) (gives : S → S → List ℕ → Type 0) (Wants : List ℕ → Type 0) (from to : S) (old new : List ℕ) : Type 0 where
+pub record LastRead {S : Type 0} (left : S → Option (List ℕ)) (gives : S → S → List ℕ → Type 0) (Wants : List ℕ → Type 0)
+    (from to : S) (old new : List ℕ) : Type 0 where
   pub at : S
   pub text : List ℕ
   pub before : Moves (left from) (left at) old text

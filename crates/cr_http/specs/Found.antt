@@ -1,12 +1,13 @@
 -- What stands at the front of a text that is the whole rest of a stream.
-use Rattle.std.specs.Prelude.{◌≡◌, ◌⊎◌, ℕ, [], ◌==◌, nat_lt, nat_le, List, length, take, drop, slice_range, count_by, Bool, false, Option, Some, None, if◌then◌else◌, MatchBool, ◌++◌, ⊤}
+use Rattle.std.specs.Prelude.{◌≡◌, ◌⊎◌, ℕ, [], ◌==◌, nat_lt, nat_le, List, length, take, drop, slice_range}
+use Rattle.std.specs.Prelude.{count_by, Bool, false, Option, Some, None, if◌then◌else◌, MatchBool, ◌++◌, ⊤}
 use Rattle.httparse.specs.Grammar.{RequestHead, ReadsRequest}
 use Rattle.cr_http.specs.declared.framing.Framing.{Framing}
 use Rattle.cr_http.specs.declared.framing.Framing.TheVariants.{Body, Refuse}
 use Rattle.cr_http.specs.declared.refusal.Refusal.{Refusal}
 use Rattle.cr_http.specs.declared.refusal.Refusal.TheVariants.{HeadTooLarge, BadHttp}
 use Rattle.cr_http.specs.HeadRange.{blank_end_from, head_at}
-use Rattle.cr_http.specs.Head.{HeadText, head_text, framing_of, is_head_method}
+use Rattle.cr_http.specs.Head.{HeadText, head_of, framing_of, is_head_method}
 
 pub data Found : Type 0 where
   -- a request by its head and body, and what follows it
@@ -37,7 +38,7 @@ IsNoHead bytes = (h : RequestHead) → ReadsRequest bytes h [] → ⊥
 -- these bytes are a head of the grammar, or are refused
 abbrev pub StandsAfter : List ℕ → List ℕ → Found → Type 0
 StandsAfter bytes rest found =
-    ((h : RequestHead) × ReadsRequest bytes h [] × (found ≡ with_body (head_text h) (framing_of (head_text h)) rest))
+    ((h : RequestHead) × ReadsRequest bytes h [] × (found ≡ with_body (head_of h) (framing_of (head_of h)) rest))
     ⊎ (IsNoHead bytes × (found ≡ refused BadHttp false))
 
 abbrev pub StandsFrom : List ℕ → Option (ℕ × ℕ) → Found → Type 0
@@ -71,5 +72,5 @@ pub record IsFramed (text : List ℕ) (start end : ℕ) (head : HeadText) (len :
   pub few : nat_lt 66 (line_feeds (slice_range text start end)) ≡ false
   pub tree : RequestHead
   pub reads : ReadsRequest (slice_range text start end) tree []
-  pub head_is : head ≡ head_text tree
+  pub head_is : head ≡ head_of tree
   pub framing : framing_of head ≡ Body len

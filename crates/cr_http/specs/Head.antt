@@ -23,8 +23,8 @@ pub record HeadText : Type 0 where
 abbrev pub version_of : ℕ → Version
 version_of minor = if minor == 0 then versions.Http10 else versions.Http11
 
-abbrev pub head_text : RequestHead → HeadText
-head_text h = record { method = h.method; target = h.target; version = version_of h.minor; fields = map name_and_value h.fields }
+abbrev pub head_of : RequestHead → HeadText
+head_of h = record { method = h.method; target = h.target; version = version_of h.minor; fields = map name_and_value h.fields }
 
 -- two names are equal but for the case of their letters
 abbrev pub same_name : List ℕ → List ℕ → Bool

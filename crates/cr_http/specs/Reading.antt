@@ -52,7 +52,8 @@ AtEndIfEnded (reads.OutOfMemory is_head) left = ⊤
 
 -- The source gave these bytes; behind those of the inbox they are a text at whose front the answer stands. No read was
 -- made once that was settled.
-pub record Reads {S : Type 0} (left : S → Option (List ℕ)) (gives : S → S → List ℕ → Type 0) (source source' : S) (inbox inbox' : InboxText) (answer : RequestRead) : Type 0 where
+pub record Reads {S : Type 0} (left : S → Option (List ℕ)) (gives : S → S → List ℕ → Type 0)
+    (source source' : S) (inbox inbox' : InboxText) (answer : RequestRead) : Type 0 where
   pub got : List ℕ
   pub given : left source ≡ and_left got (left source')
   pub answers : SaysOf answer (inbox.rest ++ got) inbox'

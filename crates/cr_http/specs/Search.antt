@@ -26,14 +26,14 @@ found_from (searches.Skipping at) bytes =
 found_from (searches.InHead start at) bytes = starting_at start (head_end_from at (drop at bytes))
 
 -- However the bytes go on, the search from the one state finds what it finds from the other.
-pub record LeadsTo (bytes : List ℕ) (from to : Search) : Type 0 where
+pub record FindsSame (bytes : List ℕ) (from to : Search) : Type 0 where
   pub within : reached to ≤ length bytes
   pub same : (more : List ℕ) → found_from from (bytes ++ more) ≡ found_from to (bytes ++ more)
 
 -- what a look at these bytes says, from this state of the search
 abbrev pub Looks : List ℕ → Search → Look → Type 0
 Looks bytes from (looks.Found range) = found_from from bytes ≡ Some (range.start, range.end)
-Looks bytes from (looks.NotYet to) = (found_from from bytes ≡ None) × LeadsTo bytes from to
+Looks bytes from (looks.NotYet to) = (found_from from bytes ≡ None) × FindsSame bytes from to
 
 -- The search stands there for a text that begins so, however it goes on.
 pub record StandsThere (text : List ℕ) (search : Search) : Type 0 where

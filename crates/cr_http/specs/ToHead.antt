@@ -2,13 +2,13 @@
 use Rattle.std.specs.Prelude.{◌≡◌, ◌⊎◌, ℕ, [], nat_lt, List, slice_range, Bool, false, Option, Some, None, MatchBool}
 use Rattle.httparse.specs.Grammar.{RequestHead, ReadsRequest}
 use Rattle.cr_http.specs.Found.{line_feeds, IsNoHead}
-use Rattle.cr_http.specs.Head.{head_text, is_head_method}
+use Rattle.cr_http.specs.Head.{head_of, is_head_method}
 use Rattle.cr_http.specs.HeadRange.{head_at}
 
 -- these bytes are a head whose method is HEAD or isn't, or they are no head
 abbrev pub IsToHeadBy : List ℕ → Bool → Type 0
 IsToHeadBy bytes is_head =
-    ((h : RequestHead) × ReadsRequest bytes h [] × (is_head ≡ is_head_method (head_text h)))
+    ((h : RequestHead) × ReadsRequest bytes h [] × (is_head ≡ is_head_method (head_of h)))
     ⊎ (IsNoHead bytes × (is_head ≡ false))
 
 abbrev pub IsToHeadFrom : List ℕ → Option (ℕ × ℕ) → Bool → Type 0

@@ -1,8 +1,8 @@
 //! The bytes of a connection that were read and not yet used, in one block that grows.
 ghost use Rattle.std.specs.Prelude.{◌≡◌, ◌≢◌, ◌≤◌, ◌<◌, ◌+◌, ◌-◌, [], length, take, drop, vec_len, OnOk};
 ghost use Rattle.cr_ports.specs.Count.{Rises};
-ghost use Rattle.cr_ports.specs.Stream.{FillsWithin, and_left, given};
-ghost use Rattle.cr_http.specs.Filling.{Moves, IsAtEnd, Grows, ReadsWhile};
+ghost use Rattle.cr_ports.specs.Stream.{FillsWithin, and_left, gave};
+ghost use Rattle.cr_http.specs.Filling.{Moves, IsAtEnd, GrowsAs, ReadsWhile};
 
 use crate::head_range::WINDOW;
 use cr_ports::{ReadStep, Source};
@@ -47,11 +47,11 @@ fn bring_forward(block: &mut [u8], start: usize, end: usize)
 /// One read into the block behind its first `end` bytes.
 fn read_behind<S: Source>(source: &mut S, block: &mut [u8], end: usize) -> ReadStep
     requires { end < length block.old }
-    ensures bytes { S.left source.old ≡ and_left (given result (drop end block.new)) (S.left source.new) }
+    ensures bytes { S.left source.old ≡ and_left (gave result (drop end block.new)) (S.left source.new) }
     ensures front { take end block.new ≡ take end block.old }
     ensures size { FillsWithin result (length block.old - end) }
     ensures end { result ≡ ReadStep.End → IsAtEnd (S.left source.new) }
-    ensures gives { S.read_gives source.old source.new (given result (drop end block.new)) }
+    ensures gives { S.read_gives source.old source.new (gave result (drop end block.new)) }
     ensures count { S.faults source.old ≤ S.faults source.new }
     ensures failed { result ≡ ReadStep.Failed → Rises (S.faults source.old) (S.faults source.new) }
     ensures steady { result ≢ ReadStep.Failed → S.faults source.new ≡ S.faults source.old }
@@ -134,7 +134,7 @@ impl Buffer {
     pub fn read_more<S: Source>(&mut self, source: &mut S) -> Fill
         ensures moves { Moves (S.left source.old) (S.left source.new) (text_of self.old) (text_of self.new) }
         ensures once { ReadsWhile S.left S.read_gives (λ text. text ≡ text_of self.old) source.old source.new (text_of self.old) (text_of self.new) }
-        ensures grows { Grows result (text_of self.old) (text_of self.new) }
+        ensures grows { GrowsAs result (text_of self.old) (text_of self.new) }
         ensures ended { result ≡ Fill.Ended → IsAtEnd (S.left source.new) }
         ensures count { S.faults source.old ≤ S.faults source.new }
         ensures failed { result ≡ Fill.Failed → Rises (S.faults source.old) (S.faults source.new) }

@@ -14,7 +14,7 @@ pub fn all_digits(text: &[u8]) -> bool
 
 /// The number that at most 18 digits write, 0 where there are none. Zeros may stand in front. One
 /// walk over the digits; takes no memory.
-pub fn number_of(digits: &[u8]) -> u64
+pub fn decimal_value(digits: &[u8]) -> u64
     requires digits { IsTrue (list_all is_ascii_digit digits.now) }
     requires short { length digits.now ≤ 18 }
     ensures { result ≡ digits_value 10 digits.now }

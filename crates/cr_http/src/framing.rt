@@ -5,7 +5,7 @@ ghost use Rattle.std.specs.List.{list_all};
 ghost use Rattle.cr_http.specs.Head.{framing_by_length, framing_of, has_hosts, is_length, IsShort};
 ghost use Rattle.cr_http.specs.Values.{AreValues};
 
-use crate::digits::{all_digits, number_of};
+use crate::digits::{all_digits, decimal_value};
 use crate::head::{Head, Version};
 use crate::refusal::Refusal;
 use crate::values::Values;
@@ -52,7 +52,7 @@ fn framing_by_value(value: &[u8]) -> Framing
     if !is_length(value) {
         return Framing::Refuse(Refusal::BadLength);
     }
-    let len = number_of(value) as usize;
+    let len = decimal_value(value) as usize;
     if len > MAX_BODY {
         Framing::Refuse(Refusal::TooLarge)
     } else {

@@ -78,7 +78,8 @@ impl<'b> Model for Head<'b> {
       fields = map (header_bytes h.bytes.now) h.fields.now;
     } };
 
-    ghost invariant = { λ h. IsWithin (length h.bytes.now) h.method × IsWithin (length h.bytes.now) h.target × All (IsHeaderWithin (length h.bytes.now)) h.fields.now };
+    ghost invariant = { λ h. let len = length h.bytes.now in
+        IsWithin len h.method × IsWithin len h.target × All (IsHeaderWithin len) h.fields.now };
 }
 
 impl<'b> Head<'b> {

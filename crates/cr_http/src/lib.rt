@@ -21,7 +21,7 @@ mod read;
 mod refusal;
 mod values;
 
-pub use digits::{all_digits, number_of};
+pub use digits::{all_digits, decimal_value};
 pub use framing::MAX_BODY;
 pub use head::{Head, MAX_FIELDS, Version};
 pub use head_range::WINDOW;

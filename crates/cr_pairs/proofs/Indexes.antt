@@ -6,14 +6,14 @@ use Rattle.cr_base.specs.declared.pairs.Order.TheVariants.{ByPaper, ByUser}
 use Rattle.cr_base.specs.declared.pairs.Pair.{Pair}
 use Rattle.cr_base.specs.declared.pairs.Tie.{Tie}
 use Rattle.cr_base.specs.Lists.{IsRising}
-use Rattle.cr_base.specs.Pairs.{same_pair, IsAscending, has_pair, with_tie, without_pair, papers_of}
+use Rattle.cr_base.specs.Pairs.{same_pair, IsAscending, has_pair, with_tie, without_pair, papers_tied_to}
 use Rattle.cr_base.proofs.PairLaws.{IsAscending-with_tie, IsAscending-without_pair, has_pair-with_tie, has_pair-without_pair}
 use Rattle.cr_base.proofs.RisingLists.{rising-others_of, others_of-same}
 use Rattle.cr_pairs.specs.Indexed.{IsIndexed}
 
 module _ {V : Type 0} (papers users : Order) (ts : List (Tie V)) (ps : List (Tie (Unit {0}))) (index : IsIndexed papers ts users ps) where
   -- a user's papers are the same in both
-  pub indexed-papers : (u : ℕ) → (papers_of u ps ≡ papers_of u ts) × IsRising (papers_of u ts)
+  pub indexed-papers : (u : ℕ) → (papers_tied_to u ps ≡ papers_tied_to u ts) × IsRising (papers_tied_to u ts)
   indexed-papers u =
       let rising = rising-others_of ByPaper ByUser u ts index.ascending_ties in
       (others_of-same ByUser u ps ts (rising-others_of ByUser ByUser u ps index.ascending_pairs) rising index.same, rising)

@@ -1,7 +1,7 @@
 //! Ties of papers and users that are found by paper and by user.
 ghost use Rattle.std.specs.Prelude.{◌≡◌, ◌≤◌, ◌<◌, ◌+◌, [], OnOk, map};
 ghost use Rattle.cr_base.specs.Lists.{IsRising};
-ghost use Rattle.cr_base.specs.Pairs.{IsAscending, has_pair, value_of, with_tie, without_pair, ties_of, papers_of};
+ghost use Rattle.cr_base.specs.Pairs.{IsAscending, has_pair, value_of, with_tie, without_pair, ties_of, papers_tied_to};
 ghost use Rattle.cr_base.specs.declared.pairs.Order.TheVariants.{ByPaper};
 
 use crate::PairMap;
@@ -69,13 +69,13 @@ impl<V: Copy + Drop> IndexedPairs<V> {
     /// The pairs of a user, in the order of their papers' numbers. Two binary searches; takes no
     /// memory.
     pub fn of_user(&self, user: UserNo) -> &[Tie<()>]
-        ensures papers { map (λ t. t.pair.paper) result.now ≡ papers_of user self.now.ties }
-        ensures rising { IsRising (papers_of user self.now.ties) }
+        ensures papers { map (λ t. t.pair.paper) result.now ≡ papers_tied_to user self.now.ties }
+        ensures rising { IsRising (papers_tied_to user self.now.ties) }
     {
         self.by_user.of_user(user)
     }
 
-    /// Takes the memory for so many more ties; an error only for want of memory, and the ties are the
+    /// Takes the memory for so many more ties; an error only for lack of memory, and the ties are the
     /// same either way.
     pub fn room(&mut self, count: usize) -> Result<(), AllocError>
         ensures ok { OnOk result (count ≤ self.new.room) }

@@ -89,7 +89,7 @@ impl<V: Copy + Drop> PairMap<V> {
         run_of(&self.ties, self.order, user.number())
     }
 
-    /// Takes the memory for so many more ties; an error only for want of memory, and the ties are the
+    /// Takes the memory for so many more ties; an error only for lack of memory, and the ties are the
     /// same either way.
     pub fn room(&mut self, count: usize) -> Result<(), AllocError>
         ensures ok { OnOk result (count ≤ self.new.room) }

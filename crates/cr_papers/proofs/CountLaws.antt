@@ -4,7 +4,7 @@ use Rattle.std.specs.Prelude.{nat_le}
 use Rattle.std.specs.List.{list_any}
 use Rattle.std.proofs.lemmas.Bool.Decides.{nat_tests}
 use Rattle.cr_base.specs.Lists.{numbers_from}
-use Rattle.cr_base.specs.Papers.{counted}
+use Rattle.cr_base.specs.Papers.{with_one_more}
 use Rattle.cr_base.proofs.ListLaws.{list_any-numbers_from}
 
 -- ---- counts
@@ -21,21 +21,21 @@ padded (x ∷ xs) k zero = refl
 padded (x ∷ xs) k (suc i) = padded xs k i
 
 -- one more in counts that are filled up to the place
-counted-by : (i : ℕ) (xs : List ℕ) (k : ℕ) → k ≡ i + 1 - length xs → set (xs ++ replicate k 0) i (get_or xs i 0 + 1) ≡ counted i xs
-counted-by zero [] k is = ap (λ k. set (replicate k 0) 0 1) is
-counted-by zero (n ∷ xs) k is =
+with_one_more-by : (i : ℕ) (xs : List ℕ) (k : ℕ) → k ≡ i + 1 - length xs → set (xs ++ replicate k 0) i (get_or xs i 0 + 1) ≡ with_one_more i xs
+with_one_more-by zero [] k is = ap (λ k. set (replicate k 0) 0 1) is
+with_one_more-by zero (n ∷ xs) k is =
     let none : k ≡ 0 = omega (arith, is) in
     ap (λ k. (n + 1) ∷ (xs ++ replicate k 0)) none ∙ ap (λ ys. (n + 1) ∷ ys) (append-nil xs)
-counted-by (suc i) [] zero is = absurd (omega (arith, is))
-counted-by (suc i) [] (suc k) is = ap (λ ys. 0 ∷ ys) (counted-by i [] k (omega (arith, is)))
-counted-by (suc i) (n ∷ xs) k is = ap (λ ys. n ∷ ys) (counted-by i xs k (omega (arith, is)))
+with_one_more-by (suc i) [] zero is = absurd (omega (arith, is))
+with_one_more-by (suc i) [] (suc k) is = ap (λ ys. 0 ∷ ys) (with_one_more-by i [] k (omega (arith, is)))
+with_one_more-by (suc i) (n ∷ xs) k is = ap (λ ys. n ∷ ys) (with_one_more-by i xs k (omega (arith, is)))
 
-pub counted-filled : (i : ℕ) (old filled new : List ℕ) (n : ℕ) → filled ≡ old ++ replicate (i + 1 - length old) 0 → n ≡ get_or filled i 0 → new ≡ set filled i (n + 1) → new ≡ counted i old
-counted-filled i old filled new n is read put =
+pub with_one_more-filled : (i : ℕ) (old filled new : List ℕ) (n : ℕ) → filled ≡ old ++ replicate (i + 1 - length old) 0 → n ≡ get_or filled i 0 → new ≡ set filled i (n + 1) → new ≡ with_one_more i old
+with_one_more-filled i old filled new n is read put =
     put
     ∙ ap (λ m. set filled i (m + 1)) (read ∙ ap (λ (xs : List ℕ). get_or xs i 0) is ∙ padded old (i + 1 - length old) i)
     ∙ ap (λ (xs : List ℕ). set xs i (get_or old i 0 + 1)) is
-    ∙ counted-by i old (i + 1 - length old) refl
+    ∙ with_one_more-by i old (i + 1 - length old) refl
 
 -- ---- papers
 

@@ -1,6 +1,6 @@
 //! A count for each user.
 ghost use Rattle.std.specs.Prelude.{◌≡◌, ℕ, ◌≤◌, ◌<◌, ◌+◌, ◌-◌, ◌++◌, [], OnOk, length, replicate, slice_index, vec_len, vec_capacity};
-ghost use Rattle.cr_base.specs.Papers.{counted};
+ghost use Rattle.cr_base.specs.Papers.{with_one_more};
 
 use cr_base::{LAST_NUMBER, UserNo};
 use std::alloc::{AllocError, Global};
@@ -45,7 +45,7 @@ impl Counts {
         }
     }
 
-    /// Takes the memory for the counts of all users, 10,000 bytes; an error only for want of memory,
+    /// Takes the memory for the counts of all users, 10,000 bytes; an error only for lack of memory,
     /// and the counts are the same either way.
     pub(crate) fn make_room(&mut self) -> Result<(), AllocError>
         ensures ok { OnOk result (10000 ≤ self.new.capacity) }
@@ -60,7 +60,7 @@ impl Counts {
     pub(crate) fn add(&mut self, user: UserNo)
         requires room { 10000 ≤ self.old.capacity }
         requires few { slice_index self.old.counts user < 255 }
-        ensures counts { self.new.counts ≡ counted user self.old.counts }
+        ensures counts { self.new.counts ≡ with_one_more user self.old.counts }
         ensures capacity { self.old.capacity ≤ self.new.capacity }
     {
         let place = user.number() as usize;

@@ -29,7 +29,10 @@ impl Model for Papers {
 
     ghost Value = { SeenPapers };
 
-    ghost view = { λ t. record { papers = record { papers = t.papers.items; submitted = t.counts.counts }; room = if nat_le 10000 t.counts.capacity then vec_capacity t.papers - vec_len t.papers else 0 } };
+    ghost view = { λ t. record {
+      papers = record { papers = t.papers.items; submitted = t.counts.counts };
+      room = if nat_le 10000 t.counts.capacity then vec_capacity t.papers - vec_len t.papers else 0;
+    } };
 
     ghost invariant = { λ t. length t.papers.items ≤ 9999 };
 }
@@ -94,7 +97,8 @@ impl Papers {
     /// were submitted, else `QuotaPapers` where this maker has submitted 20. `by` is the maker's
     /// standing, where no paper is named. One read by number; takes no memory.
     pub fn judge_submit(&self, by: &Standing, maker: UserNo) -> Result<PaperNo, Rule>
-        ensures { result ≡ judged (submit_checks by.now (paper_count self.now.papers) (own_count self.now.papers (Some maker))) (paper_count self.now.papers + 1) }
+        ensures { let count = paper_count self.now.papers in
+            result ≡ judged (submit_checks by.now count (own_count self.now.papers (Some maker))) (count + 1) }
     {
         if !by.phase.is(Phase::Submission) {
             return Err(Rule::WrongPhase);
@@ -109,7 +113,7 @@ impl Papers {
     }
 
     /// Takes the memory that the entries of one command need, and the first time 10,000 bytes for the
-    /// counts; an error only for want of memory, and the papers are the same either way.
+    /// counts; an error only for lack of memory, and the papers are the same either way.
     pub fn room(&mut self, group: &[Stamped]) -> Result<(), AllocError>
         ensures ok { OnOk result (length group.now ≤ self.new.room) }
         ensures same { self.new.papers ≡ self.old.papers }

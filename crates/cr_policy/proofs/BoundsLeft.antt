@@ -12,7 +12,7 @@ use Rattle.cr_base.specs.declared.words.Role.{Role}
 use Rattle.cr_base.specs.declared.words.Role.TheVariants.{Account}
 use Rattle.cr_base.specs.Lists.{given, last_or, is_number}
 use Rattle.cr_base.specs.History.{History, all_told, role_told}
-use Rattle.cr_base.specs.Facts.{mode_of, phase_of, role_of, authors_of, is_author}
+use Rattle.cr_base.specs.HistoryFacts.{mode_of, phase_of, role_of, authors_of, is_author}
 use Rattle.cr_history.proofs.LineTies.{stamp}
 use Rattle.cr_policy.specs.Sighting.{Sighting, blank}
 use Rattle.cr_policy.specs.View.{view}

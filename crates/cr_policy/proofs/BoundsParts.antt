@@ -11,12 +11,12 @@ use Rattle.cr_base.specs.declared.words.Role.{Role}
 use Rattle.cr_base.specs.declared.words.Role.TheVariants.{Account, Member, Chair}
 use Rattle.cr_base.specs.Lists.{given, is_nothing, is_number}
 use Rattle.cr_base.specs.History.{History, all_told, title_told}
-use Rattle.cr_base.specs.Facts.{phase_of, mode_of, role_of, is_author}
+use Rattle.cr_base.specs.HistoryFacts.{phase_of, mode_of, role_of, is_author}
 use Rattle.cr_base.specs.Phases.{is_from}
 use Rattle.cr_base.specs.Words.{is_anonymous, is_member, is_chair}
 use Rattle.cr_history.proofs.LineTies.{stamp}
 use Rattle.cr_policy.specs.Sighting.{Sighting, where_shown}
-use Rattle.cr_policy.specs.Triggers.{Reader, reader, Place, none_in}
+use Rattle.cr_policy.specs.Triggers.{Reader, reader, Around, none_in}
 use Rattle.cr_policy.specs.View.{is_seen, joined}
 use Rattle.cr_policy.specs.ShownTo.{is_on_committee, leads_committee, is_past_submission, hides_authors, is_told, where_known, is_replaced, gives_texts, kind_for, mark_for, paper_for, user_for, name_for, digest_for, role_for, phase_for, mode_for, maker_for, title_for, abstract_for, switch_for}
 
@@ -85,7 +85,7 @@ text-known a n m f false n' s hn hs wrote = by a n m f n' s hn hs
     by : (a n m f n' s : Bool) → n ≡ n' → (m && f) ≡ s → (a || ((n && m && f) || (false || false))) ≡ (a || (n' && s))
     by a n m f n' s hn hs = grind (arith, hn, hs)
 
-module _ (u : Option ℕ) (H : History) (at : Place) (maker : ℕ) (more : Bool) where
+module _ (u : Option ℕ) (H : History) (at : Around) (maker : ℕ) (more : Bool) where
   abbrev r : Reader
   r = reader u H
 

@@ -9,7 +9,7 @@ use Rattle.cr_base.specs.declared.entry.Entry.TheVariants.{Submitted}
 use Rattle.cr_base.specs.declared.entry.Stamped.{Stamped}
 use Rattle.cr_base.specs.Lists.{given, listed, is_number}
 use Rattle.cr_base.specs.History.{History}
-use Rattle.cr_base.specs.Facts.{is_author}
+use Rattle.cr_base.specs.HistoryFacts.{is_author}
 use Rattle.cr_policy.specs.Sighting.{Sighting}
 use Rattle.cr_policy.specs.View.{view}
 use Rattle.cr_policy.specs.ViewFacts.{only}

@@ -11,10 +11,10 @@ use Rattle.cr_base.specs.declared.entry.Entry.TheVariants.{Submitted}
 use Rattle.cr_base.specs.declared.entry.Stamped.{Stamped}
 use Rattle.cr_base.specs.Lists.{given, is_number}
 use Rattle.cr_base.specs.History.{History, author_told}
-use Rattle.cr_base.specs.Facts.{authors_of, is_author}
+use Rattle.cr_base.specs.HistoryFacts.{authors_of, is_author}
 use Rattle.cr_history.proofs.LineTies.{stamp}
 use Rattle.cr_policy.specs.Sighting.{Sighting}
-use Rattle.cr_policy.specs.Triggers.{reader, Place}
+use Rattle.cr_policy.specs.Triggers.{reader, Around}
 use Rattle.cr_policy.specs.View.{sight, sights, view, is_seen, joined}
 use Rattle.cr_policy.specs.ShownTo.{PartFor, is_told, each_told, kind_for, mark_for, paper_for, user_for, name_for, digest_for, role_for, phase_for, mode_for, maker_for, title_for, abstract_for, switch_for}
 use Rattle.cr_policy.specs.ViewBounds.{EntriesShown, MarksShown, PapersShown, UsersShown, NamesShown, DigestsShown, RolesShown, PhasesShown, ModesShown, MakersShown, TitlesShown, AbstractsShown, SwitchesShown}
@@ -48,7 +48,7 @@ module _ (u : Option ℕ) (H : History) where
       by true h = ap (λ (x : A). x ∷ []) (h refl)
       by false h = refl
 
-  joined-one : (at : Place) (maker : ℕ) (more : Bool) (e : Entry) → IsWriters u H maker e → is_told u H maker e ≡ true → joined (reader u H) at (stamp maker more e) ≡ shown_to u H at.after maker e
+  joined-one : (at : Around) (maker : ℕ) (more : Bool) (e : Entry) → IsWriters u H maker e → is_told u H maker e ≡ true → joined (reader u H) at (stamp maker more e) ≡ shown_to u H at.after maker e
   joined-one at maker more e writes told = λ i. record {
     kind = (shown-one u H at maker more e).kind i;
     mine = mark-one u H at maker more e i;
@@ -65,7 +65,7 @@ module _ (u : Option ℕ) (H : History) where
     on = switch-one u H at maker more e told i;
   }
 
-  sight-one : (at : Place) (maker : ℕ) (more : Bool) (e : Entry) → IsWriters u H maker e → sight (reader u H) at (stamp maker more e) ≡ given (is_told u H maker e) (shown_to u H at.after maker e)
+  sight-one : (at : Around) (maker : ℕ) (more : Bool) (e : Entry) → IsWriters u H maker e → sight (reader u H) at (stamp maker more e) ≡ given (is_told u H maker e) (shown_to u H at.after maker e)
   sight-one at maker more e writes =
       given-same (is_seen (reader u H) at (stamp maker more e)) (is_told u H maker e) (joined (reader u H) at (stamp maker more e)) (shown_to u H at.after maker e)
       (seen-told u H at maker more e) (joined-one at maker more e writes)

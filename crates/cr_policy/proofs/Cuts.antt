@@ -8,34 +8,34 @@ use Rattle.cr_base.specs.Lists.{until, since}
 use Rattle.cr_base.specs.History.{History}
 use Rattle.cr_history.proofs.ListCuts.{until-append, since-append}
 use Rattle.cr_policy.specs.Sighting.{Sighting}
-use Rattle.cr_policy.specs.Triggers.{Reader, Place}
+use Rattle.cr_policy.specs.Triggers.{Reader, Around}
 use Rattle.cr_policy.specs.View.{sight, sights}
 use Rattle.cr_policy.specs.ViewFacts.{only}
 use Rattle.cr_policy.proofs.Walk.{Tells, kept, sights-kept}
 
 -- ---- what is kept at a cut
 
-abbrev pub kept_until : {A : Type 0} → (Stamped → Bool) → (Place → Stamped → Bool) → (Stamped → List A) → History → History → List A
+abbrev pub kept_until : {A : Type 0} → (Stamped → Bool) → (Around → Stamped → Bool) → (Stamped → List A) → History → History → List A
 kept_until cut passes told before [] = []
 kept_until cut passes told before (e ∷ after) =
     if cut e then [] else only (passes (record { before = before; after = after }) e) (told e) ++ kept_until cut passes told (before ++ e ∷ []) after
 
-abbrev pub kept_since : {A : Type 0} → (Stamped → Bool) → (Place → Stamped → Bool) → (Stamped → List A) → History → History → List A
+abbrev pub kept_since : {A : Type 0} → (Stamped → Bool) → (Around → Stamped → Bool) → (Stamped → List A) → History → History → List A
 kept_since cut passes told before [] = []
 kept_since cut passes told before (e ∷ after) =
     if cut e then kept passes told (before ++ e ∷ []) after else kept_since cut passes told (before ++ e ∷ []) after
 
 -- the cut is seen: an entry at which it passes is one sighting at which it passes, and no other entry is
 pub record CutsAt (r : Reader) (cut : Stamped → Bool) (cut_seen : Sighting → Bool) : Type 0 where
-  pub one : (at : Place) (e : Stamped) → cut e ≡ true → (s : Sighting) × ((sight r at e ≡ s ∷ []) × (cut_seen s ≡ true))
-  pub other : (at : Place) (e : Stamped) → cut e ≡ false → list_any cut_seen (sight r at e) ≡ false
+  pub one : (at : Around) (e : Stamped) → cut e ≡ true → (s : Sighting) × ((sight r at e ≡ s ∷ []) × (cut_seen s ≡ true))
+  pub other : (at : Around) (e : Stamped) → cut e ≡ false → list_any cut_seen (sight r at e) ≡ false
 
-module _ {A : Type 0} (r : Reader) (cut : Stamped → Bool) (cut_seen : Sighting → Bool) (cuts : CutsAt r cut cut_seen) (seen : Sighting → List A) (told : Stamped → List A) (passes : Place → Stamped → Bool) (tells : Tells r seen told passes) where
+module _ {A : Type 0} (r : Reader) (cut : Stamped → Bool) (cut_seen : Sighting → Bool) (cuts : CutsAt r cut cut_seen) (seen : Sighting → List A) (told : Stamped → List A) (passes : Around → Stamped → Bool) (tells : Tells r seen told passes) where
   pub sights-until : (before H : History) → flat_map seen (until cut_seen (sights r before H)) ≡ kept_until cut passes told before H
   sights-until before [] = refl
   sights-until before (e ∷ after) = by (cut e) refl (sights-until (before ++ e ∷ []) after)
     where
-      at : Place
+      at : Around
       at = record { before = before; after = after }
 
       rest : List Sighting
@@ -56,7 +56,7 @@ module _ {A : Type 0} (r : Reader) (cut : Stamped → Bool) (cut_seen : Sighting
   sights-since before [] = refl
   sights-since before (e ∷ after) = by (cut e) refl (sights-since (before ++ e ∷ []) after)
     where
-      at : Place
+      at : Around
       at = record { before = before; after = after }
 
       rest : List Sighting
@@ -73,10 +73,10 @@ module _ {A : Type 0} (r : Reader) (cut : Stamped → Bool) (cut_seen : Sighting
 -- ---- facts of each entry
 
 -- entries of whom `P` holds tell, where they pass, what `told'` says
-abbrev KeepsAs : {A : Type 0} → (Place → Stamped → Bool) → (Stamped → List A) → (Stamped → List A) → (Stamped → Type 0) → Type 0
-KeepsAs passes told told' P = (at : Place) (e : Stamped) → P e → only (passes at e) (told e) ≡ told' e
+abbrev KeepsAs : {A : Type 0} → (Around → Stamped → Bool) → (Stamped → List A) → (Stamped → List A) → (Stamped → Type 0) → Type 0
+KeepsAs passes told told' P = (at : Around) (e : Stamped) → P e → only (passes at e) (told e) ≡ told' e
 
-module _ {A : Type 0} (cut : Stamped → Bool) (passes : Place → Stamped → Bool) (told told' : Stamped → List A) (P : Stamped → Type 0) (same : KeepsAs passes told told' P) where
+module _ {A : Type 0} (cut : Stamped → Bool) (passes : Around → Stamped → Bool) (told told' : Stamped → List A) (P : Stamped → Type 0) (same : KeepsAs passes told told' P) where
   kept-each : (before H : History) → AllByRecursion P H → kept passes told before H ≡ flat_map told' H
   kept-each before [] h = refl
   kept-each before (e ∷ after) h =

@@ -9,12 +9,14 @@ use Rattle.cr_base.specs.declared.entry.Stamped.{Stamped}
 use Rattle.cr_base.specs.declared.words.Phase.TheVariants.{Bidding}
 use Rattle.cr_base.specs.Lists.{given, listed, is_number, until, since}
 use Rattle.cr_base.specs.History.{History, opens, declared_told}
-use Rattle.cr_base.specs.Facts.{authors_of, is_author, is_conflict_on, declared_by_authors}
+use Rattle.cr_base.specs.HistoryFacts.{authors_of, is_author, is_conflict_on, declared_by_authors}
+use Rattle.cr_base.specs.Page.{is_clear_chair}
+use Rattle.cr_base.specs.Phases.{is_from}
 use Rattle.cr_base.specs.Words.{is_chair}
 use Rattle.cr_history.specs.Invariants.{is_opening, ByAuthor, ByHerselfOrOther, Early, Late, DeclaresInTime}
 use Rattle.cr_policy.specs.Part as part
 use Rattle.cr_policy.specs.Sighting.{Sighting, where_shown}
-use Rattle.cr_policy.specs.Triggers.{Reader, reader, Place, user_named, clear_chairs, from}
+use Rattle.cr_policy.specs.Triggers.{Reader, reader, Around, standing_to, user_named}
 use Rattle.cr_policy.specs.View.{view, sight, is_seen, joined}
 use Rattle.cr_policy.specs.ViewFacts.{only, is_user, conflict_user_seen, own_or_other_seen, bidding_seen, declared_in_view}
 use Rattle.cr_policy.proofs.Cuts.{CutsAt, sights-until, sights-since, kept_until-each, kept_since-each, flat_map-cut}
@@ -24,7 +26,7 @@ use Rattle.cr_policy.proofs.Walk.{only-false, list_any-nobody, Tells}
 
 -- ---- everyone sees the bidding opened
 
-module _ (r : Reader) (at : Place) (maker : ℕ) (more : Bool) where
+module _ (r : Reader) (at : Around) (maker : ℕ) (more : Bool) where
   opening-one : (e : Entry) → opens Bidding e ≡ true → (s : Sighting) × ((sight r at (stamp maker more e) ≡ s ∷ []) × (bidding_seen s ≡ true))
   opening-one (PhaseSet phase) h = (joined r at (stamp maker more (PhaseSet phase)), (refl, h))
   opening-one e h = absurd (false≢true h)
@@ -66,7 +68,7 @@ own_or_other_value a own false u v = by (a && (own || not false)) ∙ sym (only-
     by : (b : Bool) → only {A = ℕ} b [] ≡ []
     by b = refl
 
-module _ (r : Reader) (at : Place) (maker : ℕ) (more : Bool) where
+module _ (r : Reader) (at : Around) (maker : ℕ) (more : Bool) where
   user_at : (p : ℕ) (e : Entry) → flat_map (conflict_user_seen p) (sight r at (stamp maker more e)) ≡ only (passes part.user r at (stamp maker more e)) (user_told p e)
   user_at p (Conflict paper user on) = told_where r at maker more (conflict_user_seen p) part.user (Conflict paper user on) (user_told p (Conflict paper user on)) (paper_value (eqb paper p) _ user)
   user_at p e = silent r at maker more (conflict_user_seen p) e refl
@@ -125,19 +127,19 @@ module _ (u p : ℕ) (H : History) (author : is_author (Some u) p H ≡ true) wh
   abbrev made_told : Stamped → List ℕ
   made_told e = declared_told (is_author (Some e.maker) p H) p e.entry
 
-  early_at : (at : Place) (maker : ℕ) (more : Bool) (e : Entry) → ByAuthor H maker e → only (passes part.user r at (stamp maker more e)) (user_told p e) ≡ declared_told (is_author (Some maker) p H) p e
+  early_at : (at : Around) (maker : ℕ) (more : Bool) (e : Entry) → ByAuthor H maker e → only (passes part.user r at (stamp maker more e)) (user_told p e) ≡ declared_told (is_author (Some maker) p H) p e
   early_at at maker more (Conflict paper user on) h =
       given_early _ (eqb paper p) (is_author (Some maker) p H) user
       (λ same. let e : paper ≡ p = eqb-true paper p same in early_shown _ (r.wrote maker paper) (r.author paper) _ _ h (ap r.author e ∙ author))
       (λ same. ap (λ n. is_author (Some maker) n H) (sym (eqb-true paper p same)) ∙ h)
   early_at at maker more e h = refl
 
-  late_at : (at : Place) (maker : ℕ) (more : Bool) (e : Entry) → ByHerselfOrOther H maker e → only (passes part.user r at (stamp maker more e)) (own_or_other_told (Some u) p maker e) ≡ declared_told (is_author (Some maker) p H) p e
+  late_at : (at : Around) (maker : ℕ) (more : Bool) (e : Entry) → ByHerselfOrOther H maker e → only (passes part.user r at (stamp maker more e)) (own_or_other_told (Some u) p maker e) ≡ declared_told (is_author (Some maker) p H) p e
   late_at at maker more (Conflict paper user on) h =
       given_both _ (eqb paper p) (eqb u maker || not (eqb u user)) (is_author (Some maker) p H) user
       (λ same. let e : paper ≡ p = eqb-true paper p same in
       let a : r.author paper ≡ true = ap r.author e ∙ author in
-      late_shown (eqb u user) (r.wrote maker paper) (r.author paper) (clear_chairs r paper) (from r Bidding) (eqb u maker) a
+      late_shown (eqb u user) (r.wrote maker paper) (r.author paper) (is_clear_chair (standing_to r paper)) (is_from Bidding r.now) (eqb u maker) a
       (not_clear (is_chair r.rank) (r.author paper) (is_conflict_on (Some u) paper H) a)
       (λ own. ap (λ m. is_author (Some m) paper H) (sym (eqb-true u maker own)) ∙ a)
       (λ other named. h (ap (λ n. eqb n maker) (sym (eqb-true u user named)) ∙ other))

@@ -12,7 +12,7 @@ use Rattle.cr_history.proofs.ListCuts.{AllByRecursion-append}
 use Rattle.cr_history.proofs.LineTies.{stamp}
 use Rattle.cr_policy.specs.Laws.{IsOwnDigest}
 use Rattle.cr_policy.specs.Sighting.{where_shown}
-use Rattle.cr_policy.specs.Triggers.{Reader, Place}
+use Rattle.cr_policy.specs.Triggers.{Reader, Around}
 use Rattle.cr_policy.specs.View.{sight, sights, is_seen, joined}
 
 -- the digest of a registration is shown to its maker alone
@@ -23,7 +23,7 @@ to_maker u maker user digest own h = by (is_number u maker) refl h
     by true same shown = subst (λ n. is_number u n ≡ true) own same
     by false same shown = absurd (false≢true shown)
 
-module _ (r : Reader) (at : Place) (maker : ℕ) (more : Bool) where
+module _ (r : Reader) (at : Around) (maker : ℕ) (more : Bool) where
   -- of any one sighting; no other kind of entry has a digest
   own_digest : (H : History) (e : Entry) → IsMadeByUser H maker e → IsOwnDigest r.number (joined r at (stamp maker more e))
   own_digest H (Registered user name digest) made = λ shown. to_maker r.number maker user digest made shown
@@ -37,7 +37,7 @@ given-all P false x h = tt
 pub own_digests : (r : Reader) (before H : History) → InTurn IsInOrder before H → AllByRecursion (IsOwnDigest r.number) (sights r before H)
 own_digests r before [] kept = tt
 own_digests r before (e ∷ after) kept =
-    let at : Place = record { before = before; after = after } in
+    let at : Around = record { before = before; after = after } in
     AllByRecursion-append (IsOwnDigest r.number) (sight r at e) (sights r (before ++ e ∷ []) after)
     (given-all (IsOwnDigest r.number) (is_seen r at e) (joined r at e) (own_digest r at e.maker e.more before e.entry kept.0.maker))
     (own_digests r (before ++ e ∷ []) after kept.1)

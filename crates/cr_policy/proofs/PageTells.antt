@@ -7,10 +7,11 @@ use Rattle.cr_base.specs.declared.entry.Stamped.{Stamped}
 use Rattle.cr_base.specs.declared.words.Phase.TheVariants.{Bidding}
 use Rattle.cr_base.specs.Lists.{given, is_nothing}
 use Rattle.cr_base.specs.History.{History, author_told, title_told, abstract_told}
-use Rattle.cr_base.specs.Facts.{standing_of, is_author, is_conflict_on, title_of, abstract_of, authors_of}
-use Rattle.cr_base.specs.Page.{gets_title, gets_abstract, shows_author, gets_conflicts}
+use Rattle.cr_base.specs.HistoryFacts.{phase_of, standing_of, is_author, is_conflict_on, title_of, abstract_of, authors_of}
+use Rattle.cr_base.specs.Page.{is_clear_member, is_clear_chair, gets_title, gets_abstract, shows_author, gets_conflicts}
+use Rattle.cr_base.specs.Phases.{is_from}
 use Rattle.cr_policy.specs.Part as part
-use Rattle.cr_policy.specs.Triggers.{reader, user_named, members, clear_members, clear_chairs, unless_anonymous, from, none_in}
+use Rattle.cr_policy.specs.Triggers.{reader, user_named, members, standing_to, unless_anonymous, none_in}
 use Rattle.cr_policy.specs.View.{view}
 use Rattle.cr_policy.specs.ViewFacts.{author_seen, title_seen, abstract_seen, title_in_view, abstract_in_view, authors_in_view, is_conflict_on_in_view}
 use Rattle.cr_policy.proofs.StandingLaws.{declared-seen_where}
@@ -26,7 +27,7 @@ text_shown a n m f own last told = grind arith
 pub title-seen : (u : Option ℕ) (p : ℕ) (H : History) → gets_title (standing_of u (Some p) H) ≡ true → title_in_view p (view u H) ≡ title_of p H
 title-seen u p H told =
     fold_last (reader u H) (title_seen p) (λ (e : Stamped). title_told p e.entry) (passes part.title (reader u H)) (title_tells (reader u H) p)
-    (λ at e last. title_value (reader u H) at p (λ maker more title abstract. text_shown (is_author u p H) (none_in (title_told p) at.after) (members (reader u H)) (from (reader u H) Bidding) (user_named (reader u H) maker) last told) e) [] H
+    (λ at e last. title_value (reader u H) at p (λ maker more title abstract. text_shown (is_author u p H) (none_in (title_told p) at.after) (members (reader u H)) (is_from Bidding (phase_of H)) (user_named (reader u H) maker) last told) e) [] H
 
 -- ---- abstracts
 
@@ -55,7 +56,7 @@ same_nothing p (e ∷ H) =
 pub abstract-seen : (u : Option ℕ) (p : ℕ) (H : History) → gets_abstract (standing_of u (Some p) H) ≡ true → abstract_in_view p (view u H) ≡ abstract_of p H
 abstract-seen u p H told =
     fold_last (reader u H) (abstract_seen p) (λ (e : Stamped). abstract_told p e.entry) (passes part.abstract (reader u H)) (abstract_tells (reader u H) p)
-    (λ at e last. abstract_value (reader u H) at p (λ maker more title abstract. text_shown (is_author u p H) (none_in (title_told p) at.after) (clear_members (reader u H) p) (from (reader u H) Bidding) (user_named (reader u H) maker) (same_nothing p at.after ∙ last) told) e) [] H
+    (λ at e last. abstract_value (reader u H) at p (λ maker more title abstract. text_shown (is_author u p H) (none_in (title_told p) at.after) (is_clear_member (standing_to (reader u H) p)) (is_from Bidding (phase_of H)) (user_named (reader u H) maker) (same_nothing p at.after ∙ last) told) e) [] H
 
 -- ---- authors
 
@@ -65,7 +66,7 @@ authors_shown a c m f n told = grind arith
 pub authors-seen : (u : Option ℕ) (p : ℕ) (H : History) → shows_author (standing_of u (Some p) H) false ≡ true → authors_in_view p (view u H) ≡ authors_of p H
 authors-seen u p H told =
     fold_all (reader u H) (author_seen p) (λ (e : Stamped). author_told p e.maker e.entry) (passes part.by (reader u H)) (author_tells (reader u H) p)
-    (λ at e. author_value (reader u H) at p (λ maker more title abstract. authors_shown (is_author u p H) (clear_chairs (reader u H) p) (clear_members (reader u H) p) (from (reader u H) Bidding) (unless_anonymous (reader u H)) told) e) [] H
+    (λ at e. author_value (reader u H) at p (λ maker more title abstract. authors_shown (is_author u p H) (is_clear_chair (standing_to (reader u H) p)) (is_clear_member (standing_to (reader u H) p)) (is_from Bidding (phase_of H)) (unless_anonymous (reader u H)) told) e) [] H
 
 -- ---- declared conflicts
 
@@ -75,4 +76,4 @@ third n w c own h = grind arith
 -- a clear chair sees each entry on a conflict with the paper from the bidding on
 pub conflicts-seen : (u : Option ℕ) (p : ℕ) (H : History) → gets_conflicts (standing_of u (Some p) H) ≡ true → (v : Option ℕ) → is_conflict_on_in_view v p (view u H) ≡ is_conflict_on v p H
 conflicts-seen u p H told v =
-    declared-seen_where u v p H (λ at maker more user on _. third (user_named (reader u H) user) (is_author (Some maker) p H && is_author u p H) (clear_chairs (reader u H) p && from (reader u H) Bidding) (user_named (reader u H) maker) told)
+    declared-seen_where u v p H (λ at maker more user on _. third (user_named (reader u H) user) (is_author (Some maker) p H && is_author u p H) (is_clear_chair (standing_to (reader u H) p) && is_from Bidding (phase_of H)) (user_named (reader u H) maker) told)

@@ -11,7 +11,7 @@ use Rattle.cr_base.specs.declared.standing.Standing.{Standing}
 use Rattle.cr_base.specs.Accounts.{lines_of}
 use Rattle.cr_base.specs.Checks.{judged}
 use Rattle.cr_base.specs.History.{History}
-use Rattle.cr_base.specs.Facts.{standing_of}
+use Rattle.cr_base.specs.HistoryFacts.{standing_of}
 use Rattle.cr_base.specs.Page.{PaperTexts, page_of, where_told, gets_title, gets_abstract, shows_author, gets_conflict, gets_conflicts, gets_declared, bare_keys}
 use Rattle.cr_base.specs.Tables.{Tables, no_tables, tables_of, FitInTurn}
 use Rattle.cr_base.specs.Answering.{query_checks, page_by, reply_or_rule, answer_by, answer_by_role}
@@ -22,7 +22,7 @@ use Rattle.cr_policy.specs.Judge.{answer}
 use Rattle.cr_history.proofs.ConflictTies.{is_among, is_conflict_on-tables, declared_by_authors-tables}
 use Rattle.cr_policy.proofs.DeclaredLaws.{declared-seen_by_author}
 use Rattle.cr_history.specs.Invariants.{DeclaresInTime}
-use Rattle.cr_history.proofs.OrderTies.{has_order-tables, users-users_of}
+use Rattle.cr_history.proofs.OrderTies.{has_order-tables, users-tied_to}
 use Rattle.cr_policy.proofs.StandingLaws.{accounts-seen}
 use Rattle.cr_policy.proofs.PageTells.{title-seen, abstract-seen, conflicts-seen}
 use Rattle.cr_history.proofs.LineTies.{accounts_of-tables}
@@ -42,7 +42,7 @@ conflicts-tables u H p fits told =
     let t : Tables = tables_of H in
     let test : ℕ → Bool = λ v. is_conflict_on_in_view (Some v) p (view u H) in
     users-tables u H test fits
-    ∙ users-users_of test p t.accounts t.ties.conflicts (has_order-tables H fits).conflicts (λ v. conflicts-seen u p H told (Some v) ∙ is_conflict_on-tables (Some v) p H)
+    ∙ users-tied_to test p t.accounts t.ties.conflicts (has_order-tables H fits).conflicts (λ v. conflicts-seen u p H told (Some v) ∙ is_conflict_on-tables (Some v) p H)
 
 -- whom the paper's authors declared, as the view of one of them shows it
 declared-tables : (u : Option ℕ) (H : History) (p : ℕ) → FitInTurn no_tables H → DeclaresInTime H → gets_declared (standing_of u (Some p) H) ≡ true → (shown_in_view u (view u H)).declared p ≡ (shown_in_tables (tables_of H)).declared p
@@ -50,7 +50,7 @@ declared-tables u H p fits in_time told =
     let t : Tables = tables_of H in
     let test : ℕ → Bool = λ v. is_among v (declared_in_view u p (view u H)) in
     users-tables u H test fits
-    ∙ users-users_of test p t.accounts t.ties.declared (has_order-tables H fits).declared (λ v. ap (is_among v) (declared-seen_by_author u p H in_time told) ∙ declared_by_authors-tables p v H fits)
+    ∙ users-tied_to test p t.accounts t.ties.declared (has_order-tables H fits).declared (λ v. ap (is_among v) (declared-seen_by_author u p H in_time told) ∙ declared_by_authors-tables p v H fits)
 
 -- ---- pages
 

@@ -11,9 +11,9 @@ use Rattle.cr_base.specs.declared.words.Role.TheVariants.{Account}
 use Rattle.cr_base.specs.declared.reply.AccountLine.{AccountLine}
 use Rattle.cr_base.specs.Lists.{last, last_or, is_number, at_some}
 use Rattle.cr_base.specs.History.{History, Registration, all_told, phase_told, mode_told, paper_told, own_paper_told, author_told, conflict_told, registration_told, role_told, number_told}
-use Rattle.cr_base.specs.Facts.{phase_of, mode_of, role_of, papers_of, own_papers_of, accounts_of, number_of, authors_of, is_author, is_conflict_on, is_conflicted}
+use Rattle.cr_base.specs.HistoryFacts.{phase_of, mode_of, role_of, papers_of, own_papers_of, accounts_of, number_of, authors_of, is_author, is_conflict_on, is_conflicted}
 use Rattle.cr_policy.specs.Part as part
-use Rattle.cr_policy.specs.Triggers.{reader, Place}
+use Rattle.cr_policy.specs.Triggers.{reader, Around}
 use Rattle.cr_policy.specs.View.{view}
 use Rattle.cr_policy.specs.ViewFacts.{phase_seen, mode_seen, paper_seen, own_paper_seen, author_seen, conflict_seen, registration_seen, role_seen, number_seen, phase_in_view, mode_in_view, role_in_view, papers_in_view, own_papers_in_view, accounts_in_view, number_in_view, authors_in_view, is_author_in_view, is_conflict_on_in_view, is_conflicted_in_view}
 use Rattle.cr_policy.specs.Laws.{StandingFromView, PublicFactsFromView}
@@ -73,7 +73,7 @@ author-seen u p H = by (is_author u p H) refl
         ∙ list_any-kept (is_number u) (passes part.by (reader u H)) (λ (e : Stamped). author_told p e.maker e.entry) [] H h
 
 -- a user's conflicts are told the reader, where she is shown each entry on them
-pub declared-seen_where : (u v : Option ℕ) (p : ℕ) (H : History) → ((at : Place) (maker : ℕ) (more : Bool) (user : ℕ) (on : Bool) → is_number v user ≡ true → passes part.on (reader u H) at (stamp maker more (Conflict p user on)) ≡ true) → is_conflict_on_in_view v p (view u H) ≡ is_conflict_on v p H
+pub declared-seen_where : (u v : Option ℕ) (p : ℕ) (H : History) → ((at : Around) (maker : ℕ) (more : Bool) (user : ℕ) (on : Bool) → is_number v user ≡ true → passes part.on (reader u H) at (stamp maker more (Conflict p user on)) ≡ true) → is_conflict_on_in_view v p (view u H) ≡ is_conflict_on v p H
 declared-seen_where u v p H shown =
     ap (last_or false) (fold_all (reader u H) (conflict_seen v p) (λ (e : Stamped). conflict_told v p e.entry) (passes part.on (reader u H)) (conflict_tells (reader u H) v p) (λ at e. conflict_value (reader u H) at v p e (shown at)) [] H)
 

@@ -12,13 +12,13 @@ use Rattle.cr_history.proofs.LineTies.{stamp}
 use Rattle.cr_policy.specs.Part as part
 use Rattle.cr_policy.specs.Part.{Part}
 use Rattle.cr_policy.specs.Sighting.{Sighting, where_shown}
-use Rattle.cr_policy.specs.Triggers.{Reader, Place, TriggerRow, applies_any, shows}
+use Rattle.cr_policy.specs.Triggers.{Reader, Around, TriggerRow, applies_any, shows}
 use Rattle.cr_policy.specs.View.{sight, is_seen, joined, rows_at}
 use Rattle.cr_policy.specs.ViewFacts.{only, is_user, phase_seen, mode_seen, paper_seen, own_paper_seen, author_seen, conflict_seen, title_seen, abstract_seen, registration_seen, role_seen, number_seen}
 use Rattle.cr_policy.proofs.Walk.{only-true, only-false, flat_map-given, Tells, TellsAll}
 
 -- whether a part of an entry is shown
-abbrev pub passes : Part → Reader → Place → Stamped → Bool
+abbrev pub passes : Part → Reader → Around → Stamped → Bool
 passes p r at e = shows (rows_at r at e) p
 
 -- what is told of a paper, where it is shown
@@ -49,7 +49,7 @@ hidden (row ∷ rows) p h =
     neither : (n a rest : Bool) → a ≡ false → rest ≡ false → ((n && a) || rest) ≡ false
     neither n a rest ha hr = grind arith
 
-module _ (r : Reader) (at : Place) (maker : ℕ) (more : Bool) where
+module _ (r : Reader) (at : Around) (maker : ℕ) (more : Bool) where
   -- a sighting that tells nothing tells nothing, whether it is there or not
   pub silent : {A : Type 0} (f : Sighting → List A) (e : Entry) → f (joined r at (stamp maker more e)) ≡ [] → flat_map f (sight r at (stamp maker more e)) ≡ []
   silent f e h = flat_map-given f (is_seen r at (stamp maker more e)) (joined r at (stamp maker more e)) ∙ ap (only (is_seen r at (stamp maker more e))) h
@@ -156,15 +156,15 @@ shown_value c true x h = ap (λ b. only b (x ∷ [])) (h refl)
 shown_value c false x h = refl
 
 -- a submission of paper p shows this part, whoever made it
-abbrev pub Shows : Part → Reader → Place → ℕ → Type 0
+abbrev pub Shows : Part → Reader → Around → ℕ → Type 0
 Shows which r at p = (maker : ℕ) (more : Bool) (title abstract : List ℕ) → passes which r at (stamp maker more (Submitted p title abstract)) ≡ true
 
 -- so what it tells of the paper is kept
-submission_value : {A : Type 0} (which : Part) (r : Reader) (at : Place) (p : ℕ) → Shows which r at p → (maker : ℕ) (more : Bool) (paper : ℕ) (title abstract : List ℕ) (x : A) → only (passes which r at (stamp maker more (Submitted paper title abstract))) (given (eqb paper p) x) ≡ given (eqb paper p) x
+submission_value : {A : Type 0} (which : Part) (r : Reader) (at : Around) (p : ℕ) → Shows which r at p → (maker : ℕ) (more : Bool) (paper : ℕ) (title abstract : List ℕ) (x : A) → only (passes which r at (stamp maker more (Submitted paper title abstract))) (given (eqb paper p) x) ≡ given (eqb paper p) x
 submission_value which r at p shown maker more paper title abstract x =
     shown_value _ (eqb paper p) x (λ same. ap (λ n. passes which r at (stamp maker more (Submitted n title abstract))) (eqb-true paper p same) ∙ shown maker more title abstract)
 
-module _ (r : Reader) (at : Place) (p : ℕ) where
+module _ (r : Reader) (at : Around) (p : ℕ) where
   author_kept : Shows part.by r at p → (maker : ℕ) (more : Bool) (e : Entry) → only (passes part.by r at (stamp maker more e)) (author_told p maker e) ≡ author_told p maker e
   author_kept shown maker more (Submitted paper title abstract) = submission_value part.by r at p shown maker more paper title abstract maker
   author_kept shown maker more e = refl
@@ -190,7 +190,7 @@ module _ (r : Reader) (at : Place) (p : ℕ) where
 -- ---- who is shown a conflict
 
 -- where each conflict of the user with the paper is shown, what is told of them is kept
-pub conflict_value : (r : Reader) (at : Place) (u : Option ℕ) (p : ℕ) (e : Stamped) → ((maker : ℕ) (more : Bool) (user : ℕ) (on : Bool) → is_number u user ≡ true → passes part.on r at (stamp maker more (Conflict p user on)) ≡ true) → only (passes part.on r at e) (conflict_told u p e.entry) ≡ conflict_told u p e.entry
+pub conflict_value : (r : Reader) (at : Around) (u : Option ℕ) (p : ℕ) (e : Stamped) → ((maker : ℕ) (more : Bool) (user : ℕ) (on : Bool) → is_number u user ≡ true → passes part.on r at (stamp maker more (Conflict p user on)) ≡ true) → only (passes part.on r at e) (conflict_told u p e.entry) ≡ conflict_told u p e.entry
 conflict_value r at u p e h = by e.maker e.more e.entry
   where
     by : (maker : ℕ) (more : Bool) (e : Entry) → only (passes part.on r at (stamp maker more e)) (conflict_told u p e) ≡ conflict_told u p e

@@ -2,10 +2,12 @@
 use Rattle.std.specs.Prelude.{◌≡◌, [], ◌∷◌, Some, None, map, filter}
 use Rattle.cr_base.specs.declared.words.Mode.{Mode}
 use Rattle.cr_base.specs.declared.words.Role.TheVariants.{Account, Member, Chair}
-use Rattle.cr_base.specs.Facts.{role_of, is_conflicted}
+use Rattle.cr_base.specs.HistoryFacts.{role_of, is_conflicted}
 use Rattle.cr_base.specs.History.{History}
 use Rattle.cr_policy.specs.Conference.{alice, bob, carol, dave, erin, fay, gus, cast, Digests, AreDigests, before_bidding, in_bidding}
-use Rattle.cr_policy.specs.ConferenceViews.{nobody_before, erin_before, bob_before, dave_before, carol_before, alice_before, fay_before, nobody_in_bidding, erin_in_bidding, bob_in_bidding, dave_in_bidding, carol_in_bidding, alice_in_bidding, fay_in_bidding}
+use Rattle.cr_policy.specs.ConferenceViews.{nobody_before, erin_before, bob_before, dave_before, carol_before}
+use Rattle.cr_policy.specs.ConferenceViews.{alice_before, fay_before, nobody_in_bidding, erin_in_bidding, bob_in_bidding}
+use Rattle.cr_policy.specs.ConferenceViews.{dave_in_bidding, carol_in_bidding, alice_in_bidding, fay_in_bidding}
 use Rattle.cr_policy.specs.Legal.{Legal}
 use Rattle.cr_policy.specs.View.{view}
 

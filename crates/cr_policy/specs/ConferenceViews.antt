@@ -31,20 +31,20 @@ abbrev pub phase_set : Phase → Sighting
 phase_set phase = record (blank kinds.PhaseSet) { phase = Some phase }
 
 -- that there is this paper, and nothing of it
-abbrev pub paper_alone : ℕ → Sighting
-paper_alone paper = record (blank kinds.Submitted) { paper = Some paper }
+abbrev pub bare_paper : ℕ → Sighting
+bare_paper paper = record (blank kinds.Submitted) { paper = Some paper }
 
 -- its title
 abbrev pub title_alone : ℕ → List ℕ → Sighting
-title_alone paper title = record (paper_alone paper) { title = Some title }
+title_alone paper title = record (bare_paper paper) { title = Some title }
 
 -- its title and its abstract
-abbrev pub texts : ℕ → List ℕ → List ℕ → Sighting
-texts paper title abstract = record (title_alone paper title) { abstract = Some abstract }
+abbrev pub both_texts : ℕ → List ℕ → List ℕ → Sighting
+both_texts paper title abstract = record (title_alone paper title) { abstract = Some abstract }
 
 -- both, and who wrote it
-abbrev pub texts_by : ℕ → ℕ → List ℕ → List ℕ → Sighting
-texts_by user paper title abstract = record (texts paper title abstract) { by = Some user }
+abbrev pub both_texts_by : ℕ → ℕ → List ℕ → List ℕ → Sighting
+both_texts_by user paper title abstract = record (both_texts paper title abstract) { by = Some user }
 
 -- that somebody's conflict with the paper is turned on or off
 abbrev pub conflict : ℕ → ℕ → Bool → Sighting
@@ -102,51 +102,51 @@ opening_to reader d mode =
 
 -- nobody in particular, and a user who is only that: that there are two papers
 abbrev pub nobody_before : Mode → View
-nobody_before mode = opening_to_nobody mode ++ paper_alone 1 ∷ paper_alone 2 ∷ []
+nobody_before mode = opening_to_nobody mode ++ bare_paper 1 ∷ bare_paper 2 ∷ []
 
 abbrev pub erin_before : Digests → Mode → View
-erin_before d mode = opening_to erin d mode ++ paper_alone 1 ∷ paper_alone 2 ∷ []
+erin_before d mode = opening_to erin d mode ++ bare_paper 1 ∷ bare_paper 2 ∷ []
 
 -- an author: her own paper whole, and whom she declared; of the other paper that it is there
 abbrev pub bob_before : Digests → Mode → View
 bob_before d mode =
     opening_to bob d mode
-    ++ mine (texts_by bob 1 proofs we_prove)
-    ∷ paper_alone 2
+    ++ mine (both_texts_by bob 1 proofs we_prove)
+    ∷ bare_paper 2
     ∷ mine (conflict 1 carol true)
     ∷ mine (conflict 1 fay true)
     ∷ []
 
 -- a member: no more than anybody
 abbrev pub dave_before : Digests → Mode → View
-dave_before d mode = opening_to dave d mode ++ paper_alone 1 ∷ paper_alone 2 ∷ []
+dave_before d mode = opening_to dave d mode ++ bare_paper 1 ∷ bare_paper 2 ∷ []
 
 -- a member who is declared in conflict: that she is
 abbrev pub carol_before : Digests → Mode → View
-carol_before d mode = opening_to carol d mode ++ paper_alone 1 ∷ paper_alone 2 ∷ conflict 1 carol true ∷ []
+carol_before d mode = opening_to carol d mode ++ bare_paper 1 ∷ bare_paper 2 ∷ conflict 1 carol true ∷ []
 
 -- a chair: no more than anybody; and one who is declared in conflict: that she is
 abbrev pub alice_before : Digests → Mode → View
-alice_before d mode = opening_to alice d mode ++ paper_alone 1 ∷ paper_alone 2 ∷ []
+alice_before d mode = opening_to alice d mode ++ bare_paper 1 ∷ bare_paper 2 ∷ []
 
 abbrev pub fay_before : Digests → Mode → View
-fay_before d mode = opening_to fay d mode ++ paper_alone 1 ∷ paper_alone 2 ∷ conflict 1 fay true ∷ []
+fay_before d mode = opening_to fay d mode ++ bare_paper 1 ∷ bare_paper 2 ∷ conflict 1 fay true ∷ []
 
 -- ---- in the bidding
 
 -- nobody in particular, and a user who is only that: the phase, and no more of the papers than before
 abbrev pub nobody_in_bidding : Mode → View
-nobody_in_bidding mode = opening_to_nobody mode ++ paper_alone 1 ∷ paper_alone 2 ∷ phase_set Bidding ∷ []
+nobody_in_bidding mode = opening_to_nobody mode ++ bare_paper 1 ∷ bare_paper 2 ∷ phase_set Bidding ∷ []
 
 abbrev pub erin_in_bidding : Digests → Mode → View
-erin_in_bidding d mode = opening_to erin d mode ++ paper_alone 1 ∷ paper_alone 2 ∷ phase_set Bidding ∷ []
+erin_in_bidding d mode = opening_to erin d mode ++ bare_paper 1 ∷ bare_paper 2 ∷ phase_set Bidding ∷ []
 
 -- an author: as before, and not what the committee declares
 abbrev pub bob_in_bidding : Digests → Mode → View
 bob_in_bidding d mode =
     opening_to bob d mode
-    ++ mine (texts_by bob 1 proofs we_prove)
-    ∷ paper_alone 2
+    ++ mine (both_texts_by bob 1 proofs we_prove)
+    ∷ bare_paper 2
     ∷ mine (conflict 1 carol true)
     ∷ mine (conflict 1 fay true)
     ∷ phase_set Bidding
@@ -156,16 +156,16 @@ bob_in_bidding d mode =
 abbrev pub dave_in_bidding : Digests → Mode → View
 dave_in_bidding d Anonymous =
     opening_to dave d Anonymous
-    ++ texts 1 proofs we_prove
-    ∷ texts 2 types we_type
+    ++ both_texts 1 proofs we_prove
+    ∷ both_texts 2 types we_type
     ∷ phase_set Bidding
     ∷ mine (conflict 2 dave true)
     ∷ conflict 2 dave false
     ∷ []
 dave_in_bidding d mode =
     opening_to dave d mode
-    ++ texts_by bob 1 proofs we_prove
-    ∷ texts_by gus 2 types we_type
+    ++ both_texts_by bob 1 proofs we_prove
+    ∷ both_texts_by gus 2 types we_type
     ∷ phase_set Bidding
     ∷ mine (conflict 2 dave true)
     ∷ conflict 2 dave false
@@ -176,14 +176,14 @@ abbrev pub carol_in_bidding : Digests → Mode → View
 carol_in_bidding d Anonymous =
     opening_to carol d Anonymous
     ++ title_alone 1 proofs
-    ∷ texts 2 types we_type
+    ∷ both_texts 2 types we_type
     ∷ conflict 1 carol true
     ∷ phase_set Bidding
     ∷ []
 carol_in_bidding d mode =
     opening_to carol d mode
     ++ title_alone 1 proofs
-    ∷ texts_by gus 2 types we_type
+    ∷ both_texts_by gus 2 types we_type
     ∷ conflict 1 carol true
     ∷ phase_set Bidding
     ∷ []
@@ -192,8 +192,8 @@ carol_in_bidding d mode =
 abbrev pub alice_in_bidding : Digests → Mode → View
 alice_in_bidding d mode =
     opening_to alice d mode
-    ++ texts_by bob 1 proofs we_prove
-    ∷ texts_by gus 2 types we_type
+    ++ both_texts_by bob 1 proofs we_prove
+    ∷ both_texts_by gus 2 types we_type
     ∷ conflict 1 carol true
     ∷ conflict 1 fay true
     ∷ mine (phase_set Bidding)
@@ -208,7 +208,7 @@ abbrev pub fay_in_bidding : Digests → Mode → View
 fay_in_bidding d mode =
     opening_to fay d mode
     ++ title_alone 1 proofs
-    ∷ texts_by gus 2 types we_type
+    ∷ both_texts_by gus 2 types we_type
     ∷ conflict 1 fay true
     ∷ phase_set Bidding
     ∷ conflict 1 fay false

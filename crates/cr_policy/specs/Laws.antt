@@ -5,7 +5,7 @@ use Rattle.cr_base.specs.declared.command.Command.{Command}
 use Rattle.cr_base.specs.declared.command.Query.{Query}
 use Rattle.cr_base.specs.declared.words.Role.TheVariants.{Chair}
 use Rattle.cr_base.specs.History.{History}
-use Rattle.cr_base.specs.Facts.{standing_of, role_of, is_author, is_conflicted, declared_by_authors, accounts_of, papers_of, own_papers_of, number_of}
+use Rattle.cr_base.specs.HistoryFacts.{standing_of, role_of, is_author, is_conflicted, declared_by_authors, accounts_of, papers_of, own_papers_of, number_of}
 use Rattle.cr_base.specs.Tables.{tables_of}
 use Rattle.cr_base.specs.Answering.{answer_by_role}
 use Rattle.cr_base.specs.Judging.{judge_by_role}
@@ -13,10 +13,12 @@ use Rattle.cr_base.specs.Logins.{command_wants_login, query_wants_login}
 use Rattle.cr_history.specs.Invariants.{IsRegistered, Invariants}
 use Rattle.cr_policy.specs.Sighting.{Sighting}
 use Rattle.cr_policy.specs.View.{view}
-use Rattle.cr_policy.specs.ViewFacts.{is_user, standing_in_view, accounts_in_view, papers_in_view, own_papers_in_view, number_in_view, declared_in_view, authors_in_view, title_in_view, abstract_in_view}
+use Rattle.cr_policy.specs.ViewFacts.{is_user, standing_in_view, accounts_in_view, papers_in_view, own_papers_in_view}
+use Rattle.cr_policy.specs.ViewFacts.{number_in_view, declared_in_view, authors_in_view, title_in_view, abstract_in_view}
 use Rattle.cr_policy.specs.Judge.{judge, answer}
 use Rattle.cr_policy.specs.Legal.{Legal, MayAsk}
-use Rattle.cr_policy.specs.Witness.{two_registrations, seen_by_nobody, seen_by_alice, one_submission, submission_seen_by_alice, submission_seen_by_bob, bidding_opened}
+use Rattle.cr_policy.specs.Witness.{two_registrations, seen_by_nobody, seen_by_alice, one_submission}
+use Rattle.cr_policy.specs.Witness.{submission_seen_by_alice, submission_seen_by_bob, bidding_opened}
 
 -- StandingFromView: how a user stands, to any paper too, can be read off what she sees, whatever the history
 abbrev pub StandingFromView : Type 0
@@ -33,8 +35,10 @@ pub record PublicFactsFromView (u : Option ℕ) (H : History) : Type 0 where
 -- ViewSuffices: on a legal history, what checks of role on the tables give of a command or a query is what the caller's
 -- view alone gives
 pub record ViewSuffices : Type 0 where
-  pub commands : (u : Option ℕ) (H : History) (command : Command) → Legal H → MayAsk H (command_wants_login command) u → judge u (view u H) command ≡ judge_by_role (tables_of H) u command
-  pub queries : (u : Option ℕ) (H : History) (query : Query) → Legal H → MayAsk H (query_wants_login query) u → answer u (view u H) query ≡ answer_by_role (tables_of H) u query
+  pub commands : (u : Option ℕ) (H : History) (command : Command) → Legal H
+      → MayAsk H (command_wants_login command) u → judge u (view u H) command ≡ judge_by_role (tables_of H) u command
+  pub queries : (u : Option ℕ) (H : History) (query : Query) → Legal H
+      → MayAsk H (query_wants_login query) u → answer u (view u H) query ≡ answer_by_role (tables_of H) u query
 
 -- DeclaredFromView: on a legal history, whom a paper's authors declared in conflict with it can be read off what an author
 -- of it sees
@@ -65,7 +69,8 @@ TwoRegistrations = (alice bob : List ℕ) → length alice ≡ 32 → length bob
 
 -- nobody sees a digest in it, and alice no other than her own
 abbrev pub DigestsHidden : Type 0
-DigestsHidden = (alice bob : List ℕ) → (view None (two_registrations alice bob) ≡ seen_by_nobody) × (view (Some 1) (two_registrations alice bob) ≡ seen_by_alice alice)
+DigestsHidden =
+    (alice bob : List ℕ) → (view None (two_registrations alice bob) ≡ seen_by_nobody) × (view (Some 1) (two_registrations alice bob) ≡ seen_by_alice alice)
 
 -- with a submission after them the history is legal too; of the paper alice, a chair, sees its number alone, and bob, its
 -- author, the whole
@@ -95,4 +100,6 @@ pub record IsConflictWitness (H : History) : Type 0 where
 
 -- whatever the digests are
 abbrev pub OneConflict : Type 0
-OneConflict = (alice bob carol dave : List ℕ) → length alice ≡ 32 → length bob ≡ 32 → length carol ≡ 32 → length dave ≡ 32 → IsConflictWitness (bidding_opened alice bob carol dave)
+OneConflict =
+    (alice bob carol dave : List ℕ) → length alice ≡ 32 → length bob ≡ 32 → length carol ≡ 32 → length dave ≡ 32
+    → IsConflictWitness (bidding_opened alice bob carol dave)

@@ -18,7 +18,7 @@ use Rattle.cr_base.specs.declared.words.Role.{Role}
 use Rattle.cr_base.specs.declared.words.Role.TheVariants.{Account, Member, Chair}
 use Rattle.cr_base.specs.Lists.{given, is_number}
 use Rattle.cr_base.specs.History.{History}
-use Rattle.cr_base.specs.Facts.{phase_of, mode_of, role_of, is_author, is_conflict_on}
+use Rattle.cr_base.specs.HistoryFacts.{phase_of, mode_of, role_of, is_author, is_conflict_on}
 use Rattle.cr_base.specs.Rows.{kind_of}
 
 -- ---- who reads
@@ -160,7 +160,8 @@ title_for u H later maker _ = None
 
 -- an abstract: to the paper's authors, and the last one to those who handle the paper
 abbrev pub abstract_for : PartFor (Option (List ℕ))
-abstract_for u H later maker (Submitted paper title abstract) = where_known (is_author u paper H || (not (is_replaced paper later) && handles u paper H)) abstract
+abstract_for u H later maker (Submitted paper title abstract) =
+    where_known (is_author u paper H || (not (is_replaced paper later) && handles u paper H)) abstract
 abstract_for u H later maker _ = None
 
 -- whether a conflict is on: always

@@ -6,14 +6,16 @@ use Rattle.cr_base.specs.declared.entry.Entry.{Entry}
 use Rattle.cr_base.specs.declared.entry.Entry.TheVariants.{Registered, Named, PhaseSet, ModeSet, Submitted, Conflict}
 use Rattle.cr_base.specs.declared.words.Phase.{Phase}
 use Rattle.cr_base.specs.declared.entry.Stamped.{Stamped}
+use Rattle.cr_base.specs.declared.standing.Standing.{Standing}
 use Rattle.cr_base.specs.declared.words.Phase.TheVariants.{Bidding, Discussion}
 use Rattle.cr_base.specs.declared.words.Mode.{Mode}
 use Rattle.cr_base.specs.declared.words.Role.{Role}
 use Rattle.cr_base.specs.Lists.{is_nothing, is_number, until}
 use Rattle.cr_base.specs.History.{History, all_told, opens, title_told}
-use Rattle.cr_base.specs.Facts.{phase_of, mode_of, role_of, is_author, is_conflicted}
+use Rattle.cr_base.specs.HistoryFacts.{phase_of, mode_of, role_of, is_author, is_conflicted}
+use Rattle.cr_base.specs.Page.{is_clear_member, is_clear_chair}
 use Rattle.cr_base.specs.Phases.{is_from}
-use Rattle.cr_base.specs.Words.{is_anonymous, is_member, is_chair}
+use Rattle.cr_base.specs.Words.{is_anonymous, is_member}
 use Rattle.cr_policy.specs.Part as part
 use Rattle.cr_policy.specs.Part.{Part, these, whole, whole_and}
 
@@ -40,8 +42,12 @@ reader u H = record {
   wrote = λ v p. is_author (Some v) p H;
 }
 
--- what comes before an entry and what after it
-pub record Place : Type 0 where
+-- how the reader stands to a paper
+abbrev pub standing_to : Reader → ℕ → Standing
+standing_to r p = record { phase = r.now; mode = r.mode; role = r.rank; author = r.author p; conflicted = r.conflicted p }
+
+-- what stands around an entry: the history before it, and what follows it
+pub record Around : Type 0 where
   pub before : History
   pub after : History
 
@@ -58,23 +64,13 @@ user_named r user = is_number r.number user
 abbrev pub authors : Reader → ℕ → Bool
 authors r p = r.author p
 
--- the reader is a member of the committee; and in no conflict with the paper; and a chair in none
+-- the reader is a member of the committee
 abbrev pub members : Reader → Bool
 members r = is_member r.rank
-
-abbrev pub clear_members : Reader → ℕ → Bool
-clear_members r p = is_member r.rank && not (r.conflicted p)
-
-abbrev pub clear_chairs : Reader → ℕ → Bool
-clear_chairs r p = is_chair r.rank && not (r.conflicted p)
 
 -- the mode shows members who wrote
 abbrev pub unless_anonymous : Reader → Bool
 unless_anonymous r = not (is_anonymous r.mode)
-
--- it is this phase, or a later one
-abbrev pub from : Reader → Phase → Bool
-from r first = is_from first r.now
 
 -- ---- which entry of its matter
 
@@ -104,7 +100,7 @@ abbrev pub opens_discussion : Stamped → Bool
 opens_discussion e = opens Discussion e.entry
 
 -- the position of an entry that stands there
-abbrev pub position_of : Place → Entry → Position
+abbrev pub position_of : Around → Entry → Position
 position_of at e = record {
   first = none_alike e at.before;
   last = none_alike e at.after;
@@ -144,15 +140,15 @@ rows r at by (ModeSet mode) =
 rows r at by (Submitted paper title abstract) =
     everyone see paper_alone
     ∷ authors r paper see whole_and (part.by ∷ [])
-    ∷ (at.last && members r && from r Bidding) see these (part.title ∷ [])
-    ∷ (at.last && clear_members r paper && from r Bidding) see these (part.abstract ∷ [])
-    ∷ (clear_chairs r paper && from r Bidding) see these (part.by ∷ [])
-    ∷ (clear_members r paper && unless_anonymous r && from r Bidding) see these (part.by ∷ [])
+    ∷ (at.last && members r && is_from Bidding r.now) see these (part.title ∷ [])
+    ∷ (at.last && is_clear_member (standing_to r paper) && is_from Bidding r.now) see these (part.abstract ∷ [])
+    ∷ (is_clear_chair (standing_to r paper) && is_from Bidding r.now) see these (part.by ∷ [])
+    ∷ (is_clear_member (standing_to r paper) && unless_anonymous r && is_from Bidding r.now) see these (part.by ∷ [])
     ∷ []
 rows r at by (Conflict paper user on) =
     user_named r user see whole
     ∷ (r.wrote by paper && authors r paper) see whole
-    ∷ (clear_chairs r paper && from r Bidding) see whole
+    ∷ (is_clear_chair (standing_to r paper) && is_from Bidding r.now) see whole
     ∷ []
 
 -- whether a row applies

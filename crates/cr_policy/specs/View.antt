@@ -5,21 +5,21 @@ use Rattle.cr_base.specs.Lists.{given}
 use Rattle.cr_base.specs.History.{History}
 use Rattle.cr_policy.specs.Part.{whole}
 use Rattle.cr_policy.specs.Sighting.{Sighting, sighting}
-use Rattle.cr_policy.specs.Triggers.{Reader, reader, Place, position_of, TriggerRow, rows, user_named, ◌see◌, applies_any, shows}
+use Rattle.cr_policy.specs.Triggers.{Reader, reader, Around, position_of, TriggerRow, rows, user_named, ◌see◌, applies_any, shows}
 
 -- the rows of the table, and last the entry's own maker's, who sees it whole
-abbrev pub rows_at : Reader → Place → Stamped → List TriggerRow
+abbrev pub rows_at : Reader → Around → Stamped → List TriggerRow
 rows_at r at e = rows r (position_of at e.entry) e.maker e.entry ++ user_named r e.maker see whole ∷ []
 
 -- whether a row applies, and the parts of those that do, joined; the maker's own has the mark `mine`
-abbrev pub is_seen : Reader → Place → Stamped → Bool
+abbrev pub is_seen : Reader → Around → Stamped → Bool
 is_seen r at e = applies_any (rows_at r at e)
 
-abbrev pub joined : Reader → Place → Stamped → Sighting
+abbrev pub joined : Reader → Around → Stamped → Sighting
 joined r at e = sighting (shows (rows_at r at e)) (user_named r e.maker) e
 
 -- Sight: what the entry shows the reader; nothing where no row applies
-abbrev pub sight : Reader → Place → Stamped → List Sighting
+abbrev pub sight : Reader → Around → Stamped → List Sighting
 sight r at e = given (is_seen r at e) (joined r at e)
 
 -- what each of the entries shows, where `before` stand before them

@@ -9,11 +9,12 @@ use Rattle.cr_base.specs.declared.entry.EntryKind.TheVariants as kinds
 use Rattle.cr_base.specs.declared.entry.Stamped.{Stamped}
 use Rattle.cr_base.specs.Lists.{listed, is_number}
 use Rattle.cr_base.specs.History.{History}
-use Rattle.cr_base.specs.Facts.{is_author}
+use Rattle.cr_base.specs.HistoryFacts.{is_author}
 use Rattle.cr_policy.specs.Sighting.{Sighting, blank}
 use Rattle.cr_policy.specs.View.{view}
 use Rattle.cr_policy.specs.ViewFacts.{only, is_user}
-use Rattle.cr_policy.specs.ShownTo.{PartFor, each_told, serves, handles, kind_for, mark_for, paper_for, user_for, name_for, digest_for, role_for, phase_for, mode_for, maker_for, title_for, abstract_for, switch_for}
+use Rattle.cr_policy.specs.ShownTo.{PartFor, each_told, serves, handles, kind_for, mark_for, paper_for, user_for, name_for}
+use Rattle.cr_policy.specs.ShownTo.{digest_for, role_for, phase_for, mode_for, maker_for, title_for, abstract_for, switch_for}
 
 -- ---- each part
 
@@ -86,11 +87,14 @@ IsLeft u titled kinds.Named s = ⊥
 IsLeft u titled kinds.PhaseSet s = ⊥
 IsLeft u titled kinds.ModeSet s = ⊥
 IsLeft u titled kinds.Submitted s = s ≡ record (blank kinds.Submitted) { paper = s.paper; title = if titled then s.title else None }
-IsLeft u titled kinds.Conflict s = IsTrue (s.mine || is_user u s.user) × (s ≡ record (blank kinds.Conflict) { mine = s.mine; paper = s.paper; user = s.user; on = s.on })
+IsLeft u titled kinds.Conflict s =
+    IsTrue (s.mine || is_user u s.user) × (s ≡ record (blank kinds.Conflict) { mine = s.mine; paper = s.paper; user = s.user; on = s.on })
 
 -- so of any other than an author: one in conflict, one who isn't on the committee, and all before the bidding
 abbrev pub OutsidersShown : Type 0
-OutsidersShown = (u : Option ℕ) (p : ℕ) (H : History) → IsFalse (is_author u p H || handles u p H) → All (λ (s : Sighting). IsTrue (is_number s.paper p) → IsLeft u (serves u H) s.kind s) (view u H)
+OutsidersShown =
+    (u : Option ℕ) (p : ℕ) (H : History) → IsFalse (is_author u p H || handles u p H)
+    → All (λ (s : Sighting). IsTrue (is_number s.paper p) → IsLeft u (serves u H) s.kind s) (view u H)
 
 -- ---- strangers, and nobody
 

@@ -21,19 +21,19 @@ two_registrations alice bob =
     ∷ []
 
 -- what a registration shows: the digest to its maker alone
-abbrev pub registered : ℕ → List ℕ → Option (List ℕ) → Bool → Sighting
-registered user name digest mine = record (blank kinds.Registered) { mine = mine; user = Some user; name = Some name; digest = digest }
+abbrev pub account_shown : ℕ → List ℕ → Option (List ℕ) → Bool → Sighting
+account_shown user name digest mine = record (blank kinds.Registered) { mine = mine; user = Some user; name = Some name; digest = digest }
 
 abbrev pub named_chair : ℕ → Bool → Sighting
 named_chair user mine = record (blank kinds.Named) { mine = mine; user = Some user; role = Some Chair }
 
 -- what nobody sees of the two registrations: no digest
 abbrev pub seen_by_nobody : View
-seen_by_nobody = registered 1 (codes "alice") None false ∷ named_chair 1 false ∷ registered 2 (codes "bob") None false ∷ []
+seen_by_nobody = account_shown 1 (codes "alice") None false ∷ named_chair 1 false ∷ account_shown 2 (codes "bob") None false ∷ []
 
 -- what alice sees: her own digest, and not bob's
 abbrev pub seen_by_alice : List ℕ → View
-seen_by_alice digest = registered 1 (codes "alice") (Some digest) true ∷ named_chair 1 true ∷ registered 2 (codes "bob") None false ∷ []
+seen_by_alice digest = account_shown 1 (codes "alice") (Some digest) true ∷ named_chair 1 true ∷ account_shown 2 (codes "bob") None false ∷ []
 
 -- ---- a submission
 
@@ -50,8 +50,8 @@ abbrev pub one_submission : List ℕ → List ℕ → History
 one_submission alice bob = submission_opened alice bob ++ record { maker = 2; more = false; entry = Submitted 1 (codes "Proofs") (codes "We prove.") } ∷ []
 
 -- the mode and the phase that alice set, as she sees them
-abbrev pub mode_set : Sighting
-mode_set = record (blank kinds.ModeSet) { mine = true; mode = Some Anonymous }
+abbrev pub mode_shown : Sighting
+mode_shown = record (blank kinds.ModeSet) { mine = true; mode = Some Anonymous }
 
 abbrev pub submission_set : Sighting
 submission_set = record (blank kinds.PhaseSet) { mine = true; phase = Some Submission }
@@ -62,19 +62,20 @@ paper_seen_alone = record (blank kinds.Submitted) { paper = Some 1 }
 
 -- the submission as bob sees it, who made it and so is the paper's author
 abbrev pub paper_seen_by_author : Sighting
-paper_seen_by_author = record (blank kinds.Submitted) { mine = true; paper = Some 1; by = Some 2; title = Some (codes "Proofs"); abstract = Some (codes "We prove.") }
+paper_seen_by_author =
+    record (blank kinds.Submitted) { mine = true; paper = Some 1; by = Some 2; title = Some (codes "Proofs"); abstract = Some (codes "We prove.") }
 
 -- what alice sees, a chair, before the bidding
 abbrev pub submission_seen_by_alice : List ℕ → View
-submission_seen_by_alice digest = seen_by_alice digest ++ mode_set ∷ submission_set ∷ paper_seen_alone ∷ []
+submission_seen_by_alice digest = seen_by_alice digest ++ mode_shown ∷ submission_set ∷ paper_seen_alone ∷ []
 
 -- what bob sees
 abbrev pub submission_seen_by_bob : List ℕ → View
 submission_seen_by_bob digest =
-    registered 1 (codes "alice") None false
+    account_shown 1 (codes "alice") None false
     ∷ named_chair 1 false
-    ∷ registered 2 (codes "bob") (Some digest) true
-    ∷ record mode_set { mine = false }
+    ∷ account_shown 2 (codes "bob") (Some digest) true
+    ∷ record mode_shown { mine = false }
     ∷ record submission_set { mine = false }
     ∷ paper_seen_by_author
     ∷ []

@@ -5,7 +5,7 @@ use Rattle.std.specs.Map.{lookup}
 use Rattle.std.specs.Option.{option_map_or}
 use Rattle.std.specs.Str.{bytes_eq}
 use Rattle.cr_base.specs.declared.row.Row.{Row}
-use Rattle.cr_ports.specs.Shelving.{Stores, has_place, is_path}
+use Rattle.cr_ports.specs.Shelving.{StoresByPath, has_place, is_path}
 
 abbrev pub rows_or_none : Option (Vec Row Global) → List Row
 rows_or_none place = option_map_or (λ rows. rows.items) place []
@@ -25,7 +25,7 @@ add_none true rows old new is absent none = rw (is, absent refl) none
 add_none false rows old new is absent none = ap rows_or_none is
 
 -- no place is found under an equal name
-pub absent_at : (stores : Stores) (path name q : List ℕ) → IsFalse (has_place stores path) → name ≡ path
+pub absent_at : (stores : StoresByPath) (path name q : List ℕ) → IsFalse (has_place stores path) → name ≡ path
     → bytes_eq name q ≡ true → lookup (is_path q) stores ≡ None
 absent_at stores path name q absent is same =
     let equal : path ≡ q = sym is ∙ (bytes_eq-Decides name q).0 same in

@@ -30,6 +30,6 @@ faults_after true faults = counted faults
 faults_after false faults = faults
 
 -- the answer of a call that takes no memory
-abbrev pub answer : {T : Type 0} → Bool → T → Result T KeeperError
-answer true value = Err Failed
-answer false value = Ok value
+abbrev pub failed_or : {T : Type 0} → Bool → T → Result T KeeperError
+failed_or true value = Err Failed
+failed_or false value = Ok value

@@ -19,22 +19,22 @@ and_file None path rows = None
 and_file (Some files) path rows = Some (with_rows files path rows)
 
 -- what a map by path has, as it keeps it
-abbrev pub Stores : Type 0
-Stores = List (String Global × Vec Row Global)
+abbrev pub StoresByPath : Type 0
+StoresByPath = List (String Global × Vec Row Global)
 
 abbrev pub is_path : List ℕ → String Global → Bool
 is_path path name = is_eq (slice_cmp nat_cmp path (string_bytes name))
 
 -- the rows at a path
-abbrev pub files : Stores → List ℕ → List Row
+abbrev pub files : StoresByPath → List ℕ → List Row
 files stores path = option_map_or (λ rows. rows.items) (lookup (is_path path) stores) []
 
-abbrev pub has_place : Stores → List ℕ → Bool
+abbrev pub has_place : StoresByPath → List ℕ → Bool
 has_place stores path = is_some (lookup (is_path path) stores)
 
 -- a shelf in memory: the rows at each path, its opens, which calls of its keepers fail, and its faults
 pub record Shelved : Type 0 where
-  pub stores : Stores
+  pub stores : StoresByPath
   pub opens : Listed
   pub failing_appends : List ℕ
   pub failing_reads : List ℕ

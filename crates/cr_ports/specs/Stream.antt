@@ -16,10 +16,10 @@ taken_and None piece = None
 taken_and (Some taken) piece = Some (taken ++ piece)
 
 -- the bytes that a read gave
-abbrev pub given : ReadStep → List ℕ → List ℕ
-given (reads.Got n) buf = take n buf
-given reads.End buf = []
-given reads.Failed buf = []
+abbrev pub gave : ReadStep → List ℕ → List ℕ
+gave (reads.Got n) buf = take n buf
+gave reads.End buf = []
+gave reads.Failed buf = []
 
 -- from 1 byte to the whole buffer, if any
 abbrev pub FillsWithin : ReadStep → ℕ → Type 0

@@ -12,7 +12,7 @@ pub enum Opened<D> {
     Doors(Vec<D>),
     /// A fault, which was counted.
     Failed,
-    /// Want of memory, which is no fault and isn't counted as one.
+    /// Out of memory, which is no fault and isn't counted as one.
     OutOfMemory,
 }
 

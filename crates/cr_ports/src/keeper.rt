@@ -10,7 +10,7 @@ use cr_base::Row;
 pub enum KeeperError {
     /// A fault of what keeps the rows, which was counted.
     Failed,
-    /// Want of memory, which is no fault and isn't counted as one.
+    /// Out of memory, which is no fault and isn't counted as one.
     OutOfMemory,
 }
 

@@ -3,7 +3,7 @@ ghost use Rattle.std.specs.Prelude.{◌≡◌, ◌≢◌, ◌<◌, ◌++◌, ◌
 ghost use Rattle.cr_base.specs.declared.row.Row.{Row};
 ghost use Rattle.cr_ports.specs.Calls.{Advances, fails};
 ghost use Rattle.cr_ports.specs.Count.{Rises};
-ghost use Rattle.cr_ports.specs.Keeping.{HasCause, Kept, and_rows, answer, faults_after};
+ghost use Rattle.cr_ports.specs.Keeping.{HasCause, Kept, and_rows, failed_or, faults_after};
 
 use crate::calls::Calls;
 use crate::keeper::{Keeper, KeeperError};
@@ -75,7 +75,7 @@ impl MemKeeper {
 
     /// Counts a call that isn't an append, and fails it where it is listed.
     fn begin_read(&mut self) -> Result<(), KeeperError>
-        ensures answer { result ≡ answer (fails self.old.reads) tt }
+        ensures answer { result ≡ failed_or (fails self.old.reads) tt }
         ensures cause { HasCause self.old.faults self.new.faults result }
         ensures faults { self.new.faults ≡ faults_after (fails self.old.reads) self.old.faults }
         ensures reads { Advances self.old.reads self.new.reads }
@@ -112,7 +112,7 @@ fn add_copies(alloc: Global, rows: &mut Vec<Row>, added: &[Row]) -> Result<(), A
 }
 
 /// Puts copies of `added` behind the rows that are there, or changes nothing. The one error is
-/// want of memory.
+/// lack of memory.
 fn keep_copies(alloc: Global, rows: &mut Vec<Row>, added: &[Row]) -> Result<(), KeeperError>
     ensures ok { OnOk result (rows.new.items ≡ rows.old.items ++ added.now) }
     ensures err { OnErr result (rows.new.items ≡ rows.old.items) }
@@ -124,7 +124,7 @@ fn keep_copies(alloc: Global, rows: &mut Vec<Row>, added: &[Row]) -> Result<(), 
     }
 }
 
-/// A copy of row number `at`. The one error is want of memory.
+/// A copy of row number `at`. The one error is a lack of memory.
 fn copy_at(rows: &[Row], at: u64) -> Result<Row, KeeperError>
     requires { at < length rows.now }
     ensures ok { IfOk result (λ row. slice_get rows.now at ≡ Some row) }
@@ -165,7 +165,7 @@ impl Keeper for MemKeeper {
         ensures cause { HasCause self.old.faults self.new.faults result }
 
         // It fails where this call is listed, and nowhere else.
-        ensures answer { result ≡ answer (fails self.old.reads) (length self.old.rows) }
+        ensures answer { result ≡ failed_or (fails self.old.reads) (length self.old.rows) }
         ensures faults { self.new.faults ≡ faults_after (fails self.old.reads) self.old.faults }
         ensures reads { Advances self.old.reads self.new.reads }
         ensures appends { self.new.appends ≡ self.old.appends }
@@ -191,7 +191,7 @@ impl Keeper for MemKeeper {
     }
 }
 
-/// Rows in memory. No call fails but for want of memory: its count of faults is 0.
+/// Rows in memory. No call fails but for lack of memory: its count of faults is 0.
 ///
 /// Contracts see the rows.
 #[derive(Drop)]

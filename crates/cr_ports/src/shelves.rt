@@ -33,7 +33,13 @@ impl Model for MemShelf {
 
     ghost Value = { Shelved };
 
-    ghost view = { λ s. record { stores = s.stores.entries; opens = s.opens; failing_appends = s.failing_appends.items; failing_reads = s.failing_reads.items; faults = s.faults } };
+    ghost view = { λ s. record {
+      stores = s.stores.entries;
+      opens = s.opens;
+      failing_appends = s.failing_appends.items;
+      failing_reads = s.failing_reads.items;
+      faults = s.faults;
+    } };
 }
 
 impl MemShelf {

@@ -37,7 +37,7 @@ impl MemSink {
     /// list's end as many as there is room for. The calls numbered in `failing` fail, and so does
     /// one whose piece isn't empty where no room is left.
     ///
-    /// The one error is want of memory.
+    /// The one error is a lack of memory.
     pub fn new(
         alloc: Global,
         room: usize,

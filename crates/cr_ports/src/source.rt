@@ -1,7 +1,7 @@
 //! Bytes that come in pieces.
 ghost use Rattle.std.specs.Prelude.{◌≡◌, ◌≢◌, ◌<◌, ◌≤◌, ℕ, List, [], Option, length, IfSome};
 ghost use Rattle.cr_ports.specs.Count.{Rises};
-ghost use Rattle.cr_ports.specs.Stream.{and_left, given, FillsWithin};
+ghost use Rattle.cr_ports.specs.Stream.{and_left, gave, FillsWithin};
 
 /// What one read did.
 #[derive(Clone, Copy, Debug, PartialEq, Eq)]
@@ -35,10 +35,10 @@ pub trait Source {
         requires { 0 < length buf.old }
 
         // What was given, and then what is left, is what was left.
-        ensures bytes { left self.old ≡ and_left (given result buf.new) (left self.new) }
+        ensures bytes { left self.old ≡ and_left (gave result buf.new) (left self.new) }
         ensures size { FillsWithin result (length buf.old) }
         ensures end { result ≡ ReadStep.End → IfSome (left self.old) (λ bytes. bytes ≡ []) }
-        ensures gives { read_gives self.old self.new (given result buf.new) }
+        ensures gives { read_gives self.old self.new (gave result buf.new) }
 
         ensures count { faults self.old ≤ faults self.new }
         ensures failed { result ≡ ReadStep.Failed → Rises (faults self.old) (faults self.new) }

@@ -3,7 +3,7 @@ ghost use Rattle.std.specs.Prelude.{◌≡◌, ◌≢◌, ◌<◌, ◌≤◌, �
 ghost use Rattle.cr_ports.specs.Count.{Rises};
 ghost use Rattle.cr_ports.specs.Memory.{Input, PlainReadGives, ReadGives, plain_step, read_step, read_faults};
 ghost use Rattle.cr_ports.specs.Script.{FollowsScript};
-ghost use Rattle.cr_ports.specs.Stream.{and_left, given, FillsWithin};
+ghost use Rattle.cr_ports.specs.Stream.{and_left, gave, FillsWithin};
 
 use crate::script::Script;
 use crate::{ReadStep, Source};
@@ -88,10 +88,10 @@ impl Source for MemSource {
     fn read(&mut self, buf: &mut [u8]) -> ReadStep
         requires { 0 < length buf.old }
 
-        ensures bytes { Some self.old.left ≡ and_left (given result buf.new) (Some self.new.left) }
+        ensures bytes { Some self.old.left ≡ and_left (gave result buf.new) (Some self.new.left) }
         ensures size { FillsWithin result (length buf.old) }
         ensures end { result ≡ ReadStep.End → IfSome (Some self.old.left) (λ bytes. bytes ≡ []) }
-        ensures gives { ReadGives self.old self.new (given result buf.new) }
+        ensures gives { ReadGives self.old self.new (gave result buf.new) }
         ensures count { self.old.script.faults ≤ self.new.script.faults }
         ensures failed { result ≡ ReadStep.Failed → Rises self.old.script.faults self.new.script.faults }
         ensures steady { result ≢ ReadStep.Failed → self.new.script.faults ≡ self.old.script.faults }
@@ -153,10 +153,10 @@ impl Source for PlainSource {
     fn read(&mut self, buf: &mut [u8]) -> ReadStep
         requires { 0 < length buf.old }
 
-        ensures bytes { Some self.old ≡ and_left (given result buf.new) (Some self.new) }
+        ensures bytes { Some self.old ≡ and_left (gave result buf.new) (Some self.new) }
         ensures size { FillsWithin result (length buf.old) }
         ensures end { result ≡ ReadStep.End → IfSome (Some self.old) (λ bytes. bytes ≡ []) }
-        ensures gives { PlainReadGives self.old self.new (given result buf.new) }
+        ensures gives { PlainReadGives self.old self.new (gave result buf.new) }
         ensures count { 0 ≤ 0 }
         ensures failed { result ≡ ReadStep.Failed → Rises 0 0 }
         ensures steady { result ≢ ReadStep.Failed → ◌≡◌ {A = ℕ} 0 0 }

@@ -6,7 +6,7 @@ ghost use Rattle.std.specs.Prelude.{◌≡◌, ◌≢◌, ◌<◌, ◌≤◌, �
 ghost use Rattle.std.specs.Io.KnownBytes.{Consumes, IsAtEnd};
 ghost use Rattle.cr_ports.specs.Adapter.{Adapter, HasWritten};
 ghost use Rattle.cr_ports.specs.Count.{Rises};
-ghost use Rattle.cr_ports.specs.Stream.{and_left, given, FillsWithin, taken_and, took, TakesWithin};
+ghost use Rattle.cr_ports.specs.Stream.{and_left, gave, FillsWithin, taken_and, took, TakesWithin};
 
 use crate::{ReadStep, Sink, Source, WriteStep};
 use std::io::{Read, Write};
@@ -48,7 +48,7 @@ impl<R: Read> Source for ReadSource<R> {
     /// signal interrupts: the program catches none.
     fn read(&mut self, buf: &mut [u8]) -> ReadStep
         requires { 0 < length buf.old }
-        ensures bytes { ◌≡◌ {A = Option (List ℕ)} None (and_left (given result buf.new) None) }
+        ensures bytes { ◌≡◌ {A = Option (List ℕ)} None (and_left (gave result buf.new) None) }
         ensures size { FillsWithin result (length buf.old) }
         ensures end { result ≡ ReadStep.End → ⊤ }
         ensures count { self.old.faults ≤ self.new.faults }
@@ -56,7 +56,7 @@ impl<R: Read> Source for ReadSource<R> {
         ensures steady { result ≢ ReadStep.Failed → self.new.faults ≡ self.old.faults }
 
         // What is given are the reader's next bytes, and the end is told only where it has no more.
-        ensures gives { Consumes (R.remaining self.old.stream) (R.remaining self.new.stream) (given result buf.new) }
+        ensures gives { Consumes (R.remaining self.old.stream) (R.remaining self.new.stream) (gave result buf.new) }
         ensures ended { result ≡ ReadStep.End → IsAtEnd (R.remaining self.new.stream) }
     {
         match self.reader.read(buf) {

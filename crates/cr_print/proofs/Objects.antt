@@ -2,7 +2,7 @@
 use Rattle.std.proofs.Common.{◌≡◌, Bool, true, false, ◌∙◌, ℕ, List, [], ◌∷◌, ◌++◌, refl, sym, ap, append_assoc, append-nil, codes, Result, Ok, Err}
 use Rattle.std.specs.Prelude.{map}
 use Rattle.cr_print.specs.Put.{Appends, Bytes}
-use Rattle.cr_print.specs.Json.{Member, Added, Adds, comma, separated, key_text, member_text, object_text, still_first}
+use Rattle.cr_print.specs.Json.{Member, Added, AddsMembers, comma, separated, key_text, member_text, object_text, still_first}
 
 still_first-append : (is_first : Bool) (xs ys : List Member) → still_first is_first (xs ++ ys) ≡ still_first (still_first is_first xs) ys
 still_first-append is_first [] ys = refl
@@ -31,7 +31,7 @@ pub ◌then◌ : {a b d : Bytes} {f g h : Bool} {xs ys : List Member} → Added 
 -- a key, and behind it its value, unless memory ran out
 pub added_one : {E : Type 0} (r : Result (Unit {0}) E) (a b d : Bytes) (f g : Bool) (key value : List ℕ)
     → b.items ≡ a.items ++ (comma f ++ key_text key) → g ≡ false → Appends r b d value
-    → Adds r a d f g (record { key = key; value = value } ∷ [])
+    → AddsMembers r a d f g (record { key = key; value = value } ∷ [])
 unfolding member_text
 added_one (Ok done) a b d f g key value written behind added = record {
   text = rw (added, written) (simp (append_assoc, append-nil));

@@ -3,17 +3,17 @@ use Rattle.std.specs.Prelude.{ℕ, List, ◌++◌, Some, codes, decimal, map}
 use Rattle.json.specs.Print.{quoted}
 use Rattle.cr_base.specs.Words.{role_name}
 use Rattle.cr_base.specs.declared.reply.AccountLine.{AccountLine}
-use Rattle.cr_print.specs.Json.{Member, told, array_text, object_text}
+use Rattle.cr_print.specs.Json.{Member, member_of, array_text, object_text}
 
 -- the keys of an account in the order of their bytes
 unfoldable pub account_members : AccountLine → List Member
 account_members account =
-    told (codes "name") (Some (quoted account.name))
-    ++ told (codes "role") (Some (quoted (role_name account.role)))
-    ++ told (codes "user") (Some (decimal account.user))
+    member_of (codes "name") (Some (quoted account.name))
+    ++ member_of (codes "role") (Some (quoted (role_name account.role)))
+    ++ member_of (codes "user") (Some (decimal account.user))
 
 abbrev pub account_text : AccountLine → List ℕ
 account_text account = object_text (account_members account)
 
 unfoldable pub accounts_content : List AccountLine → List ℕ
-accounts_content accounts = object_text (told (codes "accounts") (Some (array_text (map account_text accounts))))
+accounts_content accounts = object_text (member_of (codes "accounts") (Some (array_text (map account_text accounts))))

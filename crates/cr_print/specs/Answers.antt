@@ -18,7 +18,7 @@ use Rattle.cr_print.specs.declared.form.Form.{Form}
 use Rattle.cr_print.specs.declared.refused.Refused.{Refused}
 use Rattle.cr_print.specs.declared.refused.Refused.TheVariants.{Closing, NoMemory, Rule}
 use Rattle.cr_print.specs.Head.{head_text}
-use Rattle.cr_print.specs.Refused.{status_of, extra_of, refusal_content}
+use Rattle.cr_print.specs.Refused.{refused_status, extra_of, refusal_content}
 use Rattle.cr_print.specs.Receipt.{receipt_status, receipt_content}
 use Rattle.cr_print.specs.Conference.{conference_content}
 use Rattle.cr_print.specs.Accounts.{accounts_content}
@@ -43,7 +43,7 @@ served_text content form = answer_text (json_head Okay Nothing) content form
 
 -- a refused request
 unfoldable pub refusal_text : Refused → Form → List ℕ
-refusal_text refused form = answer_text (json_head (status_of refused) (extra_of refused)) (refusal_content refused) form
+refusal_text refused form = answer_text (json_head (refused_status refused) (extra_of refused)) (refusal_content refused) form
 
 -- what ends the connection before a whole request was read
 abbrev pub closing_text : Refusal → Bool → List ℕ
@@ -78,7 +78,7 @@ reply_text (replies.Conference conference) form = conference_text conference for
 reply_text (replies.Page page) form = page_text page form
 reply_text (replies.Me me) form = me_text me form
 
--- want of memory, which ends the connection
+-- out of memory, which ends the connection
 abbrev pub no_memory_text : Bool → List ℕ
 no_memory_text is_head = refusal_text NoMemory (record { is_head = is_head; closes = true })
 

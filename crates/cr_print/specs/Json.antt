@@ -42,9 +42,9 @@ unfoldable pub object_text : List Member → List ℕ
 object_text members = codes "{" ++ separated true (map member_text members) ++ codes "}"
 
 -- a key that is there where its value is
-abbrev pub told : List ℕ → Option (List ℕ) → List Member
-told key None = []
-told key (Some value) = record { key = key; value = value } ∷ []
+abbrev pub member_of : List ℕ → Option (List ℕ) → List Member
+member_of key None = []
+member_of key (Some value) = record { key = key; value = value } ∷ []
 
 unfoldable pub truth_text : Bool → List ℕ
 truth_text true = codes "true"
@@ -63,5 +63,5 @@ pub record Added (old new : Bytes) (is_first is_first' : Bool) (members : List M
   pub first : is_first' ≡ still_first is_first members
 
 -- these members were written, unless memory ran out
-abbrev pub Adds : {E : Type 0} → Result (Unit {0}) E → Bytes → Bytes → Bool → Bool → List Member → Type 0
-Adds r old new is_first is_first' members = OnOk r (Added old new is_first is_first' members)
+abbrev pub AddsMembers : {E : Type 0} → Result (Unit {0}) E → Bytes → Bytes → Bool → Bool → List Member → Type 0
+AddsMembers r old new is_first is_first' members = OnOk r (Added old new is_first is_first' members)

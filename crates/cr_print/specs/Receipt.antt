@@ -6,7 +6,7 @@ use Rattle.cr_base.specs.declared.reply.Receipt.{Receipt}
 use Rattle.cr_base.specs.declared.reply.Receipt.TheVariants.{User, Phase, Paper, Named, Mode, Conflict}
 use Rattle.cr_print.specs.declared.status.Status.{Status}
 use Rattle.cr_print.specs.declared.status.Status.TheVariants.{Okay, Created}
-use Rattle.cr_print.specs.Json.{Member, told, object_text}
+use Rattle.cr_print.specs.Json.{Member, member_of, object_text}
 
 unfoldable pub receipt_status : Receipt → Status
 receipt_status (User user) = Created
@@ -18,12 +18,12 @@ receipt_status (Conflict paper) = Okay
 
 -- the keys in the order of their bytes
 unfoldable pub receipt_members : Receipt → List Member
-receipt_members (User user) = told (codes "user") (Some (decimal user))
-receipt_members (Phase phase) = told (codes "phase") (Some (quoted (phase_name phase)))
-receipt_members (Paper paper) = told (codes "paper") (Some (decimal paper))
-receipt_members (Named name role) = told (codes "name") (Some (quoted name)) ++ told (codes "role") (Some (quoted (role_name role)))
-receipt_members (Mode mode) = told (codes "mode") (Some (quoted (mode_name mode)))
-receipt_members (Conflict paper) = told (codes "paper") (Some (decimal paper))
+receipt_members (User user) = member_of (codes "user") (Some (decimal user))
+receipt_members (Phase phase) = member_of (codes "phase") (Some (quoted (phase_name phase)))
+receipt_members (Paper paper) = member_of (codes "paper") (Some (decimal paper))
+receipt_members (Named name role) = member_of (codes "name") (Some (quoted name)) ++ member_of (codes "role") (Some (quoted (role_name role)))
+receipt_members (Mode mode) = member_of (codes "mode") (Some (quoted (mode_name mode)))
+receipt_members (Conflict paper) = member_of (codes "paper") (Some (decimal paper))
 
 abbrev pub receipt_content : Receipt → List ℕ
 receipt_content receipt = object_text (receipt_members receipt)

@@ -11,7 +11,7 @@ use Rattle.cr_print.specs.declared.head.Extra.{Extra}
 use Rattle.cr_print.specs.declared.head.Extra.TheVariants.{Nothing, Challenge, Allow}
 use Rattle.cr_print.specs.declared.status.Status.{Status}
 use Rattle.cr_print.specs.declared.status.Status.TheVariants as statuses
-use Rattle.cr_print.specs.Json.{Member, told, object_text}
+use Rattle.cr_print.specs.Json.{Member, member_of, object_text}
 
 unfoldable pub closing_name : Refusal → List ℕ
 closing_name HeadTooLarge = codes "head_too_large"
@@ -38,15 +38,15 @@ rule_name Conflict = codes "conflict"
 rule_name Withdrawn = codes "withdrawn"
 rule_name AuthorConflict = codes "author_conflict"
 
-unfoldable pub name_of : Refused → List ℕ
-name_of (Closing refusal) = closing_name refusal
-name_of NoRoute = codes "no_route"
-name_of (WrongMethod place) = codes "wrong_method"
-name_of Unauthorized = codes "unauthorized"
-name_of BadBody = codes "bad_body"
-name_of (Rule rule) = rule_name rule
-name_of KeeperFault = codes "keeper_fault"
-name_of NoMemory = codes "no_memory"
+unfoldable pub refused_name : Refused → List ℕ
+refused_name (Closing refusal) = closing_name refusal
+refused_name NoRoute = codes "no_route"
+refused_name (WrongMethod place) = codes "wrong_method"
+refused_name Unauthorized = codes "unauthorized"
+refused_name BadBody = codes "bad_body"
+refused_name (Rule rule) = rule_name rule
+refused_name KeeperFault = codes "keeper_fault"
+refused_name NoMemory = codes "no_memory"
 
 unfoldable pub closing_status : Refusal → Status
 closing_status HeadTooLarge = statuses.HeaderFieldsTooLarge
@@ -73,15 +73,15 @@ rule_status Conflict = statuses.Forbidden
 rule_status Withdrawn = statuses.Conflict
 rule_status AuthorConflict = statuses.Conflict
 
-unfoldable pub status_of : Refused → Status
-status_of (Closing refusal) = closing_status refusal
-status_of NoRoute = statuses.NotFound
-status_of (WrongMethod place) = statuses.MethodNotAllowed
-status_of Unauthorized = statuses.Unauthorized
-status_of BadBody = statuses.BadRequest
-status_of (Rule rule) = rule_status rule
-status_of KeeperFault = statuses.ServiceUnavailable
-status_of NoMemory = statuses.InsufficientStorage
+unfoldable pub refused_status : Refused → Status
+refused_status (Closing refusal) = closing_status refusal
+refused_status NoRoute = statuses.NotFound
+refused_status (WrongMethod place) = statuses.MethodNotAllowed
+refused_status Unauthorized = statuses.Unauthorized
+refused_status BadBody = statuses.BadRequest
+refused_status (Rule rule) = rule_status rule
+refused_status KeeperFault = statuses.ServiceUnavailable
+refused_status NoMemory = statuses.InsufficientStorage
 
 -- the field that only this refusal has
 unfoldable pub extra_of : Refused → Extra
@@ -96,7 +96,7 @@ extra_of NoMemory = Nothing
 
 -- why it was refused, before all else that it may tell
 unfoldable pub refusal_members : Refused → List Member
-refusal_members refused = told (codes "error") (Some (quoted (name_of refused)))
+refusal_members refused = member_of (codes "error") (Some (quoted (refused_name refused)))
 
 unfoldable pub refusal_content : Refused → List ℕ
 refusal_content refused = object_text (refusal_members refused)

@@ -1,4 +1,4 @@
-//! The answer to want of memory, which lies ready.
+//! The answer to a lack of memory, which lies ready.
 ghost use Rattle.std.specs.Prelude.{◌≡◌};
 ghost use Rattle.cr_print.specs.Answers.{no_memory_text};
 

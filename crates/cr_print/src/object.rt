@@ -3,7 +3,7 @@ ghost use Rattle.std.specs.Prelude.{◌≡◌, ◌+◌, ◌*◌, ◌++◌, true,
 ghost use Rattle.json.specs.Print.{quoted};
 ghost use Rattle.cr_base.specs.Page.{where_told};
 ghost use Rattle.cr_print.specs.Put.{Appends, Takes};
-ghost use Rattle.cr_print.specs.Json.{Adds, comma, key_text, told, truth_text, names_text, array_text};
+ghost use Rattle.cr_print.specs.Json.{AddsMembers, comma, key_text, member_of, truth_text, names_text, array_text};
 
 use crate::list::{Item, append_comma, append_list};
 use crate::put::{append, append_number};
@@ -26,7 +26,7 @@ fn word_of(truth: bool) -> &'static str
 }
 
 impl Object {
-    /// Begins an object; an error only for want of memory, here and below. Behind one, `into` may have a part of
+    /// Begins an object; an error only for lack of memory, here and below. Behind one, `into` may have a part of
     /// what was to be written.
     pub fn open(into: &mut Vec<u8>) -> Result<Object, AllocError>
         ensures text { Appends result into.old into.new (codes "{") }
@@ -54,7 +54,7 @@ impl Object {
 
     /// Writes a member that is a number.
     pub fn number(&mut self, into: &mut Vec<u8>, key: &str, number: u64) -> Result<(), AllocError>
-        ensures adds { Adds result into.old into.new self.old.is_first self.new.is_first (told key.now (Some (decimal number))) }
+        ensures adds { AddsMembers result into.old into.new self.old.is_first self.new.is_first (member_of key.now (Some (decimal number))) }
         ensures room { Takes result into.old into.new (length key.now + 24) }
     {
         self.key(into, key)?;
@@ -63,7 +63,7 @@ impl Object {
 
     /// Writes a member that is a string.
     pub fn string(&mut self, into: &mut Vec<u8>, key: &str, text: &[u8]) -> Result<(), AllocError>
-        ensures adds { Adds result into.old into.new self.old.is_first self.new.is_first (told key.now (Some (quoted text.now))) }
+        ensures adds { AddsMembers result into.old into.new self.old.is_first self.new.is_first (member_of key.now (Some (quoted text.now))) }
         ensures room { Takes result into.old into.new (length key.now + 6 * length text.now + 6) }
     {
         self.key(into, key)?;
@@ -77,7 +77,7 @@ impl Object {
         key: &str,
         items: &[T],
     ) -> Result<(), AllocError>
-        ensures { Adds result into.old into.new self.old.is_first self.new.is_first (told key.now (Some (array_text (map T.text items.now)))) }
+        ensures { AddsMembers result into.old into.new self.old.is_first self.new.is_first (member_of key.now (Some (array_text (map T.text items.now)))) }
     {
         self.key(into, key)?;
         append_list(into, items)
@@ -91,7 +91,7 @@ impl Object {
         is_told: bool,
         value: &str,
     ) -> Result<(), AllocError>
-        ensures { Adds result into.old into.new self.old.is_first self.new.is_first (told key.now (where_told is_told (Some value.now))) }
+        ensures { AddsMembers result into.old into.new self.old.is_first self.new.is_first (member_of key.now (where_told is_told (Some value.now))) }
     {
         if !is_told {
             return Ok(());
@@ -107,7 +107,7 @@ impl Object {
         key: &str,
         truth: Option<bool>,
     ) -> Result<(), AllocError>
-        ensures { Adds result into.old into.new self.old.is_first self.new.is_first (told key.now (option_map truth_text truth)) }
+        ensures { AddsMembers result into.old into.new self.old.is_first self.new.is_first (member_of key.now (option_map truth_text truth)) }
     {
         match truth {
             Some(truth) => self.fixed(into, key, true, word_of(truth)),
@@ -122,7 +122,7 @@ impl Object {
         key: &str,
         text: &Option<Text>,
     ) -> Result<(), AllocError>
-        ensures { Adds result into.old into.new self.old.is_first self.new.is_first (told key.now (option_map quoted text.now)) }
+        ensures { AddsMembers result into.old into.new self.old.is_first self.new.is_first (member_of key.now (option_map quoted text.now)) }
     {
         match text {
             Some(text) => self.string(into, key, text.as_str().as_bytes()),
@@ -137,7 +137,7 @@ impl Object {
         key: &str,
         names: &Option<Names>,
     ) -> Result<(), AllocError>
-        ensures { Adds result into.old into.new self.old.is_first self.new.is_first (told key.now (option_map names_text names.now)) }
+        ensures { AddsMembers result into.old into.new self.old.is_first self.new.is_first (member_of key.now (option_map names_text names.now)) }
     {
         match names {
             Some(names) => self.list(into, key, names.as_slice()),

@@ -3,7 +3,7 @@ ghost use Rattle.std.specs.Prelude.{◌≡◌, ◌+◌, ◌*◌, ◌++◌, Some,
 ghost use Rattle.json.specs.Print.{quoted};
 ghost use Rattle.cr_base.specs.Words.{role_name};
 ghost use Rattle.cr_print.specs.Put.{Appends, HasRoom, Puts, Takes};
-ghost use Rattle.cr_print.specs.Json.{told, object_text};
+ghost use Rattle.cr_print.specs.Json.{member_of, object_text};
 ghost use Rattle.cr_print.specs.Receipt.{receipt_status, receipt_content};
 ghost use Rattle.cr_print.specs.Answers.{receipt_text};
 
@@ -30,7 +30,7 @@ fn receipt_status(receipt: &Receipt) -> Status
 
 /// Appends what tells one number.
 fn append_number_alone(into: &mut Vec<u8>, key: &str, number: u64) -> Result<(), AllocError>
-    ensures text { Appends result into.old into.new (object_text (told key.now (Some (decimal number)))) }
+    ensures text { Appends result into.old into.new (object_text (member_of key.now (Some (decimal number)))) }
     ensures room { Takes result into.old into.new (length key.now + 26) }
 {
     let mut object = Object::open(into)?;
@@ -40,7 +40,7 @@ fn append_number_alone(into: &mut Vec<u8>, key: &str, number: u64) -> Result<(),
 
 /// Appends what tells one word.
 fn append_word_alone(into: &mut Vec<u8>, key: &str, word: &str) -> Result<(), AllocError>
-    ensures text { Appends result into.old into.new (object_text (told key.now (Some (quoted word.now)))) }
+    ensures text { Appends result into.old into.new (object_text (member_of key.now (Some (quoted word.now)))) }
     ensures room { Takes result into.old into.new (length key.now + 6 * length word.now + 8) }
 {
     let mut object = Object::open(into)?;
@@ -50,7 +50,9 @@ fn append_word_alone(into: &mut Vec<u8>, key: &str, word: &str) -> Result<(), Al
 
 /// Appends what tells a user's role.
 fn append_named(into: &mut Vec<u8>, name: &Short, role: Role) -> Result<(), AllocError>
-    ensures text { Appends result into.old into.new (object_text (told (codes "name") (Some (quoted name.now)) ++ told (codes "role") (Some (quoted (role_name role))))) }
+    ensures text { Appends result into.old into.new (object_text (
+        member_of (codes "name") (Some (quoted name.now))
+        ++ member_of (codes "role") (Some (quoted (role_name role))))) }
     ensures room { Takes result into.old into.new 268 }
 {
     let mut object = Object::open(into)?;

@@ -1,7 +1,7 @@
 //! Refusals, which are written without memory.
 ghost use Rattle.std.specs.Prelude.{◌≡◌, ◌≤◌, length};
 ghost use Rattle.cr_print.specs.Put.{Appends, HasRoom, Puts, Takes};
-ghost use Rattle.cr_print.specs.Refused.{closing_name, rule_name, name_of, closing_status, rule_status, status_of, extra_of, refusal_content};
+ghost use Rattle.cr_print.specs.Refused.{closing_name, rule_name, refused_name, closing_status, rule_status, refused_status, extra_of, refusal_content};
 ghost use Rattle.cr_print.specs.Answers.{refusal_text};
 
 use crate::brief::print_brief;
@@ -75,9 +75,9 @@ fn closing_name(refusal: Refusal) -> &'static str
     }
 }
 
-#[tactic(auto, unfolding(crate::specs::Refused::name_of))]
+#[tactic(auto, unfolding(crate::specs::Refused::refused_name))]
 fn name(refused: Refused) -> &'static str
-    ensures value { result.now ≡ name_of refused }
+    ensures value { result.now ≡ refused_name refused }
     ensures short { length result.now ≤ 24 }
 {
     match refused {
@@ -123,9 +123,9 @@ fn closing_status(refusal: Refusal) -> Status
     }
 }
 
-#[tactic(auto, unfolding(crate::specs::Refused::status_of))]
+#[tactic(auto, unfolding(crate::specs::Refused::refused_status))]
 fn status(refused: Refused) -> Status
-    ensures { result ≡ status_of refused }
+    ensures { result ≡ refused_status refused }
 {
     match refused {
         Refused::Closing(refusal) => closing_status(refusal),

@@ -70,7 +70,7 @@ fn print_me(into: &mut Vec<u8>, me: &Me, form: Form) -> Result<(), AllocError>
 
 /// Appends the answer of a reply.
 ///
-/// An error comes only for want of memory, and `into` then has the bytes that it had; its room may
+/// An error comes only for lack of memory, and `into` then has the bytes that it had; its room may
 /// have grown. It never comes for a receipt, a refusal or the conference where room for 512 bytes is
 /// there. The content of a list, a page or what one is told of oneself is made in a vector of its
 /// own, to HEAD too, and copied once.

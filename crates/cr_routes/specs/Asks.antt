@@ -1,6 +1,6 @@
 -- What a method at a path asks for, and the methods of a path.
 use Rattle.std.specs.Prelude.{ℕ, List, [], ◌∷◌, ◌++◌, Option, Some, None, codes, is_some, filter, map}
-use Rattle.cr_routes.specs.Methods.{name_of, methods}
+use Rattle.cr_routes.specs.Methods.{method_name, methods}
 use Rattle.cr_routes.specs.declared.place.Place.{Place}
 use Rattle.cr_routes.specs.declared.place.Place.TheVariants as at
 use Rattle.cr_routes.specs.declared.method.Method.{Method}
@@ -39,4 +39,4 @@ joined_by_commas (t ∷ u ∷ us) = t ++ codes ", " ++ joined_by_commas (u ∷ u
 
 -- the names of the methods that ask for something at a path, in alphabetical order
 abbrev pub allow_text : Place → List ℕ
-allow_text place = joined_by_commas (map name_of (filter (λ m. is_some (ask_at place m)) methods))
+allow_text place = joined_by_commas (map method_name (filter (λ m. is_some (ask_at place m)) methods))

@@ -5,10 +5,10 @@ use Rattle.cr_routes.specs.declared.method.Method.{Method}
 use Rattle.cr_routes.specs.declared.method.Method.TheVariants.{Get, Head, Post}
 
 -- a method's name
-abbrev pub name_of : Method → List ℕ
-name_of Get = codes "GET"
-name_of Head = codes "HEAD"
-name_of Post = codes "POST"
+abbrev pub method_name : Method → List ℕ
+method_name Get = codes "GET"
+method_name Head = codes "HEAD"
+method_name Post = codes "POST"
 
 -- the methods, in alphabetical order
 abbrev pub methods : List Method
@@ -17,7 +17,7 @@ methods = Get ∷ Head ∷ Post ∷ []
 -- the method of these with this name
 abbrev pub method_named : List ℕ → List Method → Option Method
 method_named name [] = None
-method_named name (m ∷ ms) = if bytes_eq name (name_of m) then Some m else method_named name ms
+method_named name (m ∷ ms) = if bytes_eq name (method_name m) then Some m else method_named name ms
 
 -- the method of a name
 abbrev pub method_of : List ℕ → Option Method

@@ -4,7 +4,7 @@ use Rattle.std.specs.Prelude.{ℕ, List, [], ◌∷◌, length, Bool, true, fals
 use Rattle.std.specs.List.{slice_split}
 use Rattle.std.specs.Str.{bytes_eq}
 use Rattle.std.specs.Cmp.Lexicographic.{pointwise}
-use Rattle.cr_routes.specs.declared.found.Found.{Found}
+use Rattle.cr_routes.specs.declared.matched.Matched.{Matched}
 use Rattle.cr_routes.specs.declared.place.Place.{Place}
 use Rattle.cr_routes.specs.Paths.{paths}
 
@@ -64,7 +64,7 @@ unfoldable pub found_at : List ℕ → Option FoundPath
 found_at path = option_map (found_as path) (find (λ line. fits_parts (parts line.0) (parts path)) paths)
 
 -- the same of what the program has, which lends the parts
-abbrev pub seen : Found → FoundPath
+abbrev pub seen : Matched → FoundPath
 seen f = record { place = f.place; first = option_map (λ t. t.now) f.first; second = option_map (λ t. t.now) f.second }
 
 -- at most two parts of a listed path are parameters

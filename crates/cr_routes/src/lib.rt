@@ -5,14 +5,14 @@
 //! stands in `specs/Parts.antt`, without a router; `Routes::find` finds just that with one.
 #![tactic(auto)]
 
-mod found;
 mod laws;
+mod matched;
 mod method;
 mod place;
 mod routes;
 
-pub use found::Found;
 pub use laws::law_paths;
+pub use matched::Matched;
 pub use method::Method;
 pub use place::Place;
 pub use routes::Routes;

@@ -3,7 +3,7 @@ ghost use Rattle.std.specs.Prelude.{◌≡◌, IsTrue, OnOk, map, option_map};
 ghost use Rattle.cr_routes.specs.Rows.{added, fits, is_free, line, the_rows, with_path};
 ghost use Rattle.matchit.specs.Route.{parse_route};
 
-use crate::found::{Found, taken};
+use crate::matched::{Matched, taken};
 use crate::place::Place;
 use matchit::{InsertError, Router};
 use std::alloc::{AllocError, Global};
@@ -56,7 +56,7 @@ pub struct Routes {
 impl Routes {
     ghost use Rattle.cr_routes.specs.Parts.{found_at, seen};
 
-    /// The router over all paths. Fails only for want of memory.
+    /// The router over all paths. Fails only for lack of memory.
     pub fn new(alloc: Global) -> Result<Routes, AllocError> {
         let mut router = Router::new(alloc);
         add_all(&mut router, &PATHS)?;
@@ -66,14 +66,14 @@ impl Routes {
     /// The place of a path with what its parameters took, or None where the server doesn't know the path. Case counts,
     /// nothing is decoded, and a parameter takes one part that isn't empty. Reads the path once, and its parameters
     /// once more; costs no allocation, since the parts are lent.
-    pub fn find<'p>(&self, path: &'p str) -> Option<Found<'p>>
+    pub fn find<'p>(&self, path: &'p str) -> Option<Matched<'p>>
         ensures { option_map seen result ≡ found_at path.now }
     {
         let Ok(route) = self.router.at(path) else {
             return None;
         };
         let (first, second) = taken(&route.params);
-        Some(Found {
+        Some(Matched {
             place: *route.value,
             first,
             second,

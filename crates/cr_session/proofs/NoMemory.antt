@@ -1,4 +1,4 @@
--- A connection that ends for want of memory behind no wish.
+-- A connection that ends for lack of memory behind no wish.
 use Rattle.std.proofs.Common.{◌≡◌, ◌∙◌, ℕ, List, [], ◌++◌, Option, None, Bool, false, refl, sym, ap, subst, inl}
 use Rattle.cr_ports.specs.Stream.{and_left}
 use Rattle.cr_http.specs.ToHead.{IsToHead}

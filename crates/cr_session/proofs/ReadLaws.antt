@@ -27,7 +27,7 @@ module _ {S : Type 0} (left : S → Option (List ℕ)) (gives : S → S → List
     needed = subst (λ (t : List ℕ). ReadsWhile left gives IsUnsettled source source' t (t ++ x.got)) (sym same) x.needed;
   }
 
-  -- memory was wanting before a whole request was read
+  -- memory ran out before a whole request was read
   pub read_no_memory : (source source' : S) (old kept : List ℕ) (inbox inbox' : InboxText) (head : Bool) → old ≡ inbox.rest
       → Reads left gives source source' inbox inbox' (requests.OutOfMemory head) → ReadsWish left gives source source' old kept (reads.OutOfMemory head)
   read_no_memory source source' old kept inbox inbox' head same x =
@@ -55,7 +55,7 @@ module _ {S : Type 0} (left : S → Option (List ℕ)) (gives : S → S → List
   ended reads.Cut left' request at_hand = absurd at_hand
   ended reads.ReadFault left' request at_hand = absurd at_hand
 
-  -- a whole request was read, and this is its wish, or memory was wanting for it
+  -- a whole request was read, and this is its wish, or memory ran out for it
   pub read_whole : (source source' : S) (old : List ℕ) (inbox inbox' : InboxText) (answer : WishRead) → old ≡ inbox.rest
       → Reads left gives source source' inbox inbox' requests.Whole → IsAtHand answer inbox'.request → ReadsWish left gives source source' old inbox'.rest answer
   read_whole source source' old inbox inbox' answer same x at_hand =

@@ -8,7 +8,7 @@ use Rattle.cr_session.specs.declared.turn.Turn.{Turn}
 use Rattle.cr_session.specs.declared.turn.Turn.TheVariants as turns
 use Rattle.cr_session.specs.declared.serve.Served.{Served}
 use Rattle.cr_session.specs.declared.serve.Served.TheVariants as served
-use Rattle.cr_session.specs.Told.{form_of, told, unkept, step}
+use Rattle.cr_session.specs.Told.{form_of, told, unkept, after_wish}
 use Rattle.cr_session.specs.Replay.{JudgedWish, Ledger, answer_to, history_after}
 use Rattle.cr_session.specs.Passing.{KnownPass}
 use Rattle.cr_wire.specs.Wishes.{closes}
@@ -21,7 +21,7 @@ answer_to-kept : (n : ℕ) (w : Wish) (old : History) → answer_to n (record { 
 unfolding answer_to
 answer_to-kept n w old = refl
 
-history_after-kept : (w : Wish) (old : History) → history_after (record { wish = w; seen = old; lost = false }) ≡ step old w
+history_after-kept : (w : Wish) (old : History) → history_after (record { wish = w; seen = old; lost = false }) ≡ after_wish old w
 unfolding history_after
 history_after-kept w old = refl
 
@@ -105,7 +105,7 @@ module _ (w : Wish) (b b' : Ledger) (p p' : KnownPass) (saw : IsPrefix p.seen b.
       by served.WriteFault x = (j.judges, subst (λ (r : List ℕ). BreaksOff [] r s s') text x)
       by served.OutOfMemory x = absurd x
 
-  -- memory was wanting in the turn
+  -- memory ran out in the turn
   vain : (b' ≡ b) → MayWantMemory b.history w → TurnsInVain w p p'
   vain same wants = record {
     seen = b.history;

@@ -132,7 +132,7 @@ module _ {S : Type 0} (left : S → Option (List ℕ)) (gives : S → S → List
 
   -- ---- no memory
 
-  -- a request was read, and memory was wanting in its turn
+  -- a request was read, and memory ran out in its turn
   pub round_no_memory : (n : ℕ) (wish : Wish) (i i' : List ℕ) (w w' : World KnownPass S) (s : Outlet) → ReadsWish left gives w.source w'.source i i' (reads.Wish wish)
       → ServesRequest served.OutOfMemory n wish w.state w'.state w.sink s → TellsWantOfMemory [] wish.is_head s w'.sink → w'.read_faults ≡ w.read_faults → ConnectionInHistory left gives endings.OutOfMemory n i w w'
   round_no_memory n wish i i' w w' s x y notes counts =
@@ -140,7 +140,7 @@ module _ {S : Type 0} (left : S → Option (List ℕ)) (gives : S → S → List
       x.given (subst (λ (o : Outlet). TellsWantOfMemory [] wish.is_head o w'.sink) y.0 notes) counts
       (no_further-one left gives n [] w.source w'.source i (i ++ x.got) x.needed)
 
-  -- memory was wanting in reading
+  -- memory ran out in reading
   pub round_unread : (n : ℕ) (head : Bool) (i i' : List ℕ) (w w' : World KnownPass S) → ReadsWish left gives w.source w'.source i i' (reads.OutOfMemory head) → w'.state ≡ w.state
       → TellsWantOfMemory [] head w.sink w'.sink → w'.read_faults ≡ w.read_faults → ConnectionInHistory left gives endings.OutOfMemory n i w w'
   round_unread n head i i' w w' x same notes counts =

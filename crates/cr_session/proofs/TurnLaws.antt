@@ -23,7 +23,7 @@ use Rattle.cr_wire.specs.declared.what.Wish.{Wish}
 use Rattle.cr_wire.specs.Caller.{caller, reads_credentials, user_told, wants_login}
 use Rattle.cr_session.specs.declared.turn.Turn.{Turn}
 use Rattle.cr_session.specs.declared.turn.Turn.TheVariants as turns
-use Rattle.cr_session.specs.Told.{form_of, told, told_to, served_to, is_unauthorized, reply_of, drawn, drawn_for, drawn_of, accepted, and_drawn, step}
+use Rattle.cr_session.specs.Told.{form_of, told, told_to, served_to, is_unauthorized, reply_of, drawn, drawn_for, drawn_of, accepted, and_drawn, after_wish}
 use Rattle.cr_session.specs.Replay.{Ledger}
 use Rattle.cr_session.specs.Turning.{Turns, AnswersWish, JudgesCommand, AnswersQuery, WantsRoom, MayWantFor, MayWantMemory}
 use Rattle.cr_print.specs.Answers.{IsBrief}
@@ -92,7 +92,7 @@ told-command H w u command r close is by may e =
     ap (λ x. reply_text (reply_of x) (form_of w close)) (sym e) ∙ sym (told-by H w u (whats.Command command) close is by may)
 
 stepped-command : (H : History) (w : Wish) (u : Option ℕ) (command : Command) (r : Result Drawn Rule) → w.what ≡ whats.Command command → u ≡ caller H w → is_unauthorized u (whats.Command command) ≡ false
-    → judge u (view u H) command ≡ r → step H w ≡ and_drawn H (accepted r)
+    → judge u (view u H) command ≡ r → after_wish H w ≡ and_drawn H (accepted r)
 stepped-command H w u command r is by may e = ap (and_drawn H) (drawn-by H w u (whats.Command command) is by may ∙ ap accepted e)
 
 is_ok-accepted : (r : Result Drawn Rule) → IsOk r → IsSome (accepted r)

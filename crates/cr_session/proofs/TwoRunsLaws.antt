@@ -8,7 +8,7 @@ use Rattle.cr_base.specs.Lists.{given}
 use Rattle.cr_policy.specs.View.{view}
 use Rattle.cr_wire.specs.declared.what.Wish.{Wish}
 use Rattle.cr_wire.specs.Caller.{caller}
-use Rattle.cr_session.specs.Told.{form_of, told, told_to, step}
+use Rattle.cr_session.specs.Told.{form_of, told, told_to, after_wish}
 use Rattle.cr_session.specs.TwoRuns.{WishInTurn, Run, Moment, is_same, is_hers, meets, hears, MeetsAlike, HearsAlike}
 
 -- what she is answered at such a moment
@@ -40,9 +40,9 @@ answered u H w closes false e = refl
 hears-by_meets : (u : Option ℕ) (H : History) (ws : List WishInTurn) → hears u H ws ≡ map (answer_at u) (meets u H ws)
 hears-by_meets u H [] = refl
 hears-by_meets u H (w ∷ ws) =
-    ap (λ (texts : List (List ℕ)). texts ++ hears u (step H w.wish) ws) (answered u H w.wish w.closes (is_hers u H w.wish) refl)
-    ∙ ap (λ (texts : List (List ℕ)). map (answer_at u) (moment w) ++ texts) (hears-by_meets u (step H w.wish) ws)
-    ∙ sym (map-append (answer_at u) (moment w) (meets u (step H w.wish) ws))
+    ap (λ (texts : List (List ℕ)). texts ++ hears u (after_wish H w.wish) ws) (answered u H w.wish w.closes (is_hers u H w.wish) refl)
+    ∙ ap (λ (texts : List (List ℕ)). map (answer_at u) (moment w) ++ texts) (hears-by_meets u (after_wish H w.wish) ws)
+    ∙ sym (map-append (answer_at u) (moment w) (meets u (after_wish H w.wish) ws))
   where
     moment : WishInTurn → List Moment
     moment b = given (is_hers u H b.wish) (record { seen = view u H; wish = b.wish; closes = b.closes })

@@ -24,7 +24,7 @@ pub record StandsWish (text : List ℕ) (w : Wish) (rest : List ℕ) : Type 0 wh
 abbrev pub IsUnfinished : List ℕ → Type 0
 IsUnfinished text = StandsAt text clean ⊎ StandsAt text cut
 
--- memory may be wanting in reading on: for more bytes, or for the body of the request at the front
+-- memory may run out in reading on: for more bytes, or for the body of the request at the front
 abbrev pub MayWantToRead : List ℕ → Type 0
 MayWantToRead text = IsUnfinished text ⊎ ((w : Wish) × (rest : List ℕ) × StandsWish text w rest × LooksAtBody w.what)
 
@@ -55,7 +55,7 @@ IsBoundedRead reads.Cut = Unit {0}
 IsBoundedRead reads.ReadFault = Unit {0}
 IsBoundedRead (reads.OutOfMemory head) = Unit {0}
 
--- the wish of the request at hand, or want of memory where its body was looked at, told to HEAD exactly where the request
+-- the wish of the request at hand, or memory ran out where its body was looked at, told to HEAD exactly where the request
 -- is one to HEAD
 abbrev pub IsAtHand : WishRead → Option RequestText → Type 0
 IsAtHand (reads.Wish w) request = IfSome request (λ r. w ≡ wish_text r)
@@ -67,7 +67,8 @@ IsAtHand reads.ReadFault request = ⊥
 
 -- The source gave these bytes; behind those of the inbox they are a text at whose front the answer stands. No read was
 -- made once that was settled.
-pub record ReadsWish {S : Type 0} (left : S → Option (List ℕ)) (gives : S → S → List ℕ → Type 0) (source source' : S) (inbox inbox' : List ℕ) (answer : WishRead) : Type 0 where
+pub record ReadsWish {S : Type 0} (left : S → Option (List ℕ)) (gives : S → S → List ℕ → Type 0)
+    (source source' : S) (inbox inbox' : List ℕ) (answer : WishRead) : Type 0 where
   pub got : List ℕ
   pub given : left source ≡ and_left got (left source')
   pub says : Says answer (inbox ++ got) inbox'

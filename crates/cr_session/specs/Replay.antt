@@ -5,7 +5,7 @@ use Rattle.cr_book.specs.Seen.{SeenBook}
 use Rattle.cr_ports.specs.Count.{Rises}
 use Rattle.cr_wire.specs.Wishes.{closes}
 use Rattle.cr_wire.specs.declared.what.Wish.{Wish}
-use Rattle.cr_session.specs.Told.{told, unkept, drawn, step}
+use Rattle.cr_session.specs.Told.{told, unkept, drawn, after_wish}
 
 -- what turns work on: the history, and the count of faults of the keeper of its rows
 pub record Ledger : Type 0 where
@@ -26,7 +26,7 @@ pub record JudgedWish : Type 0 where
 
 -- the history after a turn
 unfoldable pub history_after : JudgedWish → History
-history_after j = if j.lost then j.seen else step j.seen j.wish
+history_after j = if j.lost then j.seen else after_wish j.seen j.wish
 
 -- the bytes of the answer to a wish that came as request number n
 unfoldable pub answer_to : ℕ → JudgedWish → List ℕ

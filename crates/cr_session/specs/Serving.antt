@@ -38,7 +38,7 @@ world_of read_faults taken write_faults state source sink = record {
   sink = outlet_of taken write_faults sink;
 }
 
--- ---- want of memory
+-- ---- out of memory
 
 -- the note of it was written behind the answers, or its write broke off
 abbrev pub TellsWantOfMemory : List ℕ → Bool → Outlet → Outlet → Type 0
@@ -64,7 +64,7 @@ CountsReads endings.ReadFault faults faults' = (faults ≤ faults') × Rises fau
 CountsReads endings.WriteFault faults faults' = faults' ≡ faults
 CountsReads endings.OutOfMemory faults faults' = faults' ≡ faults
 
--- what the turns behind the wishes that were judged left: there are none, unless memory was wanting
+-- what the turns behind the wishes that were judged left: there are none, unless memory ran out
 abbrev pub EndsTurns : {B : Type 0} → Ending → B → B → Type 0
 EndsTurns endings.Clean b b' = b' ≡ b
 EndsTurns endings.Cut b b' = b' ≡ b
@@ -102,10 +102,10 @@ ReadsNoFurther left gives n answered source source' old new = ReadsWhile left gi
 
 -- ---- a whole connection
 
--- Of turns on a state of the type B: these wishes were judged in turn from one state to the other, and memory was wanting in
+-- Of turns on a state of the type B: these wishes were judged in turn from one state to the other, and memory ran out in
 -- the turn of this wish.
 module _ {B : Type 0} (Judges : List JudgedWish → B → B → Type 0) (Lacks : Wish → B → B → Type 0) where
-  -- memory was wanting behind the answers so far: in reading what comes next, or in the turn of the wish that was read
+  -- memory ran out behind the answers so far: in reading what comes next, or in the turn of the wish that was read
   abbrev pub MayLackMemory : B → B → List ℕ → Type 0
   MayLackMemory b b' rest = (MayWantToRead rest × (b' ≡ b)) ⊎ ((w : Wish) × (after : List ℕ) × StandsWish rest w after × Lacks w b b')
 
@@ -196,7 +196,7 @@ OneRound left gives (Some ending) n inbox inbox' w w' = ConnectionInHistory left
 
 -- ---- turns on a ledger, one from where the other left it
 
--- memory was wanting, and the ledger stays
+-- memory ran out, and the ledger stays
 abbrev pub StaysInVain : Wish → Ledger → Ledger → Type 0
 StaysInVain w b b' = (b' ≡ b) × MayWantMemory b.history w
 

@@ -1,4 +1,4 @@
--- Told and Step: what a wish is answered, and what it makes of the history. Both look at who calls and at her view, and at
+-- What a wish is answered, and what it makes of the history. Both look at who calls and at her view, and at
 -- nothing else of the history.
 use Rattle.std.specs.Prelude.{ℕ, List, ◌++◌, Option, Some, None, Bool, false, if◌then◌else◌, Result, Ok, Err}
 use Rattle.cr_base.specs.declared.reply.Reply.{Reply}
@@ -45,7 +45,7 @@ served_to u V form (Query query) = reply_text (answer u V query) form
 abbrev pub told_to : Option ℕ → View → Form → What → List ℕ
 told_to u V form what = if is_unauthorized u what then refusal_text refused.Unauthorized form else served_to u V form what
 
--- Told: the answer's bytes to a wish, computed from its caller's view
+-- the answer's bytes to a wish, computed from its caller's view
 unfoldable pub told : History → Wish → Bool → List ℕ
 told H w close = told_to (caller H w) (view (caller H w) H) (form_of w close) w.what
 
@@ -80,6 +80,6 @@ abbrev pub and_drawn : History → Option Drawn → History
 and_drawn H None = H
 and_drawn H (Some d) = H ++ d.group
 
--- Step: the history after a wish
-abbrev pub step : History → Wish → History
-step H w = and_drawn H (drawn H w)
+-- the history after a wish
+abbrev pub after_wish : History → Wish → History
+after_wish H w = and_drawn H (drawn H w)

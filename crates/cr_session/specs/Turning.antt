@@ -20,7 +20,7 @@ use Rattle.cr_session.specs.declared.turn.Turn.{Turn}
 use Rattle.cr_session.specs.declared.turn.Turn.TheVariants as turns
 use Rattle.cr_session.specs.declared.serve.Served.{Served}
 use Rattle.cr_session.specs.declared.serve.Served.TheVariants as served
-use Rattle.cr_session.specs.Told.{form_of, told, is_unauthorized, drawn, step}
+use Rattle.cr_session.specs.Told.{form_of, told, is_unauthorized, drawn, after_wish}
 use Rattle.cr_lock.specs.Passes.{after_turn}
 use Rattle.cr_session.specs.Replay.{JudgedWish, Ledger, CountsLoss, answer_to}
 use Rattle.cr_session.specs.Passing.{KnownPass, TakesTurn}
@@ -37,7 +37,7 @@ turn_text (turns.Answered reply) form = reply_text reply form
 turn_text turns.Lost form = refusal_text refused.KeeperFault form
 turn_text turns.OutOfMemory form = []
 
--- memory may be wanting in the turn of what a caller wishes on her view: for a command that Judge accepts, and for a query
+-- memory may run out in the turn of what a caller wishes on her view: for a command that Judge accepts, and for a query
 -- that Answer doesn't refuse
 abbrev pub WantsRoom : Option ℕ → View → What → Type 0
 WantsRoom u V whats.NoRoute = ⊥
@@ -56,7 +56,7 @@ MayWantMemory H w = MayWantFor (caller H w) (view (caller H w) H) w.what
 -- a wish was judged or answered: its answer is Told's, the history is stepped on, and the keeper's count stands
 pub record AnswersWish (turn : Turn) (w : Wish) (b b' : Ledger) : Type 0 where
   pub told_is : (close : Bool) → turn_text turn (form_of w close) ≡ told b.history w close
-  pub stepped : b'.history ≡ step b.history w
+  pub stepped : b'.history ≡ after_wish b.history w
   pub steady : b'.faults ≡ b.faults
 
 -- what one turn did to the history, and to the keeper's count of faults
@@ -84,7 +84,7 @@ AnswersQuery (turns.Answered reply) u query H = reply ≡ answer u (view u H) qu
 AnswersQuery turns.Lost u query H = ⊥
 AnswersQuery turns.OutOfMemory u query H = WantsRoom u (view u H) (whats.Query query)
 
--- writing what a turn came to may want memory only for a query's answer that is no brief one
+-- writing what a turn came to may run out of memory only for a query's answer that is no brief one
 abbrev pub MayWantToPrint : Turn → Type 0
 MayWantToPrint (turns.Refused refused) = ⊥
 MayWantToPrint (turns.Accepted receipt) = ⊥
@@ -107,7 +107,7 @@ pub record JudgesInTurn (w : Wish) (p p' : KnownPass) : Type 0 where
   pub wish : judged.wish ≡ w
   pub turned : TakesTurn judged p p'
 
--- memory was wanting in the turn of a wish, at this history: nothing was added, and no count rose
+-- memory ran out in the turn of a wish, at this history: nothing was added, and no count rose
 pub record TurnsInVain (w : Wish) (p p' : KnownPass) : Type 0 where
   pub seen : History
   pub saw : IsPrefix p.seen seen

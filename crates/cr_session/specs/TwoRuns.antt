@@ -6,7 +6,7 @@ use Rattle.cr_base.specs.Lists.{given}
 use Rattle.cr_policy.specs.View.{View, view}
 use Rattle.cr_wire.specs.declared.what.Wish.{Wish}
 use Rattle.cr_wire.specs.Caller.{caller}
-use Rattle.cr_session.specs.Told.{told, step}
+use Rattle.cr_session.specs.Told.{told, after_wish}
 
 -- a wish as its turn comes, and whether its connection closes behind it
 pub record WishInTurn : Type 0 where
@@ -40,12 +40,12 @@ is_hers u H w = is_same u (caller H w)
 abbrev pub meets : Option ℕ → History → List WishInTurn → List Moment
 meets u H [] = []
 meets u H (w ∷ ws) =
-    given (is_hers u H w.wish) (record { seen = view u H; wish = w.wish; closes = w.closes }) ++ meets u (step H w.wish) ws
+    given (is_hers u H w.wish) (record { seen = view u H; wish = w.wish; closes = w.closes }) ++ meets u (after_wish H w.wish) ws
 
 -- what she is answered from this history on
 abbrev pub hears : Option ℕ → History → List WishInTurn → List (List ℕ)
 hears u H [] = []
-hears u H (w ∷ ws) = given (is_hers u H w.wish) (told H w.wish w.closes) ++ hears u (step H w.wish) ws
+hears u H (w ∷ ws) = given (is_hers u H w.wish) (told H w.wish w.closes) ++ hears u (after_wish H w.wish) ws
 
 -- the runs agree in what she meets, and in what she hears
 abbrev pub MeetsAlike : Option ℕ → Run → Run → Type 0

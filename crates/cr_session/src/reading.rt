@@ -28,7 +28,7 @@ impl Model for Inbox {
 }
 
 impl Inbox {
-    /// An inbox with no bytes; an error only for want of memory, which the router takes.
+    /// An inbox with no bytes; an error only for lack of memory, which the router takes.
     pub fn new(alloc: Global) -> Result<Inbox, AllocError>
         ensures { IfOk result (λ inbox. inbox ≡ []) }
     {
@@ -57,7 +57,7 @@ pub enum WishRead {
     Cut,
     /// The source failed before a whole request was read.
     ReadFault,
-    /// Memory is wanting.
+    /// Out of memory.
     OutOfMemory {
         /// Whether the request is one to HEAD; false where its head wasn't read so far.
         is_head: bool,
@@ -70,7 +70,7 @@ pub enum WishRead {
 ///
 /// Nothing is read ahead: each read is made only where neither a whole request nor a refusal stands in
 /// what has come. `ReadFault` comes only where the source's count of faults rose, or stands at its last
-/// value, and with every other answer that count is as it was. `OutOfMemory` comes for want of memory
+/// value, and with every other answer that count is as it was. `OutOfMemory` comes for lack of memory
 /// alone, and only where more bytes are needed or a body is looked at. Costs the reads, a few looks at
 /// each byte of the head, and one reading of a JSON body where one is wanted.
 pub fn read_wish<S: Source>(alloc: Global, source: &mut S, inbox: &mut Inbox) -> WishRead

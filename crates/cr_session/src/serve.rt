@@ -41,7 +41,7 @@ pub enum Ending {
     ReadFault,
     /// A write failed.
     WriteFault,
-    /// Memory is wanting.
+    /// Out of memory.
     OutOfMemory,
 }
 
@@ -54,7 +54,7 @@ pub enum Served {
     Closes,
     /// It was judged, and its answer's write failed.
     WriteFault,
-    /// Memory is wanting; nothing was added.
+    /// Out of memory; nothing was added.
     OutOfMemory,
 }
 
@@ -131,7 +131,7 @@ fn refuse<O: Sink>(sink: &mut O, reply: &mut Vec<u8>, why: Refusal, is_head: boo
     }
 }
 
-/// Writes that memory is wanting, as far as the sink takes it, and tells that the connection ended so. Takes no memory.
+/// Writes that memory ran out, as far as the sink takes it, and tells that the connection ended so. Takes no memory.
 pub fn note_no_memory<O: Sink>(sink: &mut O, is_head: bool) -> Ending
     ensures notes { TellsWantOfMemory [] is_head (outlet_of O.taken O.faults sink.old) (outlet_of O.taken O.faults sink.new) }
     ensures ending { result ≡ Ending.OutOfMemory }
@@ -191,8 +191,8 @@ fn serve_next<R: Wait, K: Keeper, S: Source, O: Sink>(
 /// count rises elsewhere. Behind an answer that couldn't be written no request is judged, and behind one
 /// that closes no byte is read.
 ///
-/// `OutOfMemory` comes for want of memory alone. The room for answers is made at the beginning: where it
-/// can't be had, the connection ends before anything is read. Later, memory may be wanting for more bytes,
+/// `OutOfMemory` comes for lack of memory alone. The room for answers is made at the beginning: where it
+/// can't be had, the connection ends before anything is read. Later, memory may run out for more bytes,
 /// for reading a body, for an accepted command and for a query that isn't refused, and for nothing else.
 pub fn serve_connection<R: Wait, K: Keeper, S: Source, O: Sink>(
     rt: &R,

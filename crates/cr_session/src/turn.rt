@@ -31,7 +31,7 @@ pub(crate) enum Turn {
     Answered(Reply),
     /// The command was accepted, but the keeper failed to keep it: nothing changed.
     Lost,
-    /// Memory is wanting: nothing changed.
+    /// Out of memory: nothing changed.
     OutOfMemory,
 }
 

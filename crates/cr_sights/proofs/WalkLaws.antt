@@ -11,7 +11,7 @@ use Rattle.cr_ports.specs.Count.{Rises}
 use Rattle.cr_ports.specs.Stream.{taken_and}
 use Rattle.cr_ports.specs.Writing.{Outlet, Writes, BreaksOff}
 use Rattle.cr_ports.proofs.WritingLaws.{taken_and-append, writes-nil, writes-append}
-use Rattle.cr_policy.specs.Triggers.{Reader, Place, none_alike}
+use Rattle.cr_policy.specs.Triggers.{Reader, Around, none_alike}
 use Rattle.cr_policy.specs.View.{View, sight, sights}
 use Rattle.cr_sights.specs.Last.{IsLastIn}
 use Rattle.cr_sights.specs.Lines.{line_text, lines_text}
@@ -34,7 +34,7 @@ module _ (r : Reader) (H : History) (at : ℕ) (d : Stamped) (within : at < leng
       ∙ ap (λ (before : History). sights_at r H at (get_or H at d) ++ sights r before (drop (at + 1) H)) (sym (one_more H at d within))
 
   -- what one entry shows, by what is known of it
-  pub seen_here : d ≡ get_or H at d → (seen : View) (last : Bool) → IsLastIn H at last → ((place : Place) → none_alike d.entry place.after ≡ last → seen ≡ sight r place d) → seen ≡ sights_at r H at (get_or H at d)
+  pub seen_here : d ≡ get_or H at d → (seen : View) (last : Bool) → IsLastIn H at last → ((place : Around) → none_alike d.entry place.after ≡ last → seen ≡ sight r place d) → seen ≡ sights_at r H at (get_or H at d)
   seen_here here seen last known is =
       is (record { before = take at H; after = drop (at + 1) H })
       (ap (λ (e : Stamped). none_alike e.entry (drop (at + 1) H)) here

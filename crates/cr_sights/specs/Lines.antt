@@ -12,7 +12,7 @@ use Rattle.cr_base.specs.Rows.{kind_name}
 use Rattle.cr_base.specs.Words.{mode_name, phase_name, role_name}
 use Rattle.cr_policy.specs.Sighting.{Sighting}
 use Rattle.cr_policy.specs.View.{View}
-use Rattle.cr_print.specs.Json.{Member, told, object_text, truth_text}
+use Rattle.cr_print.specs.Json.{Member, member_of, object_text, truth_text}
 
 -- the value of a member: a text, a digest in lower-case hexadecimal digits, a word, a number
 abbrev pub bytes_value : Option (List ℕ) → Option (List ℕ)
@@ -36,25 +36,25 @@ number_value number = option_map decimal number
 -- the parts that are shown, and the mark `mine` on the reader's own, with their keys in the order of their bytes
 unfoldable pub first_members : Sighting → List Member
 first_members s =
-    told (codes "abstract") (bytes_value s.abstract)
-    ++ told (codes "by") (number_value s.by)
-    ++ told (codes "digest") (digest_value s.digest)
-    ++ told (codes "kind") (Some (quoted (kind_name s.kind)))
+    member_of (codes "abstract") (bytes_value s.abstract)
+    ++ member_of (codes "by") (number_value s.by)
+    ++ member_of (codes "digest") (digest_value s.digest)
+    ++ member_of (codes "kind") (Some (quoted (kind_name s.kind)))
 
 unfoldable pub middle_members : Sighting → List Member
 middle_members s =
-    told (codes "mine") (where_told s.mine (Some (codes "true")))
-    ++ told (codes "mode") (mode_value s.mode)
-    ++ told (codes "name") (bytes_value s.name)
-    ++ told (codes "on") (option_map truth_text s.on)
+    member_of (codes "mine") (where_told s.mine (Some (codes "true")))
+    ++ member_of (codes "mode") (mode_value s.mode)
+    ++ member_of (codes "name") (bytes_value s.name)
+    ++ member_of (codes "on") (option_map truth_text s.on)
 
 unfoldable pub last_members : Sighting → List Member
 last_members s =
-    told (codes "paper") (number_value s.paper)
-    ++ told (codes "phase") (phase_value s.phase)
-    ++ told (codes "role") (role_value s.role)
-    ++ told (codes "title") (bytes_value s.title)
-    ++ told (codes "user") (number_value s.user)
+    member_of (codes "paper") (number_value s.paper)
+    ++ member_of (codes "phase") (phase_value s.phase)
+    ++ member_of (codes "role") (role_value s.role)
+    ++ member_of (codes "title") (bytes_value s.title)
+    ++ member_of (codes "user") (number_value s.user)
 
 abbrev pub sighting_members : Sighting → List Member
 sighting_members s = first_members s ++ middle_members s ++ last_members s

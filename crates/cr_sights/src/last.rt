@@ -16,7 +16,7 @@ pub(crate) struct LastTexts {
 }
 
 impl LastTexts {
-    /// What a history tells, by one walk over it; an error only for want of memory.
+    /// What a history tells, by one walk over it; an error only for lack of memory.
     pub(crate) fn of(alloc: Global, log: &[Stamped]) -> Result<LastTexts, AllocError>
         ensures { IfOk result (λ last. AreLast last.places.items log.now) }
     {

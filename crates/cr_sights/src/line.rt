@@ -1,7 +1,7 @@
 //! A sighting as a line.
 ghost use Rattle.std.specs.Prelude.{◌≡◌, OnOk, option_map};
 ghost use Rattle.cr_base.specs.Lists.{listed};
-ghost use Rattle.cr_print.specs.Json.{Adds};
+ghost use Rattle.cr_print.specs.Json.{AddsMembers};
 ghost use Rattle.cr_print.specs.Put.{Appends};
 ghost use Rattle.cr_sights.specs.Lines.{first_members, last_members, line_text, lines_text, middle_members};
 
@@ -13,7 +13,7 @@ use std::alloc::AllocError;
 
 /// Writes the members up to `kind`.
 fn add_first(object: &mut Object, into: &mut Vec<u8>, sighting: &Sighting) -> Result<(), AllocError>
-    ensures { Adds result into.old into.new object.old.is_first object.new.is_first (first_members sighting.now) }
+    ensures { AddsMembers result into.old into.new object.old.is_first object.new.is_first (first_members sighting.now) }
 {
     add_bytes(object, into, "abstract", text_bytes(&sighting.abstract_))?;
     add_user(object, into, "by", &sighting.by)?;
@@ -28,7 +28,7 @@ fn add_middle(
     into: &mut Vec<u8>,
     sighting: &Sighting,
 ) -> Result<(), AllocError>
-    ensures { Adds result into.old into.new object.old.is_first object.new.is_first (middle_members sighting.now) }
+    ensures { AddsMembers result into.old into.new object.old.is_first object.new.is_first (middle_members sighting.now) }
 {
     object.fixed(into, "mine", sighting.mine, "true")?;
     add_mode(object, into, "mode", sighting.mode)?;
@@ -39,7 +39,7 @@ fn add_middle(
 
 /// Writes the members from `paper` on.
 fn add_last(object: &mut Object, into: &mut Vec<u8>, sighting: &Sighting) -> Result<(), AllocError>
-    ensures { Adds result into.old into.new object.old.is_first object.new.is_first (last_members sighting.now) }
+    ensures { AddsMembers result into.old into.new object.old.is_first object.new.is_first (last_members sighting.now) }
 {
     add_paper(object, into, "paper", &sighting.paper)?;
     add_phase(object, into, "phase", sighting.phase)?;
@@ -49,7 +49,7 @@ fn add_last(object: &mut Object, into: &mut Vec<u8>, sighting: &Sighting) -> Res
     Ok(())
 }
 
-/// Appends a sighting as one JSON object and a line feed; an error only for want of memory.
+/// Appends a sighting as one JSON object and a line feed; an error only for lack of memory.
 fn append_line(into: &mut Vec<u8>, sighting: &Sighting) -> Result<(), AllocError>
     ensures { Appends result into.old into.new (line_text sighting.now) }
 {
@@ -62,7 +62,7 @@ fn append_line(into: &mut Vec<u8>, sighting: &Sighting) -> Result<(), AllocError
     Ok(())
 }
 
-/// Makes the buffer hold a sighting's line, or nothing where there is none; an error only for want of memory.
+/// Makes the buffer hold a sighting's line, or nothing where there is none; an error only for lack of memory.
 pub(crate) fn fill(line: &mut Vec<u8>, sighting: &Option<Sighting>) -> Result<(), AllocError>
     ensures { OnOk result (line.new.items ≡ lines_text (listed sighting.now)) }
 {

@@ -1,7 +1,7 @@
 //! The members of a view line, each written where its part is shown.
 ghost use Rattle.std.specs.Prelude.{◌≡◌, option_map};
 ghost use Rattle.hex.specs.Hex.{encode_lower};
-ghost use Rattle.cr_print.specs.Json.{Adds, told};
+ghost use Rattle.cr_print.specs.Json.{AddsMembers, member_of};
 ghost use Rattle.cr_sights.specs.Lines.{bytes_value, digest_value, mode_value, number_value, phase_value, role_value};
 
 use cr_base::{Digest, Mode, PaperNo, Phase, Role, UserNo};
@@ -15,7 +15,7 @@ pub(crate) fn add_user(
     key: &str,
     user: &Option<UserNo>,
 ) -> Result<(), AllocError>
-    ensures { Adds result into.old into.new object.old.is_first object.new.is_first (told key.now (number_value user.now)) }
+    ensures { AddsMembers result into.old into.new object.old.is_first object.new.is_first (member_of key.now (number_value user.now)) }
 {
     match user {
         Some(user) => object.number(into, key, user.number()),
@@ -30,7 +30,7 @@ pub(crate) fn add_paper(
     key: &str,
     paper: &Option<PaperNo>,
 ) -> Result<(), AllocError>
-    ensures { Adds result into.old into.new object.old.is_first object.new.is_first (told key.now (number_value paper.now)) }
+    ensures { AddsMembers result into.old into.new object.old.is_first object.new.is_first (member_of key.now (number_value paper.now)) }
 {
     match paper {
         Some(paper) => object.number(into, key, paper.number()),
@@ -45,7 +45,8 @@ pub(crate) fn add_bytes(
     key: &str,
     bytes: Option<&[u8]>,
 ) -> Result<(), AllocError>
-    ensures { Adds result into.old into.new object.old.is_first object.new.is_first (told key.now (bytes_value (option_map (λ b. b.now) bytes.entry))) }
+    ensures { AddsMembers result into.old into.new object.old.is_first object.new.is_first
+        (member_of key.now (bytes_value (option_map (λ b. b.now) bytes.entry))) }
 {
     match bytes {
         Some(bytes) => object.string(into, key, bytes),
@@ -69,7 +70,8 @@ pub(crate) fn add_digest(
     key: &str,
     digest: Option<&Digest>,
 ) -> Result<(), AllocError>
-    ensures { Adds result into.old into.new object.old.is_first object.new.is_first (told key.now (digest_value (option_map (λ d. d.now) digest.entry))) }
+    ensures { AddsMembers result into.old into.new object.old.is_first object.new.is_first
+        (member_of key.now (digest_value (option_map (λ d. d.now) digest.entry))) }
 {
     match digest {
         Some(digest) => object.string(into, key, &digits_of(*digest)),
@@ -84,7 +86,7 @@ pub(crate) fn add_phase(
     key: &str,
     phase: Option<Phase>,
 ) -> Result<(), AllocError>
-    ensures { Adds result into.old into.new object.old.is_first object.new.is_first (told key.now (phase_value phase)) }
+    ensures { AddsMembers result into.old into.new object.old.is_first object.new.is_first (member_of key.now (phase_value phase)) }
 {
     match phase {
         Some(phase) => object.string(into, key, phase.name().as_bytes()),
@@ -99,7 +101,7 @@ pub(crate) fn add_mode(
     key: &str,
     mode: Option<Mode>,
 ) -> Result<(), AllocError>
-    ensures { Adds result into.old into.new object.old.is_first object.new.is_first (told key.now (mode_value mode)) }
+    ensures { AddsMembers result into.old into.new object.old.is_first object.new.is_first (member_of key.now (mode_value mode)) }
 {
     match mode {
         Some(mode) => object.string(into, key, mode.name().as_bytes()),
@@ -114,7 +116,7 @@ pub(crate) fn add_role(
     key: &str,
     role: Option<Role>,
 ) -> Result<(), AllocError>
-    ensures { Adds result into.old into.new object.old.is_first object.new.is_first (told key.now (role_value role)) }
+    ensures { AddsMembers result into.old into.new object.old.is_first object.new.is_first (member_of key.now (role_value role)) }
 {
     match role {
         Some(role) => object.string(into, key, role.name().as_bytes()),

@@ -6,7 +6,7 @@ ghost use Rattle.cr_base.specs.Phases.{is_from};
 ghost use Rattle.cr_base.specs.Words.{is_anonymous, is_member};
 ghost use Rattle.cr_base.specs.declared.words.Phase.TheVariants as phases;
 ghost use Rattle.cr_base.specs.declared.entry.Entry.TheVariants.{Submitted, Conflict};
-ghost use Rattle.cr_policy.specs.Triggers.{Place, authors, clear_chairs, from, none_alike, user_named};
+ghost use Rattle.cr_policy.specs.Triggers.{Around, authors, clear_chairs, from, none_alike, user_named};
 ghost use Rattle.cr_policy.specs.Sighting.{blank as blank_sighting};
 ghost use Rattle.cr_policy.specs.View.{sight as sight_at};
 ghost use Rattle.cr_sights.specs.Readers.{reader_in};
@@ -104,7 +104,8 @@ fn is_bidding(by: &Standing) -> bool
 
 /// Whether she is shown who made a submission.
 fn shows_maker(by: &Standing) -> bool
-    ensures { result ≡ (by.now.author || (is_from phases.Bidding by.now.phase && (is_clear_chair by.now || (is_clear_member by.now && not (is_anonymous by.now.mode))))) }
+    ensures { result ≡ (by.now.author
+        || (is_from phases.Bidding by.now.phase && (is_clear_chair by.now || (is_clear_member by.now && not (is_anonymous by.now.mode))))) }
 {
     let handles = by.is_clear_chair() || by.is_clear_member() && !by.mode.is_anonymous();
     by.author || is_bidding(by) && handles
@@ -153,7 +154,7 @@ fn submission<'a>(
     abstract_: &'a Text,
 ) -> Sighting<'a>
     requires { stamped.now.entry ≡ Submitted paper title.now abstract_.now }
-    ensures { (at : Place) → none_alike stamped.now.entry at.after ≡ is_last → result ∷ [] ≡ sight_at (reader_in live.now.tables (Some reader)) at stamped.now }
+    ensures { (at : Around) → none_alike stamped.now.entry at.after ≡ is_last → result ∷ [] ≡ sight_at (reader_in live.now.tables (Some reader)) at stamped.now }
 {
     let mine = reader == stamped.maker;
     let by = live.standing(&Some(reader), &Some(paper));
@@ -176,7 +177,7 @@ fn conflict<'a>(
     on: bool,
 ) -> Option<Sighting<'a>>
     requires { stamped.now.entry ≡ Conflict paper user on }
-    ensures { (at : Place) → listed result ≡ sight_at (reader_in live.now.tables (Some reader)) at stamped.now }
+    ensures { (at : Around) → listed result ≡ sight_at (reader_in live.now.tables (Some reader)) at stamped.now }
 {
     if !tells_conflict(live, reader, stamped.maker, user, paper) {
         return None;
@@ -197,7 +198,8 @@ pub fn sight<'a>(
     stamped: &'a Stamped,
     is_last: bool,
 ) -> Option<Sighting<'a>>
-    ensures { (at : Place) → none_alike stamped.now.entry at.after ≡ is_last → listed result ≡ sight_at (reader_in live.now.tables (Some reader)) at stamped.now }
+    ensures { (at : Around) → none_alike stamped.now.entry at.after ≡ is_last
+        → listed result ≡ sight_at (reader_in live.now.tables (Some reader)) at stamped.now }
 {
     let mine = reader == stamped.maker;
     match &stamped.entry {

@@ -20,13 +20,13 @@ use std::alloc::{AllocError, Global};
 pub enum ViewError {
     /// A write failed, and the sink counted it.
     WriteFault,
-    /// Memory is wanting.
+    /// Out of memory.
     OutOfMemory,
 }
 
 /// Writes what the entries of a history show a user, one line a sighting, by the tables of the whole history. Behind
 /// an error some part of the lines was written. `WriteFault` comes only where the sink's count of faults rose, or
-/// stands at its last value; else the count is as it was, and `OutOfMemory` comes for want of memory alone.
+/// stands at its last value; else the count is as it was, and `OutOfMemory` comes for lack of memory alone.
 ///
 /// Costs two walks over the history, with a few look-ups and one write an entry, 80 KB for the places of the papers'
 /// last texts, and a buffer for the longest line.
@@ -37,7 +37,8 @@ pub fn write_view<O: Sink>(
     reader: UserNo,
     sink: &mut O,
 ) -> Result<(), ViewError>
-    ensures { WritesView result (lines_text (sights (reader_in live.now.tables (Some reader)) [] log.now)) (outlet_of O.taken O.faults sink.old) (outlet_of O.taken O.faults sink.new) }
+    ensures { let outlet = outlet_of O.taken O.faults in
+        WritesView result (lines_text (sights (reader_in live.now.tables (Some reader)) [] log.now)) (outlet sink.old) (outlet sink.new) }
 {
     let Ok(last) = LastTexts::of(alloc, log) else {
         return Err(ViewError::OutOfMemory);
@@ -58,7 +59,7 @@ pub fn write_view<O: Sink>(
 }
 
 /// How many sightings a user has of a history, by its tables: the lines that `write_view` writes; an error only for
-/// want of memory. Costs the same walks.
+/// lack of memory. Costs the same walks.
 pub fn view_len(
     alloc: Global,
     live: &Live,

@@ -174,7 +174,7 @@ impl<S: Alter> SqliteKeeper<S> {
         self.reason
     }
 
-    /// Counts a fault and keeps its reason. Want of memory is none.
+    /// Counts a fault and keeps its reason. Out of memory is none.
     fn refused(&mut self, refusal: StoreError) -> KeeperError
         ensures { HasCause {T = ℕ} self.old self.new (Err result) }
     {

@@ -12,8 +12,6 @@ mod record;
 mod schema;
 mod shelf;
 mod table;
-#[cfg(test)]
-mod tests;
 
 pub use keeper::SqliteKeeper;
 pub use reason::{Reason, StoreError};

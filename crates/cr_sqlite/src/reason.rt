@@ -52,7 +52,7 @@ impl fmt::Display for Reason {
 pub enum StoreError {
     /// A fault, which was counted.
     Failed(Reason),
-    /// Want of memory, which isn't counted as a fault.
+    /// Out of memory, which isn't counted as a fault.
     OutOfMemory,
 }
 

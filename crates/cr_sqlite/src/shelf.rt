@@ -58,7 +58,7 @@ impl SqliteShelf {
         self.reason
     }
 
-    /// Counts a fault and keeps its reason. Want of memory is none.
+    /// Counts a fault and keeps its reason. Out of memory is none.
     fn refused(&mut self, refusal: StoreError) -> KeeperError
         ensures { HasCause {T = ℕ} self.old self.new (Err result) }
     {

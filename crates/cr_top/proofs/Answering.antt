@@ -12,7 +12,7 @@ use Rattle.cr_wire.specs.declared.what.Wish.{Wish}
 use Rattle.cr_session.specs.declared.serve.Ending.{Ending}
 use Rattle.cr_session.specs.declared.serve.Ending.TheVariants as endings
 use Rattle.cr_session.specs.declared.serve.Why.TheVariants as whys
-use Rattle.cr_session.specs.Told.{told, step}
+use Rattle.cr_session.specs.Told.{told, after_wish}
 use Rattle.cr_session.specs.Replay.{JudgedWish, Ledger, Turned, Replays, wishes_of, answers, answer_to, history_after, lost_count}
 use Rattle.cr_session.specs.Wishes.{Spells}
 use Rattle.cr_ports.specs.Writing.{Outlet, Writes}
@@ -36,13 +36,13 @@ answer_to-told : (n : ℕ) (j : JudgedWish) → j.lost ≡ false → answer_to n
 unfolding answer_to
 answer_to-told n j e = rw e refl
 
-history_after-step : (j : JudgedWish) → j.lost ≡ false → history_after j ≡ step j.seen j.wish
+history_after-after_wish : (j : JudgedWish) → j.lost ≡ false → history_after j ≡ after_wish j.seen j.wish
 unfolding history_after
-history_after-step j e = rw e refl
+history_after-after_wish j e = rw e refl
 
 -- the history after a turn that lost nothing
-stepped : (j : JudgedWish) (b b' : Ledger) → Turned j b b' → j.lost ≡ false → b'.history ≡ step b.history j.wish
-stepped j b b' t kept = t.history ∙ history_after-step j kept ∙ ap (λ (h : History). step h j.wish) t.seen
+stepped : (j : JudgedWish) (b b' : Ledger) → Turned j b b' → j.lost ≡ false → b'.history ≡ after_wish b.history j.wish
+stepped j b b' t kept = t.history ∙ history_after-after_wish j kept ∙ ap (λ (h : History). after_wish h j.wish) t.seen
 
 pub answers-told : (n : ℕ) (b b' : Ledger) (judged : List JudgedWish) → Replays judged b b' → lost_count judged ≡ 0
     → answers n judged ≡ told_along n b.history (wishes_of judged)

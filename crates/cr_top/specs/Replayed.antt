@@ -4,7 +4,7 @@ use Rattle.cr_base.specs.History.{History}
 use Rattle.cr_http.specs.Requests.{End, ended_clean, ended_cut, asked, closed}
 use Rattle.cr_print.specs.Answers.{closing_text}
 use Rattle.cr_wire.specs.declared.what.Wish.{Wish}
-use Rattle.cr_session.specs.Told.{told, step}
+use Rattle.cr_session.specs.Told.{told, after_wish}
 use Rattle.cr_wire.specs.Wishes.{closes}
 use Rattle.cr_top.specs.declared.exit.Exit.{Exit}
 use Rattle.cr_top.specs.declared.exit.Exit.TheVariants as exits
@@ -12,12 +12,12 @@ use Rattle.cr_top.specs.declared.exit.Exit.TheVariants as exits
 -- the answers to the wishes, of which the first is request number n and meets this history
 abbrev pub told_along : ℕ → History → List Wish → List ℕ
 told_along n H [] = []
-told_along n H (w ∷ ws) = told H w (closes n w) ++ told_along (n + 1) (step H w) ws
+told_along n H (w ∷ ws) = told H w (closes n w) ++ told_along (n + 1) (after_wish H w) ws
 
 -- the history that the wishes lead to
 abbrev pub steps_along : History → List Wish → History
 steps_along H [] = H
-steps_along H (w ∷ ws) = steps_along (step H w) ws
+steps_along H (w ∷ ws) = steps_along (after_wish H w) ws
 
 -- what is answered behind the last wish, by the end of the text
 abbrev pub last_words : End → List ℕ

@@ -36,7 +36,8 @@ world o H faults = record { state = record { history = H; faults = faults }; sou
 
 -- From this history on, whose rows the keeper had, a connection was served to its ending, and the keeper was handed back
 -- with the rows of the last history.
-pub record Pipes {K I : Type 0} (rows : K → Option (List Row)) (faults : K → ℕ) (left : I → Option (List ℕ)) (gives : I → I → List ℕ → Type 0) (opening : History) (ending : Ending) (keeper keeper' : K) (o o' : Outside I) : Type 0 where
+pub record Pipes {K I : Type 0} (rows : K → Option (List Row)) (faults : K → ℕ) (left : I → Option (List ℕ))
+    (gives : I → I → List ℕ → Type 0) (opening : History) (ending : Ending) (keeper keeper' : K) (o o' : Outside I) : Type 0 where
   pub history : History
   pub legal : Legal history
   pub kept : IsKept rows keeper' history
@@ -46,7 +47,8 @@ pub record Pipes {K I : Type 0} (rows : K → Option (List Row)) (faults : K →
 -- ---- the exits
 
 -- The same over a keeper that counts no fault, so that nothing is lost: the exit says how the connection ended.
-pub record ServesPipe {I : Type 0} (left : I → Option (List ℕ)) (gives : I → I → List ℕ → Type 0) (opening : History) (exit : Exit) (o o' : Outside I) : Type 0 where
+pub record ServesPipe {I : Type 0} (left : I → Option (List ℕ)) (gives : I → I → List ℕ → Type 0)
+    (opening : History) (exit : Exit) (o o' : Outside I) : Type 0 where
   pub ending : Ending
   pub exit_is : exit ≡ exit_of ending
   pub history : History

@@ -4,7 +4,7 @@ use Rattle.std.specs.Prelude.{◌≡◌, ◌≢◌, ◌≤◌, ◌⊎◌, ℕ, L
 use Rattle.std.specs.Option.{option_map}
 use Rattle.cr_base.specs.declared.row.Row.{Row}
 use Rattle.cr_base.specs.History.{History}
-use Rattle.cr_base.specs.Facts.{number_of}
+use Rattle.cr_base.specs.HistoryFacts.{number_of}
 use Rattle.cr_base.specs.Rows.{rows_of}
 use Rattle.cr_ports.specs.Count.{Gains, Rises}
 use Rattle.cr_ports.specs.Shelving.{and_file}
@@ -65,7 +65,7 @@ pub record IsBadStore (rows : List Row) (row kind : ℕ) : Type 0 where
   pub bad : IsBadAt rows row found
   pub none : (H : History) → Legal H → rows_of H ≢ rows
 
--- why it doesn't open, by the exit: the shelf or its keeper failed, which was counted; a row is bad; or memory is wanting
+-- why it doesn't open, by the exit: the shelf or its keeper failed, which was counted; a row is bad; or memory runs out
 abbrev pub IsWhyShut : List ℕ → Exit → ShelfState → ShelfState → Type 0
 IsWhyShut path exits.KeeperFault s s' = Rises s.faults s'.faults
 IsWhyShut path (exits.BadStore row kind) s s' = IfSome s.files (λ files. IsBadStore (files path) row kind)
@@ -82,7 +82,8 @@ pub record StaysShut (path : List ℕ) (exit : Exit) (s s' : ShelfState) : Type 
 
 -- From the history of the rows at the path on a connection was served to its ending, by which the exit is; the rows there
 -- are then those of the last history. The keeper counted so many faults, and the shelf's count rose by as many at least.
-pub record ServesStore {K I : Type 0} (rows : K → Option (List Row)) (path : List ℕ) (left : I → Option (List ℕ)) (gives : I → I → List ℕ → Type 0) (exit : Exit) (o o' : Outside I) (s s' : ShelfState) : Type 0 where
+pub record ServesStore {K I : Type 0} (rows : K → Option (List Row)) (path : List ℕ) (left : I → Option (List ℕ))
+    (gives : I → I → List ℕ → Type 0) (exit : Exit) (o o' : Outside I) (s s' : ShelfState) : Type 0 where
   pub opening : History
   pub opens : Legal opening
   pub found : IfSome s.files (λ files. rows_of opening ≡ files path)
@@ -97,13 +98,14 @@ pub record ServesStore {K I : Type 0} (rows : K → Option (List Row)) (path : L
   pub counted : Gains s.faults faults s'.faults
 
 -- a store that doesn't open leaves input and output as they were
-abbrev pub PipesStore : {K I : Type 0} → (K → Option (List Row)) → List ℕ → (I → Option (List ℕ)) → (I → I → List ℕ → Type 0) → Exit → Outside I → Outside I → ShelfState → ShelfState → Type 0
+abbrev pub PipesStore : {K I : Type 0} → (K → Option (List Row)) → List ℕ → (I → Option (List ℕ)) → (I → I → List ℕ → Type 0)
+    → Exit → Outside I → Outside I → ShelfState → ShelfState → Type 0
 PipesStore rows path left gives exit o o' s s' = (StaysShut path exit s s' × (o' ≡ o)) ⊎ ServesStore rows path left gives exit o o' s s'
 
 -- ---- a view of a store
 
 -- What was told of a user's view of a history, by the exit: all its lines; a part of them, behind which a write failed or
--- memory was wanting; or that nobody has registered the name.
+-- memory ran out; or that nobody has registered the name.
 abbrev pub TellsView : History → List ℕ → Exit → Outlet → Outlet → Type 0
 TellsView H name exits.Done s s' = (user : ℕ) × (number_of name H ≡ Some user) × Writes (lines_text (view (Some user) H)) s s'
 TellsView H name exits.WriteFault s s' = (user : ℕ) × (number_of name H ≡ Some user) × BreaksOff [] (lines_text (view (Some user) H)) s s'

@@ -19,7 +19,7 @@ use std::sync::Wait;
 ///
 /// `ReadFault` and `WriteFault` come only where the count of `input`,
 /// of `out` rose, or stands at its last value, and no other ending lets a count rise. `OutOfMemory` comes
-/// for want of memory alone, and behind a wish that was read only where it wanted some: see
+/// for lack of memory alone, and behind a wish that was read only where it wanted some: see
 /// `serve_connection`.
 pub fn pipe<R: Wait, K: Keeper, I: Source, O: Sink>(
     rt: &R,
@@ -32,7 +32,7 @@ pub fn pipe<R: Wait, K: Keeper, I: Source, O: Sink>(
         Pipes K.rows K.faults I.left I.read_gives book.log result.0 book.keeper result.1 (outside input.old out.old) (outside input.new out.new) }
 
     // Where nothing fails, the keeper's calls included, all that the input's bytes spell is answered,
-    // or memory is wanting.
+    // or memory runs out.
     ensures answers { let outside = outside_of I.faults O.taken O.faults in
         (b : List ℕ) → I.left input.old ≡ Some b → IsFaultless (outside input.old out.old) (outside input.new out.new)
         → (Rises (K.faults book.keeper) (K.faults result.1) → ⊥)

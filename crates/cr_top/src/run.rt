@@ -51,7 +51,8 @@ fn do_job<R: Wait, I: Source, O: Sink, S: Shelf>(
     shelf: &mut S,
 ) -> Exit
     ensures does { let outside = outside_of I.faults O.taken O.faults in let stores = state_of S.rows S.faults in
-        Does S.Keeper.rows I.left I.read_gives (job_seen job.entry) result (outside input.old out.old) (outside input.new out.new) (stores shelf.old) (stores shelf.new) }
+        Does S.Keeper.rows I.left I.read_gives (job_seen job.entry) result
+        (outside input.old out.old) (outside input.new out.new) (stores shelf.old) (stores shelf.new) }
     ensures answers { let outside = outside_of I.faults O.taken O.faults in let stores = state_of S.rows S.faults in
         AnswersJob I.left (job_seen job.entry) result (outside input.old out.old) (outside input.new out.new) (stores shelf.old) (stores shelf.new) }
     ensures known { result ≢ Exit.Usage }
@@ -85,7 +86,7 @@ fn do_job<R: Wait, I: Source, O: Sink, S: Shelf>(
 /// - `NoUser` comes exactly where `view` opened its store and nobody there has registered the name.
 /// - `ReadFault` and `WriteFault` come only where the count of `input`, of `out` rose in this call, or
 ///   stands at its last value.
-/// - `OutOfMemory` comes for want of memory alone.
+/// - `OutOfMemory` comes for lack of memory alone.
 pub fn top<R: Wait, I: Source, O: Sink, S: Shelf>(
     rt: &R,
     alloc: Global,
@@ -100,7 +101,7 @@ pub fn top<R: Wait, I: Source, O: Sink, S: Shelf>(
         (job : NamedJob) → AreFor words.now job
         → Does S.Keeper.rows I.left I.read_gives job result (outside input.old out.old) (outside input.new out.new) (stores shelf.old) (stores shelf.new) }
 
-    // Where nothing fails, all that the input's bytes spell is answered, and the view is told whole, or memory is wanting.
+    // Where nothing fails, all that the input's bytes spell is answered, and the view is told whole, or memory runs out.
     ensures answers { let outside = outside_of I.faults O.taken O.faults in let stores = state_of S.rows S.faults in
         (job : NamedJob) → AreFor words.now job
         → AnswersJob I.left job result (outside input.old out.old) (outside input.new out.new) (stores shelf.old) (stores shelf.new) }

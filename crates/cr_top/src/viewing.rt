@@ -1,6 +1,6 @@
 //! A user's view of a store, printed.
 ghost use Rattle.std.specs.Prelude.{◌≡◌, ◌⊎◌, Some};
-ghost use Rattle.cr_base.specs.Facts.{number_of};
+ghost use Rattle.cr_base.specs.HistoryFacts.{number_of};
 ghost use Rattle.cr_base.specs.History.{History};
 ghost use Rattle.cr_base.specs.Rows.{rows_of};
 ghost use Rattle.cr_policy.specs.Legal.{Legal};

@@ -12,7 +12,7 @@ use Rattle.cr_base.proofs.ListLaws.{name_in-lines_of}
 use Rattle.cr_base.specs.declared.pairs.Order.TheVariants.{ByPaper, ByUser}
 use Rattle.cr_base.specs.declared.pairs.Tie.{Tie}
 use Rattle.cr_base.specs.Lists.{IsRising, given}
-use Rattle.cr_base.specs.Pairs.{papers_of}
+use Rattle.cr_base.specs.Pairs.{papers_tied_to}
 use Rattle.cr_base.specs.Papers.{paper_count, paper_numbers}
 use Rattle.cr_base.specs.Tables.{Tables}
 use Rattle.cr_base.specs.Ties.{BareTies, pair_of, is_author_in, is_conflict_on_in, is_conflicted_in, AreWithin}
@@ -37,14 +37,14 @@ only_declared false declared = refl
 
 module _ (t : Tables) (user : ℕ) (within : AreWithin (paper_count t.papers) t.ties) where
   -- the papers whose author she is
-  pub own-papers : IsRising (papers_of user t.ties.authors) → papers_of user t.ties.authors ≡ filter (λ p. is_author_in t.ties (Some user) p) (paper_numbers t.papers)
+  pub own-papers : IsRising (papers_tied_to user t.ties.authors) → papers_tied_to user t.ties.authors ≡ filter (λ p. is_author_in t.ties (Some user) p) (paper_numbers t.papers)
   own-papers rising =
       sym (numbers-others_of (λ p. is_author_in t.ties (Some user) p) ByUser user t.papers.papers t.ties.authors rising
       (λ p there. within-pair (paper_count t.papers) (pair_of p user) t.ties.authors within.authors there)
       (λ p. list_any-others_of ByPaper p user t.ties.authors))
 
   -- the papers with which she is declared in conflict, and whose author she isn't
-  pub own-conflicts : IsRising (papers_of user t.ties.conflicts) → filter (λ p. not (is_author_in t.ties (Some user) p)) (papers_of user t.ties.conflicts) ≡ filter (λ p. is_conflicted_in t.ties (Some user) p && not (is_author_in t.ties (Some user) p)) (paper_numbers t.papers)
+  pub own-conflicts : IsRising (papers_tied_to user t.ties.conflicts) → filter (λ p. not (is_author_in t.ties (Some user) p)) (papers_tied_to user t.ties.conflicts) ≡ filter (λ p. is_conflicted_in t.ties (Some user) p && not (is_author_in t.ties (Some user) p)) (paper_numbers t.papers)
   own-conflicts rising =
       ap (filter (λ p. not (is_author_in t.ties (Some user) p)))
       (sym (numbers-others_of (λ p. is_conflict_on_in t.ties (Some user) p) ByUser user t.papers.papers t.ties.conflicts rising

@@ -22,7 +22,7 @@ use Rattle.cr_view.specs.declared.queries.AnswerError.TheVariants as errors
 abbrev pub IsServed : Reply → Type 0
 IsServed reply = (rule : Rule) → reply ≢ replies.Refused rule
 
--- A query to which this reply is due was answered so: by that reply, or by the rule that it tells; memory is wanting only
+-- A query to which this reply is due was answered so: by that reply, or by the rule that it tells; memory runs out only
 -- where it tells none.
 abbrev pub AnswersAsDue : Result Reply AnswerError → Reply → Type 0
 AnswersAsDue (Ok reply) due = (reply ≡ due) × IsServed due

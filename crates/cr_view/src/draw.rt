@@ -87,7 +87,7 @@ impl Draw {
         }
     }
 
-    /// The entries that the command adds, which take its texts whole; an error only for want of memory.
+    /// The entries that the command adds, which take its texts whole; an error only for lack of memory.
     pub fn group(self, alloc: Global) -> Result<Vec<Stamped>, AllocError>
         ensures { IfOk result (λ group. group.items ≡ (drawn_by self).group) }
     {

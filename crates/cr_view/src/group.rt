@@ -8,7 +8,8 @@ use std::alloc::{AllocError, Global};
 
 /// Marks the last entry as one that another of the same command follows.
 fn mark_last(group: &mut Vec<Stamped>)
-    ensures marked { (maker : ℕ) (entries : List Entry) (next : Entry) → group.old.items ≡ grouped maker entries → group.new.items ++ record { maker = maker; more = false; entry = next } ∷ [] ≡ grouped maker (entries ++ next ∷ []) }
+    ensures marked { (maker : ℕ) (entries : List Entry) (next : Entry) → group.old.items ≡ grouped maker entries
+        → group.new.items ++ record { maker = maker; more = false; entry = next } ∷ [] ≡ grouped maker (entries ++ next ∷ []) }
     ensures room { vec_capacity group.old - vec_len group.old ≤ vec_capacity group.new - vec_len group.new }
 {
     let count = group.len();
@@ -18,7 +19,7 @@ fn mark_last(group: &mut Vec<Stamped>)
     group[count - 1].more = true;
 }
 
-/// Adds one more entry of the same command; an error only for want of memory.
+/// Adds one more entry of the same command; an error only for lack of memory.
 fn push_entry(group: &mut Vec<Stamped>, maker: UserNo, entry: Entry) -> Result<(), AllocError>
     ensures { (entries : List Entry) → group.old.items ≡ grouped maker entries → OnOk result (group.new.items ≡ grouped maker (entries ++ entry ∷ [])) }
 {
@@ -32,7 +33,7 @@ fn push_entry(group: &mut Vec<Stamped>, maker: UserNo, entry: Entry) -> Result<(
     Ok(())
 }
 
-/// A group of one entry; an error only for want of memory.
+/// A group of one entry; an error only for lack of memory.
 pub(crate) fn single(alloc: Global, maker: UserNo, entry: Entry) -> Result<Vec<Stamped>, AllocError>
     ensures { IfOk result (λ group. group.items ≡ grouped maker (entry ∷ [])) }
 {
@@ -42,7 +43,7 @@ pub(crate) fn single(alloc: Global, maker: UserNo, entry: Entry) -> Result<Vec<S
 }
 
 /// The group of a registration: the new user is its maker, and the first user becomes a chair. An
-/// error only for want of memory.
+/// error only for lack of memory.
 pub(crate) fn registration(
     alloc: Global,
     user: UserNo,

@@ -35,7 +35,10 @@ impl Model for Live {
 
     ghost Value = { SeenTables };
 
-    ghost view = { λ t. record { tables = record { stage = t.stage; accounts = t.accounts.accounts; papers = t.papers.papers; ties = t.ties.ties }; room = min t.accounts.room (min t.papers.room t.ties.room) } };
+    ghost view = { λ t. record {
+      tables = record { stage = t.stage; accounts = t.accounts.accounts; papers = t.papers.papers; ties = t.ties.ties };
+      room = min t.accounts.room (min t.papers.room t.ties.room);
+    } };
 
     // The papers that have ties are there.
     ghost invariant = { λ t. AreWithin (paper_count t.papers.papers) t.ties.ties };
@@ -55,7 +58,7 @@ impl Live {
         }
     }
 
-    /// Takes the memory that the entries of one command need; an error only for want of memory,
+    /// Takes the memory that the entries of one command need; an error only for lack of memory,
     /// and the tables are the same either way.
     pub fn room(&mut self, group: &[Stamped]) -> Result<(), AllocError>
         ensures ok { OnOk result (length group.now ≤ self.new.room) }

@@ -12,7 +12,7 @@ use cr_base::{Me, PaperNo, PaperNos, Short, Tie, UserNo};
 use std::alloc::{AllocError, Global};
 
 impl Live {
-    /// What a user is told of herself; an error only for want of memory. A few look-ups by number, and
+    /// What a user is told of herself; an error only for lack of memory. A few look-ups by number, and
     /// a walk over her own papers and those with which she is declared in conflict.
     pub fn me(&self, alloc: Global, user: UserNo) -> Result<Me, AllocError>
         ensures { IfOk result (λ me. me ≡ me_by (facts_of_tables self.now.tables (Some user)) user) }
@@ -41,7 +41,8 @@ impl Live {
 
     /// The papers of these ties, without those whose author the user is.
     fn others(&self, alloc: Global, user: UserNo, ties: &[Tie<()>]) -> Result<PaperNos, AllocError>
-        ensures { IfOk result (λ papers. papers ≡ filter (λ paper. not (is_author_in self.now.tables.ties (Some user) paper)) (map (λ tie. tie.pair.paper) ties.now)) }
+        ensures { IfOk result (λ papers. papers
+            ≡ filter (λ paper. not (is_author_in self.now.tables.ties (Some user) paper)) (map (λ tie. tie.pair.paper) ties.now)) }
     {
         let mut papers = Vec::with_capacity(alloc, ties.len())?;
         for tie in ties {
@@ -52,7 +53,7 @@ impl Live {
     }
 }
 
-/// Adds a paper, where it is told; an error only for want of memory.
+/// Adds a paper, where it is told; an error only for lack of memory.
 fn push_where(papers: &mut Vec<PaperNo>, told: bool, paper: PaperNo) -> Result<(), AllocError>
     ensures { OnOk result (papers.new.items ≡ papers.old.items ++ given told paper) }
 {
@@ -62,7 +63,7 @@ fn push_where(papers: &mut Vec<PaperNo>, told: bool, paper: PaperNo) -> Result<(
     Ok(())
 }
 
-/// The papers of these ties; an error only for want of memory.
+/// The papers of these ties; an error only for lack of memory.
 fn papers_of(alloc: Global, ties: &[Tie<()>]) -> Result<PaperNos, AllocError>
     ensures { IfOk result (λ papers. papers ≡ map (λ tie. tie.pair.paper) ties.now) }
 {

@@ -83,7 +83,7 @@ pub(crate) fn bare_keys(by: &Standing) -> BareKeys
     }
 }
 
-/// The text, shared, where it is told; an error only for want of memory.
+/// The text, shared, where it is told; an error only for lack of memory.
 pub(crate) fn shared_where(told: bool, text: Option<&Text>) -> Result<Option<Text>, AllocError>
     ensures { IfOk result (λ copied. copied ≡ where_told told (option_copied text.entry)) }
 {

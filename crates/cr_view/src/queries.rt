@@ -70,7 +70,7 @@ impl Live {
 pub enum AnswerError {
     /// The query breaks this rule.
     Rule(Rule),
-    /// Memory is wanting.
+    /// Out of memory.
     OutOfMemory,
 }
 
@@ -113,7 +113,7 @@ impl Live {
         }
     }
 
-    /// Every account, by user number; an error only for want of memory. Reads and copies each
+    /// Every account, by user number; an error only for lack of memory. Reads and copies each
     /// account.
     pub fn accounts(&self, alloc: Global) -> Result<AccountLines, AllocError>
         ensures { IfOk result (λ lines. lines ≡ lines_of self.now.tables.accounts) }
@@ -133,7 +133,7 @@ impl Live {
     }
 
     /// The page of a paper as a user, or nobody, may see it, or the first broken rule, as `may` tells
-    /// it; an error for want of memory only where no rule is broken. Shares the texts that are told, and
+    /// it; an error for lack of memory only where no rule is broken. Shares the texts that are told, and
     /// no others.
     pub fn show(
         &self,
@@ -204,7 +204,7 @@ impl Live {
     }
 }
 
-/// Adds a name, where there is one; an error only for want of memory.
+/// Adds a name, where there is one; an error only for lack of memory.
 fn push_name(names: &mut Vec<Short>, name: Option<Short>) -> Result<(), AllocError>
     ensures { OnOk result (names.new.items ≡ names.old.items ++ listed name) }
 {

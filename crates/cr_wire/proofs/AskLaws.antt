@@ -5,9 +5,8 @@ use Rattle.cr_base.specs.Logins.{command_ask}
 use Rattle.cr_base.specs.declared.ask.Ask.{Ask}
 use Rattle.cr_base.specs.declared.ask.Ask.TheVariants as asks
 use Rattle.cr_base.specs.declared.command.Command.{Command}
-use Rattle.cr_base.specs.declared.command.Command.TheVariants as commands
 use Rattle.cr_bodies.specs.Bodies.{command_in, command_read}
-use Rattle.cr_bodies.specs.Field.{◌>>=◌, abstract_at, digest_at, flag_at, mode_at, name_at, phase_at, role_at, title_at, user_at}
+use Rattle.cr_bodies.specs.Field.{◌>>=◌, abstract_under, digest_under, flag_under, mode_under, name_under, phase_under, role_under, title_under, user_under}
 use Rattle.cr_bodies.specs.Json.{json_of}
 use Rattle.cr_routes.specs.Parts.{FoundPath}
 use Rattle.cr_wire.specs.Asked.{asked, command_of, commanded}
@@ -27,26 +26,26 @@ of_each ask (Some x) made each = each x
 given : (ask : Ask) (paper : Option ℕ) (body : List ℕ) → GivenBy ask (command_read ask paper body)
 given asks.Register paper body =
     of_each asks.Register (json_of body) (command_in asks.Register paper) (λ d.
-    of_each asks.Register (name_at (codes "name") d) _ (λ name.
-    of_each asks.Register (digest_at (codes "secret") d) _ (λ digest. refl)))
+    of_each asks.Register (name_under (codes "name") d) _ (λ name.
+    of_each asks.Register (digest_under (codes "secret") d) _ (λ digest. refl)))
 given asks.Name paper body =
     of_each asks.Name (json_of body) (command_in asks.Name paper) (λ d.
-    of_each asks.Name (user_at (codes "name") d) _ (λ user.
-    of_each asks.Name (role_at (codes "role") d) _ (λ role. refl)))
+    of_each asks.Name (user_under (codes "name") d) _ (λ user.
+    of_each asks.Name (role_under (codes "role") d) _ (λ role. refl)))
 given asks.SetMode paper body =
     of_each asks.SetMode (json_of body) (command_in asks.SetMode paper) (λ d.
-    of_each asks.SetMode (mode_at (codes "mode") d) _ (λ mode. refl))
+    of_each asks.SetMode (mode_under (codes "mode") d) _ (λ mode. refl))
 given asks.SetPhase paper body =
     of_each asks.SetPhase (json_of body) (command_in asks.SetPhase paper) (λ d.
-    of_each asks.SetPhase (phase_at (codes "phase") d) _ (λ phase. refl))
+    of_each asks.SetPhase (phase_under (codes "phase") d) _ (λ phase. refl))
 given asks.Submit paper body =
     of_each asks.Submit (json_of body) (command_in asks.Submit paper) (λ d.
-    of_each asks.Submit (title_at (codes "title") d) _ (λ title.
-    of_each asks.Submit (abstract_at (codes "abstract") d) _ (λ abstract. refl)))
+    of_each asks.Submit (title_under (codes "title") d) _ (λ title.
+    of_each asks.Submit (abstract_under (codes "abstract") d) _ (λ abstract. refl)))
 given asks.SetConflict paper body =
     of_each asks.SetConflict (json_of body) (command_in asks.SetConflict paper) (λ d.
-    of_each asks.SetConflict (flag_at (codes "on") d) _ (λ on.
-    of_each asks.SetConflict (user_at (codes "user") d) _ (λ user. refl)))
+    of_each asks.SetConflict (flag_under (codes "on") d) _ (λ on.
+    of_each asks.SetConflict (user_under (codes "user") d) _ (λ user. refl)))
 given ask paper body = of_each ask (json_of body) (command_in ask paper) (λ d. tt)
 
 asks_for : (ask : Ask) (told : Option Command) → GivenBy ask told → ask_of (command_of ask told) ≡ Some ask

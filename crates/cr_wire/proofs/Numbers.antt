@@ -8,7 +8,7 @@ use Rattle.std.proofs.lemmas.Bool.{and_parts}
 use Rattle.std.proofs.lemmas.Bool.Decides.{nat_tests}
 use Rattle.std.proofs.lemmas.Str.{digit_value_digit}
 use Rattle.std.proofs.lemmas.Str.Parse.{digits_value-take-le, digits_value_short, numerals_by_value, tells_digits}
-use Rattle.cr_wire.specs.Paper.{is_short, is_number}
+use Rattle.cr_wire.specs.Paper.{is_short, is_paper_number}
 
 digit : (b : ℕ) → IsTrue (is_ascii_digit b) → (48 ≤ b) × (b ≤ 57)
 digit b h =
@@ -29,7 +29,7 @@ at_most : (n m : ℕ) → IsTrue (nat_le n m) → n ≤ m
 at_most n m h = grind (arith, nat_tests)
 
 -- a number's bytes are at most four, the first isn't 0, and all are digits
-pub parts : (text : List ℕ) → IsTrue (is_number text) → (length text ≤ 4) × IsTrue (not (slice_index text 0 == 48)) × IsTrue (list_all is_ascii_digit text)
+pub parts : (text : List ℕ) → IsTrue (is_paper_number text) → (length text ≤ 4) × IsTrue (not (slice_index text 0 == 48)) × IsTrue (list_all is_ascii_digit text)
 parts text h =
     let front = and_parts (is_short text && not (slice_index text 0 == 48)) (list_all is_ascii_digit text) h in
     let short = and_parts (is_short text) (not (slice_index text 0 == 48)) front.0 in
@@ -37,7 +37,7 @@ parts text h =
     (few, short.1, front.1)
 
 -- each is at least 1
-pub low : (text : List ℕ) → IsTrue (is_number text) → 1 ≤ digits_value 10 text
+pub low : (text : List ℕ) → IsTrue (is_paper_number text) → 1 ≤ digits_value 10 text
 low [] h = cc
 low (b ∷ rest) h =
     let all = parts (b ∷ rest) h in
@@ -47,7 +47,7 @@ low (b ∷ rest) h =
     omega (arith, here, digit_value_digit b here, first)
 
 -- each is at most 9,999
-pub high : (text : List ℕ) → IsTrue (is_number text) → digits_value 10 text ≤ 9999
+pub high : (text : List ℕ) → IsTrue (is_paper_number text) → digits_value 10 text ≤ 9999
 high text h =
     let all = parts text h in
     let lt = digits_value_short (numerals_by_value (AllDigits 10) tells_digits) text 4 (digits text all.2) all.0 in

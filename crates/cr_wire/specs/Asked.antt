@@ -48,12 +48,12 @@ abbrev pub with_ask : FoundPath → Option Ask → List ℕ → What
 with_ask found None body = WrongMethod found.place
 with_ask found (Some ask) body = asked ask found body
 
-abbrev pub with_path : Option FoundPath → List ℕ → List ℕ → What
-with_path None method body = NoRoute
-with_path (Some found) method body = with_ask found (option_and_then (ask_at found.place) (method_of method)) body
+abbrev pub with_found : Option FoundPath → List ℕ → List ℕ → What
+with_found None method body = NoRoute
+with_found (Some found) method body = with_ask found (option_and_then (ask_at found.place) (method_of method)) body
 
 abbrev pub what_of : List ℕ → List ℕ → List ℕ → What
-what_of method target body = with_path (find_at (path_of target)) method body
+what_of method target body = with_found (find_at (path_of target)) method body
 
 -- a body was looked at, which alone takes memory
 abbrev pub LooksAtBody : What → Type 0

@@ -3,7 +3,7 @@ use Rattle.std.specs.Prelude.{ℕ, Bool, false, Option, Some, None, if◌then◌
 use Rattle.std.specs.Option.{option_map_or}
 use Rattle.cr_base.specs.declared.ask.Ask.{Ask}
 use Rattle.cr_base.specs.History.{History}
-use Rattle.cr_base.specs.Facts.{caller_of}
+use Rattle.cr_base.specs.HistoryFacts.{caller_of}
 use Rattle.cr_base.specs.Logins.{ask_reads_credentials, ask_wants_login, command_ask, query_ask}
 use Rattle.cr_bodies.specs.declared.credentials.Credentials.{Credentials}
 use Rattle.cr_wire.specs.declared.what.What.{What}

@@ -10,13 +10,13 @@ abbrev pub is_short : List ℕ → Bool
 is_short text = nat_le 1 (length text) && nat_le (length text) 4
 
 -- a number from 1 to 9,999 in decimal: so many digits, of which the first isn't 0
-abbrev pub is_number : List ℕ → Bool
-is_number text = is_short text && not (slice_index text 0 == 48) && list_all is_ascii_digit text
+abbrev pub is_paper_number : List ℕ → Bool
+is_paper_number text = is_short text && not (slice_index text 0 == 48) && list_all is_ascii_digit text
 
 -- the paper of a text
-abbrev pub paper_named : List ℕ → Option ℕ
-paper_named text = if is_number text then Some (digits_value 10 text) else None
+abbrev pub paper_spelt : List ℕ → Option ℕ
+paper_spelt text = if is_paper_number text then Some (digits_value 10 text) else None
 
 -- the paper that a path is about: its first parameter names it
 abbrev pub paper_of : FoundPath → Option ℕ
-paper_of found = option_and_then paper_named found.first
+paper_of found = option_and_then paper_spelt found.first

@@ -14,14 +14,14 @@ use Rattle.cr_wire.specs.declared.what.What.{What}
 use Rattle.cr_wire.specs.declared.what.Wish.{Wish}
 
 -- the only one
-abbrev pub only : {A : Type 0} → List A → Option A
-only [] = None
-only (x ∷ []) = Some x
-only (x ∷ y ∷ ys) = None
+abbrev pub the_only : {A : Type 0} → List A → Option A
+the_only [] = None
+the_only (x ∷ []) = Some x
+the_only (x ∷ y ∷ ys) = None
 
 -- what the only field Authorization tells
 abbrev pub credentials_in : List (List ℕ × List ℕ) → Option Credentials
-credentials_in fields = option_and_then credentials_of (only (values_of (codes "authorization") fields))
+credentials_in fields = option_and_then credentials_of (the_only (values_of (codes "authorization") fields))
 
 -- what it tells a request that reads it
 abbrev pub credentials_for : What → List (List ℕ × List ℕ) → Option Credentials

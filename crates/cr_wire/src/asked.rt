@@ -1,7 +1,7 @@
 //! From a path, a method and a body to what is wished.
 ghost use Rattle.std.specs.Prelude.{◌≡◌, option_and_then, option_map, IfOk, OnErr};
 ghost use Rattle.cr_base.specs.Bounds.{IsBoundedCommand};
-ghost use Rattle.cr_bodies.specs.Outcome.{Reads};
+ghost use Rattle.cr_bodies.specs.Outcome.{TellsBody};
 ghost use Rattle.cr_routes.specs.Asks.{ask_at as ask_of_place};
 ghost use Rattle.cr_routes.specs.Methods.{method_of};
 ghost use Rattle.cr_routes.specs.Parts.{seen};
@@ -13,12 +13,12 @@ use crate::paper::paper_of;
 use crate::what::What;
 use cr_base::{Ask, Command, Query};
 use cr_bodies::{BodyError, before_first, read_command};
-use cr_routes::{Found, Method, Place, Routes};
+use cr_routes::{Matched, Method, Place, Routes};
 use std::alloc::{AllocError, Global};
 use std::str::from_utf8;
 
 /// What a path is found to be, which is text.
-fn find<'p>(routes: &Routes, path: &'p [u8]) -> Option<Found<'p>>
+fn find<'p>(routes: &Routes, path: &'p [u8]) -> Option<Matched<'p>>
     ensures { option_map seen result ≡ spec.find_at path.now }
 {
     match from_utf8(path) {
@@ -36,7 +36,7 @@ fn ask_at(place: Place, method: &[u8]) -> Option<Ask>
 
 /// The command, where the body tells one.
 fn command(ask: Ask, read: Result<Command, BodyError>) -> Result<What, AllocError>
-    ensures told { (told : _) → Reads read told → Gives result (spec.command_of ask told) }
+    ensures told { (told : _) → TellsBody read told → Gives result (spec.command_of ask told) }
     ensures bounded { IfOk read IsBoundedCommand → IfOk result IsBoundedWhat }
     ensures sure { (told : _) → OnErr result (spec.LooksAtBody (spec.command_of ask told)) }
 {
@@ -48,7 +48,7 @@ fn command(ask: Ask, read: Result<Command, BodyError>) -> Result<What, AllocErro
 }
 
 /// What is asked for, by its path and its body too.
-fn asked(alloc: Global, ask: Ask, found: Found<'_>, body: &[u8]) -> Result<What, AllocError>
+fn asked(alloc: Global, ask: Ask, found: Matched<'_>, body: &[u8]) -> Result<What, AllocError>
     ensures told { Gives result (spec.asked ask (seen found.entry) body.now) }
     ensures bounded { IfOk result IsBoundedWhat }
     ensures sure { OnErr result (spec.LooksAtBody (spec.asked ask (seen found.entry) body.now)) }
@@ -65,7 +65,7 @@ fn asked(alloc: Global, ask: Ask, found: Found<'_>, body: &[u8]) -> Result<What,
     }
 }
 
-/// What a request of this method, this target and this body wishes. Fails only for want of memory, which the reading of
+/// What a request of this method, this target and this body wishes. Fails only for lack of memory, which the reading of
 /// a JSON body alone takes.
 pub(crate) fn what_of(
     alloc: Global,

@@ -4,8 +4,8 @@ ghost use Rattle.cr_routes.specs.Parts.{seen};
 ghost use Rattle.cr_wire.specs.Paper as spec;
 
 use cr_base::PaperNo;
-use cr_http::{all_digits, number_of};
-use cr_routes::Found;
+use cr_http::{all_digits, decimal_value};
+use cr_routes::Matched;
 
 /// Whether a text has from one to four bytes.
 fn is_short(text: &[u8]) -> bool
@@ -15,18 +15,18 @@ fn is_short(text: &[u8]) -> bool
 }
 
 /// Whether a text is a number from 1 to 9,999 in decimal.
-fn is_number(text: &[u8]) -> bool
-    ensures { result ≡ spec.is_number text.now }
+fn is_paper_number(text: &[u8]) -> bool
+    ensures { result ≡ spec.is_paper_number text.now }
 {
     is_short(text) && text[0] != b'0' && all_digits(text)
 }
 
 /// The paper of a text.
-fn paper_named(text: &[u8]) -> Option<PaperNo>
-    ensures { result ≡ spec.paper_named text.now }
+fn paper_spelt(text: &[u8]) -> Option<PaperNo>
+    ensures { result ≡ spec.paper_spelt text.now }
 {
-    if is_number(text) {
-        Some(PaperNo::new(number_of(text)))
+    if is_paper_number(text) {
+        Some(PaperNo::new(decimal_value(text)))
     } else {
         None
     }
@@ -34,8 +34,8 @@ fn paper_named(text: &[u8]) -> Option<PaperNo>
 
 /// The paper that a path is about: Some exactly where its first parameter is a number from 1 to 9,999 in decimal, without
 /// a sign and without a zero in front. Looks at four bytes at most and costs no allocation.
-pub(crate) fn paper_of(found: Found<'_>) -> Option<PaperNo>
+pub(crate) fn paper_of(found: Matched<'_>) -> Option<PaperNo>
     ensures { result ≡ spec.paper_of (seen found.entry) }
 {
-    paper_named(found.first?.as_bytes())
+    paper_spelt(found.first?.as_bytes())
 }

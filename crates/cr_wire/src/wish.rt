@@ -57,7 +57,7 @@ fn asks_close(head: &Head<'_>) -> bool
     head.version() == Version::Http10 || field_asks_close(head)
 }
 
-/// The wish of a request, by its head and its body. Fails only for want of memory, which the reading of a JSON body
+/// The wish of a request, by its head and its body. Fails only for lack of memory, which the reading of a JSON body
 /// alone takes. Reads the target, the fields' names and the field Connection once, the body only where the method and the
 /// path want one, and the field Authorization only where `reads_credentials` says so. A command that is wished is within
 /// the bounds on commands.

@@ -1,6 +1,6 @@
 use Rattle.std.proofs.Common.{◌∙◌, ap}
 use Rattle.cr_base.specs.History.{History}
-use Rattle.cr_base.specs.Facts.{number_of}
+use Rattle.cr_base.specs.HistoryFacts.{number_of}
 use Rattle.cr_book.specs.Seen.{SeenBook}
 use Rattle.cr_book.proofs.BookLaws.{number-by_view}
 use Rattle.cr_book.proofs.book.Book.number_of.Goals as goal

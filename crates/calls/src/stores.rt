@@ -2,7 +2,7 @@
 //! reason's text is. `checks/store.py` tries bad stores, on real files.
 ghost use Rattle.std.specs.Prelude.{IsTrue, IfSome};
 
-use crate::{Reason, SqliteKeeper};
+use cr_sqlite::{Reason, SqliteKeeper};
 use cr_base::{Blob, Row};
 use cr_ports::Keeper;
 use sqlite::{Alter, Connection, Error, ErrorCode, File, FileStore, Files, Options};
@@ -144,7 +144,7 @@ fn write<D: Disk + Drop>(alloc: Global, log: D, db: D, rows: &[Row]) -> Option<D
     close(keep_in(alloc, conn, rows)?)
 }
 
-fn reads<K: Keeper>(keeper: &mut K, at: u64, wanted: &Row) -> bool {
+fn reads<S: Alter>(keeper: &mut SqliteKeeper<S>, at: u64, wanted: &Row) -> bool {
     match keeper.row(at) {
         Ok(row) => is_same(&row, wanted),
         Err(_) => false,
@@ -152,7 +152,7 @@ fn reads<K: Keeper>(keeper: &mut K, at: u64, wanted: &Row) -> bool {
 }
 
 /// Whether these are the keeper's rows.
-fn reads_all<K: Keeper>(keeper: &mut K, rows: &[Row]) -> bool {
+fn reads_all<S: Alter>(keeper: &mut SqliteKeeper<S>, rows: &[Row]) -> bool {
     for (at, row) in (0..rows.len() as u64).zip(rows) {
         if !reads(keeper, at, row) {
             return false;

@@ -8,7 +8,7 @@ use matchit::Params;
 
 /// A path's place, with what its parameters took of the path, in their order. No path has more than two.
 #[derive(Clone, Copy, PartialEq, Eq, Debug)]
-pub struct Found<'p> {
+pub struct Matched<'p> {
     /// Which of the server's paths it is.
     pub place: Place,
     /// What its first parameter took: one part of the path, of at least one byte. None where it has no parameter.

@@ -1,4 +1,4 @@
--- PublicFacts and Ties: what a history says of the conference, of its papers, and of a user.
+-- Facts of a history: what it says of the conference, of its papers, and of a user.
 use Rattle.std.specs.Prelude.{ℕ, Bool, false, ◌||◌, List, Option, length, map, Some}
 use Rattle.std.specs.List.{flat_map, list_any}
 use Rattle.cr_base.specs.declared.entry.Stamped.{Stamped}
@@ -11,7 +11,9 @@ use Rattle.cr_base.specs.declared.words.Role.TheVariants.{Account}
 use Rattle.cr_base.specs.declared.reply.AccountLine.{AccountLine}
 use Rattle.cr_base.specs.declared.standing.Standing.{Standing}
 use Rattle.cr_base.specs.Lists.{last, last_or, is_number, at_some}
-use Rattle.cr_base.specs.History.{History, Registration, all_told, all_told_by, phase_told, mode_told, paper_told, own_paper_told, author_told, conflict_told, declared_told, title_told, abstract_told, registration_told, role_told, number_told, caller_told}
+use Rattle.cr_base.specs.History.{History, Registration, all_told, all_told_by, phase_told, mode_told, paper_told}
+use Rattle.cr_base.specs.History.{own_paper_told, author_told, conflict_told, declared_told, title_told}
+use Rattle.cr_base.specs.History.{abstract_told, registration_told, role_told, number_told, caller_told}
 
 -- ---- PublicFacts
 
