@@ -1,12 +1,13 @@
 //! What no clause says: that rows come back as they were from a store that was closed, and what a
 //! reason's text is. `checks/store.py` tries bad stores, on real files.
-ghost use Rattle.std.specs.Prelude.{IsTrue, IfSome};
+ghost use Rattle.std.specs.Prelude.{◌≡◌, IsTrue, IfSome, None};
+ghost use Rattle.sqlite_disk.specs.Memory.{memory_is_usable};
 
-use cr_sqlite::{Reason, SqliteKeeper};
 use cr_base::{Blob, Row};
 use cr_ports::Keeper;
+use cr_sqlite::{Reason, SqliteKeeper};
 use sqlite::{Alter, Connection, Error, ErrorCode, File, FileStore, Files, Options};
-use sqlite_disk::{Disk, Memory};
+use sqlite_disk::Memory;
 use std::alloc::{AllocError, Global};
 use std::test::Fail;
 
@@ -92,9 +93,8 @@ fn is_same(one: &Row, other: &Row) -> bool {
     one.b2.as_slice() == other.b2.as_slice()
 }
 
-fn open<D: Disk + Drop>(alloc: Global, log: D, db: D) -> Option<Connection<FileStore<D>>>
-    requires log { IsTrue (D.Disk.is_usable log) }
-    requires db { IsTrue (D.Disk.is_usable db) }
+fn open(alloc: Global, log: Memory, db: Memory) -> Option<Connection<FileStore<Memory>>>
+    requires { IsTrue (memory_is_usable log) × IsTrue (memory_is_usable db) }
 {
     match Connection::open_files(alloc, Files { log, db }, Options::new(1)) {
         Ok(conn) => Some(conn),
@@ -109,13 +109,19 @@ fn adopt<S: Alter + Drop>(alloc: Global, conn: Connection<S>) -> Option<SqliteKe
     }
 }
 
-fn close<D: Disk + Drop>(conn: Connection<FileStore<D>>) -> Option<D>
-    ensures { IfSome result (λ db. IsTrue (D.Disk.is_usable db)) }
+fn close(conn: Connection<FileStore<Memory>>) -> Option<Memory>
+    ensures { IfSome result (λ db. IsTrue (memory_is_usable db)) }
 {
     match conn.close_files() {
         Ok(Files { log: _, db }) => Some(db),
-        Err(_) => None,
+        Err(failed) => none_of(failed.0),
     }
+}
+
+fn none_of(_: Error) -> Option<Memory>
+    ensures { result ≡ None }
+{
+    None
 }
 
 /// The connection, in whose database the rows are kept.
@@ -135,10 +141,9 @@ fn keep_in<S: Alter + Drop>(
 }
 
 /// The database, closed, in which the rows are kept.
-fn write<D: Disk + Drop>(alloc: Global, log: D, db: D, rows: &[Row]) -> Option<D>
-    requires log { IsTrue (D.Disk.is_usable log) }
-    requires db { IsTrue (D.Disk.is_usable db) }
-    ensures { IfSome result (λ db. IsTrue (D.Disk.is_usable db)) }
+fn write(alloc: Global, log: Memory, db: Memory, rows: &[Row]) -> Option<Memory>
+    requires { IsTrue (memory_is_usable log) × IsTrue (memory_is_usable db) }
+    ensures { IfSome result (λ db. IsTrue (memory_is_usable db)) }
 {
     let conn = open(alloc, log, db)?;
     close(keep_in(alloc, conn, rows)?)
@@ -169,9 +174,8 @@ fn has<S: Alter + Drop>(alloc: Global, conn: Connection<S>, rows: &[Row]) -> boo
 }
 
 /// Whether the database, opened again, has these rows.
-fn finds<D: Disk + Drop>(alloc: Global, log: D, db: D, rows: &[Row]) -> bool
-    requires log { IsTrue (D.Disk.is_usable log) }
-    requires db { IsTrue (D.Disk.is_usable db) }
+fn finds(alloc: Global, log: Memory, db: Memory, rows: &[Row]) -> bool
+    requires { IsTrue (memory_is_usable log) × IsTrue (memory_is_usable db) }
 {
     match open(alloc, log, db) {
         Some(conn) => has(alloc, conn, rows),
