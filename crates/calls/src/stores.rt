@@ -11,7 +11,7 @@ use sqlite_disk::Memory;
 use std::alloc::{AllocError, Global};
 use std::test::Fail;
 
-// Each step is a function for any disk that gives plain values back: a proof that carries the
+// Each step is a function that gives plain values back: a proof that carries the
 // clauses of several calls, and the ways in which what is open is dropped, takes many minutes.
 
 fn must_send<T: Send>(_: &T) {}

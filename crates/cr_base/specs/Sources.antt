@@ -63,8 +63,8 @@ shown_in_tables t = record {
   title = title_at t.papers;
   abstract_ = abstract_at t.papers;
   authors = authors_in t.ties;
-  conflicts = λ p. users_of p t.ties.conflicts;
-  declared = λ p. users_of p t.ties.declared;
+  conflicts = λ p. users_tied_to p t.ties.conflicts;
+  declared = λ p. users_tied_to p t.ties.declared;
   withdrawn = none_withdrawn;
 }
 
