@@ -1,5 +1,5 @@
 -- One connection, with its keeper handed back; over a keeper that counts no fault nothing is lost.
-use Rattle.std.proofs.Common.{◌≡◌, ◌++◌, ℕ, List, [], Option, Some, Bool, false, refl, sym, ap, subst, arith}
+use Rattle.std.proofs.Common.{◌≡◌, ◌++◌, ℕ, List, [], Option, false, refl, sym, ap, subst, arith}
 use Rattle.cr_base.specs.Lists.{listed}
 use Rattle.cr_base.specs.declared.row.Row.{Row}
 use Rattle.cr_base.specs.History.{History}
