@@ -7,3 +7,5 @@ pub mod Keeping
 pub mod Adapter
 pub mod Shelving
 pub mod Writing
+pub mod Doors
+pub mod Opening

@@ -6,6 +6,8 @@
 #![tactic(auto)]
 
 mod calls;
+mod door;
+mod gates;
 mod keeper;
 mod keepers;
 mod script;
@@ -19,6 +21,8 @@ mod streams;
 mod writing;
 
 pub use calls::Calls;
+pub use door::{Door, DoorAnswer, NextConnection, Served};
+pub use gates::{Gates, Opened};
 pub use keeper::{Keeper, KeeperError};
 pub use keepers::{MemKeeper, PlainKeeper};
 pub use script::Script;

@@ -1,0 +1,81 @@
+//! Where connections come from.
+ghost use Rattle.std.specs.Prelude.{◌≡◌, ◌≤◌, ◌+◌, ℕ, Bool, Option, IsTrue, IsFalse};
+
+use crate::{Sink, Source};
+
+/// What a door answers when it is asked for its next connection.
+#[derive(Debug, Drop)]
+pub enum NextConnection<I, O> {
+    /// A connection: what it reads from, and what it writes to.
+    Conn(I, O),
+    /// The door gave all connections of its share.
+    Done,
+    /// No connection could be given: a fault, which was counted.
+    Failed,
+}
+
+/// What a door answered, without the connection.
+#[derive(Clone, Copy, Debug, PartialEq, Eq)]
+pub enum DoorAnswer {
+    /// A connection was given.
+    Conn,
+    /// The door's share was given.
+    Done,
+    /// A fault, which was counted.
+    Failed,
+}
+
+/// A connection that was given back: its source and its sink as they were given, and as they came
+/// back.
+#[derive(Debug, Drop)]
+pub struct Served<I, O> {
+    /// As it was given.
+    pub given: (I, O),
+    /// As it came back.
+    pub back: (I, O),
+}
+
+/// Gives the connections of its share, one at a time: each is given back before the next is asked
+/// for.
+pub trait Door {
+    /// What a connection reads from.
+    type In: Source;
+
+    /// What a connection writes to.
+    type Out: Sink;
+
+    ghost use Rattle.cr_ports.specs.Doors.{DoorLog, FaultsAfterNext, LeftAfter, and_answer, and_back, gives};
+
+    /// How many connections it has still to give.
+    ghost left: { Self → ℕ };
+
+    /// A connection was given and not given back.
+    ghost is_out: { Self → Bool };
+
+    /// How often it has failed.
+    ghost faults: { Self → ℕ };
+
+    /// Its last answer, and the connections that were given back, where it tells them.
+    ghost log: { Self → Option (DoorLog Self.In Self.Out) };
+
+    /// The next connection, which is out until it is given back.
+    ///
+    /// `Done` comes exactly where none is left to give, and changes nothing else. After `Failed` as
+    /// many are left as before, and it comes only where the count of faults rose, or stands at its
+    /// last value. In memory it costs a move of the connection; an adapter's may wait for one to come.
+    fn next(&mut self) -> NextConnection<Self::In, Self::Out>
+        requires { IsFalse (is_out self.old) }
+        ensures left { LeftAfter result (left self.old) (left self.new) }
+        ensures out { is_out self.new ≡ gives result }
+        ensures faults { FaultsAfterNext result (faults self.old) (faults self.new) }
+        ensures log { log self.new ≡ and_answer (log self.old) result };
+
+    /// Takes the connection that is out back. Takes no memory; an adapter's may wait for the
+    /// connection's end.
+    fn give_back(&mut self, source: Self::In, sink: Self::Out)
+        requires { IsTrue (is_out self.old) }
+        ensures left { left self.new ≡ left self.old }
+        ensures out { IsFalse (is_out self.new) }
+        ensures faults { faults self.new ≡ faults self.old }
+        ensures log { log self.new ≡ and_back (log self.old) source sink };
+}
