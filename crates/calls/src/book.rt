@@ -1,10 +1,13 @@
 //! A book over two connections, opened again from its rows, with a view; one wish, one reply.
+ghost use Rattle.std.specs.Prelude.{◌≡◌, IfOk};
 
 use cr_base::{PaperNo, Query, Reply, Short, UserNo};
 use cr_book::Book;
+use cr_lock::{HistoryLock, Pass};
 use cr_ports::{Keeper, MemSink, PlainKeeper, PlainSource, write_all};
 use cr_session::{Ending, Inbox, WishRead, read_wish, serve_connection};
 use std::alloc::{AllocError, Global};
+use std::sync::Wait;
 use std::test::Fail;
 
 const ROOM: usize = 4096;
@@ -98,16 +101,33 @@ fn view(alloc: Global, book: &Book<PlainKeeper>) -> Result<[u64; 2], AllocError>
     Ok([book.view_len(alice)?, sink.taken().len() as u64])
 }
 
+/// A lock round the book, and its one pass.
+fn locked(
+    alloc: Global,
+    book: Book<PlainKeeper>,
+) -> Result<(HistoryLock<Book<PlainKeeper>>, Pass<Book<PlainKeeper>>), AllocError>
+    ensures { IfOk result (λ made. (made.1.lock ≡ made.0.lock) × (made.1.share ≡ 64) × (made.1.turns ≡ 0)) }
+{
+    match HistoryLock::new(alloc, book) {
+        Ok(made) => Ok(made),
+        Err((error, book)) => {
+            let _ = book.close();
+            Err(error)
+        }
+    }
+}
+
 /// Alice registers on one connection, and tries again on the next, which is cut.
-fn told_by_a_book(alloc: Global) -> Result<Told, Fail> {
+fn told_by_a_book<R: Wait>(rt: &R, alloc: Global) -> Result<Told, Fail> {
     let mut first = PlainSource::new(joined(alloc, &[ALICE])?);
     let mut second = PlainSource::new(joined(alloc, &[GET_PHASE, ALICE, CUT_SHORT])?);
     let mut sink = MemSink::new(alloc, ROOM, Vec::new(alloc), Vec::new(alloc))?;
-    let mut book = opened(alloc, PlainKeeper::new(alloc))?;
+    let (lock, mut pass) = locked(alloc, opened(alloc, PlainKeeper::new(alloc))?)?;
     let endings = [
-        serve_connection(alloc, &mut book, &mut first, &mut sink),
-        serve_connection(alloc, &mut book, &mut second, &mut sink),
+        serve_connection(rt, alloc, &lock, &mut pass, &mut first, &mut sink),
+        serve_connection(rt, alloc, &lock, &mut pass, &mut second, &mut sink),
     ];
+    let book = lock.close(pass);
     let (entries, users, accounts, logins) = (
         book.entries(),
         users(&book),
@@ -134,7 +154,7 @@ fn told_by_a_book(alloc: Global) -> Result<Told, Fail> {
 
 #[test]
 fn a_book_of_two_connections(rt: HostRuntime) -> Result<(), Fail> {
-    let told = told_by_a_book(rt.alloc())?;
+    let told = told_by_a_book(&rt, rt.alloc())?;
     assert!(rt; told.endings == [Ending::Clean, Ending::Cut]);
     assert!(rt; told.users == [Some(UserNo::new(1)), None, None]);
     assert!(rt; told.logins == [false, false, true, true]);

@@ -5,6 +5,7 @@ use cr_ports::{Keeper, MemSink, PlainKeeper, PlainSource};
 use cr_session::Ending;
 use cr_top::pipe;
 use std::alloc::{AllocError, Global};
+use std::sync::Wait;
 use std::test::Fail;
 
 /// A command of each kind. The first registration adds two entries.
@@ -31,7 +32,7 @@ const KEPT: [[u64; 5]; 8] = [
 ];
 
 /// How the connection ends on which they are sent, and what keeps their rows.
-fn run(alloc: Global) -> Result<(Ending, PlainKeeper), Fail> {
+fn run<R: Wait>(rt: &R, alloc: Global) -> Result<(Ending, PlainKeeper), Fail> {
     let mut bytes = Vec::new(alloc);
     for text in SENT {
         bytes.extend_from_slice(text.as_bytes())?;
@@ -39,7 +40,7 @@ fn run(alloc: Global) -> Result<(Ending, PlainKeeper), Fail> {
     let mut source = PlainSource::new(bytes);
     let mut sink = MemSink::new(alloc, 4096, Vec::new(alloc), Vec::new(alloc))?;
     match Book::open(alloc, PlainKeeper::new(alloc)) {
-        Ok(book) => Ok(pipe(alloc, book, &mut source, &mut sink)),
+        Ok(book) => Ok(pipe(rt, alloc, book, &mut source, &mut sink)),
         Err(_) => Err(AllocError.into()),
     }
 }
@@ -56,7 +57,7 @@ fn row_at(keeper: &mut PlainKeeper, at: u64) -> Option<[u64; 5]> {
 
 #[test]
 fn rows_of_a_conference(rt: HostRuntime) -> Result<(), Fail> {
-    let (ending, mut keeper) = run(rt.alloc())?;
+    let (ending, mut keeper) = run(&rt, rt.alloc())?;
     assert!(rt; ending == Ending::Clean);
     for (i, wanted) in KEPT.iter().enumerate() {
         assert!(rt; row_at(&mut keeper, i as u64) == Some(*wanted));

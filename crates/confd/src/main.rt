@@ -4,5 +4,5 @@
 use std::process::ExitCode;
 
 fn main(rt: HostRuntime) -> ExitCode {
-    cr_process::run(rt)
+    cr_process::run(&rt, &rt)
 }

@@ -47,6 +47,7 @@ use case::Case;
 use file::{FileError, read_cases};
 use std::alloc::{AllocError, Global};
 use std::process::ExitCode;
+use std::sync::Wait;
 use std::{fs, io};
 use verdict::difference;
 
@@ -85,9 +86,14 @@ fn case_names(rt: &HostRuntime) -> io::Result<Vec<String>> {
 }
 
 // Runs a case, counts it, and tells what came of it.
-fn told(alloc: Global, case: &Case, total: &mut Total) -> Result<String, AllocError> {
+fn told<R: Wait>(
+    rt: &R,
+    alloc: Global,
+    case: &Case,
+    total: &mut Total,
+) -> Result<String, AllocError> {
     let answers = case.answers.len();
-    let difference = difference(alloc, case)?;
+    let difference = difference(rt, alloc, case)?;
     total.add(answers, difference.is_some());
     match difference {
         None => format!(in alloc; "ok, {answers} answers"),
@@ -95,14 +101,19 @@ fn told(alloc: Global, case: &Case, total: &mut Total) -> Result<String, AllocEr
     }
 }
 
-// Runs the cases of a file, a line a case.
-fn run_file(rt: &HostRuntime, name: &str, total: &mut Total) -> io::Result<()> {
+// Runs the cases of a file, a line a case. The handle is the same runtime, as one that may wait.
+fn run_file<R: Wait>(
+    rt: &HostRuntime,
+    handle: &R,
+    name: &str,
+    total: &mut Total,
+) -> io::Result<()> {
     let alloc = rt.alloc();
     let text = fs::read_to_string(rt, name)?;
     match read_cases(alloc, text.as_str()) {
         Ok(cases) => {
             for case in cases.iter() {
-                let told = told(alloc, case, total)?;
+                let told = told(handle, alloc, case, total)?;
                 println!(rt; "{name}, {}: {told}", case.title)?;
             }
         }
@@ -122,7 +133,7 @@ fn main(rt: HostRuntime) -> io::Result<ExitCode> {
         failed: 0,
     };
     for name in case_names(&rt)?.iter() {
-        run_file(&rt, name.as_str(), &mut total)?;
+        run_file(&rt, &rt, name.as_str(), &mut total)?;
     }
     let Total {
         cases,

@@ -5,6 +5,7 @@ use cr_base::Row;
 use cr_ports::{MemSink, MemSource};
 use cr_top::{Exit, top};
 use std::alloc::{AllocError, Global};
+use std::sync::Wait;
 
 /// How a stream is cut: one piece of `first` bytes, where that isn't 0, then pieces of `size`.
 #[derive(Clone, Copy, Drop)]
@@ -87,11 +88,11 @@ impl Input<'_> {
     }
 
     /// Runs it, with room for so many bytes of answers.
-    pub fn run(&self, alloc: Global, room: usize) -> Result<Outcome, AllocError> {
+    pub fn run<R: Wait>(&self, rt: &R, alloc: Global, room: usize) -> Result<Outcome, AllocError> {
         let mut source = self.source(alloc)?;
         let mut sink = self.sink(alloc, room)?;
         let mut shelf = self.store.shelf(alloc)?;
-        let exit = top(alloc, self.words, &mut source, &mut sink, &mut shelf);
+        let exit = top(rt, alloc, self.words, &mut source, &mut sink, &mut shelf);
         Ok(Outcome {
             exit,
             out: sink.taken().to_vec(alloc)?,

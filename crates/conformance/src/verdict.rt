@@ -7,6 +7,7 @@ use cr_base::Row;
 use cr_top::Exit;
 use std::alloc::{AllocError, Global};
 use std::fmt::Debug;
+use std::sync::Wait;
 
 /// More room than any answers that are due need, so that what comes too much is told.
 const SPARE_ROOM: usize = 4096;
@@ -48,11 +49,15 @@ struct Due<'a> {
 }
 
 /// The first difference between what is due of a case and what comes, in words; none where all is as due.
-pub fn difference(alloc: Global, case: &Case) -> Result<Option<String>, AllocError> {
+pub fn difference<R: Wait>(
+    rt: &R,
+    alloc: Global,
+    case: &Case,
+) -> Result<Option<String>, AllocError> {
     for number in 0..runs(case) {
         let input = input_at(case, number);
         let due = due_at(case, number);
-        if let Some(why) = compare(alloc, case, &input, &due)? {
+        if let Some(why) = compare(rt, alloc, case, &input, &due)? {
             let name = name_of(case.ways, number);
             return Ok(Some(format!(in alloc; "{name}, run {number}: {why}")?));
         }
@@ -264,13 +269,14 @@ fn due_of_rows(case: &Case, count: usize) -> Due<'_> {
 }
 
 // Runs it, and tells the first difference.
-fn compare(
+fn compare<R: Wait>(
+    rt: &R,
     alloc: Global,
     case: &Case,
     input: &Input<'_>,
     due: &Due<'_>,
 ) -> Result<Option<String>, AllocError> {
-    let outcome = input.run(alloc, due.out.len().saturating_add(SPARE_ROOM))?;
+    let outcome = input.run(rt, alloc, due.out.len().saturating_add(SPARE_ROOM))?;
     if outcome.out.as_slice() != due.out {
         return Ok(Some(differing_answer(alloc, case, outcome.out.as_slice(), due.out)?));
     }

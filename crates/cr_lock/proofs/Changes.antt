@@ -1,5 +1,5 @@
 -- Each step keeps the rule of the lock.
-use Rattle.std.proofs.Common.{◌≡◌, ◌≢◌, ◌⊎◌, inl, inr, ⊎_elim, ℕ, zero, suc, ◌+◌, ◌-◌, ◌*◌, ◌%◌, ◌^◌, ◌<◌, ◌≤◌, Option, Some, List, [], ◌∷◌, length, get_or, set, refl, ap, sym, ◌∙◌, subst, arith, mod-eq_of_lt, mul-add, mul-one, add-mul, mul-le-mul_left}
+use Rattle.std.proofs.Common.{◌≡◌, ◌≢◌, ◌⊎◌, inl, inr, ⊎_elim, ℕ, zero, suc, ◌+◌, ◌-◌, ◌*◌, ◌%◌, ◌^◌, ◌<◌, ◌≤◌, Option, Some, List, [], ◌∷◌, length, get_or, set, if◌then◌else◌, refl, ap, sym, ◌∙◌, subst, arith, mod-eq_of_lt, mul-add, mul-one, add-mul, mul-le-mul_left}
 use mathlib.Core.Logic.{dite}
 use mathlib.Core.List.{IsPrefix}
 use mathlib.Core.Option.{some, none, some-injective, some-ne-none}
@@ -7,6 +7,7 @@ use native.Mathlib.Decide.{dec_le}
 use lib.ListN.{get_elem?}
 use Rattle.atomic_table.specs.Table.{State, Me, step, keeps, opening, Allows}
 use Rattle.atomic_table.proofs.Lists.{at_set, set_again}
+use Rattle.cr_lock.specs.declared.view.Turn.{Turn}
 use Rattle.cr_lock.specs.declared.view.Role.{Role}
 use Rattle.cr_lock.specs.declared.view.Role.TheVariants.{Idle, Waiting, Holding, Joined}
 use Rattle.cr_lock.specs.declared.view.View.{View}
@@ -79,10 +80,21 @@ module _ {T E : Type 0} (list : T → List E) (faults : T → ℕ) (first : T) w
   abbrev pub holding : ℕ → V → ℕ
   holding t v = holds_ticket t v.role
 
-  pub risen_same : (vs ws : List V) (n : ℕ) → total marked vs ≡ total marked ws → Rose vs n → Rose ws n
+  -- the turns of all passes weigh the same, however they are weighed
+  abbrev pub WeighAlike : List V → List V → Type 0
+  WeighAlike vs ws = (f : Turn E → ℕ) → total (λ (u : V). total f u.mine) vs ≡ total (λ (u : V). total f u.mine) ws
+
+  -- one view changes, and its turns stay
+  pub alike_set : (vs : List V) (id : ℕ) (v w : V) → get_elem? vs id ≡ some v → w.mine ≡ v.mine → WeighAlike vs (set vs id w)
+  alike_set vs id v w at same f =
+      let c : total (λ (u : V). total f u.mine) (set vs id w) + total f v.mine ≡ total (λ (u : V). total f u.mine) vs + total f w.mine = total_set (λ (u : V). total f u.mine) vs id v w at in
+      let e : total f w.mine ≡ total f v.mine = ap (total f) same in omega arith
+
+  pub risen_same : (vs ws : List V) (n : ℕ) → WeighAlike vs ws → Rose vs n → Rose ws n
   risen_same vs ws n e r = record {
-    marks = ⊎_elim (λ (a : faults first + total marked vs ≤ n). inl (omega arith)) (λ (a : last_count ≤ n). inr a) r.marks;
-    unmarked = λ none. r.unmarked (e ∙ none);
+    count = r.count ∙ ap (λ (k : ℕ). faults first + k) (e (λ t. t.rise));
+    marks = (let same : total marked vs ≡ total marked ws = e (λ t. if t.marked then 1 else 0) in
+        ⊎_elim (λ (a : faults first + total marked vs ≤ n). inl (omega arith)) (λ (a : last_count ≤ n). inr a) r.marks);
   }
 
   each_set : (F G : V → Type 0) (vs : List V) (me : ℕ) (w : V) → G w → ((j : ℕ) (u : V) → j ≢ me → get_elem? vs j ≡ some u → F u → G u)
@@ -151,11 +163,11 @@ module _ {T E : Type 0} (list : T → List E) (faults : T → ℕ) (first : T) w
     drawn = omega arith;
     groups = λ k. sym (within_out start start k (dite (dec_le start k) (λ a. inl a) (λ a. inr (omega arith))));
     each = opens_each;
-    value = inl (first, refl, refl, record { marks = inl (omega arith); unmarked = λ _. refl }, refl);
+    value = inl (first, refl, refl, record { count = omega arith; marks = inl (omega arith) }, refl);
   }
 
   -- the same value, where no view's marks change and the passes that have the value are as many
-  pub value_same : (log : List E) (s : St) (ws : List ℕ) (vs : List V) → total has vs ≡ total has s.views → total marked s.views ≡ total marked vs
+  pub value_same : (log : List E) (s : St) (ws : List ℕ) (vs : List V) → total has vs ≡ total has s.views → WeighAlike s.views vs
       → Home list faults first log s ⊎ Away list faults first s → Home list faults first log record { words = ws; homes = s.homes; views = vs } ⊎ Away list faults first record { words = ws; homes = s.homes; views = vs }
   value_same log s ws vs e m h = ⊎_elim (λ (a : Home list faults first log s). inl (a.0, a.1, a.2, risen_same s.views vs (faults a.0) m a.3, e ∙ a.4)) (λ (a : Away list faults first s). inr (a.0, e ∙ a.1)) h
 
@@ -195,7 +207,7 @@ module _ {T E : Type 0} (list : T → List E) (faults : T → ℕ) (first : T) w
       let small = ticket_small s r in
       let k : (m + 1) % 2 ^ 64 ≡ r.ticket + 1 = mod-eq_of_lt (omega arith) ∙ ap (λ (z : ℕ). z + 1) is in
       let no : has_value v.role ≡ 0 = ap has_value idle in
-      let same : total marked s.views ≡ total marked (set s.views id w) = (let c : total marked (set s.views id w) + marked v ≡ total marked s.views + marked w = total_set marked s.views id v w at in omega arith) in
+      let same = alike_set s.views id v w at refl in
       let same' : total has (set s.views id w) ≡ total has s.views = (let c : total has (set s.views id w) + has v ≡ total has s.views + has w = total_set has s.views id v w at in omega arith) in
       change s r id v w at r.log (r.ticket + 1) r.serving (set s.words 0 ((m + 1) % 2 ^ 64)) s.homes
       (ap (λ (ws : List ℕ). set ws 0 ((m + 1) % 2 ^ 64)) r.words ∙ ap (λ (z : ℕ). z ∷ r.serving ∷ length r.log ∷ r.bells) k)

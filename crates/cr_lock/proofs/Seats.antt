@@ -15,7 +15,7 @@ use Rattle.cr_lock.specs.declared.view.Role.{Role}
 use Rattle.cr_lock.specs.declared.view.Role.TheVariants.{Idle, Holding, Joined}
 use Rattle.cr_lock.specs.declared.view.View.{View}
 use Rattle.cr_lock.specs.Counts.{last_count, within, total, Every}
-use Rattle.cr_lock.specs.Turns.{InOrder, end_of, groups_with, marks, StandsIn, longer, InCommon}
+use Rattle.cr_lock.specs.Turns.{InOrder, end_of, groups_with, marks, rises, StandsIn, longer, InCommon}
 use Rattle.cr_lock.specs.Views.{left_half, right_half, joining, spent_view}
 use Rattle.cr_lock.specs.Passes.{Known}
 use Rattle.cr_lock.specs.Closing.{Closes}
@@ -24,7 +24,7 @@ use Rattle.cr_lock.specs.Steps.{LookedAfterJoin}
 use Rattle.cr_lock.proofs.Prefixes.{prefix_self, prefix_shorter, prefix_length, prefix_either, prefix_whole, prefix_drop, every_longer}
 use Rattle.cr_lock.proofs.Order.{follows, merged_in_order}
 use Rattle.cr_lock.proofs.Sums.{total_append, total_set, total_at, total_two, total_only, total_merged, every_merged, within_one, within_in, within_is}
-use Rattle.cr_lock.proofs.Changes.{Rule, Rose, change, risen_same, value_same, fits_on}
+use Rattle.cr_lock.proofs.Changes.{Rule, Rose, WeighAlike, change, alike_set, risen_same, value_same, fits_on}
 
 unmoved_risen : {E : Type 0} (P Q : ℕ → Type 0) (serving : ℕ) (v : View E) (log : List E) → ((n : ℕ) → P n → Q n) → (t n : ℕ) → v.role ≡ Holding t n → (t ≡ serving) × (v.seen ≡ log) × P n → (t ≡ serving) × (v.seen ≡ log) × Q n
 unmoved_risen P Q serving v log on t n is g = (g.0, g.1, on n g.2)
@@ -85,7 +85,7 @@ module _ {T E : Type 0} (list : T → List E) (faults : T → ℕ) (first : T) w
       let f = r.each id v at in
       let vs' = set s.views id l ++ o ∷ [] in
       let half : v.share / 2 ≤ v.share = omega arith in
-      let same : total (λ (u : V). marks u.mine) s.views ≡ total (λ (u : V). marks u.mine) vs' = sym (cut (λ (u : V). marks u.mine) s.views id v l o at (omega arith)) in
+      let same : WeighAlike list faults first s.views vs' = λ f. sym (cut (λ (u : V). total f u.mine) s.views id v l o at (omega arith)) in
       let long = alive_some v (omega arith) f.alive in
       let holders : total (λ (u : V). has_value u.role) vs' ≡ total (λ (u : V). has_value u.role) s.views = (let z : has_value v.role ≡ 0 = ap has_value idle in cut (λ (u : V). has_value u.role) s.views id v l o at (omega arith)) in
       let fits_idle : (u : V) → u.role ≡ Idle → u.seen ≡ v.seen → u.turns ≡ v.turns → Every (StandsIn v.seen) u.mine → InOrder u.mine → 0 < u.share → Fits start r.log r.serving (Up vs') u = λ u is seen turns stand sorted some_share. record {
@@ -142,7 +142,7 @@ module _ {T E : Type 0} (list : T → List E) (faults : T → ℕ) (first : T) w
       let vs' = set (set s.views id b) other spent_view in
       let no : has_value v.role ≡ 0 = ap has_value idle in
       let no' : has_value w.role ≡ 0 = ap has_value idle' in
-      let same : total (λ (u : V). marks u.mine) s.views ≡ total (λ (u : V). marks u.mine) vs' = sym (glue (λ (u : V). marks u.mine) s.views id other v w b at at' (total_merged (λ (z : Turn E). if z.marked then 1 else 0) v.mine w.mine) refl) in
+      let same : WeighAlike list faults first s.views vs' = λ f. sym (glue (λ (u : V). total f u.mine) s.views id other v w b at at' (total_merged f v.mine w.mine) refl) in
       let holders : total (λ (u : V). has_value u.role) vs' ≡ total (λ (u : V). has_value u.role) s.views = glue (λ (u : V). has_value u.role) s.views id other v w b at at' (omega arith) refl in
       let long = longer_of v.seen w.seen r.log f.seen h.seen in
       let l : length v.seen ≤ length (longer v.seen w.seen) = prefix_length v.seen (longer v.seen w.seen) long.0 in
@@ -192,7 +192,7 @@ module _ {T E : Type 0} (list : T → List E) (faults : T → ℕ) (first : T) w
       let f = r.each id v at in
       let vs' = set s.views id w in
       let no : has_value v.role ≡ 0 = ap has_value is in
-      let same : total (λ (u : V). marks u.mine) s.views ≡ total (λ (u : V). marks u.mine) vs' = (let c : total (λ (u : V). marks u.mine) vs' + marks v.mine ≡ total (λ (u : V). marks u.mine) s.views + marks w.mine = total_set (λ (u : V). marks u.mine) s.views id v w at in omega arith) in
+      let same = alike_set list faults first s.views id v w at refl in
       let holders : total (λ (u : V). has_value u.role) vs' ≡ total (λ (u : V). has_value u.role) s.views = (let c : total (λ (u : V). has_value u.role) vs' + has_value v.role ≡ total (λ (u : V). has_value u.role) s.views + 0 = total_set (λ (u : V). has_value u.role) s.views id v w at in omega arith) in
       change list faults first s r id v w at r.log r.ticket r.serving (set s.words 1 (get_or s.words 1 0)) s.homes
       (set-get_or s.words 1 0 ∙ r.words)
@@ -259,6 +259,6 @@ module _ {T E : Type 0} (list : T → List E) (faults : T → ℕ) (first : T) w
           places = f.stand;
           whole = home.2 ∙ (sym (prefix_drop (list first) r.log r.begins) ∙ ap (λ z. list first ++ z) (follows r.log v.mine start (length r.log) f.sorted (every_longer v.seen r.log v.mine f.seen f.stand) refl (prefix_length (list first) r.log r.begins) counted));
           marks = ⊎_elim (λ (a : faults first + total (λ (u : V). marks u.mine) s.views ≤ faults x). inl (omega arith)) (λ (a : last_count ≤ faults x). inr a) home.3.marks;
-          unmarked = λ none. home.3.unmarked (marked_all ∙ none);
+          count = home.3.count ∙ ap (λ (k : ℕ). faults first + k) (only (λ (u : V). rises u.mine) refl);
         },
       )

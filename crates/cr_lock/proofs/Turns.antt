@@ -14,18 +14,18 @@ use Rattle.cr_lock.specs.declared.view.Role.{Role}
 use Rattle.cr_lock.specs.declared.view.Role.TheVariants.{Idle, Waiting, Holding, Joined}
 use Rattle.cr_lock.specs.declared.view.View.{View}
 use Rattle.cr_lock.specs.Counts.{last_count, has_risen, within, total, Every}
-use Rattle.cr_lock.specs.Turns.{turn_at, end_of, groups_with, marks, StandsIn}
+use Rattle.cr_lock.specs.Turns.{turn_at, end_of, groups_with, marks, rises, StandsIn}
 use Rattle.cr_lock.specs.Views.{spent_view}
 use Rattle.cr_lock.specs.Rule.{holds_ticket, has_value, FitsRole, Fits, Home, Away}
 use Rattle.cr_lock.specs.Steps.{Looked, Noted, noted_at, WentOn}
 use Rattle.cr_lock.proofs.Prefixes.{prefix_self, prefix_length, prefix_drop, every_longer, every_snoc}
 use Rattle.cr_lock.proofs.Order.{snoc_in_order, places_below}
 use Rattle.cr_lock.proofs.Sums.{total_append, total_set, total_at, total_two, total_gap, within_join, within_one, within_in, within_is}
-use Rattle.cr_lock.proofs.Changes.{Rule, Rose, has, marked, change, risen_same, ticket_small}
+use Rattle.cr_lock.proofs.Changes.{Rule, Rose, has, marked, change, alike_set, risen_same, ticket_small}
 
 -- a turn on a value that stood for the list xs and stands for ys
-abbrev pub after_turn : {E : Type 0} → View E → List E → List E → Bool → View E
-after_turn v xs ys marked = record v { turns = v.turns + 1; seen = ys; mine = v.mine ++ turn_at (length xs) (drop (length xs) ys) marked ∷ [] }
+abbrev pub after_turn : {E : Type 0} → View E → List E → List E → ℕ → ℕ → View E
+after_turn v xs ys m n = record v { turns = v.turns + 1; seen = ys; mine = v.mine ++ turn_at (length xs) (drop (length xs) ys) m n ∷ [] }
 
 -- a pass that has the value holds the ticket that is served
 has_at_most : {E : Type 0} (start : ℕ) (log : List E) (serving : ℕ) (risen : ℕ → Type 0) (v : View E) (role : Role E) → FitsRole start log serving risen v role → has_value role ≤ holds_ticket serving role
@@ -40,10 +40,6 @@ served start log serving risen v t n e f = subst (λ role. FitsRole start log se
 -- the count of faults has risen by one more mark, where it has risen
 marked_more : (a n c : ℕ) → n ≤ c → (a ≤ n) ⊎ (last_count ≤ n) → (a + (if has_risen n c then 1 else 0) ≤ c) ⊎ (last_count ≤ c)
 marked_more a n c le h = ⊎_elim (λ (p : a ≤ n). dite (dec_le last_count c) (λ full. inr full) (λ less. inl (grind (arith, nat_tests)))) (λ (p : last_count ≤ n). inr (omega arith)) h
-
--- where it has not risen, it is what it was
-unmarked_same : (n c : ℕ) → n ≤ c → ◌≡◌ {A = ℕ} (if has_risen n c then 1 else 0) 0 → c ≡ n
-unmarked_same n c le zero_more = grind (arith, nat_tests)
 
 module _ {T E : Type 0} (list : T → List E) (faults : T → ℕ) (first : T) where
   abbrev V : Type 0
@@ -84,7 +80,7 @@ module _ {T E : Type 0} (list : T → List E) (faults : T → ℕ) (first : T) w
       let vs' = set s.views id w in
       let nobody : total (λ (u : V). has_value u.role) s.views ≡ 0 = at_home s r id v t at waits e in
       let no : has_value v.role ≡ 0 = ap has_value waits in
-      let same : total (λ (u : V). marks u.mine) s.views ≡ total (λ (u : V). marks u.mine) vs' = (let c : total (λ (u : V). marks u.mine) vs' + marks v.mine ≡ total (λ (u : V). marks u.mine) s.views + marks w.mine = total_set (λ (u : V). marks u.mine) s.views id v w at in omega arith) in
+      let same = alike_set list faults first s.views id v w at refl in
       let one : total (λ (u : V). has_value u.role) vs' ≡ 1 = (let c : total (λ (u : V). has_value u.role) vs' + has_value v.role ≡ total (λ (u : V). has_value u.role) s.views + 1 = total_set (λ (u : V). has_value u.role) s.views id v w at in omega arith) in
       let seen : IsPrefix v.seen (list x) = subst (λ z. IsPrefix v.seen z) (sym stands) f.seen in
       let longer : length v.seen ≤ length (list x) = prefix_length v.seen (list x) seen in
@@ -158,7 +154,7 @@ module _ {T E : Type 0} (list : T → List E) (faults : T → ℕ) (first : T) w
       let out = away s r id v t n at has r.value in
       let group : List E = drop (length v.seen) (list x) in
       let flag = has_risen n (faults x) in
-      let turn : Turn E = turn_at (length v.seen) group flag in
+      let turn : Turn E = turn_at (length v.seen) group n (faults x) in
       let grows : IsPrefix r.log (list x) = subst (λ z. IsPrefix z (list x)) mine.1 seen in
       let seen_length : length v.seen ≡ length r.log = ap length mine.1 in
       let begun : start ≤ length r.log = prefix_length (list first) r.log r.begins in
@@ -171,7 +167,9 @@ module _ {T E : Type 0} (list : T → List E) (faults : T → ℕ) (first : T) w
       let up : Up vs' (faults x) = record {
         marks = (let h = marked_more (faults first + total (λ (u : V). marks u.mine) s.views) n (faults x) le mine.2.marks in
             ⊎_elim (λ (a : faults first + total (λ (u : V). marks u.mine) s.views + (if flag then 1 else 0) ≤ faults x). inl (omega arith)) (λ (a : last_count ≤ faults x). inr a) h);
-        unmarked = λ none. unmarked_same n (faults x) le (omega arith) ∙ mine.2.unmarked (omega arith);
+        count = (let h = mine.2.count in
+            let c : total (λ (u : V). rises u.mine) vs' + rises v.mine ≡ total (λ (u : V). rises u.mine) s.views + rises w.mine = total_set (λ (u : V). rises u.mine) s.views id v w at in
+            let up : rises w.mine ≡ rises v.mine + (faults x - n + 0) = total_append (λ (z : Turn E). z.rise) v.mine (turn ∷ []) in omega arith);
       } in
       let one : total (λ (u : V). has_value u.role) vs' ≡ 1 = (let a : has_value v.role ≡ 1 = ap has_value has in let b = out.1 in
       let c : total (λ (u : V). has_value u.role) vs' + has_value v.role ≡ total (λ (u : V). has_value u.role) s.views + 1 = total_set (λ (u : V). has_value u.role) s.views id v w at in omega arith) in
@@ -215,7 +213,7 @@ module _ {T E : Type 0} (list : T → List E) (faults : T → ℕ) (first : T) w
       let mine = served start r.log r.serving (Up s.views) v t n has f in
       let vs' = set s.views id w in
       let out = away s r id v t n at has r.value in
-      let same : total (λ (u : V). marks u.mine) s.views ≡ total (λ (u : V). marks u.mine) vs' = (let c : total (λ (u : V). marks u.mine) vs' + marks v.mine ≡ total (λ (u : V). marks u.mine) s.views + marks w.mine = total_set (λ (u : V). marks u.mine) s.views id v w at in omega arith) in
+      let same = alike_set list faults first s.views id v w at refl in
       let nobody : total (λ (u : V). has_value u.role) vs' ≡ 0 = (let a : has_value v.role ≡ 1 = ap has_value has in let b = out.1 in
       let c : total (λ (u : V). has_value u.role) vs' + has_value v.role ≡ total (λ (u : V). has_value u.role) s.views + 0 = total_set (λ (u : V). has_value u.role) s.views id v w at in omega arith) in
       let below : (r.serving ≤ r.serving) × (r.serving < r.ticket) = (let a : holds_ticket r.serving v.role ≡ 1 = ap (holds_ticket r.serving) has ∙ (let z = mine.0 in within_in t (t + 1) r.serving (omega arith) (omega arith)) in
@@ -264,17 +262,17 @@ module _ {T E : Type 0} (list : T → List E) (faults : T → ℕ) (first : T) w
       notes slots id me t (faults x) y (after - before) (ap (λ (m : Me (Option T) V). m.0.role) is) (ap (λ (m : Me (Option T) V). m.1) is) (subst (λ (m : Me (Option T) V). IsPrefix m.0.seen (list y)) (sym is) grows) le (omega arith) (omega arith)
 
   pub noted_from : (me next : Me (Option T) V) (v : V) (t k slots found : ℕ) (x y : T) → me ≡ (record v { turns = v.turns + 1; seen = list x; role = Holding t (faults x) }, (0, Some y) ∷ []) → Noted list faults (step slots 2 k 0 none) me found next
-      → next ≡ (record (after_turn v (list x) (list y) (has_risen (faults x) (faults y))) { role = Holding t (faults y) }, (0, Some y) ∷ [])
+      → next ≡ (record (after_turn v (list x) (list y) (faults x) (faults y)) { role = Holding t (faults y) }, (0, Some y) ∷ [])
   noted_from me next v t k slots found x y is told = told t (faults x) y (ap (λ (m : Me (Option T) V). m.0.role) is) (ap (λ (m : Me (Option T) V). m.1) is) ∙ ap (λ (m : Me (Option T) V). (noted_at list faults t (faults x) m.0 y, m.1)) is
 
-  pub goes_on_from : (slots id : ℕ) (me : Me (Option T) V) (v : V) (t : ℕ) (x y : T) → me ≡ (record (after_turn v (list x) (list y) (has_risen (faults x) (faults y))) { role = Holding t (faults y) }, (0, Some y) ∷ [])
+  pub goes_on_from : (slots id : ℕ) (me : Me (Option T) V) (v : V) (t : ℕ) (x y : T) → me ≡ (record (after_turn v (list x) (list y) (faults x) (faults y)) { role = Holding t (faults y) }, (0, Some y) ∷ [])
       → Allows R slots id me 1 (λ m. (m + 1) % 2 ^ 64) (WentOn (step slots 1 1 0 none) me)
   goes_on_from slots id me v t x y is = goes_on slots id me t (faults y) y (ap (λ (m : Me (Option T) V). m.0.role) is) (ap (λ (m : Me (Option T) V). m.1) is) (sym (ap (λ (m : Me (Option T) V). m.0.seen) is)) refl
 
   -- after next the pass rests, and a ring leaves it as it is
-  pub went_from : (me next end : Me (Option T) V) (v : V) (t slots found : ℕ) (x y : T) → v.role ≡ Idle → me ≡ (record (after_turn v (list x) (list y) (has_risen (faults x) (faults y))) { role = Holding t (faults y) }, (0, Some y) ∷ []) → WentOn (step slots 1 1 0 none) me found next → end ≡ next
-      → (end ≡ (after_turn v (list x) (list y) (has_risen (faults x) (faults y)), [])) × Every (StandsIn end.0.seen) end.0.mine
+  pub went_from : (me next end : Me (Option T) V) (v : V) (t slots found : ℕ) (x y : T) → v.role ≡ Idle → me ≡ (record (after_turn v (list x) (list y) (faults x) (faults y)) { role = Holding t (faults y) }, (0, Some y) ∷ []) → WentOn (step slots 1 1 0 none) me found next → end ≡ next
+      → (end ≡ (after_turn v (list x) (list y) (faults x) (faults y), [])) × Every (StandsIn end.0.seen) end.0.mine
   went_from me next end v t slots found x y idle is told rang = (
-    rang ∙ (told.0 ∙ (ap (λ (m : Me (Option T) V). (record m.0 { role = Idle }, [])) is ∙ ap (λ (r : Role E). (record (after_turn v (list x) (list y) (has_risen (faults x) (faults y))) { role = r }, [])) (sym idle))),
+    rang ∙ (told.0 ∙ (ap (λ (m : Me (Option T) V). (record m.0 { role = Idle }, [])) is ∙ ap (λ (r : Role E). (record (after_turn v (list x) (list y) (faults x) (faults y)) { role = r }, [])) (sym idle))),
     subst (λ (m : Me (Option T) V). Every (StandsIn m.0.seen) m.0.mine) (sym (rang ∙ told.0)) told.1,
   )

@@ -2,7 +2,7 @@
 use Rattle.std.specs.Prelude.{◌≡◌, ℕ, ◌+◌, ◌≤◌, ◌⊎◌, List, ◌++◌, length}
 use mathlib.Core.List.{IsPrefix}
 use Rattle.cr_lock.specs.Counts.{last_count, within}
-use Rattle.cr_lock.specs.Turns.{groups_with, marks, groups_of}
+use Rattle.cr_lock.specs.Turns.{groups_with, marks, rises, groups_of}
 use Rattle.cr_lock.specs.Passes.{Known, Stand}
 
 -- x is the value of a lock that was made with `first`, and p the one pass that is left
@@ -18,7 +18,7 @@ module _ {T E : Type 0} (list : T → List E) (faults : T → ℕ) (first : T) (
     pub places : Stand p
     -- the groups in order are what came behind the first list
     pub whole : list x ≡ list first ++ groups_of p.mine
-    -- where no turn is marked, the count of faults is what it was at first
-    pub unmarked : marks p.mine ≡ 0 → faults x ≡ faults first
-    -- it rose by at least the number of marks, its last value aside
+    -- the count of faults rose by what it rose in the turns
+    pub count : faults x ≡ faults first + rises p.mine
+    -- and so by at least the number of marks, its last value aside
     pub marks : (faults first + marks p.mine ≤ faults x) ⊎ (last_count ≤ faults x)

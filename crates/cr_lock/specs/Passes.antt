@@ -1,5 +1,5 @@
 -- What contracts see of a lock and of its passes.
-use Rattle.std.specs.Prelude.{ℕ, ◌+◌, ◌-◌, ◌/◌, Bool, List, [], ◌∷◌, ◌++◌, length, drop, max, Option}
+use Rattle.std.specs.Prelude.{ℕ, ◌+◌, ◌-◌, ◌/◌, List, [], ◌∷◌, ◌++◌, length, drop, max, Option}
 use Rattle.atomic_table.specs.Seated.{TableId}
 use Rattle.atomic_table.specs.declared.shared.Seat.{Seat}
 use Rattle.cr_lock.specs.declared.view.Turn.{Turn}
@@ -41,9 +41,9 @@ module _ {E : Type 0} where
   abbrev pub united : Known E → Known E → Known E
   united p q = record { lock = p.lock; share = p.share + q.share; turns = max p.turns q.turns; seen = longer p.seen q.seen; mine = merged p.mine q.mine }
 
-  -- after a turn on a value that stood for the list xs and stands for ys
-  abbrev pub after_turn : Known E → List E → List E → Bool → Known E
-  after_turn p xs ys marked = record p { turns = p.turns + 1; seen = ys; mine = p.mine ++ turn_at (length xs) (drop (length xs) ys) marked ∷ [] }
+  -- after a turn on a value that stood for the list xs and stands for ys, whose count of faults went from m to n
+  abbrev pub after_turn : Known E → List E → List E → ℕ → ℕ → Known E
+  after_turn p xs ys m n = record p { turns = p.turns + 1; seen = ys; mine = p.mine ++ turn_at (length xs) (drop (length xs) ys) m n ∷ [] }
 
   -- one of the two had seen a beginning of what the other had, and no entry was added by both
   abbrev pub Agree : Known E → Known E → Type 0

@@ -8,7 +8,7 @@ use Rattle.cr_lock.specs.declared.view.Role.{Role}
 use Rattle.cr_lock.specs.declared.view.Role.TheVariants.{Idle, Waiting, Holding, Joined}
 use Rattle.cr_lock.specs.declared.view.View.{View}
 use Rattle.cr_lock.specs.Counts.{last_count, within, total, Every}
-use Rattle.cr_lock.specs.Turns.{InOrder, groups_with, marks, StandsIn}
+use Rattle.cr_lock.specs.Turns.{InOrder, groups_with, marks, rises, StandsIn}
 use Rattle.cr_lock.specs.Views.{spent_view}
 
 module _ {E : Type 0} where
@@ -50,11 +50,11 @@ module _ {E : Type 0} (start : ℕ) (log : List E) (serving : ℕ) (risen : ℕ 
     pub alive : ((0 < v.share) × (start ≤ length v.seen)) ⊎ (v ≡ spent_view)
 
 module _ {T E : Type 0} (list : T → List E) (faults : T → ℕ) (first : T) where
-  -- what a count n of faults owes to the marks of all passes
+  -- n may be the count of faults
   pub record Risen (views : List (View E)) (n : ℕ) : Type 0 where
-    -- where there are none, it is what it was at first
-    pub unmarked : total (λ v. marks v.mine) views ≡ 0 → n ≡ faults first
-    -- since then it has risen by at least their number, its last value aside
+    -- it has risen since `first` by what it rose in the turns of all passes
+    pub count : n ≡ faults first + total (λ v. rises v.mine) views
+    -- and so by at least the number of marks, its last value aside
     pub marks : (faults first + total (λ v. marks v.mine) views ≤ n) ⊎ (last_count ≤ n)
 
   -- the value is in the slot and stands for the history, and no pass has it

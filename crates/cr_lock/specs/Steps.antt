@@ -6,7 +6,7 @@ use Rattle.atomic_table.specs.declared.shared.Seat.{Seat}
 use Rattle.cr_lock.specs.declared.view.Role.TheVariants.{Idle, Waiting, Holding, Joined}
 use Rattle.cr_lock.specs.declared.view.Turn.{Turn}
 use Rattle.cr_lock.specs.declared.view.View.{View}
-use Rattle.cr_lock.specs.Counts.{has_risen, Every}
+use Rattle.cr_lock.specs.Counts.{Every}
 use Rattle.cr_lock.specs.Turns.{turn_at, StandsIn, InCommon}
 
 -- a view, and the slots that are out with it
@@ -34,7 +34,7 @@ module _ {T E : Type 0} where
 
     -- a view with ticket t that took the value at the count n of faults, and has noted that it stands at x now
     abbrev pub noted_at : ℕ → ℕ → View E → T → View E
-    noted_at t n v x = record v { seen = list x; mine = v.mine ++ turn_at (length v.seen) (drop (length v.seen) (list x)) (has_risen n (faults x)) ∷ []; role = Holding t (faults x) }
+    noted_at t n v x = record v { seen = list x; mine = v.mine ++ turn_at (length v.seen) (drop (length v.seen) (list x)) n (faults x) ∷ []; role = Holding t (faults x) }
 
     -- note: its turns are longer by one
     abbrev pub Noted : Step (Option T) → Holder T E → ℕ → Holder T E → Type 0

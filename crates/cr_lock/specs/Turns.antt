@@ -1,13 +1,13 @@
 -- The turns of a pass, and how those of two passes are merged.
-use Rattle.std.specs.Prelude.{◌≡◌, ℕ, ◌+◌, ◌≤◌, ◌⊎◌, Bool, ◌&&◌, ◌||◌, nat_lt, ◌==◌, if◌then◌else◌, List, [], ◌∷◌, ◌++◌, length}
+use Rattle.std.specs.Prelude.{◌≡◌, ℕ, ◌+◌, ◌-◌, ◌≤◌, ◌⊎◌, Bool, ◌&&◌, ◌||◌, nat_lt, ◌==◌, if◌then◌else◌, List, [], ◌∷◌, ◌++◌, length}
 use mathlib.Core.List.{IsPrefix}
 use Rattle.cr_lock.specs.declared.view.Turn.{Turn}
-use Rattle.cr_lock.specs.Counts.{within, total, Every}
+use Rattle.cr_lock.specs.Counts.{has_risen, within, total, Every}
 
 module _ {E : Type 0} where
-  -- the turn at this place of the history, which added this group
-  abbrev pub turn_at : ℕ → List E → Bool → Turn E
-  turn_at place group marked = record { place = place; group = group; marked = marked }
+  -- the turn at this place of the history, which added this group, and found and left the count of faults so
+  abbrev pub turn_at : ℕ → List E → ℕ → ℕ → Turn E
+  turn_at place group before after = record { place = place; group = group; rise = after - before; marked = has_risen before after }
 
   -- the place behind the group
   abbrev pub end_of : Turn E → ℕ
@@ -16,6 +16,10 @@ module _ {E : Type 0} where
   -- in how many of the groups the entry with the number k stands
   abbrev pub groups_with : ℕ → List (Turn E) → ℕ
   groups_with k ts = total (λ t. within t.place (end_of t) k) ts
+
+  -- by how much the count of faults rose in the turns together
+  abbrev pub rises : List (Turn E) → ℕ
+  rises ts = total (λ t. t.rise) ts
 
   -- how many of the turns are marked
   abbrev pub marks : List (Turn E) → ℕ

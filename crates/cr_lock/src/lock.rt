@@ -3,7 +3,6 @@ ghost use Rattle.std.specs.Prelude.{◌≡◌, ℕ, Some, None, ◌+◌, ◌-◌
 ghost use Rattle.std.specs.Fn.{FnOnceReturnsAtMut, FnOnceTakesAtMut};
 ghost use mathlib.Core.List.{IsPrefix};
 ghost use Rattle.cr_lock.specs.declared.view.Role.TheVariants.{Idle, Holding};
-ghost use Rattle.cr_lock.specs.Counts.{has_risen};
 ghost use Rattle.cr_lock.specs.Steps.{view};
 ghost use Rattle.cr_lock.specs.Passes.{first_pass, larger_half, smaller_half, united, after_turn, Agree, Stand};
 ghost use Rattle.cr_lock.specs.Closing.{Closes};
@@ -197,8 +196,8 @@ impl<T: Stands> HistoryLock<T> {
     /// The act is lent a value `x` that stands for a history which begins with what the pass had seen, and leaves a
     /// value `y`. It may only append to the list, and may not lower the count of faults. What it promises of `x`, `y`
     /// and its answer holds. The pass has then seen what `y` stands for, and its turns are longer by one: the
-    /// length of the history at `x`, what was added, and the mark, set exactly where the count of faults rose or
-    /// stands at its last value. Beside what the act takes it takes no memory.
+    /// length of the history at `x`, what was added, by how much the count of faults rose, and the mark, set exactly
+    /// where it rose or stands at its last value. Beside what the act takes it takes no memory.
     ///
     /// A pass makes fewer than 2^40 turns, so all passes together draw fewer tickets than a word can count.
     ///
@@ -214,7 +213,7 @@ impl<T: Stands> HistoryLock<T> {
             × IsPrefix pass.old.seen (T.list x)
             × IsPrefix (T.list x) (T.list y)
             × FnOnceReturnsAtMut F.FnOnce act x result y
-            × (pass.new ≡ after_turn pass.old (T.list x) (T.list y) (has_risen (T.faults x) (T.faults y))) }
+            × (pass.new ≡ after_turn pass.old (T.list x) (T.list y) (T.faults x) (T.faults y)) }
         ensures stand { Stand pass.new }
     {
         let shared = &self.table.shared;
@@ -304,7 +303,7 @@ impl<T: Stands> HistoryLock<T> {
     ///
     /// It stands for what the pass has seen. Every entry since `new` is in exactly one group of the pass's turns, and the
     /// groups in order are what came behind the first list. The count of faults rose by at least the number of marks,
-    /// unless it stands at its last value; where no turn is marked, it is what it was at `new`.
+    /// unless it stands at its last value; it rose by exactly what it rose in the turns.
     pub fn close(self, pass: Pass<T>) -> T
         requires own { pass.lock ≡ self.lock }
         requires whole { pass.share ≡ 64 }

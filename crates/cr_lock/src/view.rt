@@ -7,7 +7,9 @@ pub struct Turn<E> {
     pub place: u64,
     /// What the turn added, in order; empty where it added nothing.
     pub group: LinkedList<E>,
-    /// Whether the value's count of faults rose in the turn, or stands at its last value.
+    /// By how much the value's count of faults rose in the turn.
+    pub rise: u64,
+    /// Whether it rose, or stands at its last value.
     pub marked: bool,
 }
 

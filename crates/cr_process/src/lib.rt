@@ -1,6 +1,6 @@
 //! The process: the top call over the words of the command line, standard input and standard output, and files as stores.
 //!
-//! A program's `main` hands its runtime to `run`, and has nothing else in it.
+//! A program's `main` hands its runtime to `run`, once as what it is and once as what may wait, and has nothing else in it.
 #![tactic(auto)]
 
 use cr_ports::{ReadSource, WriteSink};
@@ -11,6 +11,7 @@ use std::alloc::{AllocError, Global};
 use std::env;
 use std::io::{self, ErrorKind};
 use std::process::ExitCode;
+use std::sync::Wait;
 
 // The words of the command line, or none where one isn't UTF-8.
 fn words(rt: &HostRuntime) -> Result<Vec<String>, AllocError> {
@@ -52,15 +53,17 @@ fn tell(rt: &HostRuntime, words: &[String], exit: Exit, shelf: &SqliteShelf) -> 
     }
 }
 
-/// Does what the command line asks for, and gives the status that the process is to end with.
-pub fn run(rt: HostRuntime) -> ExitCode {
+/// Does what the command line asks for, and gives the status that the process is to end with. `handle` is the same runtime,
+/// as one that may wait: a library can't tell that of `rt`.
+pub fn run<R: Wait>(rt: &HostRuntime, handle: &R) -> ExitCode {
     let mut input = ReadSource::new(rt.stdin());
     let mut out = WriteSink::new(rt.stdout());
-    let mut shelf = SqliteShelf::new(&rt);
-    let Ok(words) = words(&rt) else {
+    let mut shelf = SqliteShelf::new(rt);
+    let Ok(words) = words(rt) else {
         return ExitCode::from(Exit::OutOfMemory.code());
     };
     let exit = top(
+        handle,
         rt.alloc(),
         words.as_slice(),
         &mut input,
@@ -68,6 +71,6 @@ pub fn run(rt: HostRuntime) -> ExitCode {
         &mut shelf,
     );
     // The status says the same, so a line that can't be written is left out.
-    let _ = tell(&rt, words.as_slice(), exit, &shelf);
+    let _ = tell(rt, words.as_slice(), exit, &shelf);
     ExitCode::from(exit.code())
 }

@@ -3,9 +3,12 @@ pub mod Runs
 pub mod WishRuns
 pub mod Turns
 pub mod Passes
+pub mod Alone
+pub mod Endings
 pub mod TurnLaws
 pub mod Requests
 pub mod NoFurther
+pub mod NoMemory
 pub mod Rounds
 pub mod ReadLaws
 pub mod Connections

@@ -45,8 +45,8 @@ takes-append (j ∷ js) ks p q r first then = (first.0, first.1, takes-append js
 pub stays-now : (p : KnownPass) → StaysPass 0 p p
 stays-now p = record { lock = refl; share = refl; few = omega arith }
 
-pub stays-turn : (p p' : KnownPass) (H H' : History) (marked : Bool) → p' ≡ after_turn p H H' marked → StaysPass 1 p p'
-stays-turn p p' H H' marked is = record {
+pub stays-turn : (p p' : KnownPass) (H H' : History) (f g : ℕ) → p' ≡ after_turn p H H' f g → StaysPass 1 p p'
+stays-turn p p' H H' f g is = record {
   lock = ap (λ (x : KnownPass). x.lock) is;
   share = ap (λ (x : KnownPass). x.share) is;
   few = (let t = ap (λ (x : KnownPass). x.turns) is in omega (arith, t));
@@ -58,9 +58,6 @@ stays-then m n p q r x y = record {
   share = y.share ∙ x.share;
   few = (let a = x.few in let b = y.few in omega (arith, a, b));
 }
-
-pub stays-within : (m n : ℕ) (p q : KnownPass) → m ≤ n → StaysPass m p q → StaysPass n p q
-stays-within m n p q le x = record { lock = x.lock; share = x.share; few = (let a = x.few in omega (arith, a, le)) }
 
 -- ---- marks
 
@@ -77,13 +74,13 @@ marks-one : (lost : Bool) (f g : ℕ) → CountsLoss lost f g → cond lost 1 0 
 marks-one true f g c = rw (loses-marked f g c) (omega arith)
 marks-one false f g c = omega arith
 
-marks-snoc : (ts : List (Turn Stamped)) (t : Turn Stamped) → marks (ts ++ t ∷ []) ≡ marks ts + cond t.marked 1 0
+pub marks-snoc : (ts : List (Turn Stamped)) (t : Turn Stamped) → marks (ts ++ t ∷ []) ≡ marks ts + cond t.marked 1 0
 marks-snoc [] t = omega arith
 marks-snoc (u ∷ us) t = let i = marks-snoc us t in omega (arith, i)
 
 marks-turn : (j : JudgedWish) (p q : KnownPass) → TakesTurn j p q → marks p.mine + cond j.lost 1 0 ≤ marks q.mine
 marks-turn j p q t =
-    let n = ap (λ (x : KnownPass). marks x.mine) t.turn ∙ marks-snoc p.mine (turn_at (length j.seen) (drop (length j.seen) (history_after j)) (has_risen t.faults t.faults')) in
+    let n = ap (λ (x : KnownPass). marks x.mine) t.turn ∙ marks-snoc p.mine (turn_at (length j.seen) (drop (length j.seen) (history_after j)) t.faults t.faults') in
     let m = marks-one j.lost t.faults t.faults' t.counted in
     omega (arith, n, m)
 

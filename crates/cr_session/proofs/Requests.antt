@@ -2,7 +2,6 @@
 use Rattle.std.proofs.Common.{◌≡◌, ◌∙◌, ℕ, List, [], Bool, true, false, refl, sym, ap, subst}
 use mathlib.Core.List.{IsPrefix}
 use Rattle.cr_base.specs.History.{History}
-use Rattle.cr_lock.specs.Counts.{has_risen}
 use Rattle.cr_lock.specs.Passes.{after_turn}
 use Rattle.cr_wire.specs.declared.what.Wish.{Wish}
 use Rattle.cr_session.specs.declared.turn.Turn.{Turn}
@@ -35,15 +34,15 @@ unfolding history_after
 history_after-lost w old = refl
 
 -- One turn of the pass on a ledger, which it left so.
-module _ (w : Wish) (b b' : Ledger) (p p' : KnownPass) (saw : IsPrefix p.seen b.history) (is : p' ≡ after_turn p b.history b'.history (has_risen b.faults b'.faults)) where
+module _ (w : Wish) (b b' : Ledger) (p p' : KnownPass) (saw : IsPrefix p.seen b.history) (is : p' ≡ after_turn p b.history b'.history b.faults b'.faults) where
   -- it came to this, and the request was judged with that answer
   record WasJudged (turn : Turn) (n : ℕ) : Type 0 where
     judges : JudgesInTurn w p p'
     text : turn_text turn (form_of w (closes n w)) ≡ answer_to n judges.judged
 
   -- the turn's history, however it is told
-  turned : (H : History) → b'.history ≡ H → p' ≡ after_turn p b.history H (has_risen b.faults b'.faults)
-  turned H e = is ∙ ap (λ (h : History). after_turn p b.history h (has_risen b.faults b'.faults)) e
+  turned : (H : History) → b'.history ≡ H → p' ≡ after_turn p b.history H b.faults b'.faults
+  turned H e = is ∙ ap (λ (h : History). after_turn p b.history h b.faults b'.faults) e
 
   kept-judged : (turn : Turn) (n : ℕ) → AnswersWish turn w b b' → WasJudged turn n
   kept-judged turn n a =
@@ -113,7 +112,7 @@ module _ (w : Wish) (b b' : Ledger) (p p' : KnownPass) (saw : IsPrefix p.seen b.
     saw = saw;
     wants = wants;
     faults = b.faults;
-    turn = is ∙ ap (λ (x : Ledger). after_turn p b.history x.history (has_risen b.faults x.faults)) same;
+    turn = is ∙ ap (λ (x : Ledger). after_turn p b.history x.history b.faults x.faults) same;
   }
 
   pub turned_in_vain : (turn : Turn) → turn ≡ turns.OutOfMemory → Turns turn w b b' → TurnsInVain w p p'

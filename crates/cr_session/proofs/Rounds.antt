@@ -17,7 +17,7 @@ use Rattle.cr_session.specs.declared.serve.Why.TheVariants as whys
 use Rattle.cr_session.specs.Reading.{ReadsWish, StandsWish}
 use Rattle.cr_session.specs.Replay.{JudgedWish, answer_to, wishes_of}
 use Rattle.cr_session.specs.Passing.{KnownPass, TakesTurns}
-use Rattle.cr_session.specs.Serving.{World, ConnectionInHistory, GoesOnInHistory, WritesRefusal, TellsWantOfMemory, MayLackMemory, EndsAs, EndsSource, EndsTurns, CountsReads, ReadsNoFurther}
+use Rattle.cr_session.specs.Serving.{World, ConnectionInHistory, GoesOnInHistory, WritesRefusal, TellsWantOfMemory, MayLackMemory, EndsAs, EndsSource, CountsReads, ReadsNoFurther}
 use Rattle.cr_session.specs.Turning.{TurnsInVain, ServesRequest}
 use Rattle.cr_session.specs.Wishes.{Spells}
 use Rattle.cr_ports.specs.Writing.{Outlet, Writes, BreaksOff}
@@ -26,6 +26,8 @@ use Rattle.cr_http.proofs.Moving.{and_left-nil}
 use Rattle.cr_http.specs.ToHead.{IsToHead}
 use Rattle.cr_http.proofs.HeadsRead.{to_head_of}
 use Rattle.cr_session.proofs.NoFurther.{no_further-one, no_further-still}
+use Rattle.cr_session.proofs.Endings.{no_turns}
+use Rattle.cr_session.proofs.NoMemory.{no_memory}
 use Rattle.cr_session.proofs.Passes.{takes-one}
 use Rattle.cr_ports.proofs.WritingLaws.{writes-nil}
 
@@ -61,15 +63,6 @@ unwritten s s' e = subst (λ (x : Outlet). Writes [] s x) (sym e) (writes-nil s)
 
 to_wish : (text : List ℕ) (w : Wish) (rest : List ℕ) → StandsWish text w rest → IsToHead text w.is_head
 to_wish text w rest s = to_head_of text (whole s.request.head s.request.body rest) w.is_head s.stands (ap (λ (x : Wish). x.is_head) s.wish)
-
--- no turn was taken
-still : (ending : Ending) (p p' : KnownPass) → p' ≡ p → EndsTurns ending p p'
-still endings.Clean p p' same = same
-still endings.Cut p p' same = same
-still (endings.Closed why) p p' same = same
-still endings.ReadFault p p' same = same
-still endings.WriteFault p p' same = same
-still endings.OutOfMemory p p' same = tt
 
 module _ {S : Type 0} (left : S → Option (List ℕ)) (gives : S → S → List ℕ → Type 0) where
   -- ---- a whole request
@@ -141,28 +134,11 @@ module _ {S : Type 0} (left : S → Option (List ℕ)) (gives : S → S → List
 
   -- ---- no memory
 
-  no_memory : (n : ℕ) (i got : List ℕ) (head : Bool) (w w' : World KnownPass S) → IsToHead (i ++ got) head → MayLackMemory TakesTurns TurnsInVain w.state w'.state (i ++ got)
-      → left w.source ≡ and_left got (left w'.source) → TellsWantOfMemory [] head w.sink w'.sink → w'.read_faults ≡ w.read_faults
-      → ReadsNoFurther left gives n [] w.source w'.source i (i ++ got) → ConnectionInHistory left gives endings.OutOfMemory n i w w'
-  no_memory n i got head w w' to may given notes counts needed = record {
-    got = got;
-    given = given;
-    answered = [];
-    failed = None;
-    judged = w.state;
-    turns = refl;
-    settled = tt;
-    ends = (i ++ got, record { requests = []; wish = refl; reaches = refl }, may, head, to, notes);
-    ended = tt;
-    counts = counts;
-    needed = needed;
-  }
-
   -- a request was read, and memory was wanting in its turn
   pub round_no_memory : (n : ℕ) (wish : Wish) (i i' : List ℕ) (w w' : World KnownPass S) (s : Outlet) → ReadsWish left gives w.source w'.source i i' (reads.Wish wish)
       → ServesRequest served.OutOfMemory n wish w.state w'.state w.sink s → TellsWantOfMemory [] wish.is_head s w'.sink → w'.read_faults ≡ w.read_faults → ConnectionInHistory left gives endings.OutOfMemory n i w w'
   round_no_memory n wish i i' w w' s x y notes counts =
-      no_memory n i x.got wish.is_head w w' (to_wish (i ++ x.got) wish i' x.says) (inr (wish, i', x.says, y.1))
+      no_memory TakesTurns TurnsInVain (λ p. refl) left gives n i x.got wish.is_head w w' (to_wish (i ++ x.got) wish i' x.says) (inr (wish, i', x.says, y.1))
       x.given (subst (λ (o : Outlet). TellsWantOfMemory [] wish.is_head o w'.sink) y.0 notes) counts
       (no_further-one left gives n [] w.source w'.source i (i ++ x.got) x.needed)
 
@@ -170,14 +146,7 @@ module _ {S : Type 0} (left : S → Option (List ℕ)) (gives : S → S → List
   pub round_unread : (n : ℕ) (head : Bool) (i i' : List ℕ) (w w' : World KnownPass S) → ReadsWish left gives w.source w'.source i i' (reads.OutOfMemory head) → w'.state ≡ w.state
       → TellsWantOfMemory [] head w.sink w'.sink → w'.read_faults ≡ w.read_faults → ConnectionInHistory left gives endings.OutOfMemory n i w w'
   round_unread n head i i' w w' x same notes counts =
-      no_memory n i x.got head w w' x.says.0 (inl (x.says.1, same)) x.given notes counts (no_further-one left gives n [] w.source w'.source i (i ++ x.got) x.needed)
-
-  -- memory was wanting before anything was read
-  pub round_unbegun : (n : ℕ) (w w' : World KnownPass S) → w'.source ≡ w.source → w'.state ≡ w.state → TellsWantOfMemory [] false w.sink w'.sink → w'.read_faults ≡ w.read_faults
-      → ConnectionInHistory left gives endings.OutOfMemory n [] w w'
-  round_unbegun n w w' source same notes counts =
-      no_memory n [] [] false w w' refl (inl (inl (inl refl), same)) (sym (ap left source) ∙ sym (and_left-nil (left w'.source))) notes counts
-      (subst (λ (s : S). ReadsNoFurther left gives n [] w.source s [] []) (sym source) (no_further-still left gives n [] w.source []))
+      no_memory TakesTurns TurnsInVain (λ p. refl) left gives n i x.got head w w' x.says.0 (inl (x.says.1, same)) x.given notes counts (no_further-one left gives n [] w.source w'.source i (i ++ x.got) x.needed)
 
   -- ---- no request
 
@@ -192,7 +161,7 @@ module _ {S : Type 0} (left : S → Option (List ℕ)) (gives : S → S → List
     failed = None;
     judged = w.state;
     turns = refl;
-    settled = still ending w.state w'.state same;
+    settled = no_turns ending w.state w'.state same;
     ends = ends;
     ended = ended;
     counts = counts;

@@ -3,7 +3,6 @@ use Rattle.std.specs.Prelude.{ℕ, ◌≡◌, ◌≤◌, ◌+◌, List, [], ◌�
 use mathlib.Core.List.{IsPrefix}
 use Rattle.cr_base.specs.declared.entry.Stamped.{Stamped}
 use Rattle.cr_base.specs.History.{History}
-use Rattle.cr_lock.specs.Counts.{has_risen}
 use Rattle.cr_lock.specs.Passes.{Known, after_turn}
 use Rattle.cr_session.specs.Told.{drawn}
 use Rattle.cr_session.specs.Replay.{JudgedWish, CountsLoss, history_after}
@@ -24,7 +23,7 @@ pub record TakesTurn (j : JudgedWish) (p p' : KnownPass) : Type 0 where
   pub faults : ℕ
   pub faults' : ℕ
   pub counted : CountsLoss j.lost faults faults'
-  pub turn : p' ≡ after_turn p j.seen (history_after j) (has_risen faults faults')
+  pub turn : p' ≡ after_turn p j.seen (history_after j) faults faults'
 
 -- a turn for each of the wishes, in order, and no other turn of this pass
 abbrev pub TakesTurns : List JudgedWish → KnownPass → KnownPass → Type 0

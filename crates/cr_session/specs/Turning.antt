@@ -21,7 +21,6 @@ use Rattle.cr_session.specs.declared.turn.Turn.TheVariants as turns
 use Rattle.cr_session.specs.declared.serve.Served.{Served}
 use Rattle.cr_session.specs.declared.serve.Served.TheVariants as served
 use Rattle.cr_session.specs.Told.{form_of, told, is_unauthorized, drawn, step}
-use Rattle.cr_lock.specs.Counts.{has_risen}
 use Rattle.cr_lock.specs.Passes.{after_turn}
 use Rattle.cr_session.specs.Replay.{JudgedWish, Ledger, CountsLoss, answer_to}
 use Rattle.cr_session.specs.Passing.{KnownPass, TakesTurn}
@@ -115,7 +114,7 @@ pub record TurnsInVain (w : Wish) (p p' : KnownPass) : Type 0 where
   pub wants : MayWantMemory seen w
   -- the keeper's count in this turn
   pub faults : ℕ
-  pub turn : p' ≡ after_turn p seen seen (has_risen faults faults)
+  pub turn : p' ≡ after_turn p seen seen faults faults
 
 -- what one request did, as number n: it was judged once and answered once, or its answer's write failed, or memory was
 -- wanting where it may be, and then nothing was added or written

@@ -1,5 +1,5 @@
 //! The loop over the requests of one connection.
-ghost use Rattle.std.specs.Prelude.{◌≡◌, ◌≤◌, ◌<◌, ◌-◌, ◌^◌, [], List, ℕ, Some, vec_capacity};
+ghost use Rattle.std.specs.Prelude.{◌≡◌, ◌≤◌, ◌<◌, ◌+◌, ◌-◌, ◌^◌, [], List, ℕ, Some, vec_capacity};
 ghost use Rattle.cr_ports.specs.Count.{Rises};
 ghost use Rattle.cr_wire.specs.Bounds.{IsBoundedWhat};
 ghost use Rattle.cr_wire.specs.Wishes.{closes};
@@ -131,8 +131,8 @@ fn refuse<O: Sink>(sink: &mut O, reply: &mut Vec<u8>, why: Refusal, is_head: boo
     }
 }
 
-/// Writes that memory is wanting, as far as the sink takes it. Takes no memory.
-fn note_no_memory<O: Sink>(sink: &mut O, is_head: bool) -> Ending
+/// Writes that memory is wanting, as far as the sink takes it, and tells that the connection ended so. Takes no memory.
+pub fn note_no_memory<O: Sink>(sink: &mut O, is_head: bool) -> Ending
     ensures notes { TellsWantOfMemory [] is_head (outlet_of O.taken O.faults sink.old) (outlet_of O.taken O.faults sink.new) }
     ensures ending { result ≡ Ending.OutOfMemory }
 {
@@ -212,8 +212,9 @@ pub fn serve_connection<R: Wait, K: Keeper, S: Source, O: Sink>(
         (b : List ℕ) → S.left source.old ≡ Some b
         → WholeInHistory S.left result b (world pass.old source.old sink.old) (world pass.new source.new sink.new) }
 
-    // The pass is of the same lock and has its share, and took at most so many turns.
-    ensures pass { StaysPass 1048576 pass.old pass.new }
+    // The pass is of the same lock and has its share, and took at most one turn a request.
+    ensures own { (pass.new.lock ≡ pass.old.lock) × (pass.new.share ≡ pass.old.share) }
+    ensures turns { pass.new.turns ≤ pass.old.turns + 2 ^ 20 }
     ensures read_fault { result ≡ Ending.ReadFault → Rises (S.faults source.old) (S.faults source.new) }
     ensures write_fault { result ≡ Ending.WriteFault → Rises (O.faults sink.old) (O.faults sink.new) }
 {

@@ -2,7 +2,6 @@
 ghost use Rattle.std.specs.Prelude.{◌≡◌, ◌≤◌, ◌<◌, ◌^◌, [], ℕ, OnOk, OnErr, vec_capacity};
 ghost use mathlib.Core.List.{IsPrefix};
 ghost use Rattle.cr_base.specs.Logins.{query_wants_login};
-ghost use Rattle.cr_lock.specs.Counts.{has_risen};
 ghost use Rattle.cr_lock.specs.Passes.{after_turn};
 ghost use Rattle.cr_policy.specs.Legal.{IsAllowed, MayAsk};
 ghost use Rattle.cr_print.specs.Put.{HasRoom};
@@ -49,7 +48,7 @@ pub(crate) fn in_turn<R: Wait, K: Keeper>(
     ensures { (b b' : Ledger)
         × IsPrefix pass.old.seen b.history
         × Turns result wish b b'
-        × (pass.new ≡ after_turn pass.old b.history b'.history (has_risen b.faults b'.faults)) }
+        × (pass.new ≡ after_turn pass.old b.history b'.history b.faults b'.faults) }
 {
     lock.turn(rt, pass, |book: &mut Book<K>| take_turn(book, wish))
 }

@@ -17,13 +17,14 @@ use Rattle.cr_session.specs.Replay.{JudgedWish, Ledger, Turned, Replays, wishes_
 use Rattle.cr_session.specs.Wishes.{Spells}
 use Rattle.cr_ports.specs.Writing.{Outlet, Writes}
 use Rattle.cr_wire.specs.Wishes.{closes}
-use Rattle.cr_session.specs.Serving.{EndsAs, CountsReads}
+use Rattle.cr_session.specs.Serving.{EndsAs, CountsReads, StaysInVain}
 use Rattle.cr_session.proofs.Turns.{counted}
+use Rattle.cr_session.proofs.Endings.{replayed_whole}
 use Rattle.cr_top.specs.declared.exit.Exit.{Exit}
 use Rattle.cr_top.specs.declared.exit.Exit.TheVariants as exits
 use Rattle.cr_top.specs.Exits.{exit_of}
 use Rattle.cr_top.specs.Replayed.{told_along, steps_along, last_words, exit_at}
-use Rattle.cr_top.specs.Runs.{Outside, Pipes, IsFaultless, AnswersAll}
+use Rattle.cr_top.specs.Runs.{Outside, Pipes, IsFaultless, AnswersAll, world}
 
 -- ---- nothing lost: Replay is Told along Step
 
@@ -74,21 +75,21 @@ record Answered (exit : Exit) (b : List ℕ) (judged : List JudgedWish) (s s' : 
 bare : (bytes : List ℕ) (s s' : Outlet) → Writes bytes s s' → Writes (bytes ++ []) s s'
 bare bytes s s' w = subst (λ (t : List ℕ). Writes t s s') (sym (append-nil bytes)) w
 
-ended : (ending : Ending) (came b : List ℕ) (answered : List JudgedWish) (failed : Option JudgedWish) (H : History) (s s' : Outlet) (f g : ℕ)
-    → (Rises f g → ⊥) → (Rises s.faults s'.faults → ⊥) → CountsReads ending f g → EndsAs ending 0 came b answered failed H s s'
+ended : (ending : Ending) (came b : List ℕ) (answered : List JudgedWish) (failed : Option JudgedWish) (p q : Ledger) (s s' : Outlet) (f g : ℕ)
+    → (Rises f g → ⊥) → (Rises s.faults s'.faults → ⊥) → CountsReads ending f g → EndsAs Replays StaysInVain ending 0 came b answered failed p q s s'
     → (exit_of ending ≡ exits.OutOfMemory) ⊎ (Answered (exit_of ending) b answered s s' × (failed ≡ None))
-ended ending came b answered (Some j) H s s' f g read written counts e = absurd (written e.2.rises)
-ended endings.Clean came b answered None H s s' f g read written counts e =
+ended ending came b answered (Some j) p q s s' f g read written counts e = absurd (written e.2.rises)
+ended endings.Clean came b answered None p q s s' f g read written counts e =
     inr (record { end = ended_clean; spells = wishes b (wishes_of answered) ended_clean e.0; exit_is = refl; told = bare (answers 0 answered) s s' e.1 }, refl)
-ended endings.Cut came b answered None H s s' f g read written counts e =
+ended endings.Cut came b answered None p q s s' f g read written counts e =
     inr (record { end = ended_cut; spells = wishes b (wishes_of answered) ended_cut e.0; exit_is = refl; told = bare (answers 0 answered) s s' e.1 }, refl)
-ended (endings.Closed whys.Asked) came b answered None H s s' f g read written counts e =
+ended (endings.Closed whys.Asked) came b answered None p q s s' f g read written counts e =
     inr (record { end = asked; spells = wishes b (wishes_of answered) asked e.0; exit_is = refl; told = bare (answers 0 answered) s s' e.1 }, refl)
-ended (endings.Closed (whys.Refused why)) came b answered None H s s' f g read written counts e =
+ended (endings.Closed (whys.Refused why)) came b answered None p q s s' f g read written counts e =
     inr (record { end = closed why e.0; spells = wishes b (wishes_of answered) (closed why e.0) e.1; exit_is = refl; told = e.2 }, refl)
-ended endings.ReadFault came b answered None H s s' f g read written counts e = absurd (read counts.1)
-ended endings.WriteFault came b answered None H s s' f g read written counts e = absurd (written e.3.rises)
-ended endings.OutOfMemory came b answered None H s s' f g read written counts e = inl refl
+ended endings.ReadFault came b answered None p q s s' f g read written counts e = absurd (read counts.1)
+ended endings.WriteFault came b answered None p q s s' f g read written counts e = absurd (written e.3.rises)
+ended endings.OutOfMemory came b answered None p q s s' f g read written counts e = inl refl
 
 module _ {I : Type 0} (opening : History) where
   answered : (exit : Exit) (b : List ℕ) (judged : List JudgedWish) (o o' : Outside I) (b0 b1 : Ledger) → b0.history ≡ opening → Legal b1.history → Replays judged b0 b1 → lost_count judged ≡ 0
@@ -134,7 +135,8 @@ pub pipe_answers : {K I : Type 0} (rows : K → Option (List Row)) (faults : K �
     → (exit_of ending ≡ exits.OutOfMemory) ⊎ AnswersAll opening (exit_of ending) b o o'
 pipe_answers rows faults left gives opening ending keeper keeper' b o o' p told faultless idle =
     let text = p.whole b told in
-    by text.answered text.failed text.replays (ended ending text.came b text.answered text.failed p.history o.output o'.output o.read_faults o'.read_faults faultless.read faultless.written p.connection.counts text.ends)
+    by text.answered text.failed (replayed_whole left ending b (world o opening (faults keeper)) (world o' p.history (faults keeper')) text)
+    (ended ending text.came b text.answered text.failed text.judged b1 o.output o'.output o.read_faults o'.read_faults faultless.read faultless.written p.connection.counts text.ends)
   where
     b0 : Ledger
     b0 = record { history = opening; faults = faults keeper }

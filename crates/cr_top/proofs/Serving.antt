@@ -6,9 +6,11 @@ use Rattle.cr_base.specs.History.{History}
 use Rattle.cr_policy.specs.Legal.{Legal}
 use Rattle.cr_book.specs.Sound.{IsKept}
 use Rattle.cr_session.specs.declared.serve.Ending.{Ending}
-use Rattle.cr_session.specs.Serving.{Connection, WholeText}
+use Rattle.cr_session.specs.Serving.{ConnectionBytes, WholeBytes, StaysInVain}
 use Rattle.cr_session.specs.Replay.{JudgedWish, Ledger, Replays, lost_count}
 use Rattle.cr_session.proofs.Turns.{counted}
+use Rattle.cr_session.proofs.Endings.{replayed}
+use Rattle.cr_session.proofs.Whole.{whole_text}
 use Rattle.cr_top.specs.declared.exit.Exit.{Exit}
 use Rattle.cr_top.specs.Exits.{exit_of}
 use Rattle.cr_top.specs.Runs.{Outside, Pipes, ServesPipe, world}
@@ -28,23 +30,26 @@ serves-from rows left gives opening exit ending keeper keeper' o o' is p =
       history = p.history;
       legal = p.legal;
       connection = p.connection;
-      none_lost = none_lost (p.connection.answered ++ listed p.connection.failed) (record { history = opening; faults = 0 }) (record { history = p.history; faults = 0 }) refl refl p.connection.replays;
+      none_lost = none_lost (p.connection.answered ++ listed p.connection.failed) (record { history = opening; faults = 0 }) (record { history = p.history; faults = 0 }) refl refl
+          (replayed left gives ending 0 [] (world o opening 0) (world o' p.history 0) p.connection);
       whole = p.whole;
     }
 
 -- the keeper that is handed back is that of the book at the end
 pub pipes-of : {K I : Type 0} (rows : K → Option (List Row)) (faults : K → ℕ) (left : I → Option (List ℕ)) (gives : I → I → List ℕ → Type 0) (opening history : History) (ending : Ending) (keeper last keeper' : K) (o o' : Outside I)
     → keeper' ≡ last → Legal history → IsKept rows keeper' history
-    → Connection left gives ending 0 [] (world o opening (faults keeper)) (world o' history (faults last))
-    → ((b : List ℕ) → left o.input ≡ Some b → WholeText left ending b (world o opening (faults keeper)) (world o' history (faults last)))
+    → ConnectionBytes left gives ending 0 [] (world o opening (faults keeper)) (world o' history (faults last))
     → Pipes rows faults left gives opening ending keeper keeper' o o'
-pipes-of {K} {I} rows faults left gives opening history ending keeper last keeper' o o' same legal kept connection whole = record {
+pipes-of {K} {I} rows faults left gives opening history ending keeper last keeper' o o' same legal kept connection = record {
   history = history;
   legal = legal;
   kept = kept;
-  connection = subst (λ (n : ℕ). Connection left gives ending 0 [] (world o opening (faults keeper)) (world o' history n)) count connection;
-  whole = λ b told. subst (λ (n : ℕ). WholeText left ending b (world o opening (faults keeper)) (world o' history n)) count (whole b told);
+  connection = again;
+  whole = λ b told. whole_text Replays StaysInVain left gives ending b (world o opening (faults keeper)) (world o' history (faults keeper')) again told;
 }
   where
     count : faults last ≡ faults keeper'
     count = ap faults (sym same)
+
+    again : ConnectionBytes left gives ending 0 [] (world o opening (faults keeper)) (world o' history (faults keeper'))
+    again = subst (λ (n : ℕ). ConnectionBytes left gives ending 0 [] (world o opening (faults keeper)) (world o' history n)) count connection

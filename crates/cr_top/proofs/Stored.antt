@@ -26,7 +26,7 @@ use Rattle.cr_book.specs.Seen.{SeenBook}
 use Rattle.cr_book.specs.Sound.{IsKept}
 use Rattle.cr_book.proofs.OpeningLaws.{legal-bounded}
 use Rattle.cr_session.specs.declared.serve.Ending.{Ending}
-use Rattle.cr_session.specs.Serving.{Connection, WholeText}
+use Rattle.cr_session.specs.Serving.{ConnectionBytes, WholeBytes}
 use Rattle.cr_top.specs.declared.exit.Exit.{Exit}
 use Rattle.cr_top.specs.declared.exit.Exit.TheVariants as exits
 use Rattle.cr_top.specs.Exits.{exit_of, exit_of_rows, exit_of_shelf}
@@ -126,8 +126,8 @@ module _ {K I : Type 0} (rows : K → Option (List Row)) (faults : K → ℕ) (p
     history = p.history;
     legal = p.legal;
     faults = faults keeper';
-    connection = subst (λ (n : ℕ). Connection left gives ending 0 [] (world o book.log n) (world o' p.history (faults keeper'))) opens.fresh p.connection;
-    whole = λ b told. subst (λ (n : ℕ). WholeText left ending b (world o book.log n) (world o' p.history (faults keeper'))) opens.fresh (p.whole b told);
+    connection = subst (λ (n : ℕ). ConnectionBytes left gives ending 0 [] (world o book.log n) (world o' p.history (faults keeper'))) opens.fresh p.connection;
+    whole = λ b told. subst (λ (n : ℕ). WholeBytes left ending b (world o book.log n) (world o' p.history (faults keeper'))) opens.fresh (p.whole b told);
     kept = kept-rows rows keeper' s.files s'.files path p.history p.kept (subst (λ (f : Option Files). IfSome (rows keeper') (λ told. s'.files ≡ and_file f path told)) files-are kept);
     counted = subst (λ (n : ℕ). Gains n (faults keeper') s'.faults) count-is gains;
   }

@@ -11,8 +11,8 @@ use Rattle.cr_words.specs.Usage.{usage}
 use Rattle.cr_wire.specs.declared.what.Wish.{Wish}
 use Rattle.cr_wire.specs.Wishes.{Wishes}
 use Rattle.cr_session.specs.declared.serve.Ending.{Ending}
-use Rattle.cr_session.specs.Replay.{lost_count}
-use Rattle.cr_session.specs.Serving.{World, Connection, WholeText}
+use Rattle.cr_session.specs.Replay.{Ledger, lost_count}
+use Rattle.cr_session.specs.Serving.{World, ConnectionBytes, WholeBytes}
 use Rattle.cr_ports.specs.Writing.{Outlet, outlet_of, Writes, BreaksOff}
 use Rattle.cr_top.specs.declared.exit.Exit.{Exit}
 use Rattle.cr_top.specs.declared.exit.Exit.TheVariants as exits
@@ -29,8 +29,8 @@ abbrev pub outside_of : {I O : Type 0} → (I → ℕ) → (O → Option (List �
 outside_of read_faults taken write_faults input out = record { input = input; read_faults = read_faults input; output = outlet_of taken write_faults out }
 
 -- the same beside a history and its keeper's count of faults
-abbrev pub world : {I : Type 0} → Outside I → History → ℕ → World I
-world o H faults = record { ledger = record { history = H; faults = faults }; source = o.input; read_faults = o.read_faults; sink = o.output }
+abbrev pub world : {I : Type 0} → Outside I → History → ℕ → World Ledger I
+world o H faults = record { state = record { history = H; faults = faults }; source = o.input; read_faults = o.read_faults; sink = o.output }
 
 -- ---- one connection from an opening history on
 
@@ -40,8 +40,8 @@ pub record Pipes {K I : Type 0} (rows : K → Option (List Row)) (faults : K →
   pub history : History
   pub legal : Legal history
   pub kept : IsKept rows keeper' history
-  pub connection : Connection left gives ending 0 [] (world o opening (faults keeper)) (world o' history (faults keeper'))
-  pub whole : (b : List ℕ) → left o.input ≡ Some b → WholeText left ending b (world o opening (faults keeper)) (world o' history (faults keeper'))
+  pub connection : ConnectionBytes left gives ending 0 [] (world o opening (faults keeper)) (world o' history (faults keeper'))
+  pub whole : (b : List ℕ) → left o.input ≡ Some b → WholeBytes left ending b (world o opening (faults keeper)) (world o' history (faults keeper'))
 
 -- ---- the exits
 
@@ -51,9 +51,9 @@ pub record ServesPipe {I : Type 0} (left : I → Option (List ℕ)) (gives : I �
   pub exit_is : exit ≡ exit_of ending
   pub history : History
   pub legal : Legal history
-  pub connection : Connection left gives ending 0 [] (world o opening 0) (world o' history 0)
+  pub connection : ConnectionBytes left gives ending 0 [] (world o opening 0) (world o' history 0)
   pub none_lost : lost_count (connection.answered ++ listed connection.failed) ≡ 0
-  pub whole : (b : List ℕ) → left o.input ≡ Some b → WholeText left ending b (world o opening 0) (world o' history 0)
+  pub whole : (b : List ℕ) → left o.input ≡ Some b → WholeBytes left ending b (world o opening 0) (world o' history 0)
 
 -- Words were refused: nothing was read, and the usage line was written, or a part of it where its write failed.
 pub record TellsUsage {I : Type 0} (exit : Exit) (o o' : Outside I) : Type 0 where

@@ -16,7 +16,7 @@ use Rattle.cr_sights.specs.Walks.{StopsShort}
 use Rattle.cr_book.specs.Opening.{IsBadAt}
 use Rattle.cr_book.specs.Seen.{SeenBook}
 use Rattle.cr_session.specs.declared.serve.Ending.{Ending}
-use Rattle.cr_session.specs.Serving.{Connection, WholeText}
+use Rattle.cr_session.specs.Serving.{ConnectionBytes, WholeBytes}
 use Rattle.cr_top.specs.declared.exit.Exit.{Exit}
 use Rattle.cr_top.specs.declared.exit.Exit.TheVariants as exits
 use Rattle.cr_top.specs.Exits.{exit_of}
@@ -91,8 +91,8 @@ pub record ServesStore {K I : Type 0} (rows : K → Option (List Row)) (path : L
   pub history : History
   pub legal : Legal history
   pub faults : ℕ
-  pub connection : Connection left gives ending 0 [] (world o opening 0) (world o' history faults)
-  pub whole : (b : List ℕ) → left o.input ≡ Some b → WholeText left ending b (world o opening 0) (world o' history faults)
+  pub connection : ConnectionBytes left gives ending 0 [] (world o opening 0) (world o' history faults)
+  pub whole : (b : List ℕ) → left o.input ≡ Some b → WholeBytes left ending b (world o opening 0) (world o' history faults)
   pub kept : TellsRows rows → s'.files ≡ and_file s.files path (rows_of history)
   pub counted : Gains s.faults faults s'.faults
 

@@ -6,18 +6,23 @@ ghost use Rattle.cr_top.specs.Exits.{exit_of};
 ghost use Rattle.cr_top.specs.Runs.{Pipes, outside_of, IsFaultless, AnswersAll};
 
 use cr_book::Book;
+use cr_lock::HistoryLock;
 use cr_ports::{Keeper, Sink, Source};
-use cr_session::{Ending, serve_connection};
+use cr_session::{Ending, note_no_memory, serve_connection};
 use std::alloc::Global;
+use std::sync::Wait;
 
 /// Serves one connection over `input` and `out`, from the book's history on. Tells how it ended, and
 /// hands back the book's keeper, which keeps the rows of the last history.
+///
+/// It has the only pass of the lock that it makes round the book, so it waits for nobody.
 ///
 /// `ReadFault` and `WriteFault` come only where the count of `input`,
 /// of `out` rose, or stands at its last value, and no other ending lets a count rise. `OutOfMemory` comes
 /// for want of memory alone, and behind a wish that was read only where it wanted some: see
 /// `serve_connection`.
-pub fn pipe<K: Keeper, I: Source, O: Sink>(
+pub fn pipe<R: Wait, K: Keeper, I: Source, O: Sink>(
+    rt: &R,
     alloc: Global,
     book: Book<K>,
     input: &mut I,
@@ -35,7 +40,10 @@ pub fn pipe<K: Keeper, I: Source, O: Sink>(
     ensures read_fault { result.0 ≡ Ending.ReadFault → Rises (I.faults input.old) (I.faults input.new) }
     ensures write_fault { result.0 ≡ Ending.WriteFault → Rises (O.faults out.old) (O.faults out.new) }
 {
-    let mut book = book;
-    let ending = serve_connection(alloc, &mut book, input, out);
-    (ending, book.close())
+    let (lock, mut pass) = match HistoryLock::new(alloc, book) {
+        Ok(made) => made,
+        Err((_, book)) => return (note_no_memory(out, false), book.close()),
+    };
+    let ending = serve_connection(rt, alloc, &lock, &mut pass, input, out);
+    (ending, lock.close(pass).close())
 }

@@ -17,6 +17,7 @@ use cr_book::Book;
 use cr_ports::{PlainKeeper, Shelf, Sink, Source, write_all};
 use cr_words::{Job, WordsError, read_words, usage_text};
 use std::alloc::Global;
+use std::sync::Wait;
 
 /// Writes how the program is called. Takes no memory.
 fn refuse_words<O: Sink>(out: &mut O) -> Exit
@@ -41,7 +42,8 @@ fn empty_book(alloc: Global) -> Option<Book<PlainKeeper>>
 }
 
 /// Does the job that the words name.
-fn do_job<I: Source, O: Sink, S: Shelf>(
+fn do_job<R: Wait, I: Source, O: Sink, S: Shelf>(
+    rt: &R,
     alloc: Global,
     job: Job,
     input: &mut I,
@@ -62,10 +64,10 @@ fn do_job<I: Source, O: Sink, S: Shelf>(
             let Some(book) = empty_book(alloc) else {
                 return Exit::OutOfMemory;
             };
-            let (ending, _keeper) = pipe(alloc, book, input, out);
+            let (ending, _keeper) = pipe(rt, alloc, book, input, out);
             exit_of(ending)
         }
-        Job::Pipe { store: Some(path) } => pipe_store(alloc, path, input, out, shelf),
+        Job::Pipe { store: Some(path) } => pipe_store(rt, alloc, path, input, out, shelf),
         Job::View { store, user } => view_store(alloc, store, user, out, shelf),
     }
 }
@@ -84,7 +86,8 @@ fn do_job<I: Source, O: Sink, S: Shelf>(
 /// - `ReadFault` and `WriteFault` come only where the count of `input`, of `out` rose in this call, or
 ///   stands at its last value.
 /// - `OutOfMemory` comes for want of memory alone.
-pub fn top<I: Source, O: Sink, S: Shelf>(
+pub fn top<R: Wait, I: Source, O: Sink, S: Shelf>(
+    rt: &R,
     alloc: Global,
     words: &[String],
     input: &mut I,
@@ -115,7 +118,7 @@ pub fn top<I: Source, O: Sink, S: Shelf>(
     ensures keeper_fault { result ≡ Exit.KeeperFault → Rises (S.faults shelf.old) (S.faults shelf.new) }
 {
     match read_words(alloc, words) {
-        Ok(job) => do_job(alloc, job, input, out, shelf),
+        Ok(job) => do_job(rt, alloc, job, input, out, shelf),
         Err(WordsError::Usage) => refuse_words(out),
         Err(WordsError::OutOfMemory) => Exit::OutOfMemory,
     }

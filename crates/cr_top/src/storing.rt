@@ -14,6 +14,7 @@ use crate::piping::pipe;
 use cr_book::{Book, OpenError};
 use cr_ports::{KeeperError, Shelf, Sink, Source};
 use std::alloc::Global;
+use std::sync::Wait;
 
 /// The exit of a run whose store the shelf didn't open.
 fn exit_of_shelf(error: KeeperError) -> Exit
@@ -64,7 +65,8 @@ pub(crate) fn open_store<S: Shelf>(
 
 /// Serves one connection over `input` and `out` from the history of the rows at the path on, which are then
 /// those of the last history. Where they don't open, nothing is read and nothing written.
-pub fn pipe_store<S: Shelf, I: Source, O: Sink>(
+pub fn pipe_store<R: Wait, S: Shelf, I: Source, O: Sink>(
+    rt: &R,
     alloc: Global,
     path: &str,
     input: &mut I,
@@ -84,7 +86,7 @@ pub fn pipe_store<S: Shelf, I: Source, O: Sink>(
 {
     match open_store(alloc, path, shelf) {
         Ok(book) => {
-            let (ending, keeper) = pipe(alloc, book, input, out);
+            let (ending, keeper) = pipe(rt, alloc, book, input, out);
             shelf.shut(path, keeper);
             exit_of(ending)
         }

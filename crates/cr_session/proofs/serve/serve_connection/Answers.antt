@@ -1,11 +1,12 @@
 use Rattle.std.proofs.Common.{refl, sym, arith, subst, []}
 use Rattle.cr_session.specs.declared.serve.Ending.{Ending}
 use Rattle.cr_session.specs.Serving.{world_of, ConnectionInHistory, GoesOnInHistory}
-use Rattle.cr_session.specs.Passing.{TakesTurns, StaysPass}
+use Rattle.cr_session.specs.Passing.{TakesTurns}
 use Rattle.cr_session.specs.Turning.{TurnsInVain}
 use Rattle.cr_session.proofs.Connections.{started, ends_after, goes_after}
-use Rattle.cr_session.proofs.Rounds.{round_unbegun, not_last}
-use Rattle.cr_session.proofs.Passes.{stays-now, stays-then, stays-within}
+use Rattle.cr_session.proofs.NoMemory.{round_unbegun}
+use Rattle.cr_session.proofs.Rounds.{not_last}
+use Rattle.cr_session.proofs.Passes.{stays-now, stays-then}
 use Rattle.cr_session.proofs.Whole.{whole_text, read_rises, write_rises}
 use Rattle.cr_session.proofs.serve.serve_connection.Goals as goal
 
@@ -14,7 +15,7 @@ returns-in_default-clause-connection g c =
     let w = world_of g.S.Source.faults g.O.Sink.taken g.O.Sink.faults c.args.pass.now c.args.source.now c.args.sink.now in
     let w' = world_of g.S.Source.faults g.O.Sink.taken g.O.Sink.faults c.args.pass.now c.args.source.now c.note_no_memory.new.sink in
     subst (λ (e : Ending). ConnectionInHistory g.S.Source.left g.S.Source.read_gives e 0 [] w w') (sym c.note_no_memory.ensures.ending)
-    (round_unbegun g.S.Source.left g.S.Source.read_gives 0 w w' refl refl c.note_no_memory.ensures.notes refl)
+    (round_unbegun TakesTurns TurnsInVain (λ p. refl) g.S.Source.left g.S.Source.read_gives 0 w w' refl refl c.note_no_memory.ensures.notes refl)
 
 pub returns-in_default-clause-whole : goal.returns-in_default-clause-whole
 returns-in_default-clause-whole g c b told =
@@ -27,7 +28,7 @@ returns-in_default-with_capacity-clause-connection g c =
     let w = world_of g.S.Source.faults g.O.Sink.taken g.O.Sink.faults c.args.pass.now c.args.source.now c.args.sink.now in
     let w' = world_of g.S.Source.faults g.O.Sink.taken g.O.Sink.faults c.args.pass.now c.args.source.now c.note_no_memory-in_default-with_capacity.new.sink in
     subst (λ (e : Ending). ConnectionInHistory g.S.Source.left g.S.Source.read_gives e 0 [] w w') (sym c.note_no_memory-in_default-with_capacity.ensures.ending)
-    (round_unbegun g.S.Source.left g.S.Source.read_gives 0 w w' refl refl c.note_no_memory-in_default-with_capacity.ensures.notes refl)
+    (round_unbegun TakesTurns TurnsInVain (λ p. refl) g.S.Source.left g.S.Source.read_gives 0 w w' refl refl c.note_no_memory-in_default-with_capacity.ensures.notes refl)
 
 pub returns-in_default-with_capacity-clause-whole : goal.returns-in_default-with_capacity-clause-whole
 returns-in_default-with_capacity-clause-whole g c b told =
@@ -84,8 +85,14 @@ serving-preserved g c =
       room = c.serve_next.ensures.room;
     }
 
-pub returns-in-Some-clause-pass : goal.returns-in-Some-clause-pass
-returns-in-Some-clause-pass g c =
+pub returns-in-Some-clause-own : goal.returns-in-Some-clause-own
+returns-in-Some-clause-own g c =
+    let now = stays-then c.serving.number 1 c.args.pass.now c.serving.pass c.serve_next.new.pass c.serving.invariant.pass c.in-Some.ensures.pass in
+    (now.lock, now.share)
+
+pub returns-in-Some-clause-turns : goal.returns-in-Some-clause-turns
+returns-in-Some-clause-turns g c =
     let few = c.serving.invariant.few in
-    stays-within (c.serving.number + 1) 1048576 c.args.pass.now c.serve_next.new.pass (omega (arith, few))
-    (stays-then c.serving.number 1 c.args.pass.now c.serving.pass c.serve_next.new.pass c.serving.invariant.pass c.in-Some.ensures.pass)
+    let now = stays-then c.serving.number 1 c.args.pass.now c.serving.pass c.serve_next.new.pass c.serving.invariant.pass c.in-Some.ensures.pass in
+    let most = now.few in
+    omega (arith, few, most)

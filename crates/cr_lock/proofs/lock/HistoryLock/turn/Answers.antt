@@ -1,7 +1,6 @@
 use Rattle.std.proofs.Common.{rules, refl, arith, ap, subst, ◌∙◌, ◌+◌}
 use Rattle.std.specs.Fn.{FnOnceReturnsAtMut}
 use mathlib.Core.List.{IsPrefix}
-use Rattle.cr_lock.specs.Counts.{has_risen}
 use Rattle.cr_lock.specs.Passes.{after_turn}
 use Rattle.cr_lock.proofs.Prefixes.{prefix_length}
 use Rattle.cr_lock.proofs.Turns.{put_back, notes_from, noted_from, goes_on_from, went_from}
@@ -52,5 +51,5 @@ returns-clause-turn g c =
       (c.requires.appends _ _ _ called).0,
       called,
       (λ i. record { lock = id i; share = (last.0 i).0.share; turns = (last.0 i).0.turns; seen = (last.0 i).0.seen; mine = (last.0 i).0.mine })
-          ∙ ap (λ p. after_turn p (g.T.Stands.list x) (g.T.Stands.list y) (has_risen (g.T.Stands.faults x) (g.T.Stands.faults y))) c.pass.view_is,
+          ∙ ap (λ p. after_turn p (g.T.Stands.list x) (g.T.Stands.list y) (g.T.Stands.faults x) (g.T.Stands.faults y)) c.pass.view_is,
     )

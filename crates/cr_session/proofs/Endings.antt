@@ -1,0 +1,122 @@
+-- How turns end: what is true of a pass, and what of the ledger of a lock that is closed.
+use Rattle.std.proofs.Common.{◌≡◌, ◌∙◌, ◌⊎◌, inl, inr, ℕ, List, [], ◌++◌, Option, Some, None, refl, sym, ap, subst}
+use Rattle.atomic_table.specs.Seated.{TableId}
+use Rattle.cr_base.specs.declared.entry.Stamped.{Stamped}
+use Rattle.cr_base.specs.Lists.{listed}
+use Rattle.cr_base.specs.History.{History}
+use Rattle.cr_lock.specs.Closing.{Closes}
+use Rattle.cr_lock.specs.Passes.{first_pass}
+use Rattle.cr_ports.specs.Writing.{Outlet}
+use Rattle.cr_session.specs.declared.serve.Ending.{Ending}
+use Rattle.cr_session.specs.declared.serve.Ending.TheVariants as endings
+use Rattle.cr_session.specs.declared.serve.Why.TheVariants as whys
+use Rattle.cr_session.specs.Replay.{JudgedWish, Ledger, Replays}
+use Rattle.cr_session.specs.Passing.{KnownPass, TakesTurns}
+use Rattle.cr_session.specs.Turning.{MayWantMemory, TurnsInVain}
+use Rattle.cr_session.specs.Serving.{World, MayLackMemory, EndsAs, EndsTurns, ConnectionInHistory, ConnectionBytes, WholeBytes, StaysInVain}
+use Rattle.cr_session.proofs.Alone.{StaysBehind, behind-none, behind-vain, seen-closed, replays-closed}
+use Rattle.cr_wire.specs.declared.what.Wish.{Wish}
+
+-- no turn was taken behind those for wishes
+pub no_turns : {B : Type 0} (ending : Ending) (b b' : B) → b' ≡ b → EndsTurns ending b b'
+no_turns endings.Clean b b' same = same
+no_turns endings.Cut b b' same = same
+no_turns (endings.Closed why) b b' same = same
+no_turns endings.ReadFault b b' same = same
+no_turns endings.WriteFault b b' same = same
+no_turns endings.OutOfMemory b b' same = tt
+
+-- or one in vain at most
+stays_behind : (ending : Ending) (n : ℕ) (came text : List ℕ) (answered : List JudgedWish) (failed : Option JudgedWish) (q p : KnownPass) (s s' : Outlet)
+    → EndsTurns ending q p → EndsAs TakesTurns TurnsInVain ending n came text answered failed q p s s' → StaysBehind q p
+stays_behind endings.Clean n came text answered failed q p s s' same e = behind-none q p same
+stays_behind endings.Cut n came text answered failed q p s s' same e = behind-none q p same
+stays_behind (endings.Closed why) n came text answered failed q p s s' same e = behind-none q p same
+stays_behind endings.ReadFault n came text answered failed q p s s' same e = behind-none q p same
+stays_behind endings.WriteFault n came text answered failed q p s s' same e = behind-none q p same
+stays_behind endings.OutOfMemory n came text answered (Some failed) q p s s' same e = absurd (cc (e.0))
+stays_behind endings.OutOfMemory n came text answered None q p s s' same e = by e.2
+  where
+    by : MayLackMemory TakesTurns TurnsInVain q p e.0 → StaysBehind q p
+    by (inl lacks) = behind-none q p lacks.1
+    by (inr lacks) = behind-vain lacks.0 q p lacks.3
+
+-- what is wanted of a pass is wanted of the ledger
+lacks_alike : (q p : KnownPass) (b : Ledger) (rest : List ℕ) → ((w : Wish) → TurnsInVain w q p → MayWantMemory b.history w)
+    → MayLackMemory TakesTurns TurnsInVain q p rest → MayLackMemory Replays StaysInVain b b rest
+lacks_alike q p b rest vain (inl lacks) = inl (lacks.0, refl)
+lacks_alike q p b rest vain (inr lacks) = inr (lacks.0, lacks.1, lacks.2, (refl, vain lacks.0 lacks.3))
+
+ends_alike : (ending : Ending) (n : ℕ) (came text : List ℕ) (answered : List JudgedWish) (failed : Option JudgedWish) (q p : KnownPass) (b : Ledger) (s s' : Outlet)
+    → ((w : Wish) → TurnsInVain w q p → MayWantMemory b.history w)
+    → EndsAs TakesTurns TurnsInVain ending n came text answered failed q p s s' → EndsAs Replays StaysInVain ending n came text answered failed b b s s'
+ends_alike ending n came text answered (Some failed) q p b s s' vain e = e
+ends_alike endings.Clean n came text answered None q p b s s' vain e = e
+ends_alike endings.Cut n came text answered None q p b s s' vain e = e
+ends_alike (endings.Closed whys.Asked) n came text answered None q p b s s' vain e = e
+ends_alike (endings.Closed (whys.Refused why)) n came text answered None q p b s s' vain e = e
+ends_alike endings.ReadFault n came text answered None q p b s s' vain e = e
+ends_alike endings.WriteFault n came text answered None q p b s s' vain e = e
+ends_alike endings.OutOfMemory n came text answered None q p b s s' vain e = (e.0, e.1, lacks_alike q p b e.0 vain e.2, e.3, e.4, e.5)
+
+-- a ledger stays behind the turns of the wishes
+pub ledger_stays : (ending : Ending) (n : ℕ) (came text : List ℕ) (answered : List JudgedWish) (failed : Option JudgedWish) (b b' : Ledger) (s s' : Outlet)
+    → EndsTurns ending b b' → EndsAs Replays StaysInVain ending n came text answered failed b b' s s' → b' ≡ b
+ledger_stays endings.Clean n came text answered failed b b' s s' same e = same
+ledger_stays endings.Cut n came text answered failed b b' s s' same e = same
+ledger_stays (endings.Closed why) n came text answered failed b b' s s' same e = same
+ledger_stays endings.ReadFault n came text answered failed b b' s s' same e = same
+ledger_stays endings.WriteFault n came text answered failed b b' s s' same e = same
+ledger_stays endings.OutOfMemory n came text answered (Some failed) b b' s s' same e = absurd (cc (e.0))
+ledger_stays endings.OutOfMemory n came text answered None b b' s s' same e = by e.2
+  where
+    by : MayLackMemory Replays StaysInVain b b' e.0 → b' ≡ b
+    by (inl lacks) = lacks.1
+    by (inr lacks) = lacks.3.0
+
+-- so Replay leads to the ledger at the end
+pub replayed : {S : Type 0} (left : S → Option (List ℕ)) (gives : S → S → List ℕ → Type 0) (ending : Ending) (n : ℕ) (i : List ℕ) (w w' : World Ledger S)
+    → (c : ConnectionBytes left gives ending n i w w') → Replays (c.answered ++ listed c.failed) w.state w'.state
+replayed left gives ending n i w w' c =
+    subst (λ (b : Ledger). Replays (c.answered ++ listed c.failed) w.state b)
+    (sym (ledger_stays ending n (i ++ c.got) (i ++ c.got) c.answered c.failed c.judged w'.state w.sink w'.sink c.settled c.ends)) c.turns
+
+pub replayed_whole : {S : Type 0} (left : S → Option (List ℕ)) (ending : Ending) (b : List ℕ) (w w' : World Ledger S)
+    → (c : WholeBytes left ending b w w') → Replays (c.answered ++ listed c.failed) w.state w'.state
+replayed_whole left ending b w w' c =
+    subst (λ (x : Ledger). Replays (c.answered ++ listed c.failed) w.state x)
+    (sym (ledger_stays ending 0 c.came b c.answered c.failed c.judged w'.state w.sink w'.sink c.settled c.ends)) c.turns
+
+-- On the one pass of a lock that is closed, ConnectionInHistory is ConnectionBytes, from the first ledger to the last.
+module _ {T S : Type 0} (list : T → List Stamped) (faults : T → ℕ) (first : T) (lock : TableId) (x : T) (left : S → Option (List ℕ)) (gives : S → S → List ℕ → Type 0) (ending : Ending)
+    (p p' : KnownPass) (source source' : S) (f f' : ℕ) (s s' : Outlet) where
+  -- the world about the pass, and about the ledger
+  abbrev in_history : KnownPass → S → ℕ → Outlet → World KnownPass S
+  in_history state source f s = record { state = state; source = source; read_faults = f; sink = s }
+
+  abbrev on_ledger : T → S → ℕ → Outlet → World Ledger S
+  on_ledger x source f s = record { state = record { history = list x; faults = faults x }; source = source; read_faults = f; sink = s }
+
+  pub bytes-closed : p ≡ first_pass lock (list first) → Closes list faults first p' x
+      → ConnectionInHistory left gives ending 0 [] (in_history p source f s) (in_history p' source' f' s')
+      → ConnectionBytes left gives ending 0 [] (on_ledger first source f s) (on_ledger x source' f' s')
+  bytes-closed opened closes c =
+      let b : Ledger = record { history = list x; faults = faults x } in
+      let behind = stays_behind ending 0 ([] ++ c.got) ([] ++ c.got) c.answered c.failed c.judged p' s s' c.settled c.ends in
+      let all : List JudgedWish = c.answered ++ listed c.failed in
+      let turns : TakesTurns all (first_pass lock (list first)) c.judged = subst (λ (y : KnownPass). TakesTurns all y c.judged) opened c.turns in
+      let vain : (w : Wish) → TurnsInVain w c.judged p' → MayWantMemory (list x) w = λ w v.
+      subst (λ (H : History). MayWantMemory H w) (sym (ap (λ (y : KnownPass). y.seen) v.turn) ∙ sym closes.stands) v.wants in
+      record {
+        got = c.got;
+        given = c.given;
+        answered = c.answered;
+        failed = c.failed;
+        judged = b;
+        turns = replays-closed list faults first lock c.judged p' x closes behind all turns;
+        settled = no_turns ending b b refl;
+        ends = ends_alike ending 0 ([] ++ c.got) ([] ++ c.got) c.answered c.failed c.judged p' b s s' vain c.ends;
+        ended = c.ended;
+        counts = c.counts;
+        needed = c.needed;
+      }
