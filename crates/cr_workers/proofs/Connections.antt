@@ -6,7 +6,7 @@ use Rattle.cr_base.specs.declared.entry.Stamped.{Stamped}
 use Rattle.cr_base.specs.History.{History}
 use Rattle.cr_lock.specs.declared.view.Turn.{Turn}
 use Rattle.cr_lock.specs.Counts.{Every, total, within}
-use Rattle.cr_lock.specs.Turns.{groups_with, marks, end_of, merged, longer}
+use Rattle.cr_lock.specs.Turns.{groups_with, marks, rises, end_of, merged, longer}
 use Rattle.cr_lock.specs.Passes.{larger_half, smaller_half, united, Agree}
 use Rattle.cr_lock.proofs.Prefixes.{prefix_self, prefix_trans, prefix_length}
 use Rattle.cr_lock.proofs.Sums.{total_append, total_merged}
@@ -43,7 +43,7 @@ module _ {I O : Type 0} (streams : Streams I O) where
   -- ---- none, one, one after another, side by side
 
   pub serve-none : (p : KnownPass) → ServeAll streams [] p p
-  serve-none p = record { each = tt; seen = prefix_self p.seen; groups = λ k. omega arith; marked = omega arith }
+  serve-none p = record { each = tt; seen = prefix_self p.seen; groups = λ k. omega arith; marked = omega arith; rose = omega arith }
 
   pub serve-one : (c : C) → IsServed streams c → ServeAll streams (c ∷ []) c.before c.after
   serve-one c is = record {
@@ -51,6 +51,7 @@ module _ {I O : Type 0} (streams : Streams I O) where
     seen = is.seen;
     groups = λ k. (let e = ap (groups_with k) is.mine ∙ total_append (λ (t : Turn Stamped). within t.place (end_of t) k) c.before.mine c.turns in omega (arith, e));
     marked = (let e = ap marks is.mine ∙ total_append (λ (t : Turn Stamped). if t.marked then 1 else 0) c.before.mine c.turns in omega (arith, e));
+    rose = (let e = ap rises is.mine ∙ total_append (λ (t : Turn Stamped). t.rise) c.before.mine c.turns in omega (arith, e));
   }
 
   pub serve-then : (cs ds : List C) (p q r : KnownPass) → ServeAll streams cs p q → ServeAll streams ds q r → ServeAll streams (cs ++ ds) p r
@@ -62,6 +63,7 @@ module _ {I O : Type 0} (streams : Streams I O) where
     groups = λ k. (
       let x = a.groups k in let y = b.groups k in let z = total_append (λ (c : C). groups_with k c.turns) cs ds in omega (arith, x, y, z));
     marked = (let x = a.marked in let y = b.marked in let z = total_append (λ (c : C). marks c.turns) cs ds in omega (arith, x, y, z));
+    rose = (let x = a.rose in let y = b.rose in let z = total_append (λ (c : C). rises c.turns) cs ds in omega (arith, x, y, z));
   }
 
   pub serve-both : (cs ds : List C) (p q r : KnownPass) → ServeAll streams cs (larger_half p) q → ServeAll streams ds (smaller_half p) r → Agree q r
@@ -80,4 +82,8 @@ module _ {I O : Type 0} (streams : Streams I O) where
           let x = a.marked in let y = b.marked in
           let m = total_merged (λ (t : Turn Stamped). if t.marked then 1 else 0) q.mine r.mine in
           let z = total_append (λ (c : C). marks c.turns) cs ds in omega (arith, x, y, z, m));
+        rose = (
+          let x = a.rose in let y = b.rose in
+          let m = total_merged (λ (t : Turn Stamped). t.rise) q.mine r.mine in
+          let z = total_append (λ (c : C). rises c.turns) cs ds in omega (arith, x, y, z, m));
       }

@@ -1,5 +1,5 @@
 -- What a pass knows more behind turns, and behind a connection.
-use Rattle.std.proofs.Common.{◌≡◌, ◌∙◌, ℕ, List, [], ◌∷◌, ◌++◌, length, drop, Bool, Option, Some, None, ⊎_elim, refl, sym, ap, subst, append_assoc}
+use Rattle.std.proofs.Common.{◌≡◌, ◌∙◌, ℕ, List, [], ◌∷◌, ◌++◌, length, drop, Option, Some, None, ⊎_elim, refl, sym, ap, subst, append_assoc}
 use mathlib.Core.List.{IsPrefix}
 use Rattle.cr_base.specs.Lists.{listed}
 use Rattle.cr_base.specs.declared.entry.Stamped.{Stamped}
@@ -17,6 +17,7 @@ use Rattle.cr_session.specs.Replay.{JudgedWish, history_after}
 use Rattle.cr_session.specs.Serving.{World, ConnectionInHistory, EndsTurns, EndsAs}
 use Rattle.cr_session.specs.Turning.{TurnsInVain}
 use Rattle.cr_session.proofs.Passes.{after-begins}
+use Rattle.cr_wire.specs.declared.what.Wish.{Wish}
 
 -- it goes on from what it had seen, and has these turns more, each with its group at its place
 pub record Grows (p q : KnownPass) : Type 0 where
@@ -25,7 +26,7 @@ pub record Grows (p q : KnownPass) : Type 0 where
   pub mine : q.mine ≡ p.mine ++ turns
   pub places : Every (StandsIn q.seen) turns
 
-append-nil : {A : Type 0} (xs : List A) → xs ≡ xs ++ []
+pub append-nil : {A : Type 0} (xs : List A) → xs ≡ xs ++ []
 append-nil [] = refl
 append-nil (x ∷ xs) = ap (λ ys. x ∷ ys) (append-nil xs)
 
@@ -36,9 +37,9 @@ every-append P (x ∷ xs) ys a b = (a.0, every-append P xs ys a.1 b)
 grown-none : (p q : KnownPass) → q ≡ p → Grows p q
 grown-none p q same = subst (λ (x : KnownPass). Grows p x) (sym same) (record { seen = prefix_self p.seen; turns = []; mine = append-nil p.mine; places = tt })
 
-grown-turn : (p q : KnownPass) (H H' : History) (marked : Bool) → IsPrefix p.seen H → IsPrefix H H' → q ≡ after_turn p H H' marked → Grows p q
-grown-turn p q H H' marked saw begins is =
-    let t : Turn Stamped = turn_at (length H) (drop (length H) H') marked in
+grown-turn : (p q : KnownPass) (H H' : History) (m n : ℕ) → IsPrefix p.seen H → IsPrefix H H' → q ≡ after_turn p H H' m n → Grows p q
+grown-turn p q H H' m n saw begins is =
+    let t : Turn Stamped = turn_at (length H) (drop (length H) H') m n in
     subst (λ (x : KnownPass). Grows p x) (sym is) (record {
       seen = prefix_trans p.seen H H' saw begins;
       turns = t ∷ [];
@@ -57,10 +58,10 @@ grown-then p q r a b = record {
 grown-takes : (js : List JudgedWish) (p q : KnownPass) → TakesTurns js p q → Grows p q
 grown-takes [] p q same = grown-none p q same
 grown-takes (j ∷ js) p q (next, turn, rest) =
-    grown-then p next q (grown-turn p next j.seen (history_after j) _ turn.saw (after-begins j) turn.turn) (grown-takes js next q rest)
+    grown-then p next q (grown-turn p next j.seen (history_after j) turn.faults turn.faults' turn.saw (after-begins j) turn.turn) (grown-takes js next q rest)
 
-grown-vain : (w : _) (p q : KnownPass) → TurnsInVain w p q → Grows p q
-grown-vain w p q vain = grown-turn p q vain.seen vain.seen _ vain.saw (prefix_self vain.seen) vain.turn
+grown-vain : (w : Wish) (p q : KnownPass) → TurnsInVain w p q → Grows p q
+grown-vain w p q vain = grown-turn p q vain.seen vain.seen vain.faults vain.faults vain.saw (prefix_self vain.seen) vain.turn
 
 -- behind the wishes that were judged there are no turns, or one for which memory was wanting
 grown-last : (ending : Ending) (n : ℕ) (came : List ℕ) (answered : List JudgedWish) (failed : Option JudgedWish) (p q : KnownPass) (s s' : Outlet)

@@ -1,3 +1,4 @@
 pub mod Grown
 pub mod Connections
 pub mod Halves
+pub mod Serving

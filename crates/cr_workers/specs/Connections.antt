@@ -4,7 +4,7 @@ use mathlib.Core.List.{IsPrefix}
 use Rattle.cr_base.specs.declared.entry.Stamped.{Stamped}
 use Rattle.cr_lock.specs.declared.view.Turn.{Turn}
 use Rattle.cr_lock.specs.Counts.{Every, total}
-use Rattle.cr_lock.specs.Turns.{StandsIn, groups_with, marks}
+use Rattle.cr_lock.specs.Turns.{StandsIn, groups_with, marks, rises}
 use Rattle.cr_ports.specs.declared.door.Served.{Served}
 use Rattle.cr_session.specs.declared.serve.Ending.{Ending}
 use Rattle.cr_session.specs.Passing.{KnownPass}
@@ -57,9 +57,11 @@ module _ {I O : Type 0} (streams : Streams I O) where
     pub ends : IsPrefix c.after.seen last
 
   -- What workers did together who began with one pass and ended with one: they served these connections. The pass has their
-  -- turns more: each entry stands in as many groups more as they added it in, and as many turns more are marked.
+  -- turns more: each entry stands in as many groups more as they added it in, as many turns more are marked, and in them the
+  -- keeper's count of faults rose by what it rose in theirs.
   pub record ServeAll (connections : List (ServedConnection I O)) (p p' : KnownPass) : Type 0 where
     pub each : Every (IsServedWithin p.seen p'.seen) connections
     pub seen : IsPrefix p.seen p'.seen
     pub groups : (k : ℕ) → groups_with k p'.mine ≡ groups_with k p.mine + total (λ (c : ServedConnection I O). groups_with k c.turns) connections
     pub marked : marks p'.mine ≡ marks p.mine + total (λ (c : ServedConnection I O). marks c.turns) connections
+    pub rose : rises p'.mine ≡ rises p.mine + total (λ (c : ServedConnection I O). rises c.turns) connections

@@ -1,5 +1,5 @@
 -- What workers did with their doors.
-use Rattle.std.specs.Prelude.{◌≡◌, ◌≢◌, ◌≤◌, ◌⊎◌, ℕ, ◌+◌, List, [], ◌∷◌, ◌++◌, length, map, flat_map, Bool, true, false, Option, Some, None, Result, Ok, Err}
+use Rattle.std.specs.Prelude.{◌≡◌, ◌≤◌, ◌⊎◌, ℕ, ◌+◌, List, [], ◌∷◌, ◌++◌, length, map, flat_map, Bool, true, false, Option, Some, None, Result, Ok, Err}
 use Rattle.cr_lock.specs.Counts.{Every}
 use Rattle.cr_ports.specs.Count.{Rises}
 use Rattle.cr_ports.specs.Doors.{DoorLog}
@@ -66,22 +66,33 @@ pub record Visits {I O : Type 0} (connections : List (ServedConnection I O)) (d 
   pub faults : d'.faults ≡ d.faults
   pub log : TellsMore connections d.log d'.log
 
--- then it gave no further one: its share was given, or it failed
+-- how its state tells that it has no further one: its share was given, or it failed
 abbrev pub StopsBy : {I O : Type 0} → Last → SeenDoor I O → SeenDoor I O → Type 0
 StopsBy lasts.Done d d' = (d.left ≡ 0) × (d'.left ≡ 0) × (d'.faults ≡ d.faults) × TellsLast answers.Done d'.log
 StopsBy lasts.Failed d d' = (d.faults ≤ d'.faults) × Rises d.faults d'.faults × TellsLast answers.Failed d'.log
 
--- What a worker did with its door, from end to end: it served these connections, and then there was no further one.
-pub record Works {I O : Type 0} (last : Last) (connections : List (ServedConnection I O)) (d d' : SeenDoor I O) : Type 0 where
-  pub between : SeenDoor I O
-  pub visits : Visits connections d between
-  pub stops : StopsBy last between d'
+-- the door was asked, and had no further connection
+pub record Stops {I O : Type 0} (last : Last) (d d' : SeenDoor I O) : Type 0 where
+  pub by : StopsBy last d d'
   pub back : d'.is_out ≡ false
-  pub log : TellsMore connections d.log d'.log
+  pub log : TellsMore [] d.log d'.log
 
--- no connection ended for lack of memory
+-- what a worker did with its door, from end to end: it served these connections, and then there was no further one
+abbrev pub Works : {I O : Type 0} → Last → List (ServedConnection I O) → SeenDoor I O → SeenDoor I O → Type 0
+Works {I} {O} last connections d d' = (between : SeenDoor I O) × Visits connections d between × Stops last between d'
+
+-- a connection ended for lack of memory
+abbrev pub lacks : Ending → Bool
+lacks endings.Clean = false
+lacks endings.Cut = false
+lacks (endings.Closed why) = false
+lacks endings.ReadFault = false
+lacks endings.WriteFault = false
+lacks endings.OutOfMemory = true
+
+-- none of them did
 abbrev pub NoneLacked : {I O : Type 0} → List (ServedConnection I O) → Type 0
-NoneLacked {I} {O} connections = Every (λ (c : ServedConnection I O). c.ending ≢ endings.OutOfMemory) connections
+NoneLacked {I} {O} connections = Every (λ (c : ServedConnection I O). lacks c.ending ≡ false) connections
 
 -- ---- all doors
 
@@ -131,4 +142,4 @@ pub record ServesDoors {I O : Type 0} (streams : Streams I O) (ended : Worked) (
 abbrev pub ServesNext : {I O : Type 0} → Streams I O → Result Ending Last → SeenDoor I O → SeenDoor I O → KnownPass → KnownPass → Type 0
 ServesNext {I} {O} streams (Ok ending) d d' p p' = (c : ServedConnection I O)
     × IsServed streams c × (c.ending ≡ ending) × (c.before ≡ p) × (c.after ≡ p') × Visits (c ∷ []) d d'
-ServesNext streams (Err last) d d' p p' = (p' ≡ p) × Works last [] d d'
+ServesNext streams (Err last) d d' p p' = (p' ≡ p) × Stops last d d'

@@ -1,8 +1,8 @@
 //! One worker: the connections of one door, one after another.
-ghost use Rattle.std.specs.Prelude.{◌≡◌, ◌≤◌, ◌+◌, ◌*◌, ◌^◌, [], ◌∷◌, IsFalse};
+ghost use Rattle.std.specs.Prelude.{◌≡◌, ◌≤◌, ◌+◌, ◌*◌, ◌^◌, [], ◌∷◌, ◌||◌, IsFalse};
 ghost use Rattle.cr_session.specs.Passing.{StaysPass};
 ghost use Rattle.cr_workers.specs.Connections.{streams_of};
-ghost use Rattle.cr_workers.specs.Doors.{door_of, ended_by, ServesDoors, ServesNext};
+ghost use Rattle.cr_workers.specs.Doors.{door_of, ended_by, lacks, ServesDoors, ServesNext};
 
 use crate::worked::Worked;
 use cr_book::Book;
@@ -47,6 +47,20 @@ fn serve_next<R: Wait, K: Keeper, D: Door>(
     }
 }
 
+/// Whether a connection ended for lack of memory, this one or one before it.
+fn has_lacked(lacked: bool, ending: Ending) -> bool
+    ensures { result ≡ (lacked || lacks ending) }
+{
+    match ending {
+        Ending::OutOfMemory => true,
+        Ending::Clean
+        | Ending::Cut
+        | Ending::Closed(_)
+        | Ending::ReadFault
+        | Ending::WriteFault => lacked,
+    }
+}
+
 /// How a worker ended whose door answered so at last, and of whose connections one ended for lack of memory or none did.
 fn ended_by(lacked: bool, last: Last) -> Worked
     ensures { result ≡ ended_by lacked last }
@@ -77,7 +91,7 @@ pub(crate) fn serve_door<R: Wait, K: Keeper, D: Door>(
     let mut lacked = false;
     'serving: loop {
         match serve_next(rt, alloc, lock, pass, door) {
-            Ok(ending) => lacked = lacked || ending == Ending::OutOfMemory,
+            Ok(ending) => lacked = has_lacked(lacked, ending),
             Err(last) => return ended_by(lacked, last),
         }
     }
