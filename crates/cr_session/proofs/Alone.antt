@@ -1,13 +1,11 @@
 -- Where one pass took all the turns of its lock, no other turn came between two of them: so its turns are Replay.
 use Rattle.std.proofs.Common.{◌≡◌, ◌∙◌, ◌≤◌, ◌<◌, ◌^◌, ◌-◌, ◌⊎◌, inl, inr, ℕ, zero, suc, ◌+◌, List, [], ◌∷◌, ◌++◌, length, drop, Bool, true, false, cond, refl, sym, ap, subst, arith, append-nil, append_assoc, length-append}
 use mathlib.Core.List.{IsPrefix}
-use Rattle.atomic_table.specs.Seated.{TableId}
 use Rattle.cr_base.specs.declared.entry.Stamped.{Stamped}
 use Rattle.cr_base.specs.History.{History}
 use Rattle.cr_lock.specs.declared.view.Turn.{Turn}
 use Rattle.cr_lock.specs.Closing.{Closes}
 use Rattle.cr_lock.specs.Counts.{last_count}
-use Rattle.cr_lock.specs.Passes.{first_pass}
 use Rattle.cr_lock.specs.Turns.{turn_at, groups_of, rises, marks}
 use Rattle.cr_lock.proofs.Prefixes.{prefix_self, prefix_length, prefix_drop, prefix_whole}
 use Rattle.cr_session.specs.Replay.{JudgedWish, Ledger, Turned, CountsLoss, history_after, Replays, lost_count}
@@ -187,26 +185,27 @@ behind-vain w q p v = record {
     turn : Turn Stamped
     turn = turn_at (length v.seen) (drop (length v.seen) v.seen) v.faults v.faults
 
--- the one pass of a lock that is closed, whose turns for wishes led to q
-module _ {T : Type 0} (list : T → List Stamped) (faults : T → ℕ) (first : T) (lock : TableId) (q p : KnownPass) (x : T)
-    (closes : Closes list faults first p x) (behind : StaysBehind q p) (js : List JudgedWish) (r : TakesTurns js (first_pass lock (list first)) q) where
-  abbrev start : KnownPass
-  start = first_pass lock (list first)
-
+-- the one pass of a lock that is closed, which had no turn at first, and whose turns for wishes led to q
+module _ {T : Type 0} (list : T → List Stamped) (faults : T → ℕ) (first x : T) (start q p : KnownPass) (opens : start.seen ≡ list first) (bare : start.mine ≡ [])
+    (closes : Closes list faults first p x) (behind : StaysBehind q p) (js : List JudgedWish) (r : TakesTurns js start q) where
   counts-closed : Counts (lost_count js) (faults first) (faults x)
   counts-closed = record {
     later = (let c = closes.count in omega (arith, c));
-    still = λ none. (let c = closes.count in let n : rises q.mine ≡ 0 = none-rises js start q r none in let e = behind.rise in omega (arith, c, n, e));
+    still = λ none. (let c = closes.count in let n = none-rises js start q r none in let e = behind.rise in let zero_rise = ap rises bare in omega (arith, c, n, e, zero_rise));
     many = by closes.marks;
   }
     where
       by : (faults first + marks p.mine ≤ faults x) ⊎ (last_count ≤ faults x) → (faults first + lost_count js ≤ faults x) ⊎ (last_count ≤ faults x)
-      by (inl le) = inl (let m : 0 + lost_count js ≤ marks q.mine = marked_losses js start q r in let e = behind.mark in omega (arith, le, m, e))
+      by (inl le) = inl (let m = marked_losses js start q r in let e = behind.mark in omega (arith, le, m, e))
       by (inr le) = inr le
 
   -- nobody else added anything
-  whole : length p.seen ≡ length (list first) + grown p
-  whole = ap length (sym closes.stands ∙ closes.whole) ∙ length-append (list first) (groups_of p.mine)
+  whole : length p.seen + grown start ≡ length start.seen + grown p
+  whole =
+      let w : length p.seen ≡ length (list first) + grown p = ap length (sym closes.stands ∙ closes.whole) ∙ length-append (list first) (groups_of p.mine) in
+      let o = ap length opens in
+      let n = ap (λ (ts : List (Turn Stamped)). length (groups_of ts)) bare in
+      omega (arith, w, o, n)
 
   pub seen-closed : q.seen ≡ list x
   seen-closed =
@@ -222,4 +221,5 @@ module _ {T : Type 0} (list : T → List Stamped) (faults : T → ℕ) (first : 
       let l = prefix_length q.seen p.seen behind.saw in
       let e = behind.group in
       subst (λ (H : History). Replays js (record { history = list first; faults = faults first }) (record { history = H; faults = faults x })) seen-closed
-      (replays-alone js start q (faults first) (faults x) r (omega (arith, w, l, e)) counts-closed)
+      (subst (λ (H : History). Replays js (record { history = H; faults = faults first }) (ledger q (faults x))) opens
+      (replays-alone js start q (faults first) (faults x) r (omega (arith, w, l, e)) counts-closed))

@@ -1,11 +1,9 @@
 -- How turns end: what is true of a pass, and what of the ledger of a lock that is closed.
 use Rattle.std.proofs.Common.{◌≡◌, ◌∙◌, ◌⊎◌, inl, inr, ℕ, List, [], ◌++◌, Option, Some, None, refl, sym, ap, subst}
-use Rattle.atomic_table.specs.Seated.{TableId}
 use Rattle.cr_base.specs.declared.entry.Stamped.{Stamped}
 use Rattle.cr_base.specs.Lists.{listed}
 use Rattle.cr_base.specs.History.{History}
 use Rattle.cr_lock.specs.Closing.{Closes}
-use Rattle.cr_lock.specs.Passes.{first_pass}
 use Rattle.cr_ports.specs.Writing.{Outlet}
 use Rattle.cr_session.specs.declared.serve.Ending.{Ending}
 use Rattle.cr_session.specs.declared.serve.Ending.TheVariants as endings
@@ -14,7 +12,7 @@ use Rattle.cr_session.specs.Replay.{JudgedWish, Ledger, Replays}
 use Rattle.cr_session.specs.Passing.{KnownPass, TakesTurns}
 use Rattle.cr_session.specs.Turning.{MayWantMemory, TurnsInVain}
 use Rattle.cr_session.specs.Serving.{World, MayLackMemory, EndsAs, EndsTurns, ConnectionInHistory, ConnectionBytes, WholeBytes, StaysInVain}
-use Rattle.cr_session.proofs.Alone.{StaysBehind, behind-none, behind-vain, seen-closed, replays-closed}
+use Rattle.cr_session.proofs.Alone.{StaysBehind, behind-none, behind-vain, replays-closed}
 use Rattle.cr_wire.specs.declared.what.Wish.{Wish}
 
 -- no turn was taken behind those for wishes
@@ -88,7 +86,7 @@ replayed_whole left ending b w w' c =
     (sym (ledger_stays ending 0 c.came b c.answered c.failed c.judged w'.state w.sink w'.sink c.settled c.ends)) c.turns
 
 -- On the one pass of a lock that is closed, ConnectionInHistory is ConnectionBytes, from the first ledger to the last.
-module _ {T S : Type 0} (list : T → List Stamped) (faults : T → ℕ) (first : T) (lock : TableId) (x : T) (left : S → Option (List ℕ)) (gives : S → S → List ℕ → Type 0) (ending : Ending)
+module _ {T S : Type 0} (list : T → List Stamped) (faults : T → ℕ) (first x : T) (left : S → Option (List ℕ)) (gives : S → S → List ℕ → Type 0) (ending : Ending)
     (p p' : KnownPass) (source source' : S) (f f' : ℕ) (s s' : Outlet) where
   -- the world about the pass, and about the ledger
   abbrev in_history : KnownPass → S → ℕ → Outlet → World KnownPass S
@@ -97,23 +95,21 @@ module _ {T S : Type 0} (list : T → List Stamped) (faults : T → ℕ) (first 
   abbrev on_ledger : T → S → ℕ → Outlet → World Ledger S
   on_ledger x source f s = record { state = record { history = list x; faults = faults x }; source = source; read_faults = f; sink = s }
 
-  pub bytes-closed : p ≡ first_pass lock (list first) → Closes list faults first p' x
+  pub bytes-closed : p.seen ≡ list first → p.mine ≡ [] → Closes list faults first p' x
       → ConnectionInHistory left gives ending 0 [] (in_history p source f s) (in_history p' source' f' s')
       → ConnectionBytes left gives ending 0 [] (on_ledger first source f s) (on_ledger x source' f' s')
-  bytes-closed opened closes c =
+  bytes-closed opens bare closes c =
       let b : Ledger = record { history = list x; faults = faults x } in
       let behind = stays_behind ending 0 ([] ++ c.got) ([] ++ c.got) c.answered c.failed c.judged p' s s' c.settled c.ends in
-      let all : List JudgedWish = c.answered ++ listed c.failed in
-      let turns : TakesTurns all (first_pass lock (list first)) c.judged = subst (λ (y : KnownPass). TakesTurns all y c.judged) opened c.turns in
       let vain : (w : Wish) → TurnsInVain w c.judged p' → MayWantMemory (list x) w = λ w v.
-      subst (λ (H : History). MayWantMemory H w) (sym (ap (λ (y : KnownPass). y.seen) v.turn) ∙ sym closes.stands) v.wants in
+          subst (λ (H : History). MayWantMemory H w) (sym (ap (λ (y : KnownPass). y.seen) v.turn) ∙ sym closes.stands) v.wants in
       record {
         got = c.got;
         given = c.given;
         answered = c.answered;
         failed = c.failed;
         judged = b;
-        turns = replays-closed list faults first lock c.judged p' x closes behind all turns;
+        turns = replays-closed list faults first x p c.judged p' opens bare closes behind (c.answered ++ listed c.failed) c.turns;
         settled = no_turns ending b b refl;
         ends = ends_alike ending 0 ([] ++ c.got) ([] ++ c.got) c.answered c.failed c.judged p' b s s' vain c.ends;
         ended = c.ended;
