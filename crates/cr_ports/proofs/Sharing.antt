@@ -1,5 +1,6 @@
 -- The shares of doors add up to the connections.
 use Rattle.std.proofs.Common.{◌≡◌, ◌∙◌, ℕ, zero, suc, ◌+◌, ◌-◌, ◌*◌, ◌/◌, ◌%◌, ◌<◌, ◌≤◌, min, sum, List, [], ◌∷◌, ◌++◌, length, Bool, true, false, nat_lt, if◌then◌else◌, refl, sym, ap, arith, suc-mul, mul-le-mul_right, mod-lt, div-add-mod', ltb-true, ltb-false, subst}
+use Rattle.std.proofs.lemmas.List.{length_push}
 use Rattle.std.proofs.lemmas.List.Sums.{sum_by-append}
 use Rattle.std.proofs.Math.Nat.{mul_comm}
 use Rattle.cr_ports.specs.Doors.{share_of, shares, shares_below}
@@ -66,3 +67,10 @@ enough_behind i workers connections share len rest more is left len_is =
   where
     sums : (total before s share room rest c : ℕ) → total ≡ before + s → share ≡ s → c ≤ (before + share) + room → rest ≡ room → c ≤ total + rest
     sums total before s share room rest c more is left room_is = omega (arith, more, is, left, room_is)
+
+-- There is one share a door.
+pub length-shares_below : (i workers connections : ℕ) → length (shares_below i workers connections) ≡ i
+length-shares_below zero workers connections = refl
+length-shares_below (suc i) workers connections =
+    let e : i + 1 ≡ suc i = omega arith in
+    length_push (shares_below i workers connections) (share_of i workers connections) ∙ ap (λ (n : ℕ). n + 1) (length-shares_below i workers connections) ∙ e

@@ -31,7 +31,7 @@ pub use gates_in_memory::MemGates;
 pub use keeper::{Keeper, KeeperError};
 pub use keepers::{MemKeeper, PlainKeeper};
 pub use script::Script;
-pub use shares::share;
+pub use shares::{law_shares, share};
 pub use shelf::Shelf;
 pub use shelves::MemShelf;
 pub use sink::{Sink, WriteStep};
