@@ -1,5 +1,7 @@
 pub mod Simple
 pub mod Filled
+pub mod Numbers
 pub mod Named
 mod PipeLaw
 mod StoreLaws
+mod ServeLaws
