@@ -1,11 +1,13 @@
 -- The exit of a run, by how its connection ended, and its status.
-use Rattle.std.specs.Prelude.{ℕ}
+use Rattle.std.specs.Prelude.{ℕ, Bool, true, false}
 use Rattle.cr_ports.specs.declared.keeper.KeeperError.{KeeperError}
 use Rattle.cr_ports.specs.declared.keeper.KeeperError.TheVariants as refusals
 use Rattle.cr_book.specs.declared.opening.OpenError.{OpenError}
 use Rattle.cr_book.specs.declared.opening.OpenError.TheVariants as errors
 use Rattle.cr_session.specs.declared.serve.Ending.{Ending}
 use Rattle.cr_session.specs.declared.serve.Ending.TheVariants as endings
+use Rattle.cr_workers.specs.declared.worked.Worked.{Worked}
+use Rattle.cr_workers.specs.declared.worked.Worked.TheVariants as worked
 use Rattle.cr_top.specs.declared.exit.Exit.{Exit}
 use Rattle.cr_top.specs.declared.exit.Exit.TheVariants as exits
 
@@ -29,6 +31,13 @@ exit_of_rows (errors.BadStore row found) = exits.BadStore row found.kind
 exit_of_rows errors.KeeperFault = exits.KeeperFault
 exit_of_rows errors.OutOfMemory = exits.OutOfMemory
 
+-- the exit of a run whose workers ended so, and whose last line was written or wasn't
+abbrev pub exit_of_workers : Worked → Bool → Exit
+exit_of_workers worked.OutOfMemory written = exits.OutOfMemory
+exit_of_workers worked.DoorFailed written = exits.ListenFault
+exit_of_workers worked.Done true = exits.Done
+exit_of_workers worked.Done false = exits.WriteFault
+
 -- the status that the process ends with
 abbrev pub status_of : Exit → ℕ
 status_of exits.Done = 0
@@ -38,5 +47,6 @@ status_of (exits.BadStore row kind) = 3
 status_of exits.ReadFault = 4
 status_of exits.WriteFault = 5
 status_of exits.KeeperFault = 6
+status_of exits.ListenFault = 7
 status_of exits.NoUser = 8
 status_of exits.OutOfMemory = 9

@@ -73,22 +73,22 @@ module _ {I O : Type 0} where
 
   -- ---- lists of doors
 
-  unasked : List (SeenDoor I O) → List W
+  pub unasked : List (SeenDoor I O) → List W
   unasked doors = map (λ (d : SeenDoor I O). record { before = d; after = d; connections = [] }) doors
 
-  unasked-before : (doors : List (SeenDoor I O)) → map (λ (w : W). w.before) (unasked doors) ≡ doors
+  pub unasked-before : (doors : List (SeenDoor I O)) → map (λ (w : W). w.before) (unasked doors) ≡ doors
   unasked-before [] = refl
   unasked-before (d ∷ ds) = ap (λ xs. d ∷ xs) (unasked-before ds)
 
-  unasked-after : (doors : List (SeenDoor I O)) → map (λ (w : W). w.after) (unasked doors) ≡ doors
+  pub unasked-after : (doors : List (SeenDoor I O)) → map (λ (w : W). w.after) (unasked doors) ≡ doors
   unasked-after [] = refl
   unasked-after (d ∷ ds) = ap (λ xs. d ∷ xs) (unasked-after ds)
 
-  unasked-each : (doors : List (SeenDoor I O)) → Every (IsWorkedOn worked.OutOfMemory) (unasked doors)
+  pub unasked-each : (doors : List (SeenDoor I O)) → Every (IsWorkedOn worked.OutOfMemory) (unasked doors)
   unasked-each [] = tt
   unasked-each (d ∷ ds) = (inr (inr (refl, refl)), unasked-each ds)
 
-  unasked-connections : (doors : List (SeenDoor I O)) → [] ≡ connections_of (unasked doors)
+  pub unasked-connections : (doors : List (SeenDoor I O)) → [] ≡ connections_of (unasked doors)
   unasked-connections [] = refl
   unasked-connections (d ∷ ds) = unasked-connections ds
 

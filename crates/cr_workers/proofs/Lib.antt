@@ -2,3 +2,4 @@ pub mod Grown
 pub mod Connections
 pub mod Halves
 pub mod Serving
+pub mod Closed

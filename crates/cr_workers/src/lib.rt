@@ -7,8 +7,9 @@
 #![tactic(auto)]
 
 mod doors;
+mod history;
 mod worked;
 mod worker;
 
-pub use doors::serve_doors;
+pub use history::serve_book;
 pub use worked::Worked;
