@@ -10,7 +10,7 @@ use Rattle.cr_session.specs.declared.serve.Served.{Served}
 use Rattle.cr_session.specs.declared.serve.Served.TheVariants as served
 use Rattle.cr_session.specs.Told.{form_of, told, unkept, step}
 use Rattle.cr_session.specs.Replay.{JudgedWish, Ledger, answer_to, history_after}
-use Rattle.cr_session.specs.Passing.{KnownPass, StaysPass}
+use Rattle.cr_session.specs.Passing.{KnownPass}
 use Rattle.cr_wire.specs.Wishes.{closes}
 use Rattle.cr_ports.specs.Writing.{Outlet, Writes, BreaksOff}
 use Rattle.cr_session.specs.Turning.{Turns, AnswersWish, turn_text, MayWantToPrint, MayWantMemory, Sends, JudgesInTurn, TurnsInVain, ServesRequest}

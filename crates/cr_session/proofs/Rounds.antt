@@ -4,7 +4,6 @@ use Rattle.std.specs.Prelude.{MatchBool, ◌||◌, ◌==◌}
 use Rattle.cr_http.specs.declared.refusal.Refusal.{Refusal}
 use Rattle.cr_http.specs.Found.{whole, refused, clean, cut, StandsAt}
 use Rattle.cr_http.specs.Requests.{RequestText, End, SpellsFrom, ReachesFrom, ended_clean, ended_cut, asked, closed}
-use Rattle.cr_ports.specs.Stream.{and_left}
 use Rattle.cr_print.specs.Answers.{closing_text}
 use Rattle.cr_wire.specs.declared.what.Wish.{Wish}
 use Rattle.cr_wire.specs.Wish.{wish_text}
@@ -17,15 +16,14 @@ use Rattle.cr_session.specs.declared.serve.Why.TheVariants as whys
 use Rattle.cr_session.specs.Reading.{ReadsWish, StandsWish}
 use Rattle.cr_session.specs.Replay.{JudgedWish, answer_to, wishes_of}
 use Rattle.cr_session.specs.Passing.{KnownPass, TakesTurns}
-use Rattle.cr_session.specs.Serving.{World, ConnectionInHistory, GoesOnInHistory, WritesRefusal, TellsWantOfMemory, MayLackMemory, EndsAs, EndsSource, CountsReads, ReadsNoFurther}
+use Rattle.cr_session.specs.Serving.{World, ConnectionInHistory, GoesOnInHistory, WritesRefusal, TellsWantOfMemory, EndsAs, EndsSource, CountsReads}
 use Rattle.cr_session.specs.Turning.{TurnsInVain, ServesRequest}
 use Rattle.cr_session.specs.Wishes.{Spells}
 use Rattle.cr_ports.specs.Writing.{Outlet, Writes, BreaksOff}
 use Rattle.cr_wire.specs.Wishes.{closes, closes_behind}
-use Rattle.cr_http.proofs.Moving.{and_left-nil}
 use Rattle.cr_http.specs.ToHead.{IsToHead}
 use Rattle.cr_http.proofs.HeadsRead.{to_head_of}
-use Rattle.cr_session.proofs.NoFurther.{no_further-one, no_further-still}
+use Rattle.cr_session.proofs.NoFurther.{no_further-one}
 use Rattle.cr_session.proofs.Endings.{no_turns}
 use Rattle.cr_session.proofs.NoMemory.{no_memory}
 use Rattle.cr_session.proofs.Passes.{takes-one}

@@ -2,7 +2,6 @@
 use Rattle.std.specs.Prelude.{ℕ, ◌≡◌, ◌≤◌, ◌+◌, List, [], ◌∷◌, IsSome, MatchBool}
 use mathlib.Core.List.{IsPrefix}
 use Rattle.cr_base.specs.declared.entry.Stamped.{Stamped}
-use Rattle.cr_base.specs.History.{History}
 use Rattle.cr_lock.specs.Passes.{Known, after_turn}
 use Rattle.cr_session.specs.Told.{drawn}
 use Rattle.cr_session.specs.Replay.{JudgedWish, CountsLoss, history_after}
