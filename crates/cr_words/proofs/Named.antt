@@ -1,6 +1,6 @@
 -- Words that the command takes name one of its jobs, whose numbers lie within their ranges.
-use Rattle.std.proofs.Common.{◌≡◌, ◌≢◌, ◌∙◌, ◌≤◌, ℕ, arith, ◌&&◌, ◌||◌, List, [], ◌∷◌, Bool, true, false, not, cond, Option, Some, None, is_some, inl, inr, Result, Err, IfOk, refl, sym, ap, subst, codes}
-use Rattle.std.specs.Prelude.{find, option_map}
+use Rattle.std.proofs.Common.{◌≡◌, ◌≢◌, ◌∙◌, ℕ, arith, ◌&&◌, ◌||◌, List, [], ◌∷◌, Bool, true, false, not, cond, Option, Some, None, is_some, inl, inr, Result, Err, IfOk, refl, sym, ap, subst, codes}
+use Rattle.std.specs.Prelude.{option_map}
 use Rattle.std.specs.Str.{bytes_eq}
 use Rattle.std.specs.Option.{option_and_then, option_map_or, ok_or}
 use Rattle.std.specs.List.{list_any}
@@ -8,7 +8,7 @@ use Rattle.clap.specs.Facts.{explicit_source}
 use Rattle.clap.specs.Words.{App, Row, Shape, Text, fault_of, first_of, built, is_simple, subcommand_of, takes}
 use Rattle.clap.specs.Walk.{answers_to, nothing_held, rows_after, stop_after}
 use Rattle.clap.specs.Simple.{argument_words, built_leaf, entered, inherited, label_of, names_of, rows_at}
-use Rattle.clap.specs.Kinds.{Kinds, check_kinds}
+use Rattle.clap.specs.Kinds.{check_kinds}
 use Rattle.clap.specs.declared.error.kind.ErrorKind.{ErrorKind}
 use Rattle.clap.specs.Takes.{is_given}
 use Rattle.clap.specs.Faults.{check_fault, entered_fault, level_fault}
@@ -20,7 +20,7 @@ use Rattle.cr_words.proofs.Numbers.{IsNumber, is_number}
 use Rattle.cr_words.specs.declared.read.Job.{Job}
 use Rattle.cr_words.specs.declared.read.WordsError.{WordsError}
 use Rattle.cr_words.specs.declared.read.WordsError.TheVariants.{Usage}
-use Rattle.cr_words.proofs.Filled.{ArePlainRules, HasFirst, given_first, level_of}
+use Rattle.cr_words.proofs.Filled.{ArePlainRules, given_first, level_of}
 
 -- ---- what the last check asks for
 
@@ -100,17 +100,23 @@ top_plain = ((inr refl, refl), tt)
 
 serve_plain : ArePlainRules Passes serve_built.rules
 unfolding confd_words pipe serve view
-serve_plain =
-    ((inl (refl, refl, λ v _. (never (are_workers v), never (are_connections v))), refl),
-    ((inl (refl, refl, λ v none. (λ _. no_kinds (are_workers v) _ none, never (are_connections v))), refl),
-    ((inl (refl, refl, λ v none. (never (are_workers v), λ _. no_kinds (are_connections v) _ none)), refl),
-    ((inl (refl, refl, λ v _. (never (are_workers v), never (are_connections v))), refl), ((inr refl, refl), tt)))))
+serve_plain = (
+  (inl (refl, refl, λ v _. (never (are_workers v), never (are_connections v))), refl),
+  (
+    (inl (refl, refl, λ v none. (λ _. no_kinds (are_workers v) _ none, never (are_connections v))), refl),
+    (
+      (inl (refl, refl, λ v none. (never (are_workers v), λ _. no_kinds (are_connections v) _ none)), refl),
+      ((inl (refl, refl, λ v _. (never (are_workers v), never (are_connections v))), refl), ((inr refl, refl), tt)),
+    ),
+  ),
+)
 
 view_plain : ArePlainRules Passes view_built.rules
 unfolding confd_words pipe serve view
-view_plain =
-    ((inl (refl, refl, λ v _. (never (are_workers v), never (are_connections v))), refl),
-    ((inl (refl, refl, λ v _. (never (are_workers v), never (are_connections v))), refl), ((inr refl, refl), tt)))
+view_plain = (
+  (inl (refl, refl, λ v _. (never (are_workers v), never (are_connections v))), refl),
+  ((inl (refl, refl, λ v _. (never (are_workers v), never (are_connections v))), refl), ((inr refl, refl), tt)),
+)
 
 -- `serve` has all its options where it has no fault, and its numbers lie within their ranges
 serve_is_whole : (rest : List Text) → level_fault serve_built [] nothing_held rest false [] ≡ [] → IsNamed (serve_named (rows_after serve_built.rules [] rest))
