@@ -127,7 +127,7 @@ serve_is_whole rest e =
     let rows = rows_after serve_built.rules [] rest in
     let level = level_of Passes serve_built [] rest false [] serve_plain e in
     let given = four_given (is_given (codes "listen") rows) (is_given (codes "workers") rows) (is_given (codes "connections") rows)
-        (is_given (codes "store") rows) (options_are_there serve_built rows false level.checked) in
+    (is_given (codes "store") rows) (options_are_there serve_built rows false level.checked) in
     let listen = given_first Passes (codes "listen") rows level.filled given.0 in
     let workers = given_first Passes (codes "workers") rows level.filled given.1 in
     let connections = given_first Passes (codes "connections") rows level.filled given.2 in
@@ -192,7 +192,7 @@ entry_is_named a s t u None subs s_name t_name u_name t_whole u_whole none some 
     not_some e = cc
 entry_is_named a s t u (Some p) subs s_name t_name u_name t_whole u_whole none some =
     rw subs (found_entry s t u p.0 p.1 s_name t_name u_name (t_whole p.1) (u_whole p.1)
-        (answers_to p.0 (label_of s)) (answers_to p.0 (label_of t)) (answers_to p.0 (label_of u)) (rw subs at none) (rw subs at some))
+    (answers_to p.0 (label_of s)) (answers_to p.0 (label_of t)) (answers_to p.0 (label_of u)) (rw subs at none) (rw subs at some))
 
 pub names_a_job : (words : List Text) → fault_of confd_words words ≡ [] → IsNamed (job_of words)
 unfolding confd_words pipe serve view

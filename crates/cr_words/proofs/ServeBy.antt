@@ -1,5 +1,5 @@
 -- `serve` with other tests of its two numbers, which stay closed while clap's definitions compute.
-use Rattle.std.proofs.Common.{◌≡◌, ◌∙◌, [], ◌∷◌, ◌&&◌, ℕ, Bool, true, cond, List, Option, Some, refl, subst, arith, codes}
+use Rattle.std.proofs.Common.{◌≡◌, ◌∙◌, [], ◌∷◌, ◌&&◌, Bool, true, cond, List, Option, Some, refl, subst, arith, codes}
 use Rattle.std.specs.Option.{option_and_then}
 use Rattle.clap.specs.Words.{App, Rule, Text, fault_of, new_app, subcommand_of, takes, with_subcommand}
 use Rattle.clap.specs.Kinds.{Kinds, or_else}
