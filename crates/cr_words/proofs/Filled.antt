@@ -1,4 +1,5 @@
--- Each row that a walk over the words leaves has a value with which clap finds no fault, where each argument takes one value or is the call for help.
+-- Each row that a walk over the words leaves has a value with which clap finds no fault, where each argument takes one value
+-- or is the call for help.
 use Rattle.std.proofs.Common.{◌≡◌, ◌⊎◌, subst, ℕ, zero, suc, ◌&&◌, ◌++◌, List, [], ◌∷◌, Bool, true, false, cond, Option, Some, None, is_some, refl, inl, inr}
 use Rattle.std.specs.Prelude.{⊤, find, fold, slice_get, drop, length, encode_utf8}
 use Rattle.std.specs.Str.{bytes_eq, chars}

@@ -4,4 +4,6 @@ pub mod Numbers
 pub mod Named
 mod PipeLaw
 mod StoreLaws
+mod Values
+mod ServeBy
 mod ServeLaws

@@ -1,6 +1,6 @@
 -- Words that the command takes name one of its jobs, whose numbers lie within their ranges.
-use Rattle.std.proofs.Common.{◌≡◌, ◌≢◌, ◌∙◌, ◌≤◌, ℕ, arith, ◌&&◌, ◌||◌, List, [], ◌∷◌, Bool, true, false, not, cond, Option, Some, None, is_some, inl, inr, Result, Err, IfOk, refl, sym, ap, subst, codes}
-use Rattle.std.specs.Prelude.{find, option_map}
+use Rattle.std.proofs.Common.{◌≡◌, ◌≢◌, ◌∙◌, ℕ, arith, ◌&&◌, ◌||◌, List, [], ◌∷◌, Bool, true, false, not, cond, Option, Some, None, is_some, inl, inr, Result, Err, IfOk, refl, sym, ap, subst, codes}
+use Rattle.std.specs.Prelude.{option_map}
 use Rattle.std.specs.Str.{bytes_eq}
 use Rattle.std.specs.Option.{option_and_then, option_map_or, ok_or}
 use Rattle.std.specs.List.{list_any}
@@ -8,7 +8,7 @@ use Rattle.clap.specs.Facts.{explicit_source}
 use Rattle.clap.specs.Words.{App, Row, Shape, Text, fault_of, first_of, built, is_simple, subcommand_of, takes}
 use Rattle.clap.specs.Walk.{answers_to, nothing_held, rows_after, stop_after}
 use Rattle.clap.specs.Simple.{argument_words, built_leaf, entered, inherited, label_of, names_of, rows_at}
-use Rattle.clap.specs.Kinds.{Kinds, check_kinds}
+use Rattle.clap.specs.Kinds.{check_kinds}
 use Rattle.clap.specs.declared.error.kind.ErrorKind.{ErrorKind}
 use Rattle.clap.specs.Takes.{is_given}
 use Rattle.clap.specs.Faults.{check_fault, entered_fault, level_fault}
@@ -20,7 +20,7 @@ use Rattle.cr_words.proofs.Numbers.{IsNumber, is_number}
 use Rattle.cr_words.specs.declared.read.Job.{Job}
 use Rattle.cr_words.specs.declared.read.WordsError.{WordsError}
 use Rattle.cr_words.specs.declared.read.WordsError.TheVariants.{Usage}
-use Rattle.cr_words.proofs.Filled.{ArePlainRules, HasFirst, given_first, level_of}
+use Rattle.cr_words.proofs.Filled.{ArePlainRules, given_first, level_of}
 
 -- ---- what the last check asks for
 
@@ -70,10 +70,12 @@ no_kinds : (passes : Bool) (k : ErrorKind) → cond passes [] (k ∷ []) ≡ [] 
 no_kinds true k e = refl
 no_kinds false k e = cc
 
-number_there : (id : Text) (rows : List Row) (v : Text) (low high : ℕ) → first_of id rows ≡ Some v → IsNumber low high v → number_at id rows ≡ Some (spelt v)
+number_there : (id : Text) (rows : List Row) (v : Text) (low high : ℕ)
+    → first_of id rows ≡ Some v → IsNumber low high v → number_at id rows ≡ Some (spelt v)
 number_there id rows v low high is number = ap (λ (t : Option Text). option_and_then number_of t) is ∙ number.read
 
-pub all_there : (a : Option Text) (m n : Option ℕ) (b : Option Text) (listen : Text) (workers connections : ℕ) (store : Text) → a ≡ Some listen → m ≡ Some workers → n ≡ Some connections → b ≡ Some store
+pub all_there : (a : Option Text) (m n : Option ℕ) (b : Option Text) (listen : Text) (workers connections : ℕ) (store : Text)
+    → a ≡ Some listen → m ≡ Some workers → n ≡ Some connections → b ≡ Some store
     → with_all a m n b ≡ Some (serve_job listen workers connections store)
 all_there a m n b listen workers connections store e f g h = rw (e, f, g, h) refl
 
@@ -100,17 +102,23 @@ top_plain = ((inr refl, refl), tt)
 
 serve_plain : ArePlainRules Passes serve_built.rules
 unfolding confd_words pipe serve view
-serve_plain =
-    ((inl (refl, refl, λ v _. (never (are_workers v), never (are_connections v))), refl),
-    ((inl (refl, refl, λ v none. (λ _. no_kinds (are_workers v) _ none, never (are_connections v))), refl),
-    ((inl (refl, refl, λ v none. (never (are_workers v), λ _. no_kinds (are_connections v) _ none)), refl),
-    ((inl (refl, refl, λ v _. (never (are_workers v), never (are_connections v))), refl), ((inr refl, refl), tt)))))
+serve_plain = (
+  (inl (refl, refl, λ v _. (never (are_workers v), never (are_connections v))), refl),
+  (
+    (inl (refl, refl, λ v none. (λ _. no_kinds (are_workers v) _ none, never (are_connections v))), refl),
+    (
+      (inl (refl, refl, λ v none. (never (are_workers v), λ _. no_kinds (are_connections v) _ none)), refl),
+      ((inl (refl, refl, λ v _. (never (are_workers v), never (are_connections v))), refl), ((inr refl, refl), tt)),
+    ),
+  ),
+)
 
 view_plain : ArePlainRules Passes view_built.rules
 unfolding confd_words pipe serve view
-view_plain =
-    ((inl (refl, refl, λ v _. (never (are_workers v), never (are_connections v))), refl),
-    ((inl (refl, refl, λ v _. (never (are_workers v), never (are_connections v))), refl), ((inr refl, refl), tt)))
+view_plain = (
+  (inl (refl, refl, λ v _. (never (are_workers v), never (are_connections v))), refl),
+  ((inl (refl, refl, λ v _. (never (are_workers v), never (are_connections v))), refl), ((inr refl, refl), tt)),
+)
 
 -- `serve` has all its options where it has no fault, and its numbers lie within their ranges
 serve_is_whole : (rest : List Text) → level_fault serve_built [] nothing_held rest false [] ≡ [] → IsNamed (serve_named (rows_after serve_built.rules [] rest))
@@ -118,7 +126,8 @@ unfolding confd_words pipe serve view
 serve_is_whole rest e =
     let rows = rows_after serve_built.rules [] rest in
     let level = level_of Passes serve_built [] rest false [] serve_plain e in
-    let given = four_given (is_given (codes "listen") rows) (is_given (codes "workers") rows) (is_given (codes "connections") rows) (is_given (codes "store") rows) (options_are_there serve_built rows false level.checked) in
+    let given = four_given (is_given (codes "listen") rows) (is_given (codes "workers") rows) (is_given (codes "connections") rows)
+    (is_given (codes "store") rows) (options_are_there serve_built rows false level.checked) in
     let listen = given_first Passes (codes "listen") rows level.filled given.0 in
     let workers = given_first Passes (codes "workers") rows level.filled given.1 in
     let connections = given_first Passes (codes "connections") rows level.filled given.2 in
@@ -156,7 +165,8 @@ view_is_named p e named = rw e named
 abbrev NamesBy : Shape → (List Row → Option NamedJob) → List Text → Type 0
 NamesBy t named rest = level_fault t [] nothing_held rest false [] ≡ [] → IsNamed (named (rows_after t.rules [] rest))
 
-module _ (s t u : Shape) (word : Text) (rest : List Text) (s_name : s.name ≡ codes "pipe") (t_name : t.name ≡ codes "serve") (u_name : u.name ≡ codes "view")
+module _ (s t u : Shape) (word : Text) (rest : List Text)
+    (s_name : s.name ≡ codes "pipe") (t_name : t.name ≡ codes "serve") (u_name : u.name ≡ codes "view")
     (t_whole : NamesBy t serve_named rest) (u_whole : NamesBy u view_named rest) where
   abbrev by_name : Bool → Bool → Bool → Option Shape
   by_name first second third = cond first (Some s) (cond second (Some t) (cond third (Some u) None))
@@ -172,7 +182,8 @@ module _ (s t u : Shape) (word : Text) (rest : List Text) (s_name : s.name ≡ c
       no_entry : false ≡ true → ⊥
       no_entry e = cc
 
-entry_is_named : (a : App) (s t u : Shape) (stop : Option (Text × List Text)) → a.subs ≡ s ∷ t ∷ u ∷ [] → s.name ≡ codes "pipe" → t.name ≡ codes "serve" → u.name ≡ codes "view"
+entry_is_named : (a : App) (s t u : Shape) (stop : Option (Text × List Text)) → a.subs ≡ s ∷ t ∷ u ∷ []
+    → s.name ≡ codes "pipe" → t.name ≡ codes "serve" → u.name ≡ codes "view"
     → ((rest : List Text) → NamesBy t serve_named rest) → ((rest : List Text) → NamesBy u view_named rest)
     → entered_fault a stop ≡ [] → is_some (entered a stop) ≡ true → IsNamed (option_and_then job_named (entered a stop))
 entry_is_named a s t u None subs s_name t_name u_name t_whole u_whole none some = absurd (not_some some)
@@ -180,7 +191,8 @@ entry_is_named a s t u None subs s_name t_name u_name t_whole u_whole none some 
     not_some : false ≡ true → ⊥
     not_some e = cc
 entry_is_named a s t u (Some p) subs s_name t_name u_name t_whole u_whole none some =
-    rw subs (found_entry s t u p.0 p.1 s_name t_name u_name (t_whole p.1) (u_whole p.1) (answers_to p.0 (label_of s)) (answers_to p.0 (label_of t)) (answers_to p.0 (label_of u)) (rw subs at none) (rw subs at some))
+    rw subs (found_entry s t u p.0 p.1 s_name t_name u_name (t_whole p.1) (u_whole p.1)
+    (answers_to p.0 (label_of s)) (answers_to p.0 (label_of t)) (answers_to p.0 (label_of u)) (rw subs at none) (rw subs at some))
 
 pub names_a_job : (words : List Text) → fault_of confd_words words ≡ [] → IsNamed (job_of words)
 unfolding confd_words pipe serve view

@@ -1,5 +1,5 @@
 -- A number among the words is the one that std reads, and what clap takes lies within its range.
-use Rattle.std.proofs.Common.{◌≡◌, ◌∙◌, ℕ, ◌<◌, ◌≤◌, ◌^◌, Bool, true, false, cond, Option, Some, None, Result, Ok, Err, refl, ap, sym, arith}
+use Rattle.std.proofs.Common.{◌≡◌, ◌∙◌, ℕ, ◌≤◌, Bool, true, false, cond, Some, None, Result, Ok, Err, refl, ap, sym, arith}
 use Rattle.std.specs.Result.{result_ok}
 use Rattle.std.specs.Str.Parse.{IsNumeral, ParsesUnsigned, without_leading_plus}
 use Rattle.std.specs.declared.num.ParseIntError.{ParseIntError}
@@ -14,7 +14,8 @@ fits text digits small = Accepts-accepts false (Unsigned 0 4294967295) text (dig
 
 pub reads : (text : Text) (r : Result ℕ ParseIntError) → ParsesUnsigned 32 10 text r → result_ok r ≡ number_of text
 reads text (Ok n) h = ap Some h.1 ∙ sym (ap (λ b. cond b (Some (spelt text)) None) (fits text h.0.0 (let small = h.0.1 in omega arith)))
-reads text (Err e) h = by_test (is_unsigned_in 0 4294967295 text) (λ yes. let a = accepts-Accepts false (Unsigned 0 4294967295) text yes in h (a.0, (let small = a.3 in omega arith)))
+reads text (Err e) h = by_test (is_unsigned_in 0 4294967295 text)
+    (λ taken. let a = accepts-Accepts false (Unsigned 0 4294967295) text taken in h (a.0, (let small = a.3 in omega arith)))
   where
     by_test : (b : Bool) → (b ≡ true → ⊥) → None ≡ cond b (Some (spelt text)) None
     by_test true never = absurd (never refl)

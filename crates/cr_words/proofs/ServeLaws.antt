@@ -1,165 +1,79 @@
 -- The words of `serve`, by clap's own definitions.
-use Rattle.std.proofs.Common.{◌≡◌, ◌∙◌, [], ◌∷◌, ℕ, ◌<◌, Bool, List, Option, Some, true, false, cond, not, ◌&&◌, ◌==◌, refl, subst, arith, codes, None, ap}
-use Rattle.std.specs.Option.{option_and_then}
-use Rattle.std.proofs.lemmas.Bool.{eqb-true}
-use Rattle.clap.specs.Words.{App, Rule, Text, fault_of, new_app, subcommand_of, takes, with_rule, with_subcommand}
-use Rattle.clap.specs.Values.{refused_kind}
-use Rattle.clap.specs.Kinds.{Kinds, or_else}
-use Rattle.clap.specs.declared.error.kind.ErrorKind.{ErrorKind}
-use Rattle.clap.specs.ValueTests.{accepts, is_unsigned_in}
-use Rattle.clap.specs.declared.builder.value_parser.ValueParser.{ValueParser}
-use Rattle.clap.specs.declared.builder.value_parser.ValueParser.TheVariants.{Unsigned}
-use Rattle.clap.specs.declared.error.kind.ErrorKind.TheVariants.{ValueValidation}
-use Rattle.clap.proofs.OnLiterals.{clap_on_literals}
-use Rattle.clap.proofs.ValueTestLemmas.{accepts-Accepts}
-use Rattle.cr_words.specs.Words.{pipe, serve, view, confd_words, required, text_option, is_plain_text, most_workers, most_connections, serve_word, serve_words, store_words}
-use Rattle.cr_words.specs.Numbers.{spelt, number_of, are_workers, are_connections}
-use Rattle.cr_words.specs.Job.{NamedJob, job_named, job_of, serve_job, with_all}
-use Rattle.cr_words.proofs.Numbers.{is_number}
-use Rattle.cr_words.proofs.Named.{all_there}
-use Rattle.cr_words.proofs.StoreLaws.{not_dashes, not_stripped}
-use Rattle.std.specs.Prelude.{fold}
+use Rattle.std.proofs.Common.{◌≡◌, ◌∙◌, [], ◌∷◌, ◌&&◌, Bool, true, false, List, Some, None, ap, refl, codes}
 use Rattle.std.specs.List.{list_all}
-use Rattle.clap.specs.Values.{reading_of}
-use Rattle.clap.specs.Walk.{Held, Row, Walk, option, arg_by_id, finished, nothing_held, option_word, settled, walk, walk_from, walked}
-use Rattle.clap.specs.Simple.{Shape, built, built_leaf, inherited}
-use Rattle.clap.specs.Takes.{default_passes, is_valid, settle_passes, turn_passes, walk_passes}
-use Rattle.clap.specs.Faults.{check_fault, defaults_fault, settle_fault, turn_fault, walk_fault}
+use Rattle.clap.specs.Words.{Row, Shape, Text, fault_of, takes}
+use Rattle.clap.specs.Values.{reading_of, refused_kind}
+use Rattle.clap.specs.ValueTests.{accepts}
+use Rattle.clap.specs.Kinds.{Kinds, or_else}
+use Rattle.clap.specs.Walk.{Held, Walk, finished, nothing_held, settled, walk, walk_from}
+use Rattle.clap.specs.Simple.{built, built_leaf, inherited}
+use Rattle.clap.specs.Takes.{default_passes, is_valid, settle_passes, walk_passes}
+use Rattle.clap.specs.Faults.{check_fault, defaults_fault, settle_fault, walk_fault}
 use Rattle.clap.specs.declared.builder.value_parser.Reading.{Reading}
 use Rattle.clap.specs.declared.builder.value_parser.Reading.TheVariants.{AsWritten}
+use Rattle.clap.specs.declared.builder.value_parser.ValueParser.{ValueParser}
+use Rattle.clap.specs.declared.error.kind.ErrorKind.TheVariants.{ValueValidation}
 use Rattle.clap.specs.declared.parser.matches.ValueSource.TheVariants.{CommandLine}
+use Rattle.clap.proofs.OnLiterals.{clap_on_literals}
+use Rattle.cr_words.specs.Words.{pipe, view, confd_words, is_plain_text, most_workers, most_connections, serve_word, serve_words, store_words}
+use Rattle.cr_words.specs.Numbers.{spelt, number_of, are_workers, are_connections}
+use Rattle.cr_words.specs.Job.{job_named, job_of, serve_job, with_all}
+use Rattle.cr_words.proofs.ServeBy.{serve_by, words_by, job_by, first_range, second_range, number_fault, walk_faults, faults_by}
+use Rattle.cr_words.proofs.ServeBy.{number_passes, walk_passes_by, passes_by, faults_are, both_pass, job_is}
+use Rattle.cr_words.proofs.Values.{number_plain, after_value, goes_on, faults_go_on, passes_on}
 
--- ---- the same command with other tests of its two numbers, which clap then can't look into
+abbrev two_words : Text → Text → Text → Text → Text → List Text
+two_words name listen workers connections file = name ∷ codes "serve" ∷ serve_words listen workers connections file
 
-abbrev option_by : Text → ValueParser → Rule
-option_by id p = record (text_option id true) { parser = Some p }
-
-abbrev serve_by : ValueParser → ValueParser → App
-serve_by p q = with_rule (with_rule (with_rule (with_rule (new_app (codes "serve")) (text_option (codes "listen") true)) (option_by (codes "workers") p)) (option_by (codes "connections") q)) (text_option (codes "store") true)
-
-abbrev words_by : ValueParser → ValueParser → App
-words_by p q = with_subcommand (with_subcommand (with_subcommand (required (new_app (codes "confd"))) pipe.top) (serve_by p q).top) view.top
-
-by_ranges : words_by (Unsigned 1 most_workers) (Unsigned 1 most_connections) ≡ confd_words
-unfolding confd_words serve
-by_ranges = refl
-
-abbrev job_by : ValueParser → ValueParser → List Text → Option NamedJob
-job_by p q words = option_and_then job_named (subcommand_of (words_by p q) words)
-
--- the faults of the two numbers, one behind the other, by the two tests
-abbrev faults_by : ErrorKind → ErrorKind → Bool → Bool → Kinds
-faults_by k l b c = or_else (or_else (or_else (or_else (or_else (cond b [] (k ∷ [])) []) []) (or_else (or_else (or_else (cond c [] (l ∷ [])) []) []) [])) []) []
-
--- whether both pass
-abbrev both_by : Bool → Bool → Bool
-both_by b c = ((((b && true) && true) && (((c && true) && true) && true)) && true) && true
-
--- what the words are, where the two tests have these answers
-abbrev Faults : List Text → Bool → Bool → Type 0
-Faults words b c = fault_of confd_words words ≡ faults_by ValueValidation ValueValidation b c
-
-job_of_all : (words : List Text) (name listen workers connections file : Text) → job_by (Unsigned 1 most_workers) (Unsigned 1 most_connections) words ≡ with_all (Some listen) (number_of workers) (number_of connections) (Some file)
-    → are_workers workers ≡ true → are_connections connections ≡ true → job_of words ≡ Some (serve_job listen (spelt workers) (spelt connections) file)
-unfolding confd_words serve
-job_of_all words name listen workers connections file is few some =
-    is ∙ all_there _ _ _ _ listen (spelt workers) (spelt connections) file refl (is_number 1 most_workers workers (omega arith) few).read (is_number 1 most_connections connections (omega arith) some).read refl
-
-module _ (p q : ValueParser) (name listen workers connections file : Text) where
-  attached_faults : fault_of (words_by p q) (name ∷ codes "serve" ∷ serve_word listen workers connections file) ≡ faults_by (refused_kind p) (refused_kind q) (accepts false p workers) (accepts false q connections)
-  unfolding clap_on_literals pipe view
-  attached_faults = refl
-
-  attached_both : takes (words_by p q) (name ∷ codes "serve" ∷ serve_word listen workers connections file) ≡ both_by (accepts false p workers) (accepts false q connections)
-  unfolding clap_on_literals pipe view
-  attached_both = refl
-
-  attached_job_by : job_by p q (name ∷ codes "serve" ∷ serve_word listen workers connections file) ≡ with_all (Some listen) (number_of workers) (number_of connections) (Some file)
-  unfolding clap_on_literals pipe view
-  attached_job_by = refl
+abbrev one_word : Text → Text → Text → Text → Text → List Text
+one_word name listen workers connections file = name ∷ codes "serve" ∷ serve_word listen workers connections file
 
 -- ---- options as one word
 
-by_tests : (words : List Text) (workers connections : Text) (b c : Bool)
-    → fault_of (words_by (Unsigned 1 most_workers) (Unsigned 1 most_connections)) words ≡ faults_by ValueValidation ValueValidation (are_workers workers) (are_connections connections)
-    → are_workers workers ≡ b → are_connections connections ≡ c → Faults words b c
-by_tests words workers connections b c is few some =
-    subst (λ (a : App). fault_of a words ≡ faults_by ValueValidation ValueValidation b c) by_ranges (is ∙ (λ i. faults_by ValueValidation ValueValidation (few i) (some i)))
+module _ (p q : ValueParser) (name listen workers connections file : Text) where
+  attached_faults : fault_of (words_by p q) (one_word name listen workers connections file) ≡ faults_by (refused_kind p) (refused_kind q) (accepts false p workers) (accepts false q connections)
+  unfolding clap_on_literals pipe view
+  attached_faults = refl
 
-attached : (name listen workers connections file : Text) (b c : Bool) → are_workers workers ≡ b → are_connections connections ≡ c → Faults (name ∷ codes "serve" ∷ serve_word listen workers connections file) b c
-attached name listen workers connections file b c few some = by_tests (name ∷ codes "serve" ∷ serve_word listen workers connections file) workers connections b c (attached_faults (Unsigned 1 most_workers) (Unsigned 1 most_connections) name listen workers connections file) few some
+  attached_both : takes (words_by p q) (one_word name listen workers connections file) ≡ passes_by (accepts false p workers) (accepts false q connections)
+  unfolding clap_on_literals pipe view
+  attached_both = refl
 
-pub attached_taken : (name listen workers connections file : Text) → are_workers workers ≡ true → are_connections connections ≡ true
-    → fault_of confd_words (name ∷ codes "serve" ∷ serve_word listen workers connections file) ≡ []
-attached_taken name listen workers connections file few some = attached name listen workers connections file true true few some
+  attached_named : job_by p q (one_word name listen workers connections file) ≡ with_all (Some listen) (number_of workers) (number_of connections) (Some file)
+  unfolding clap_on_literals pipe view
+  attached_named = refl
 
-pub attached_passes : (name listen workers connections file : Text) → are_workers workers ≡ true → are_connections connections ≡ true
-    → takes confd_words (name ∷ codes "serve" ∷ serve_word listen workers connections file) ≡ true
-attached_passes name listen workers connections file few some =
-    subst (λ (a : App). takes a (name ∷ codes "serve" ∷ serve_word listen workers connections file) ≡ true) by_ranges
-    (attached_both (Unsigned 1 most_workers) (Unsigned 1 most_connections) name listen workers connections file ∙ (λ i. both_by (few i) (some i)))
+module _ (name listen workers connections file : Text) where
+  attached : (b c : Bool) → are_workers workers ≡ b → are_connections connections ≡ c
+      → fault_of confd_words (one_word name listen workers connections file) ≡ faults_by ValueValidation ValueValidation b c
+  attached b c few some = faults_are _ workers connections b c few some (attached_faults first_range second_range name listen workers connections file)
 
-pub attached_job : (name listen workers connections file : Text) → are_workers workers ≡ true → are_connections connections ≡ true
-    → job_of (name ∷ codes "serve" ∷ serve_word listen workers connections file) ≡ Some (serve_job listen (spelt workers) (spelt connections) file)
-attached_job name listen workers connections file few some = job_of_all _ name listen workers connections file (attached_job_by (Unsigned 1 most_workers) (Unsigned 1 most_connections) name listen workers connections file) few some
+  pub attached_taken : are_workers workers ≡ true → are_connections connections ≡ true → fault_of confd_words (one_word name listen workers connections file) ≡ []
+  attached_taken few some = attached true true few some
 
-pub attached_bad_workers : (name listen workers connections file : Text) → are_workers workers ≡ false
-    → fault_of confd_words (name ∷ codes "serve" ∷ serve_word listen workers connections file) ≡ ValueValidation ∷ []
-attached_bad_workers name listen workers connections file many = attached name listen workers connections file false (are_connections connections) many refl
+  pub attached_passes : are_workers workers ≡ true → are_connections connections ≡ true → takes confd_words (one_word name listen workers connections file) ≡ true
+  attached_passes few some = both_pass _ workers connections few some (attached_both first_range second_range name listen workers connections file)
 
-pub attached_bad_connections : (name listen workers connections file : Text) → are_workers workers ≡ true → are_connections connections ≡ false
-    → fault_of confd_words (name ∷ codes "serve" ∷ serve_word listen workers connections file) ≡ ValueValidation ∷ []
-attached_bad_connections name listen workers connections file few many = attached name listen workers connections file true false few many
+  pub attached_job : are_workers workers ≡ true → are_connections connections ≡ true
+      → job_of (one_word name listen workers connections file) ≡ Some (serve_job listen (spelt workers) (spelt connections) file)
+  attached_job few some = job_is _ listen workers connections file few some (attached_named first_range second_range name listen workers connections file)
 
--- ---- options as two words: the words that are values, one by one
+  pub attached_bad_workers : are_workers workers ≡ false → fault_of confd_words (one_word name listen workers connections file) ≡ ValueValidation ∷ []
+  attached_bad_workers many = attached false (are_connections connections) many refl
 
--- a hyphen is no digit
-number_plain : (low high : ℕ) (text : Text) → is_unsigned_in low high text ≡ true → is_plain_text text ≡ true
-number_plain low high [] taken = refl
-number_plain low high (b ∷ rest) taken = by_test (b == 45) refl
-  where
-    by_test : (t : Bool) → (b == 45) ≡ t → not t ≡ true
-    by_test true is =
-        let hyphen : is_unsigned_in low high (45 ∷ rest) ≡ true = subst (λ (c : ℕ). is_unsigned_in low high (c ∷ rest) ≡ true) (eqb-true b 45 is) taken in
-        let digit : 36 < 10 = (accepts-Accepts false (Unsigned low high) (45 ∷ rest) hyphen).0.1.0 in absurd (omega arith)
-    by_test false is = refl
+  pub attached_bad_connections : are_workers workers ≡ true → are_connections connections ≡ false
+      → fault_of confd_words (one_word name listen workers connections file) ≡ ValueValidation ∷ []
+  attached_bad_connections few many = attached true false few many
 
--- a walk that waits for the value of an option
-abbrev waits_for : Text → Held → Walk
-waits_for id h = record { held = h; waiting = option id; position = 1; is_trailing = false; stopped = None }
+-- ---- options as two words: a level by its walk and by where that ends
 
--- and has it
-abbrev after_value : List Rule → Text → Text → Held → Walk
-after_value c id word h = record { held = (option_word (arg_by_id c id) id word h).0; waiting = (option_word (arg_by_id c id) id word h).1; position = 1; is_trailing = false; stopped = None }
+abbrev level_by : Shape → Kinds → Held → Kinds
+level_by s walks end = or_else walks (or_else [] (or_else (settle_fault s.rules s.args_override_self end)
+    (or_else (defaults_fault (settled s.rules end).rows s.rules) (check_fault s (finished s.rules end) false))))
 
-value_walked : (c : List Rule) (id word : Text) (h : Held) → is_plain_text word ≡ true → walked c [] (waits_for id h) word ≡ after_value c id word h
-unfolding walked
-value_walked c id word h plain = rw (not_dashes word plain, not_stripped word plain, not_stripped word plain) refl
-
-value_turn : (s : Shape) (id word : Text) (h : Held) → is_plain_text word ≡ true → turn_fault s [] (waits_for id h) word ≡ []
-value_turn s id word h plain = rw (not_dashes word plain, not_stripped word plain, not_stripped word plain) refl
-
-value_turn_passes : (s : Shape) (id word : Text) (h : Held) → is_plain_text word ≡ true → turn_passes s [] (waits_for id h) word ≡ true
-value_turn_passes s id word h plain = rw (not_dashes word plain, not_stripped word plain, not_stripped word plain) refl
-
-value_walk : (c : List Rule) (id word : Text) (h : Held) (rest : List Text) → is_plain_text word ≡ true
-    → fold (walked c []) (waits_for id h) (word ∷ rest) ≡ fold (walked c []) (after_value c id word h) rest
-value_walk c id word h rest plain = λ i. fold (walked c []) (value_walked c id word h plain i) rest
-
-value_faults : (s : Shape) (id word : Text) (h : Held) (rest : List Text) → is_plain_text word ≡ true
-    → walk_fault s [] (waits_for id h) (word ∷ rest) ≡ walk_fault s [] (after_value s.rules id word h) rest
-unfolding walk_fault
-value_faults s id word h rest plain = λ i. or_else (value_turn s id word h plain i) (walk_fault s [] (value_walked s.rules id word h plain i) rest)
-
-value_passes_on : (s : Shape) (id word : Text) (h : Held) (rest : List Text) → is_plain_text word ≡ true
-    → walk_passes s [] (waits_for id h) (word ∷ rest) ≡ walk_passes s [] (after_value s.rules id word h) rest
-unfolding walk_passes
-value_passes_on s id word h rest plain = λ i. (value_turn_passes s id word h plain i && walk_passes s [] (value_walked s.rules id word h plain i) rest)
-
--- ---- the four options in turn
-
-abbrev serve_built_by : ValueParser → ValueParser → Shape
-serve_built_by p q = built_leaf (inherited (built (words_by p q)).top (serve_by p q).top)
+abbrev level_passes_by : Shape → Bool → Held → Bool
+level_passes_by s walks end =
+    walks && (settle_passes s.rules s.args_override_self end && (list_all default_passes s.rules && is_valid s (finished s.rules end) false))
 
 abbrev row : Text → Text → Reading → Row
 row id v how = record { id = id; values = v ∷ []; count = None; source = Some CommandLine; reading = how }
@@ -168,132 +82,126 @@ row id v how = record { id = id; values = v ∷ []; count = None; source = Some 
 abbrev held_with : List Row → Text → Held
 held_with rows id = record { rows = rows; pending = Some (id, []); skip = 0 }
 
--- the faults of a level whose walk has these, and ends so
-abbrev level_by : Shape → Kinds → Held → Kinds
-level_by s walks end = or_else walks (or_else [] (or_else (settle_fault s.rules s.args_override_self end)
-    (or_else (defaults_fault (settled s.rules end).rows s.rules) (check_fault s (finished s.rules end) false))))
-
--- whether it passes
-abbrev level_passes_by : Shape → Bool → Held → Bool
-level_passes_by s walks end = walks && (settle_passes s.rules s.args_override_self end && (list_all default_passes s.rules && is_valid s (finished s.rules end) false))
-
-module _ (p q : ValueParser) (name listen workers connections file : Text)
-    (listen_plain : is_plain_text listen ≡ true) (workers_plain : is_plain_text workers ≡ true) (connections_plain : is_plain_text connections ≡ true) (file_plain : is_plain_text file ≡ true) where
+module _ (p q : ValueParser) (name listen workers connections file : Text) (listen_plain : is_plain_text listen ≡ true)
+    (workers_plain : is_plain_text workers ≡ true) (connections_plain : is_plain_text connections ≡ true) (file_plain : is_plain_text file ≡ true) where
   abbrev leaf : Shape
-  leaf = serve_built_by p q
+  leaf = built_leaf (inherited (built (words_by p q)).top (serve_by p q).top)
 
   abbrev words : List Text
   words = serve_words listen workers connections file
 
-  abbrev rows_listen : List Row
-  rows_listen = row (codes "listen") listen AsWritten ∷ []
+  abbrev from_workers : List Text
+  from_workers = codes "--workers" ∷ workers ∷ codes "--connections" ∷ connections ∷ store_words file
 
-  abbrev rows_workers : List Row
-  rows_workers = row (codes "listen") listen AsWritten ∷ row (codes "workers") workers (reading_of p) ∷ []
+  abbrev from_connections : List Text
+  from_connections = codes "--connections" ∷ connections ∷ store_words file
 
-  abbrev rows_connections : List Row
-  rows_connections = row (codes "listen") listen AsWritten ∷ row (codes "workers") workers (reading_of p) ∷ row (codes "connections") connections (reading_of q) ∷ []
+  abbrev one_row : List Row
+  one_row = row (codes "listen") listen AsWritten ∷ []
 
-  abbrev ends_so : Walk
-  ends_so = after_value leaf.rules (codes "store") file (held_with rows_connections (codes "store"))
+  abbrev two_rows : List Row
+  two_rows = row (codes "listen") listen AsWritten ∷ row (codes "workers") workers (reading_of p) ∷ []
 
-  walk_is : walk leaf.rules [] nothing_held words ≡ ends_so
+  abbrev three_rows : List Row
+  three_rows = row (codes "listen") listen AsWritten ∷ row (codes "workers") workers (reading_of p)
+      ∷ row (codes "connections") connections (reading_of q) ∷ []
+
+  -- the walk ends with the last option still to be used
+  abbrev last : Walk
+  last = after_value leaf.rules (codes "store") file (held_with three_rows (codes "store"))
+
+  ends : walk leaf.rules [] nothing_held words ≡ last
   unfolding clap_on_literals pipe view
-  walk_is = value_walk leaf.rules (codes "listen") listen (held_with [] (codes "listen")) (codes "--workers" ∷ workers ∷ codes "--connections" ∷ connections ∷ store_words file) listen_plain
-      ∙ (value_walk leaf.rules (codes "workers") workers (held_with rows_listen (codes "workers")) (codes "--connections" ∷ connections ∷ store_words file) workers_plain
-      ∙ (value_walk leaf.rules (codes "connections") connections (held_with rows_workers (codes "connections")) (store_words file) connections_plain
-      ∙ value_walk leaf.rules (codes "store") file (held_with rows_connections (codes "store")) [] file_plain))
+  ends = goes_on leaf (codes "listen") listen (held_with [] (codes "listen")) from_workers listen_plain
+      ∙ (goes_on leaf (codes "workers") workers (held_with one_row (codes "workers")) from_connections workers_plain
+      ∙ (goes_on leaf (codes "connections") connections (held_with two_rows (codes "connections")) (store_words file) connections_plain
+      ∙ goes_on leaf (codes "store") file (held_with three_rows (codes "store")) [] file_plain))
 
-  abbrev fault_workers : Kinds
-  fault_workers = or_else (or_else (cond (accepts false p workers) [] (refused_kind p ∷ [])) []) []
+  abbrev first_fault : Kinds
+  first_fault = number_fault (refused_kind p) (accepts false p workers)
 
-  abbrev fault_connections : Kinds
-  fault_connections = or_else (or_else (cond (accepts false q connections) [] (refused_kind q ∷ [])) []) []
+  abbrev second_fault : Kinds
+  second_fault = number_fault (refused_kind q) (accepts false q connections)
 
-  walk_faults : walk_fault leaf [] (walk_from nothing_held) words ≡ or_else fault_workers (or_else fault_connections [])
+  faults_walked : walk_fault leaf [] (walk_from nothing_held) words ≡ walk_faults (refused_kind p) (refused_kind q) (accepts false p workers) (accepts false q connections)
   unfolding clap_on_literals pipe view
-  walk_faults = value_faults leaf (codes "listen") listen (held_with [] (codes "listen")) (codes "--workers" ∷ workers ∷ codes "--connections" ∷ connections ∷ store_words file) listen_plain
-      ∙ (value_faults leaf (codes "workers") workers (held_with rows_listen (codes "workers")) (codes "--connections" ∷ connections ∷ store_words file) workers_plain
-      ∙ (ap (or_else fault_workers) (value_faults leaf (codes "connections") connections (held_with rows_workers (codes "connections")) (store_words file) connections_plain)
-      ∙ ap (λ (k : Kinds). or_else fault_workers (or_else fault_connections k)) (value_faults leaf (codes "store") file (held_with rows_connections (codes "store")) [] file_plain)))
+  faults_walked = faults_go_on leaf (codes "listen") listen (held_with [] (codes "listen")) from_workers listen_plain
+      ∙ (faults_go_on leaf (codes "workers") workers (held_with one_row (codes "workers")) from_connections workers_plain
+      ∙ (ap (or_else first_fault) (faults_go_on leaf (codes "connections") connections (held_with two_rows (codes "connections")) (store_words file) connections_plain)
+      ∙ ap (λ (k : Kinds). or_else first_fault (or_else second_fault k)) (faults_go_on leaf (codes "store") file (held_with three_rows (codes "store")) [] file_plain)))
 
-  walk_passes_are : walk_passes leaf [] (walk_from nothing_held) words ≡ (((accepts false p workers && true) && true) && (((accepts false q connections && true) && true) && true))
+  abbrev first_passes : Bool
+  first_passes = number_passes (accepts false p workers)
+
+  abbrev second_passes : Bool
+  second_passes = number_passes (accepts false q connections)
+
+  passes_walked : walk_passes leaf [] (walk_from nothing_held) words ≡ walk_passes_by (accepts false p workers) (accepts false q connections)
   unfolding clap_on_literals pipe view
-  walk_passes_are = value_passes_on leaf (codes "listen") listen (held_with [] (codes "listen")) (codes "--workers" ∷ workers ∷ codes "--connections" ∷ connections ∷ store_words file) listen_plain
-      ∙ (value_passes_on leaf (codes "workers") workers (held_with rows_listen (codes "workers")) (codes "--connections" ∷ connections ∷ store_words file) workers_plain
-      ∙ (ap (λ (b : Bool). ((accepts false p workers && true) && true) && b) (value_passes_on leaf (codes "connections") connections (held_with rows_workers (codes "connections")) (store_words file) connections_plain)
-      ∙ ap (λ (b : Bool). ((accepts false p workers && true) && true) && (((accepts false q connections && true) && true) && b)) (value_passes_on leaf (codes "store") file (held_with rows_connections (codes "store")) [] file_plain)))
+  passes_walked = passes_on leaf (codes "listen") listen (held_with [] (codes "listen")) from_workers listen_plain
+      ∙ (passes_on leaf (codes "workers") workers (held_with one_row (codes "workers")) from_connections workers_plain
+      ∙ (ap (λ (b : Bool). first_passes && b) (passes_on leaf (codes "connections") connections (held_with two_rows (codes "connections")) (store_words file) connections_plain)
+      ∙ ap (λ (b : Bool). first_passes && (second_passes && b)) (passes_on leaf (codes "store") file (held_with three_rows (codes "store")) [] file_plain)))
 
-  level_is : fault_of (words_by p q) (name ∷ codes "serve" ∷ serve_words listen workers connections file) ≡ or_else (level_by leaf (walk_fault leaf [] (walk_from nothing_held) words) (walk leaf.rules [] nothing_held words).held) []
+  -- the whole is its one level below the top
+  level_faults : fault_of (words_by p q) (two_words name listen workers connections file)
+      ≡ or_else (level_by leaf (walk_fault leaf [] (walk_from nothing_held) words) (walk leaf.rules [] nothing_held words).held) []
   unfolding clap_on_literals pipe view
-  level_is = refl
+  level_faults = refl
 
-  level_ends : level_by leaf (or_else fault_workers (or_else fault_connections [])) ends_so.held ≡ or_else (or_else fault_workers (or_else fault_connections [])) []
+  last_faults : or_else (level_by leaf (walk_faults (refused_kind p) (refused_kind q) (accepts false p workers) (accepts false q connections)) last.held) []
+      ≡ faults_by (refused_kind p) (refused_kind q) (accepts false p workers) (accepts false q connections)
   unfolding clap_on_literals pipe view
-  level_ends = refl
+  last_faults = refl
 
-  faults : fault_of (words_by p q) (name ∷ codes "serve" ∷ serve_words listen workers connections file) ≡ faults_by (refused_kind p) (refused_kind q) (accepts false p workers) (accepts false q connections)
-  faults = level_is ∙ ((λ i. or_else (level_by leaf (walk_faults i) (walk_is i).held) []) ∙ ap (λ (k : Kinds). or_else k []) level_ends)
+  faults : fault_of (words_by p q) (two_words name listen workers connections file) ≡ faults_by (refused_kind p) (refused_kind q) (accepts false p workers) (accepts false q connections)
+  faults = level_faults ∙ ((λ i. or_else (level_by leaf (faults_walked i) (ends i).held) []) ∙ last_faults)
 
-  passes_level : takes (words_by p q) (name ∷ codes "serve" ∷ serve_words listen workers connections file) ≡ (level_passes_by leaf (walk_passes leaf [] (walk_from nothing_held) words) (walk leaf.rules [] nothing_held words).held && true)
+  level_passes : takes (words_by p q) (two_words name listen workers connections file)
+      ≡ (level_passes_by leaf (walk_passes leaf [] (walk_from nothing_held) words) (walk leaf.rules [] nothing_held words).held && true)
   unfolding clap_on_literals pipe view
-  passes_level = refl
+  level_passes = refl
 
-  passes_end : level_passes_by leaf (((accepts false p workers && true) && true) && (((accepts false q connections && true) && true) && true)) ends_so.held
-      ≡ ((((accepts false p workers && true) && true) && (((accepts false q connections && true) && true) && true)) && true)
+  last_passes : (level_passes_by leaf (walk_passes_by (accepts false p workers) (accepts false q connections)) last.held && true) ≡ passes_by (accepts false p workers) (accepts false q connections)
   unfolding clap_on_literals pipe view
-  passes_end = refl
+  last_passes = refl
 
-  both : takes (words_by p q) (name ∷ codes "serve" ∷ serve_words listen workers connections file) ≡ both_by (accepts false p workers) (accepts false q connections)
-  both = passes_level ∙ ((λ i. level_passes_by leaf (walk_passes_are i) (walk_is i).held && true) ∙ ap (λ (b : Bool). b && true) passes_end)
+  both : takes (words_by p q) (two_words name listen workers connections file) ≡ passes_by (accepts false p workers) (accepts false q connections)
+  both = level_passes ∙ ((λ i. level_passes_by leaf (passes_walked i) (ends i).held && true) ∙ last_passes)
 
-  job_level : job_by p q (name ∷ codes "serve" ∷ serve_words listen workers connections file) ≡ job_named (codes "serve", finished leaf.rules (walk leaf.rules [] nothing_held words).held)
+  level_named : job_by p q (two_words name listen workers connections file) ≡ job_named (codes "serve", finished leaf.rules (walk leaf.rules [] nothing_held words).held)
   unfolding clap_on_literals pipe view
-  job_level = refl
+  level_named = refl
 
-  job_end : job_named (codes "serve", finished leaf.rules ends_so.held) ≡ with_all (Some listen) (number_of workers) (number_of connections) (Some file)
+  last_named : job_named (codes "serve", finished leaf.rules last.held) ≡ with_all (Some listen) (number_of workers) (number_of connections) (Some file)
   unfolding clap_on_literals pipe view
-  job_end = refl
+  last_named = refl
 
-  job_is_by : job_by p q (name ∷ codes "serve" ∷ serve_words listen workers connections file) ≡ with_all (Some listen) (number_of workers) (number_of connections) (Some file)
-  job_is_by = job_level ∙ (ap (λ (w : Walk). job_named (codes "serve", finished leaf.rules w.held)) walk_is ∙ job_end)
+  named : job_by p q (two_words name listen workers connections file) ≡ with_all (Some listen) (number_of workers) (number_of connections) (Some file)
+  named = level_named ∙ (ap (λ (w : Walk). job_named (codes "serve", finished leaf.rules w.held)) ends ∙ last_named)
 
--- ---- options as two words
+module _ (name listen workers connections file : Text) (listen_plain : is_plain_text listen ≡ true) (file_plain : is_plain_text file ≡ true) where
+  apart : is_plain_text workers ≡ true → is_plain_text connections ≡ true → (b c : Bool) → are_workers workers ≡ b → are_connections connections ≡ c
+      → fault_of confd_words (two_words name listen workers connections file) ≡ faults_by ValueValidation ValueValidation b c
+  apart workers_plain connections_plain b c few some = faults_are _ workers connections b c few some
+      (faults first_range second_range name listen workers connections file listen_plain workers_plain connections_plain file_plain)
 
-apart : (name listen workers connections file : Text) → is_plain_text listen ≡ true → is_plain_text workers ≡ true → is_plain_text connections ≡ true → is_plain_text file ≡ true
-    → (b c : Bool) → are_workers workers ≡ b → are_connections connections ≡ c → Faults (name ∷ codes "serve" ∷ serve_words listen workers connections file) b c
-apart name listen workers connections file listen_plain workers_plain connections_plain file_plain b c few some =
-    by_tests (name ∷ codes "serve" ∷ serve_words listen workers connections file) workers connections b c (faults (Unsigned 1 most_workers) (Unsigned 1 most_connections) name listen workers connections file listen_plain workers_plain connections_plain file_plain) few some
+  pub taken : are_workers workers ≡ true → are_connections connections ≡ true → fault_of confd_words (two_words name listen workers connections file) ≡ []
+  taken few some = apart (number_plain 1 most_workers workers few) (number_plain 1 most_connections connections some) true true few some
 
-pub taken : (name listen workers connections file : Text) → is_plain_text listen ≡ true → is_plain_text file ≡ true
-    → are_workers workers ≡ true → are_connections connections ≡ true
-    → fault_of confd_words (name ∷ codes "serve" ∷ serve_words listen workers connections file) ≡ []
-taken name listen workers connections file listen_plain file_plain few some =
-    apart name listen workers connections file listen_plain (number_plain 1 most_workers workers few) (number_plain 1 most_connections connections some) file_plain true true few some
+  pub passes : are_workers workers ≡ true → are_connections connections ≡ true → takes confd_words (two_words name listen workers connections file) ≡ true
+  passes few some = both_pass _ workers connections few some
+      (both first_range second_range name listen workers connections file listen_plain (number_plain 1 most_workers workers few) (number_plain 1 most_connections connections some) file_plain)
 
-pub passes : (name listen workers connections file : Text) → is_plain_text listen ≡ true → is_plain_text file ≡ true
-    → are_workers workers ≡ true → are_connections connections ≡ true
-    → takes confd_words (name ∷ codes "serve" ∷ serve_words listen workers connections file) ≡ true
-passes name listen workers connections file listen_plain file_plain few some =
-    let workers_plain = number_plain 1 most_workers workers few in
-    let connections_plain = number_plain 1 most_connections connections some in
-    subst (λ (a : App). takes a (name ∷ codes "serve" ∷ serve_words listen workers connections file) ≡ true) by_ranges
-    (both (Unsigned 1 most_workers) (Unsigned 1 most_connections) name listen workers connections file listen_plain workers_plain connections_plain file_plain ∙ (λ i. both_by (few i) (some i)))
+  pub job : are_workers workers ≡ true → are_connections connections ≡ true
+      → job_of (two_words name listen workers connections file) ≡ Some (serve_job listen (spelt workers) (spelt connections) file)
+  job few some = job_is _ listen workers connections file few some
+      (named first_range second_range name listen workers connections file listen_plain (number_plain 1 most_workers workers few) (number_plain 1 most_connections connections some) file_plain)
 
-pub job : (name listen workers connections file : Text) → is_plain_text listen ≡ true → is_plain_text file ≡ true
-    → are_workers workers ≡ true → are_connections connections ≡ true
-    → job_of (name ∷ codes "serve" ∷ serve_words listen workers connections file) ≡ Some (serve_job listen (spelt workers) (spelt connections) file)
-job name listen workers connections file listen_plain file_plain few some =
-    let workers_plain = number_plain 1 most_workers workers few in
-    let connections_plain = number_plain 1 most_connections connections some in
-    job_of_all _ name listen workers connections file (job_is_by (Unsigned 1 most_workers) (Unsigned 1 most_connections) name listen workers connections file listen_plain workers_plain connections_plain file_plain) few some
+  pub bad_workers : is_plain_text workers ≡ true → is_plain_text connections ≡ true → are_workers workers ≡ false
+      → fault_of confd_words (two_words name listen workers connections file) ≡ ValueValidation ∷ []
+  bad_workers workers_plain connections_plain many = apart workers_plain connections_plain false (are_connections connections) many refl
 
-pub bad_workers : (name listen workers connections file : Text) → is_plain_text listen ≡ true → is_plain_text workers ≡ true → is_plain_text connections ≡ true → is_plain_text file ≡ true
-    → are_workers workers ≡ false → fault_of confd_words (name ∷ codes "serve" ∷ serve_words listen workers connections file) ≡ ValueValidation ∷ []
-bad_workers name listen workers connections file listen_plain workers_plain connections_plain file_plain many =
-    apart name listen workers connections file listen_plain workers_plain connections_plain file_plain false (are_connections connections) many refl
-
-pub bad_connections : (name listen workers connections file : Text) → is_plain_text listen ≡ true → is_plain_text connections ≡ true → is_plain_text file ≡ true
-    → are_workers workers ≡ true → are_connections connections ≡ false → fault_of confd_words (name ∷ codes "serve" ∷ serve_words listen workers connections file) ≡ ValueValidation ∷ []
-bad_connections name listen workers connections file listen_plain connections_plain file_plain few many =
-    apart name listen workers connections file listen_plain (number_plain 1 most_workers workers few) connections_plain file_plain true false few many
+  pub bad_connections : is_plain_text connections ≡ true → are_workers workers ≡ true → are_connections connections ≡ false
+      → fault_of confd_words (two_words name listen workers connections file) ≡ ValueValidation ∷ []
+  bad_connections connections_plain few many = apart (number_plain 1 most_workers workers few) connections_plain true false few many

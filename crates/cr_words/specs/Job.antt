@@ -25,7 +25,8 @@ job_seen (View store user) = view_job store.now user.now
 
 -- its numbers lie within their ranges
 abbrev pub IsInRange : NamedJob → Type 0
-IsInRange (serve_job listen workers connections store) = (1 ≤ workers) × (workers ≤ most_workers) × (1 ≤ connections) × (connections ≤ most_connections)
+IsInRange (serve_job listen workers connections store) =
+    (1 ≤ workers) × (workers ≤ most_workers) × (1 ≤ connections) × (connections ≤ most_connections)
 IsInRange _ = ⊤
 
 -- a job is named, and it is one whose numbers lie within their ranges
@@ -40,7 +41,8 @@ abbrev pub number_at : Text → List Row → Option ℕ
 number_at id rows = option_and_then number_of (first_of id rows)
 
 abbrev pub serve_named : List Row → Option NamedJob
-serve_named rows = with_all (first_of (codes "listen") rows) (number_at (codes "workers") rows) (number_at (codes "connections") rows) (first_of (codes "store") rows)
+serve_named rows = with_all (first_of (codes "listen") rows) (number_at (codes "workers") rows)
+    (number_at (codes "connections") rows) (first_of (codes "store") rows)
 
 abbrev pub with_both : Option Text → Option Text → Option NamedJob
 with_both (Some store) (Some user) = Some (view_job store user)

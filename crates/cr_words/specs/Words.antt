@@ -7,6 +7,11 @@ use Rattle.clap.specs.Words.{App, Rule, Text, new_app, new_rule, with_rule, with
 abbrev pub text_option : Text → Bool → Rule
 text_option id is_required = record (new_rule id) { long = Some id; required = is_required }
 
+-- a command with these options more
+abbrev pub with_rules : App → List Rule → App
+with_rules a [] = a
+with_rules a (r ∷ rest) = with_rules (with_rule a r) rest
+
 -- an option `--id NUMBER` that has to be there: a number from low to high, and once
 abbrev pub number_option : Text → ℕ → ℕ → Rule
 number_option id low high = record (text_option id true) { parser = Some (Unsigned low high) }
@@ -24,7 +29,8 @@ pipe = with_rule (new_app (codes "pipe")) (text_option (codes "store") false)
 
 -- many connections to an address
 unfoldable pub serve : App
-serve = with_rule (with_rule (with_rule (with_rule (new_app (codes "serve")) (text_option (codes "listen") true)) (number_option (codes "workers") 1 most_workers)) (number_option (codes "connections") 1 most_connections)) (text_option (codes "store") true)
+serve = with_rules (new_app (codes "serve")) (text_option (codes "listen") true ∷ number_option (codes "workers") 1 most_workers
+    ∷ number_option (codes "connections") 1 most_connections ∷ text_option (codes "store") true ∷ [])
 
 -- what one user may see of a store
 unfoldable pub view : App

@@ -46,8 +46,8 @@ pub fn law_attached()
     ensures view_job { (name file user : Text) → job_of (name ∷ codes "view" ∷ store_word file ∷ user_word user ∷ []) ≡ Some (view_job file user) }
 {}
 
-/// `serve` with its four options as two words each, where none of the values begins with a hyphen, as no number does that `clap`
-/// takes. Where it doesn't take one of the two, it takes no words that have it.
+/// `serve` with its four options as two words each, where no value begins with a hyphen, as no number does that is within its
+/// range. Where one isn't, the words are refused.
 pub fn law_serve()
     ensures taken { (name listen workers connections file : Text) → is_plain_text listen ≡ true → is_plain_text file ≡ true
         → are_workers workers ≡ true → are_connections connections ≡ true
@@ -58,16 +58,15 @@ pub fn law_serve()
     ensures job { (name listen workers connections file : Text) → is_plain_text listen ≡ true → is_plain_text file ≡ true
         → are_workers workers ≡ true → are_connections connections ≡ true
         → job_of (name ∷ codes "serve" ∷ serve_words listen workers connections file) ≡ Some (serve_job listen (spelt workers) (spelt connections) file) }
-    ensures bad_workers { (name listen workers connections file : Text) → is_plain_text listen ≡ true → is_plain_text workers ≡ true
-        → is_plain_text connections ≡ true → is_plain_text file ≡ true → are_workers workers ≡ false
+    ensures bad_workers { (name listen workers connections file : Text) → is_plain_text listen ≡ true → is_plain_text file ≡ true
+        → is_plain_text workers ≡ true → is_plain_text connections ≡ true → are_workers workers ≡ false
         → fault_of confd_words (name ∷ codes "serve" ∷ serve_words listen workers connections file) ≡ ValueValidation ∷ [] }
-    ensures bad_connections { (name listen workers connections file : Text) → is_plain_text listen ≡ true → is_plain_text connections ≡ true
-        → is_plain_text file ≡ true → are_workers workers ≡ true → are_connections connections ≡ false
+    ensures bad_connections { (name listen workers connections file : Text) → is_plain_text listen ≡ true → is_plain_text file ≡ true
+        → is_plain_text connections ≡ true → are_workers workers ≡ true → are_connections connections ≡ false
         → fault_of confd_words (name ∷ codes "serve" ∷ serve_words listen workers connections file) ≡ ValueValidation ∷ [] }
 {}
 
-/// `serve` with a word for each of its options, whatever address and store are: `clap` takes the two numbers that are in range, and
-/// where it doesn't take one of them, it takes no words that have it.
+/// `serve` with a word for each of its options: the same, whatever address and store are.
 pub fn law_serve_attached()
     ensures taken { (name listen workers connections file : Text) → are_workers workers ≡ true → are_connections connections ≡ true
         → fault_of confd_words (name ∷ codes "serve" ∷ serve_word listen workers connections file) ≡ [] }

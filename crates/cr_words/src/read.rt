@@ -110,7 +110,7 @@ fn named_job<'a>(matches: &ArgMatches<'a>) -> Option<Job<'a>>
     }
 }
 
-/// The job that the words name, the first of which is the program's name.
+/// The job that the words name, the first of which is the program's name. Its numbers lie within their ranges.
 ///
 /// `Usage` comes exactly where `clap` refuses the words by `confd_words`, a call for help included.
 /// `OutOfMemory` comes only where memory ran out. What was taken for the reading is given back.
