@@ -81,7 +81,7 @@ pub record StaysClosed {I O : Type 0} (exit : Exit) (s s' : ShelfState) (g g' : 
   pub gates : g.faults ≤ g'.faults
 
 -- a store that doesn't open leaves the gates unasked; and where no connection was served, nothing is written
-abbrev pub ServesStores : {K I O : Type 0} → (K → Option (List Row)) → List ℕ → Streams I O → ℕ → ℕ → Exit → Outlet → Outlet → ShelfState → ShelfState → GatesState I O → GatesState I O → Type 0
-ServesStores rows path streams workers connections exit o o' s s' g g' =
+abbrev pub ServesGates : {K I O : Type 0} → (K → Option (List Row)) → List ℕ → Streams I O → ℕ → ℕ → Exit → Outlet → Outlet → ShelfState → ShelfState → GatesState I O → GatesState I O → Type 0
+ServesGates rows path streams workers connections exit o o' s s' g g' =
     (StaysShut path exit s s' × (o' ≡ o) × (g' ≡ g))
     ⊎ ((StaysClosed exit s s' g g' × (o' ≡ o)) ⊎ ServesMany rows path streams workers connections exit o o' s s' g g')
