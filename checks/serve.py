@@ -34,6 +34,8 @@ CLIENTS = 62
 # No answer that is due at once may take so many seconds.
 SOON = 20
 DEADLINE = 60
+# As many descriptors as serve a store and some of the workers.
+FEW = 40
 USAGE = re.compile(rb"usage: confd pipe\|serve\|view(\|drill)?\n")
 options = None
 
@@ -271,7 +273,7 @@ def few_descriptors(program, folder):
     """With too few descriptors for its connections, each is served once there are some, and no worker ends for it."""
 
     def limit():
-        resource.setrlimit(resource.RLIMIT_NOFILE, (100, 100))
+        resource.setrlimit(resource.RLIMIT_NOFILE, (FEW, FEW))
 
     count = 4 * WORKERS
     with serving(program, os.path.join(folder, "store"), workers=WORKERS, connections=count, preexec_fn=limit) as server:
@@ -289,8 +291,8 @@ def few_descriptors(program, folder):
         expect((out, status, err) == (b"entries 0\n", 0, b""), f"{out} {status} {err}")
 
 
-def words_of(store, **changes):
-    words = {"listen": "127.0.0.1:0", "workers": "2", "connections": "2", "store": store, **changes}
+def words_of(path, **changes):
+    words = {"listen": "127.0.0.1:0", "workers": "2", "connections": "2", "store": path, **changes}
     return ["serve", *(word for name, value in words.items() if value is not None for word in (f"--{name}", value))]
 
 
