@@ -10,6 +10,8 @@ mod book;
 #[cfg(test)]
 mod bytes;
 #[cfg(test)]
+mod gates;
+#[cfg(test)]
 mod rows;
 #[cfg(test)]
 mod tables;

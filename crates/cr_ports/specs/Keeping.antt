@@ -2,7 +2,7 @@
 use Rattle.std.specs.Prelude.{◌≡◌, ◌≢◌, ℕ, ◌≤◌, List, ◌++◌, Bool, true, false, Option, Some, None, Result, Ok, Err}
 use Rattle.cr_base.specs.declared.row.Row.{Row}
 use Rattle.cr_ports.specs.Count.{Rises, counted}
-use Rattle.cr_ports.specs.declared.calls.Calls.{Calls}
+use Rattle.cr_ports.specs.Calls.{Listed}
 use Rattle.cr_ports.specs.declared.keeper.KeeperError.{KeeperError}
 use Rattle.cr_ports.specs.declared.keeper.KeeperError.TheVariants.{Failed}
 
@@ -20,8 +20,8 @@ pub record HasCause {T : Type 0} (before now : ℕ) (result : Result T KeeperErr
 -- a keeper in memory: its rows, its appends and its other calls, numbered apart, and its faults
 pub record Kept : Type 0 where
   pub rows : List Row
-  pub appends : Calls
-  pub reads : Calls
+  pub appends : Listed
+  pub reads : Listed
   pub faults : ℕ
 
 -- how many faults are counted after a call that is to fail, or isn't

@@ -9,3 +9,4 @@ pub mod Shelving
 pub mod Writing
 pub mod Doors
 pub mod Opening
+pub mod MemoryDoors

@@ -2,8 +2,7 @@
 use Rattle.std.specs.Prelude.{◌≡◌, ℕ, List, length, ◌++◌, ◌||◌, ◌&&◌, not, ◌==◌, min, if◌then◌else◌}
 use Rattle.cr_ports.specs.Count.{counted}
 use Rattle.cr_ports.specs.Calls.{fails}
-use Rattle.cr_ports.specs.Script.{FollowsScript, moved}
-use Rattle.cr_ports.specs.declared.script.Script.{Script}
+use Rattle.cr_ports.specs.Script.{FollowsScript, Scripted, moved}
 use Rattle.cr_ports.specs.declared.source.ReadStep.{ReadStep}
 use Rattle.cr_ports.specs.declared.source.ReadStep.TheVariants as reads
 use Rattle.cr_ports.specs.declared.sink.WriteStep.{WriteStep}
@@ -12,7 +11,7 @@ use Rattle.cr_ports.specs.declared.sink.WriteStep.TheVariants as writes
 -- a source: the bytes that it has left, and how its calls behave
 pub record Input : Type 0 where
   pub left : List ℕ
-  pub script : Script
+  pub script : Scripted
 
 -- a read into a buffer of this length
 abbrev pub read_step : Input → ℕ → ReadStep
@@ -25,7 +24,7 @@ read_step s room =
 pub record Output : Type 0 where
   pub taken : List ℕ
   pub room : ℕ
-  pub script : Script
+  pub script : Scripted
 
 -- a write of a piece of this length
 abbrev pub write_step : Output → ℕ → WriteStep

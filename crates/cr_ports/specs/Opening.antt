@@ -1,5 +1,5 @@
 -- What opening gates answers.
-use Rattle.std.specs.Prelude.{◌≡◌, ℕ, ◌≤◌, List, ⊤}
+use Rattle.std.specs.Prelude.{◌≡◌, ℕ, ◌≤◌, List, Bool, true, false, ⊤}
 use Rattle.cr_ports.specs.Count.{Rises}
 use Rattle.cr_ports.specs.declared.gates.Opened.{Opened}
 use Rattle.cr_ports.specs.declared.gates.Opened.TheVariants.{Doors, Failed, OutOfMemory}
@@ -15,3 +15,9 @@ abbrev pub FaultsAfterOpen : {D : Type 0} → Opened D → ℕ → ℕ → Type 
 FaultsAfterOpen (Doors doors) before now = now ≡ before
 FaultsAfterOpen Failed before now = (before ≤ now) × Rises before now
 FaultsAfterOpen OutOfMemory before now = now ≡ before
+
+-- the opening failed
+abbrev pub has_failed : {D : Type 0} → Opened D → Bool
+has_failed (Doors doors) = false
+has_failed Failed = true
+has_failed OutOfMemory = false

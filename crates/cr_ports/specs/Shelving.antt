@@ -7,7 +7,7 @@ use Rattle.std.specs.Map.{lookup}
 use Rattle.std.specs.Ordering.{is_eq, nat_cmp}
 use Rattle.std.specs.Cmp.Lexicographic.{slice_cmp}
 use Rattle.cr_base.specs.declared.row.Row.{Row}
-use Rattle.cr_ports.specs.declared.calls.Calls.{Calls}
+use Rattle.cr_ports.specs.Calls.{Listed}
 
 -- the rows at each path, once these stand at one of them
 abbrev pub with_rows : (List ℕ → List Row) → List ℕ → List Row → List ℕ → List Row
@@ -35,7 +35,7 @@ has_place stores path = is_some (lookup (is_path path) stores)
 -- a shelf in memory: the rows at each path, its opens, which calls of its keepers fail, and its faults
 pub record Shelved : Type 0 where
   pub stores : Stores
-  pub opens : Calls
+  pub opens : Listed
   pub failing_appends : List ℕ
   pub failing_reads : List ℕ
   pub faults : ℕ

@@ -1,21 +1,44 @@
 //! Which calls of something in memory fail.
-ghost use Rattle.std.specs.Prelude.{◌≡◌};
+ghost use Rattle.std.specs.Prelude.{◌≡◌, [], IfOk};
+ghost use Rattle.cr_ports.specs.Calls.{Advances, fails};
+
+use std::alloc::AllocError;
+use std::marker::Model;
 
 /// The calls that were made of one kind, numbered from 0, and the numbers of those that fail.
+///
+/// Contracts see the numbers, and how many calls were made.
 #[derive(Drop)]
 pub struct Calls {
     failing: Vec<u64>,
     made: u64,
 }
 
-impl Calls {
-    ghost use Rattle.cr_ports.specs.Calls.{Advances, fails};
+impl Model for Calls {
+    ghost use Rattle.cr_ports.specs.Calls.{Listed};
 
+    ghost Value = { Listed };
+
+    ghost view = { λ c. record { failing = c.failing.items; made = c.made } };
+}
+
+impl Calls {
     pub(crate) fn new(failing: Vec<u64>) -> Self
-        ensures failing { result.failing ≡ failing }
+        ensures failing { result.failing ≡ failing.items }
         ensures made { result.made ≡ 0 }
     {
         Calls { failing, made: 0 }
+    }
+
+    /// The same lists and the same count.
+    pub(crate) fn copy(&self) -> Result<Self, AllocError>
+        ensures { IfOk result (λ copy. copy ≡ self.now) }
+    {
+        let failing = self.failing.clone()?;
+        Ok(Calls {
+            failing,
+            made: self.made,
+        })
     }
 
     /// The number of the next call.

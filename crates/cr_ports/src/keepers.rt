@@ -36,8 +36,8 @@ impl MemKeeper {
     /// apart, those in `failing_reads`; both count from 0.
     pub fn new(alloc: Global, failing_appends: Vec<u64>, failing_reads: Vec<u64>) -> Self
         ensures rows { result.rows ≡ [] }
-        ensures appends { (result.appends.failing ≡ failing_appends) × (result.appends.made ≡ 0) }
-        ensures reads { (result.reads.failing ≡ failing_reads) × (result.reads.made ≡ 0) }
+        ensures appends { (result.appends.failing ≡ failing_appends.items) × (result.appends.made ≡ 0) }
+        ensures reads { (result.reads.failing ≡ failing_reads.items) × (result.reads.made ≡ 0) }
         ensures faults { result.faults ≡ 0 }
     {
         MemKeeper::over(alloc, Vec::new(alloc), failing_appends, failing_reads)
@@ -52,8 +52,8 @@ impl MemKeeper {
         failing_reads: Vec<u64>,
     ) -> Self
         ensures rows { result.rows ≡ rows.items }
-        ensures appends { (result.appends.failing ≡ failing_appends) × (result.appends.made ≡ 0) }
-        ensures reads { (result.reads.failing ≡ failing_reads) × (result.reads.made ≡ 0) }
+        ensures appends { (result.appends.failing ≡ failing_appends.items) × (result.appends.made ≡ 0) }
+        ensures reads { (result.reads.failing ≡ failing_reads.items) × (result.reads.made ≡ 0) }
         ensures faults { result.faults ≡ 0 }
     {
         MemKeeper {

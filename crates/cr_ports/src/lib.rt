@@ -7,10 +7,13 @@
 
 mod calls;
 mod door;
+mod doors;
 mod gates;
+mod gates_in_memory;
 mod keeper;
 mod keepers;
 mod script;
+mod shares;
 mod shelf;
 mod shelves;
 mod sink;
@@ -22,10 +25,13 @@ mod writing;
 
 pub use calls::Calls;
 pub use door::{Door, DoorAnswer, NextConnection, Served};
+pub use doors::MemDoor;
 pub use gates::{Gates, Opened};
+pub use gates_in_memory::MemGates;
 pub use keeper::{Keeper, KeeperError};
 pub use keepers::{MemKeeper, PlainKeeper};
 pub use script::Script;
+pub use shares::{law_shares, share};
 pub use shelf::Shelf;
 pub use shelves::MemShelf;
 pub use sink::{Sink, WriteStep};

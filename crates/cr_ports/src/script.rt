@@ -1,11 +1,17 @@
 //! How a stream in memory is told to behave, call by call.
-ghost use Rattle.std.specs.Prelude.{◌≡◌};
+ghost use Rattle.std.specs.Prelude.{◌≡◌, ◌≤◌, IfOk};
+ghost use Rattle.cr_ports.specs.Calls.{Advances, fails};
 ghost use Rattle.cr_ports.specs.Count.{counted};
+ghost use Rattle.cr_ports.specs.Script.{moved};
 
 use crate::calls::Calls;
+use std::alloc::AllocError;
+use std::marker::Model;
 
 /// How many bytes each call of a stream in memory moves at most, which calls fail, and how many
 /// faults were counted.
+///
+/// Contracts see the lengths, the calls and the count.
 #[derive(Drop)]
 pub struct Script {
     pieces: Vec<usize>,
@@ -13,13 +19,18 @@ pub struct Script {
     faults: u64,
 }
 
-impl Script {
-    ghost use Rattle.cr_ports.specs.Calls.{Advances, fails};
-    ghost use Rattle.cr_ports.specs.Script.{moved};
+impl Model for Script {
+    ghost use Rattle.cr_ports.specs.Script.{Scripted};
 
+    ghost Value = { Scripted };
+
+    ghost view = { λ s. record { pieces = s.pieces.items; calls = s.calls; faults = s.faults } };
+}
+
+impl Script {
     pub(crate) fn new(pieces: Vec<usize>, failing: Vec<u64>) -> Self
-        ensures pieces { result.pieces ≡ pieces }
-        ensures failing { result.calls.failing ≡ failing }
+        ensures pieces { result.pieces ≡ pieces.items }
+        ensures failing { result.calls.failing ≡ failing.items }
         ensures made { result.calls.made ≡ 0 }
         ensures faults { result.faults ≡ 0 }
     {
@@ -28,6 +39,19 @@ impl Script {
             calls: Calls::new(failing),
             faults: 0,
         }
+    }
+
+    /// The same lists and the same counts.
+    pub(crate) fn copy(&self) -> Result<Self, AllocError>
+        ensures { IfOk result (λ copy. copy ≡ self.now) }
+    {
+        let pieces = self.pieces.clone()?;
+        let calls = self.calls.copy()?;
+        Ok(Script {
+            pieces,
+            calls,
+            faults: self.faults,
+        })
     }
 
     /// How many bytes the next call moves of so many that are wanted.
@@ -52,6 +76,7 @@ impl Script {
 
     /// Counts a fault.
     pub(crate) fn fail(&mut self)
+        ensures later { self.old.faults ≤ self.new.faults }
         ensures faults { self.new.faults ≡ counted self.old.faults }
         ensures calls { self.new.calls ≡ self.old.calls }
         ensures pieces { self.new.pieces ≡ self.old.pieces }

@@ -48,7 +48,7 @@ impl MemShelf {
         failing_reads: Vec<u64>,
     ) -> Self
         ensures files { files result.stores ≡ (λ _. []) }
-        ensures opens { (result.opens.failing ≡ failing_opens) × (result.opens.made ≡ 0) }
+        ensures opens { (result.opens.failing ≡ failing_opens.items) × (result.opens.made ≡ 0) }
         ensures appends { result.failing_appends ≡ failing_appends.items }
         ensures reads { result.failing_reads ≡ failing_reads.items }
         ensures faults { result.faults ≡ 0 }
@@ -91,8 +91,8 @@ impl MemShelf {
     /// A keeper of copies of the rows at the path, which fails as the lists tell.
     fn keeper_at(&self, path: &str) -> Result<MemKeeper, AllocError>
         ensures rows { IfOk result (λ keeper. keeper.rows ≡ files self.now.stores path.now) }
-        ensures appends { IfOk result (λ keeper. (keeper.appends.failing.items ≡ self.now.failing_appends) × (keeper.appends.made ≡ 0)) }
-        ensures reads { IfOk result (λ keeper. (keeper.reads.failing.items ≡ self.now.failing_reads) × (keeper.reads.made ≡ 0)) }
+        ensures appends { IfOk result (λ keeper. (keeper.appends.failing ≡ self.now.failing_appends) × (keeper.appends.made ≡ 0)) }
+        ensures reads { IfOk result (λ keeper. (keeper.reads.failing ≡ self.now.failing_reads) × (keeper.reads.made ≡ 0)) }
         ensures faults { IfOk result (λ keeper. keeper.faults ≡ 0) }
     {
         let rows = copies_of(self.alloc, self.rows_at(path))?;
@@ -149,8 +149,8 @@ impl Shelf for MemShelf {
         ensures failed { (result ≡ Err KeeperError.Failed) ↔ IsTrue (fails self.old.opens) }
         ensures faults { self.new.faults ≡ faults_after (fails self.old.opens) self.old.faults }
         ensures opens { Advances self.old.opens self.new.opens }
-        ensures appends { IfOk result (λ keeper. (keeper.appends.failing.items ≡ self.old.failing_appends) × (keeper.appends.made ≡ 0)) }
-        ensures reads { IfOk result (λ keeper. (keeper.reads.failing.items ≡ self.old.failing_reads) × (keeper.reads.made ≡ 0)) }
+        ensures appends { IfOk result (λ keeper. (keeper.appends.failing ≡ self.old.failing_appends) × (keeper.appends.made ≡ 0)) }
+        ensures reads { IfOk result (λ keeper. (keeper.reads.failing ≡ self.old.failing_reads) × (keeper.reads.made ≡ 0)) }
         ensures lists { (self.new.failing_appends ≡ self.old.failing_appends) × (self.new.failing_reads ≡ self.old.failing_reads) }
     {
         if self.opens.begin() {

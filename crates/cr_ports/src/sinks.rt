@@ -46,8 +46,8 @@ impl MemSink {
     ) -> Result<Self, AllocError>
         ensures taken { IfOk result (λ sink. sink.taken ≡ []) }
         ensures room { IfOk result (λ sink. sink.room ≡ room) }
-        ensures pieces { IfOk result (λ sink. sink.script.pieces ≡ pieces) }
-        ensures failing { IfOk result (λ sink. sink.script.calls.failing ≡ failing) }
+        ensures pieces { IfOk result (λ sink. sink.script.pieces ≡ pieces.items) }
+        ensures failing { IfOk result (λ sink. sink.script.calls.failing ≡ failing.items) }
         ensures calls { IfOk result (λ sink. sink.script.calls.made ≡ 0) }
         ensures faults { IfOk result (λ sink. sink.script.faults ≡ 0) }
     {
@@ -56,6 +56,20 @@ impl MemSink {
             bytes,
             room,
             script: Script::new(pieces, failing),
+        })
+    }
+
+    /// The same bytes, room, lists and counts.
+    pub(crate) fn copy(&self, alloc: Global) -> Result<Self, AllocError>
+        ensures { IfOk result (λ copy. copy ≡ self.now) }
+    {
+        let mut bytes = Vec::with_capacity(alloc, self.bytes.len() + self.room)?;
+        append_within(&mut bytes, &self.bytes);
+        let script = self.script.copy()?;
+        Ok(MemSink {
+            bytes,
+            room: self.room,
+            script,
         })
     }
 

@@ -1,5 +1,5 @@
 //! Sources in memory, which tell all that they hold.
-ghost use Rattle.std.specs.Prelude.{◌≡◌, ◌≢◌, ◌<◌, ◌≤◌, ℕ, List, [], Some, length, take, drop, vec_len, IfSome};
+ghost use Rattle.std.specs.Prelude.{◌≡◌, ◌≢◌, ◌<◌, ◌≤◌, ℕ, List, [], Some, length, take, drop, vec_len, IfOk, IfSome};
 ghost use Rattle.cr_ports.specs.Count.{Rises};
 ghost use Rattle.cr_ports.specs.Memory.{Input, PlainReadGives, ReadGives, plain_step, read_step, read_faults};
 ghost use Rattle.cr_ports.specs.Script.{FollowsScript};
@@ -7,6 +7,7 @@ ghost use Rattle.cr_ports.specs.Stream.{and_left, given, FillsWithin};
 
 use crate::script::Script;
 use crate::{ReadStep, Source};
+use std::alloc::AllocError;
 use std::marker::Model;
 
 /// Gives its bytes in pieces of the lengths that are listed, and fails exactly at the calls that
@@ -35,8 +36,8 @@ impl MemSource {
     /// list's end as many as the buffer takes. The calls numbered in `failing` fail.
     pub fn new(bytes: Vec<u8>, pieces: Vec<usize>, failing: Vec<u64>) -> Self
         ensures left { result.left ≡ bytes.items }
-        ensures pieces { result.script.pieces ≡ pieces }
-        ensures failing { result.script.calls.failing ≡ failing }
+        ensures pieces { result.script.pieces ≡ pieces.items }
+        ensures failing { result.script.calls.failing ≡ failing.items }
         ensures calls { result.script.calls.made ≡ 0 }
         ensures faults { result.script.faults ≡ 0 }
     {
@@ -45,6 +46,19 @@ impl MemSource {
             at: 0,
             script: Script::new(pieces, failing),
         }
+    }
+
+    /// The same bytes, lists and counts.
+    pub(crate) fn copy(&self) -> Result<Self, AllocError>
+        ensures { IfOk result (λ copy. copy ≡ self.now) }
+    {
+        let bytes = self.bytes.clone()?;
+        let script = self.script.copy()?;
+        Ok(MemSource {
+            bytes,
+            at: self.at,
+            script,
+        })
     }
 
     /// The bytes that no read has given yet.

@@ -1,0 +1,23 @@
+//! How connections are shared among doors.
+ghost use Rattle.std.specs.Prelude.{◌≡◌, ◌<◌, length, sum};
+ghost use Rattle.cr_ports.specs.Doors.{share_of, shares};
+
+/// How many of so many connections door number `i`, from 0, of `workers` gives: the quotient, and
+/// one more where `i` is below the remainder.
+pub fn share(i: u32, workers: u32, connections: u32) -> u32
+    requires { 0 < workers }
+    ensures { result ≡ share_of i workers connections }
+{
+    let even = connections / workers;
+    if i < connections % workers {
+        return even + 1;
+    }
+    even
+}
+
+/// The shares of all doors, one a worker, add up to the connections.
+pub fn law_shares(workers: u32, connections: u32)
+    requires { 0 < workers }
+    ensures total { sum (shares workers connections) ≡ connections }
+    ensures doors { length (shares workers connections) ≡ workers }
+{}
