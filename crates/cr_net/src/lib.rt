@@ -1,6 +1,7 @@
 //! Connections over TCP: gates on a loopback address, as the ports see them.
 //!
-//! The trusted edge. What the system gives and takes is in no clause: each call says that it fails only with a count.
+//! The trusted edge: no clause says what the system gives and takes. They say that no call fails without a count, and how
+//! many connections a door gives.
 #![tactic(auto)]
 
 mod door;
