@@ -1,5 +1,5 @@
 -- Counts of faults that are added up.
-use Rattle.std.proofs.Common.{arith, ◌≡◌, ℕ, ◌+◌, ◌-◌, ◌^◌, ◌<◌, ◌≤◌, List, length, get_or, take, sum_by, subst, sym}
+use Rattle.std.proofs.Common.{arith, ℕ, ◌+◌, ◌-◌, ◌^◌, ◌<◌, ◌≤◌, List, length, get_or, take, sum_by, subst, sym}
 use Rattle.std.proofs.lemmas.List.Sums.{sum_by_more}
 use Rattle.cr_ports.specs.Count.{Gains}
 use Rattle.cr_net.specs.Doors.{DoorSeen}
