@@ -2,8 +2,8 @@
 ghost use Rattle.std.specs.Prelude.{IsFalse};
 
 use cr_ports::{
-    Door, DoorAnswer, Gates, MemDoor, MemGates, MemSink, MemSource, NextConnection, Opened, ReadStep,
-    Source, write_all,
+    Door, DoorAnswer, Gates, MemDoor, MemGates, MemSink, MemSource, NextConnection, Opened,
+    ReadStep, Source, write_all,
 };
 use std::alloc::{AllocError, Global};
 use std::test::Fail;
@@ -82,9 +82,7 @@ fn ask(alloc: Global, gates: &mut MemGates) -> Result<Asked, AllocError> {
             echo_next(&mut second),
         ],
     };
-    doors.push(first)?;
-    doors.push(second)?;
-    gates.shut(doors);
+    gates.shut(vec![in alloc; first, second]?);
     Ok(asked)
 }
 

@@ -16,4 +16,6 @@ mod rows;
 #[cfg(test)]
 mod tables;
 #[cfg(test)]
+mod tcp;
+#[cfg(test)]
 mod words;

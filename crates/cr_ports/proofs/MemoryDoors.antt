@@ -1,5 +1,5 @@
 -- Doors in memory, one behind the other, and the connections that they take.
-use Rattle.std.proofs.Common.{◌≡◌, ◌∙◌, ℕ, suc, ◌+◌, ◌-◌, ◌<◌, ◌≤◌, List, [], ◌∷◌, ◌++◌, length, map, take, drop, flat_map, replicate, All, Some, refl, sym, ap, arith, append_assoc}
+use Rattle.std.proofs.Common.{◌≡◌, ◌∙◌, ℕ, suc, ◌+◌, List, [], ◌∷◌, ◌++◌, map, take, drop, flat_map, replicate, All, Some, refl, sym, ap, arith, append_assoc}
 use Rattle.std.proofs.lemmas.Grind.{replicate_next}
 use Rattle.std.proofs.lemmas.List.{map-append, take-append-drop, flat_map_more}
 use Rattle.std.proofs.lemmas.List.Elements.{All-push}

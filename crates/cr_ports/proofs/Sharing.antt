@@ -1,5 +1,5 @@
 -- The shares of doors add up to the connections.
-use Rattle.std.proofs.Common.{◌≡◌, ◌∙◌, ℕ, zero, suc, ◌+◌, ◌-◌, ◌*◌, ◌/◌, ◌%◌, ◌<◌, ◌≤◌, min, sum, List, [], ◌∷◌, ◌++◌, length, Bool, true, false, nat_lt, if◌then◌else◌, refl, sym, ap, arith, suc-mul, mul-le-mul_right, mod-lt, div-add-mod', ltb-true, ltb-false, subst}
+use Rattle.std.proofs.Common.{◌≡◌, ◌∙◌, ℕ, zero, suc, ◌+◌, ◌-◌, ◌*◌, ◌/◌, ◌%◌, ◌<◌, ◌≤◌, min, sum, [], ◌∷◌, length, Bool, true, false, nat_lt, if◌then◌else◌, refl, sym, ap, arith, suc-mul, mul-le-mul_right, mod-lt, div-add-mod', ltb-true, ltb-false, subst}
 use Rattle.std.proofs.lemmas.List.{length_push}
 use Rattle.std.proofs.lemmas.List.Sums.{sum_by-append}
 use Rattle.std.proofs.Math.Nat.{mul_comm}

@@ -32,11 +32,7 @@ impl Model for Planned {
 
 impl Planned {
     /// This connection, and a copy of it.
-    pub(crate) fn new(
-        alloc: Global,
-        source: MemSource,
-        sink: MemSink,
-    ) -> Result<Self, AllocError>
+    pub(crate) fn new(alloc: Global, source: MemSource, sink: MemSink) -> Result<Self, AllocError>
         ensures { IfOk result (λ planned. planned ≡ (source, sink)) }
     {
         let kept = (source.copy()?, sink.copy(alloc)?);
@@ -130,6 +126,7 @@ impl MemDoor {
 
 impl Door for MemDoor {
     type In = MemSource;
+
     type Out = MemSink;
 
     ghost left = { λ d. length d.coming };

@@ -64,12 +64,7 @@ impl MemGates {
 
     /// Puts a connection behind those that no door took yet, with a copy of it, which stays with its
     /// door. After an error, which is want of memory, all is as before.
-    pub fn add(
-        &mut self,
-        alloc: Global,
-        source: MemSource,
-        sink: MemSink,
-    ) -> Result<(), AllocError>
+    pub fn add(&mut self, alloc: Global, source: MemSource, sink: MemSink) -> Result<(), AllocError>
         ensures added { OnOk result (self.new.coming ≡ self.old.coming ++ (source, sink) ∷ []) }
         ensures refused { OnErr result (self.new.coming ≡ self.old.coming) }
         ensures opens { self.new.opens ≡ self.old.opens }
@@ -175,13 +170,7 @@ impl Gates for MemGates {
     /// Gives the connections out in their order, each door's share behind that of the doors before it,
     /// and silent ones, which send and take nothing, where there are fewer than asked for. After want
     /// of memory it may have fewer left. The address isn't looked at.
-    fn open(
-        &mut self,
-        alloc: Global,
-        addr: &str,
-        workers: u32,
-        connections: u32,
-    ) -> Opened<MemDoor>
+    fn open(&mut self, alloc: Global, addr: &str, workers: u32, connections: u32) -> Opened<MemDoor>
         requires { 0 < workers }
         ensures shares { OnDoors result (λ doors. map (λ door. length door.coming) doors ≡ shares workers connections) }
         ensures idle { OnDoors result (λ doors. All (λ door. IsFalse (is_some door.log.out)) doors) }

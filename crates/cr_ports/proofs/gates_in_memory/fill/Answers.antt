@@ -1,4 +1,4 @@
-use Rattle.std.proofs.Common.{rules, ◌≡◌, ◌≤◌, ◌<◌, ◌+◌, ◌-◌, ◌∙◌, ◌++◌, ◌∷◌, [], ap, arith, length}
+use Rattle.std.proofs.Common.{rules, ◌≡◌, ◌<◌, ◌+◌, ◌-◌, ◌∙◌, ◌++◌, ◌∷◌, [], ap, arith, length}
 use Rattle.std.proofs.lemmas.List.{length_push}
 use Rattle.cr_ports.specs.MemoryDoors.{silent}
 use Rattle.cr_ports.proofs.MemoryDoors.{filled_more}

@@ -1,4 +1,4 @@
-use Rattle.std.proofs.Common.{rules, ◌≡◌, ◌≤◌, ◌+◌, ◌-◌, ◌∙◌, ◌++◌, ◌∷◌, [], ℕ, ap, sym, subst, arith, length, length-drop, map, take, drop}
+use Rattle.std.proofs.Common.{rules, ◌≡◌, ◌≤◌, ◌∙◌, ◌++◌, ◌∷◌, [], ap, sym, arith, length, length-drop, take}
 use Rattle.std.proofs.lemmas.List.{length-take-le}
 use Rattle.cr_ports.specs.Doors.{unasked}
 use Rattle.cr_ports.specs.MemoryDoors.{Doored}
@@ -25,7 +25,7 @@ making-preserved c =
     let first : door.coming ≡ take share coming = c.in_ok-new.ensures.coming ∙ c.in_ok-first.ensures.share in
     let enough = c.making.invariant.enough in
     let fits : share ≤ length coming =
-        (let below = share_fits i c.args.workers c.args.connections c.making-test.true in let is = c.share.ensures in omega (arith, enough, below, is)) in
+    (let below = share_fits i c.args.workers c.args.connections c.making-test.true in let is = c.share.ensures in omega (arith, enough, below, is)) in
     record {
       shares = map_pushed (λ (d : Doored). length d.coming) doors c.push.new.self.items door _ _ pushed c.making.invariant.shares
           (ap length first ∙ length-take-le share coming fits ∙ c.share.ensures) ∙ sym (shares_below-next i c.args.workers c.args.connections);

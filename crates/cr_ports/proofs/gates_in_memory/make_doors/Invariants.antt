@@ -1,4 +1,4 @@
-use Rattle.std.proofs.Common.{◌≡◌, ◌≤◌, ◌+◌, ◌++◌, ℕ, List, All, flat_map, length, map}
+use Rattle.std.proofs.Common.{◌≡◌, ◌≤◌, ◌+◌, ◌++◌, All, flat_map, length, map}
 use Rattle.cr_ports.specs.Doors.{shares_below, unasked}
 use Rattle.cr_ports.specs.MemoryDoors.{Doored, calls_below}
 use Rattle.cr_ports.proofs.Sharing.{given_below}
