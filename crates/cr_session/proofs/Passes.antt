@@ -16,7 +16,7 @@ use Rattle.cr_session.specs.Passing.{KnownPass, TakesTurn, TakesTurns, StaysPass
 
 -- ---- what a turn adds
 
-pub drawn-begins : (H : History) (d : Option Drawn) → IsPrefix H (and_drawn H d)
+drawn-begins : (H : History) (d : Option Drawn) → IsPrefix H (and_drawn H d)
 drawn-begins H None = prefix_self H
 drawn-begins H (Some d) = (d.group, refl)
 

@@ -1,6 +1,5 @@
 -- What one turn does is what Told and Step say.
-use Rattle.std.proofs.Common.{◌≡◌, ◌∙◌, ◌≤◌, ℕ, Bool, true, false, cond, Option, Some, None, Result, Ok, Err, refl, sym, ap, subst, IsSome, IsOk, arith}
-use mathlib.Core.List.{IsPrefix}
+use Rattle.std.proofs.Common.{◌≡◌, ◌∙◌, ℕ, Bool, true, false, cond, Option, Some, None, Result, Ok, Err, refl, sym, ap, subst, IsSome, IsOk}
 use Rattle.cr_base.specs.declared.command.Command.TheVariants.{Register}
 use Rattle.cr_base.specs.declared.ask.Ask.{Ask}
 use Rattle.cr_routes.specs.declared.place.Place.{Place}
@@ -25,9 +24,7 @@ use Rattle.cr_wire.specs.Caller.{caller, reads_credentials, user_told, wants_log
 use Rattle.cr_session.specs.declared.turn.Turn.{Turn}
 use Rattle.cr_session.specs.declared.turn.Turn.TheVariants as turns
 use Rattle.cr_session.specs.Told.{form_of, told, told_to, served_to, is_unauthorized, reply_of, drawn, drawn_for, drawn_of, accepted, and_drawn, step}
-use Rattle.cr_lock.proofs.Prefixes.{prefix_self}
 use Rattle.cr_session.specs.Replay.{Ledger}
-use Rattle.cr_session.proofs.Passes.{drawn-begins}
 use Rattle.cr_session.specs.Turning.{Turns, AnswersWish, JudgesCommand, AnswersQuery, WantsRoom, MayWantFor, MayWantMemory}
 use Rattle.cr_print.specs.Answers.{IsBrief}
 use Rattle.cr_base.specs.declared.reply.Reply.{Reply}
@@ -182,21 +179,3 @@ is-user H (Some v) h = h
 pub caller-command : (H : History) (w : Wish) (u : Option ℕ) (command : Command) → w.what ≡ whats.Command command → u ≡ caller H w → is_unauthorized u (whats.Command command) ≡ false → IsCaller H u command
 caller-command H w u (Register name digest) is by may = by ∙ ap (λ (x : What). cond (reads_credentials x) (user_told w.credentials H) None) is
 caller-command H w u command is by may = is-user H u (may-ask H w u (whats.Command command) by may)
-
--- ---- a turn only appends
-
-grows-stepped : (turn : Turn) (w : Wish) (b b' : Ledger) → AnswersWish turn w b b' → IsPrefix b.history b'.history × (b.faults ≤ b'.faults)
-grows-stepped turn w b b' a =
-    (subst (λ (H : History). IsPrefix b.history H) (sym a.stepped) (drawn-begins b.history (drawn b.history w)), let e = a.steady in omega (arith, e))
-
-grows-same : (H H' : History) (f g : ℕ) → H' ≡ H → f ≤ g → IsPrefix H H' × (f ≤ g)
-grows-same H H' f g e le = (subst (λ (X : History). IsPrefix H X) (sym e) (prefix_self H), le)
-
--- and lets no count fall
-pub turns-grow : (turn : Turn) (w : Wish) (b b' : Ledger) → Turns turn w b b' → IsPrefix b.history b'.history × (b.faults ≤ b'.faults)
-turns-grow (turns.Refused refused) w b b' t = grows-stepped (turns.Refused refused) w b b' t
-turns-grow (turns.Accepted receipt) w b b' t = grows-stepped (turns.Accepted receipt) w b b' t
-turns-grow (turns.Answered reply) w b b' t = grows-stepped (turns.Answered reply) w b b' t.0
-turns-grow turns.Lost w b b' t = grows-same b.history b'.history b.faults b'.faults t.1 t.2.0
-turns-grow turns.OutOfMemory w b b' t =
-    grows-same b.history b'.history b.faults b'.faults (ap (λ (x : Ledger). x.history) t.0) (let e = ap (λ (x : Ledger). x.faults) t.0 in omega (arith, e))

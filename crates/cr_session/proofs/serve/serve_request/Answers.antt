@@ -1,6 +1,5 @@
 use Rattle.std.proofs.Common.{refl}
-use Rattle.cr_session.proofs.Passes.{stays-turn}
-use Rattle.cr_session.proofs.Requests.{serves_sent, turned_in_vain, unprinted}
+use Rattle.cr_session.proofs.Requests.{serves_sent, unprinted}
 use Rattle.cr_session.proofs.serve.serve_request.Goals as goal
 
 pub returns-in-Ok-clause-serves : goal.returns-in-Ok-clause-serves
