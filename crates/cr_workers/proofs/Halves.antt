@@ -1,5 +1,5 @@
 -- Doors that workers shared.
-use Rattle.std.proofs.Common.{◌≡◌, ◌∙◌, ℕ, ◌⊎◌, inl, inr, List, [], ◌∷◌, ◌++◌, ◌×◌, map, flat_map, refl, sym, ap, subst, append_assoc}
+use Rattle.std.proofs.Common.{◌≡◌, ◌∙◌, ℕ, ◌⊎◌, inl, inr, List, [], ◌∷◌, ◌++◌, map, flat_map, refl, sym, ap, subst, append_assoc}
 use Rattle.cr_lock.specs.Counts.{Every}
 use Rattle.cr_lock.specs.Passes.{larger_half, smaller_half, united, Agree}
 use Rattle.cr_session.specs.Passing.{KnownPass}

@@ -1,10 +1,11 @@
 -- A worker between two connections of its door, and at its end.
 use Rattle.std.proofs.Common.{◌≡◌, ◌∙◌, ℕ, ◌+◌, ◌*◌, ◌^◌, ◌≤◌, inl, inr, List, [], ◌∷◌, ◌++◌, length, map, Bool, true, false, ◌||◌, Option, Some, None, Ok, Err, refl, sym, ap, subst, arith, append_assoc, length-append}
 use Rattle.cr_lock.specs.Counts.{Every}
-use Rattle.cr_ports.specs.Doors.{DoorLog}
+use Rattle.cr_ports.specs.Doors.{DoorLog, and_answer, and_back}
+use Rattle.cr_ports.specs.declared.door.NextConnection.TheVariants as next
 use Rattle.cr_session.specs.declared.serve.Ending.{Ending}
 use Rattle.cr_session.specs.Passing.{KnownPass, StaysPass}
-use Rattle.cr_session.proofs.Passes.{stays-now, stays-then, stays-within}
+use Rattle.cr_session.proofs.Passes.{stays-now, stays-then}
 use Rattle.cr_workers.specs.Connections.{Streams, ServedConnection, ServeAll}
 use Rattle.cr_workers.specs.Doors.{SeenDoor, DoorWork, IsWorkedOn, HasCause, TellsMore, Visits, Stops, Works, NoneLacked, lacks, ended_by, ends_of, ServesNext, ServesDoors}
 use Rattle.cr_workers.specs.declared.worker.Last.{Last}
@@ -12,6 +13,9 @@ use Rattle.cr_workers.specs.declared.worker.Last.TheVariants as lasts
 use Rattle.cr_workers.proofs.Grown.{append-nil, every-append}
 use Rattle.cr_workers.proofs.Connections.{serve-none, serve-one, serve-then}
 use Rattle.cr_workers.proofs.Halves.{map-append}
+
+stays-within : (m n : ℕ) (p q : KnownPass) → m ≤ n → StaysPass m p q → StaysPass n p q
+stays-within m n p q le x = record { lock = x.lock; share = x.share; few = (let a = x.few in omega (arith, a, le)) }
 
 module _ {I O : Type 0} where
   C : Type 0
@@ -27,6 +31,15 @@ module _ {I O : Type 0} where
   tells-then cs ds None None None x y = tt
   tells-then cs ds (Some a) (Some b) (Some c) x y =
       y ∙ (ap (λ s. s ++ ends_of ds) x ∙ (append_assoc a.served (ends_of cs) (ends_of ds) ∙ ap (λ s. a.served ++ s) (sym (map-append (λ (z : C). z.ends) cs ds))))
+
+  -- one connection was given and came back
+  pub tells-one : (c : C) (a b z : Option (DoorLog I O)) → b ≡ and_answer a (next.Conn c.ends.given.0 c.ends.given.1) → z ≡ and_back b c.ends.back.0 c.ends.back.1 → TellsMore (c ∷ []) a z
+  tells-one c a b z gave back =
+      subst (λ (l : Option (DoorLog I O)). TellsMore (c ∷ []) a l) (sym (back ∙ ap (λ l. and_back l c.ends.back.0 c.ends.back.1) gave)) (at a)
+    where
+      at : (l : Option (DoorLog I O)) → TellsMore (c ∷ []) l (and_back (and_answer l (next.Conn c.ends.given.0 c.ends.given.1)) c.ends.back.0 c.ends.back.1)
+      at None = tt
+      at (Some log) = refl
 
   visits-none : (d : SeenDoor I O) → d.is_out ≡ false → Visits {I} {O} [] d d
   visits-none d back = record { left = omega arith; back = back; faults = refl; log = tells-none d.log }

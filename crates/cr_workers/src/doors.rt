@@ -46,6 +46,7 @@ fn serve_last<R: Wait, K: Keeper, D: Door + Drop>(
 ///
 /// `DoorFailed` comes only where a door failed. Where a list of doors can't be split for lack of memory, these doors are not
 /// asked, and the answer is `OutOfMemory`.
+#[cycle(halves)]
 pub(crate) fn serve_doors<R: Threads + Wait + Sync, K: Keeper + Send, D: Door + Drop + Send>(
     rt: &R,
     alloc: Global,
