@@ -408,28 +408,33 @@ CHECKS = (
 )
 
 
-def main():
-    path = sys.argv[1] if len(sys.argv) > 1 else os.path.join(TOP, "crates", "confd", "out", "confd")
+def program_named(words):
+    """The program that the words name, else the one that `rt run` built."""
+    path = words[0] if words else os.path.join(TOP, "crates", "confd", "out", "confd")
     if not os.path.exists(path):
         sys.exit(f"{path}: build it first, with `rt run` in crates/confd")
     if sqlite3.sqlite_version_info < (3, 37):
         sys.exit(f"SQLite {sqlite3.sqlite_version} is too old for these tables: 3.37 is wanted")
-    program = Program(os.path.abspath(path))
+    return Program(os.path.abspath(path))
+
+
+def run_all(checks, program):
+    """Runs each check in a folder of its own, prints a line for each and how many passed, and ends with the status."""
     passed = failed = 0
-    for check in CHECKS:
-        title = check.__doc__.strip()
+    for check in checks:
+        title = check.__doc__.strip().splitlines()[0]
         with tempfile.TemporaryDirectory() as folder:
             try:
                 check(program, folder)
             except Exception as error:
                 failed += 1
-                print(f"FAILED: {title}\n    {type(error).__name__}: {error}")
+                print(f"FAILED: {title}\n    {type(error).__name__}: {error}", flush=True)
             else:
                 passed += 1
-                print(f"ok: {title}")
+                print(f"ok: {title}", flush=True)
     print(f"{passed} passed, {failed} failed")
     sys.exit(1 if failed else 0)
 
 
 if __name__ == "__main__":
-    main()
+    run_all(CHECKS, program_named(sys.argv[1:]))

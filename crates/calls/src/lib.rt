@@ -18,4 +18,6 @@ mod stores;
 #[cfg(test)]
 mod tables;
 #[cfg(test)]
+mod tcp;
+#[cfg(test)]
 mod words;

@@ -1,8 +1,9 @@
 //! The process: the top call over the words of the command line, standard input and standard output, and files as stores.
 //!
-//! A program's `main` hands its runtime to `run`, once as what it is and once as what may wait, and has nothing else in it.
+//! A program's `main` hands its runtime to `run`, once as what it is and once as what may wait and start threads, and has nothing else in it.
 #![tactic(auto)]
 
+use cr_net::TcpGates;
 use cr_ports::{ReadSource, WriteSink};
 use cr_sqlite::SqliteShelf;
 use cr_top::{Exit, top};
@@ -12,6 +13,7 @@ use std::env;
 use std::io::{self, ErrorKind};
 use std::process::ExitCode;
 use std::sync::Wait;
+use std::thread::Threads;
 
 // The words of the command line, or none where one isn't UTF-8.
 fn words(rt: &HostRuntime) -> Result<Vec<String>, AllocError> {
@@ -25,13 +27,29 @@ fn words(rt: &HostRuntime) -> Result<Vec<String>, AllocError> {
 // The file that the words name as the store.
 fn store_named(alloc: Global, words: &[String]) -> &str {
     match read_words(alloc, words) {
-        Ok(Job::Pipe { store: Some(store) } | Job::View { store, .. }) => store,
+        Ok(Job::Pipe { store: Some(store) } | Job::Serve { store, .. } | Job::View { store, .. }) => {
+            store
+        }
         Ok(Job::Pipe { store: None }) | Err(_) => "",
     }
 }
 
+// The address that the words name.
+fn address_named(alloc: Global, words: &[String]) -> &str {
+    match read_words(alloc, words) {
+        Ok(Job::Serve { listen, .. }) => listen,
+        Ok(Job::Pipe { .. } | Job::View { .. }) | Err(_) => "",
+    }
+}
+
 // One line on standard error for each status but 0.
-fn tell(rt: &HostRuntime, words: &[String], exit: Exit, shelf: &SqliteShelf) -> io::Result<()> {
+fn tell(
+    rt: &HostRuntime,
+    words: &[String],
+    exit: Exit,
+    shelf: &SqliteShelf,
+    gates: &TcpGates,
+) -> io::Result<()> {
     let store = store_named(rt.alloc(), words);
     match exit {
         Exit::Done => Ok(()),
@@ -48,6 +66,13 @@ fn tell(rt: &HostRuntime, words: &[String], exit: Exit, shelf: &SqliteShelf) -> 
             Some(reason) => eprintln!(rt; "confd: {store}: {reason}"),
             None => eprintln!(rt; "confd: {store}: the store could not be read"),
         },
+        Exit::ListenFault => {
+            let address = address_named(rt.alloc(), words);
+            match gates.reason() {
+                Some(reason) => eprintln!(rt; "confd: {address}: {reason}"),
+                None => eprintln!(rt; "confd: {address}: no connections could be taken"),
+            }
+        }
         Exit::NoUser => eprintln!(rt; "confd: {store}: nobody has registered that name"),
         Exit::OutOfMemory => eprintln!(rt; "confd: out of memory"),
     }
@@ -55,10 +80,11 @@ fn tell(rt: &HostRuntime, words: &[String], exit: Exit, shelf: &SqliteShelf) -> 
 
 /// Does what the command line asks for, and gives the status that the process is to end with. `handle` is the same runtime,
 /// as one that may wait: a library can't tell that of `rt`.
-pub fn run<R: Wait>(rt: &HostRuntime, handle: &R) -> ExitCode {
+pub fn run<R: Threads + Wait + Sync>(rt: &HostRuntime, handle: &R) -> ExitCode {
     let mut input = ReadSource::new(rt.stdin());
     let mut out = WriteSink::new(rt.stdout());
     let mut shelf = SqliteShelf::new(rt);
+    let mut gates = TcpGates::new(rt);
     let Ok(words) = words(rt) else {
         return ExitCode::from(Exit::OutOfMemory.code());
     };
@@ -69,8 +95,9 @@ pub fn run<R: Wait>(rt: &HostRuntime, handle: &R) -> ExitCode {
         &mut input,
         &mut out,
         &mut shelf,
+        &mut gates,
     );
     // The status says the same, so a line that can't be written is left out.
-    let _ = tell(rt, words.as_slice(), exit, &shelf);
+    let _ = tell(rt, words.as_slice(), exit, &shelf, &gates);
     ExitCode::from(exit.code())
 }

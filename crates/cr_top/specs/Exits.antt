@@ -1,11 +1,13 @@
 -- The exit of a run, by how its connection ended, and its status.
-use Rattle.std.specs.Prelude.{ℕ}
+use Rattle.std.specs.Prelude.{ℕ, Bool, true, false}
 use Rattle.cr_ports.specs.declared.keeper.KeeperError.{KeeperError}
 use Rattle.cr_ports.specs.declared.keeper.KeeperError.TheVariants as refusals
 use Rattle.cr_book.specs.declared.opening.OpenError.{OpenError}
 use Rattle.cr_book.specs.declared.opening.OpenError.TheVariants as errors
 use Rattle.cr_session.specs.declared.serve.Ending.{Ending}
 use Rattle.cr_session.specs.declared.serve.Ending.TheVariants as endings
+use Rattle.cr_workers.specs.declared.worked.Worked.{Worked}
+use Rattle.cr_workers.specs.declared.worked.Worked.TheVariants as worked
 use Rattle.cr_top.specs.declared.exit.Exit.{Exit}
 use Rattle.cr_top.specs.declared.exit.Exit.TheVariants as exits
 
@@ -29,14 +31,22 @@ exit_of_rows (errors.BadStore row found) = exits.BadStore row found.kind
 exit_of_rows errors.KeeperFault = exits.KeeperFault
 exit_of_rows errors.OutOfMemory = exits.OutOfMemory
 
+-- the exit of a run whose workers ended so, and whose last line was written or wasn't
+abbrev pub exit_of_workers : Worked → Bool → Exit
+exit_of_workers worked.OutOfMemory written = exits.OutOfMemory
+exit_of_workers worked.DoorFailed written = exits.ListenFault
+exit_of_workers worked.Done true = exits.Done
+exit_of_workers worked.Done false = exits.WriteFault
+
 -- the status that the process ends with
-abbrev pub exit_status : Exit → ℕ
-exit_status exits.Done = 0
-exit_status exits.Cut = 1
-exit_status exits.Usage = 2
-exit_status (exits.BadStore row kind) = 3
-exit_status exits.ReadFault = 4
-exit_status exits.WriteFault = 5
-exit_status exits.KeeperFault = 6
-exit_status exits.NoUser = 8
-exit_status exits.OutOfMemory = 9
+abbrev pub status_of : Exit → ℕ
+status_of exits.Done = 0
+status_of exits.Cut = 1
+status_of exits.Usage = 2
+status_of (exits.BadStore row kind) = 3
+status_of exits.ReadFault = 4
+status_of exits.WriteFault = 5
+status_of exits.KeeperFault = 6
+status_of exits.ListenFault = 7
+status_of exits.NoUser = 8
+status_of exits.OutOfMemory = 9

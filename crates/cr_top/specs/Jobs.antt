@@ -4,31 +4,52 @@ use Rattle.cr_base.specs.declared.row.Row.{Row}
 use Rattle.cr_base.specs.History.{History}
 use Rattle.cr_base.specs.Rows.{rows_of}
 use Rattle.cr_ports.specs.Count.{Rises}
+use Rattle.cr_ports.specs.Doors.{DoorLog}
 use Rattle.cr_policy.specs.Legal.{Legal}
-use Rattle.cr_words.specs.Job.{NamedJob, pipe_job, view_job}
+use Rattle.cr_words.specs.Job.{NamedJob, pipe_job, serve_job, view_job}
+use Rattle.cr_workers.specs.Connections.{Streams}
 use Rattle.cr_top.specs.declared.exit.Exit.{Exit}
 use Rattle.cr_top.specs.declared.exit.Exit.TheVariants as exits
-use Rattle.cr_top.specs.Runs.{Outside, ServesPipe, IsFaultless, AnswersAll}
-use Rattle.cr_top.specs.Stores.{Files, ShelfState, PipesStore, TellsStore, AnswersView}
+use Rattle.cr_top.specs.Runs.{Outside, outside_of, ServesPipe, IsFaultless, AnswersAll}
+use Rattle.cr_top.specs.Serves.{GatesState, gates_of, ServesGates}
+use Rattle.cr_top.specs.Stores.{Files, ShelfState, state_of, PipesStore, TellsStore, AnswersView}
 
--- memory ran out before anything was read or written
-pub record IsUntouched {I : Type 0} (exit : Exit) (o o' : Outside I) (s s' : ShelfState) : Type 0 where
+-- all that a run works on: input and output, the stores, and the gates with what their doors' connections are
+pub record Surroundings (I C D : Type 0) : Type 0 where
+  pub outside : Outside I
+  pub stores : ShelfState
+  pub gates : GatesState C D
+
+abbrev pub around_of : {I O S G C D : Type 0} → (I → ℕ) → (O → Option (List ℕ)) → (O → ℕ) → (S → Option Files) → (S → ℕ) → (G → ℕ) → (G → Option (List (DoorLog C D)))
+    → I → O → S → G → Surroundings I C D
+around_of read_faults taken write_faults files shelf_faults gate_faults logs input out shelf gates = record {
+  outside = outside_of read_faults taken write_faults input out;
+  stores = state_of files shelf_faults shelf;
+  gates = gates_of gate_faults logs gates;
+}
+
+-- memory was wanting before anything was read or written
+pub record IsUntouched {I C D : Type 0} (exit : Exit) (a a' : Surroundings I C D) : Type 0 where
   pub exit_is : exit ≡ exits.OutOfMemory
-  pub outside : o' ≡ o
-  pub stores : s' ≡ s
+  pub same : a' ≡ a
 
--- one connection from the empty history on, or from that of a store on; or the view of a store, which reads no input
-abbrev pub DoesJob : {K I : Type 0} → (K → Option (List Row)) → (I → Option (List ℕ)) → (I → I → List ℕ → Type 0)
-    → NamedJob → Exit → Outside I → Outside I → ShelfState → ShelfState → Type 0
-DoesJob rows left gives (pipe_job None) exit o o' s s' = ServesPipe left gives [] exit o o' × (s' ≡ s)
-DoesJob rows left gives (pipe_job (Some path)) exit o o' s s' = PipesStore rows path left gives exit o o' s s'
-DoesJob rows left gives (view_job path name) exit o o' s s' =
-    TellsStore path name exit o.output o'.output s s' × (o'.input ≡ o.input) × (o'.read_faults ≡ o.read_faults)
+-- One connection from the empty history on, or from that of a store on; many connections over a store; or the view of a store.
+-- The last two read no input, and all but serving leave the gates alone.
+abbrev pub DoesJob : {K I C D : Type 0} → (K → Option (List Row)) → (I → Option (List ℕ)) → (I → I → List ℕ → Type 0) → Streams C D → NamedJob → Exit → Surroundings I C D → Surroundings I C D → Type 0
+DoesJob rows left gives streams (pipe_job None) exit a a' =
+    ServesPipe left gives [] exit a.outside a'.outside × (a'.stores ≡ a.stores) × (a'.gates ≡ a.gates)
+DoesJob rows left gives streams (pipe_job (Some path)) exit a a' =
+    PipesStore rows path left gives exit a.outside a'.outside a.stores a'.stores × (a'.gates ≡ a.gates)
+DoesJob rows left gives streams (serve_job listen workers connections path) exit a a' =
+    ServesGates rows path streams workers connections exit a.outside.output a'.outside.output a.stores a'.stores a.gates a'.gates
+    × (a'.outside.input ≡ a.outside.input) × (a'.outside.read_faults ≡ a.outside.read_faults)
+DoesJob rows left gives streams (view_job path name) exit a a' =
+    TellsStore path name exit a.outside.output a'.outside.output a.stores a'.stores
+    × (a'.outside.input ≡ a.outside.input) × (a'.outside.read_faults ≡ a.outside.read_faults) × (a'.gates ≡ a.gates)
 
--- the same, unless memory ran out before it began
-abbrev pub Does : {K I : Type 0} → (K → Option (List Row)) → (I → Option (List ℕ)) → (I → I → List ℕ → Type 0)
-    → NamedJob → Exit → Outside I → Outside I → ShelfState → ShelfState → Type 0
-Does rows left gives job exit o o' s s' = IsUntouched exit o o' s s' ⊎ DoesJob rows left gives job exit o o' s s'
+-- the same, unless memory was wanting before it began
+abbrev pub Does : {K I C D : Type 0} → (K → Option (List Row)) → (I → Option (List ℕ)) → (I → I → List ℕ → Type 0) → Streams C D → NamedJob → Exit → Surroundings I C D → Surroundings I C D → Type 0
+Does rows left gives streams job exit a a' = IsUntouched exit a a' ⊎ DoesJob rows left gives streams job exit a a'
 
 -- a store whose rows are a legal history's, over a shelf of which no call failed
 pub record HasHistory (path : List ℕ) (H : History) (s s' : ShelfState) : Type 0 where
@@ -38,14 +59,18 @@ pub record HasHistory (path : List ℕ) (H : History) (s s' : ShelfState) : Type
   pub spells : rows_of H ≡ files path
   pub faultless : Rises s.faults s'.faults → ⊥
 
--- Where nothing fails, all that the input's bytes spell is answered, from the empty history on or from the store's; and the
--- view of the store's history is told whole, or nobody there has the name. Memory may run out.
-abbrev pub AnswersJob : {I : Type 0} → (I → Option (List ℕ)) → NamedJob → Exit → Outside I → Outside I → ShelfState → ShelfState → Type 0
-AnswersJob left (pipe_job None) exit o o' s s' =
-    (b : List ℕ) → left o.input ≡ Some b → IsFaultless o o' → (exit ≡ exits.OutOfMemory) ⊎ AnswersAll [] exit b o o'
-AnswersJob left (pipe_job (Some path)) exit o o' s s' =
-    (b : List ℕ) → left o.input ≡ Some b → IsFaultless o o' → (H : History) → HasHistory path H s s'
-    → (exit ≡ exits.OutOfMemory) ⊎ AnswersAll H exit b o o'
-AnswersJob left (view_job path name) exit o o' s s' =
-    (Rises o.output.faults o'.output.faults → ⊥) → (H : History) → HasHistory path H s s'
-    → (exit ≡ exits.OutOfMemory) ⊎ AnswersView H name exit o.output o'.output
+-- Where nothing fails, all that the input's bytes spell is answered, from the empty history on or from the store's; each door
+-- gives its share of connections; and the view of the store's history is told whole, or nobody there has the name. Memory may
+-- be wanting.
+abbrev pub AnswersJob : {I C D : Type 0} → (I → Option (List ℕ)) → NamedJob → Exit → Surroundings I C D → Surroundings I C D → Type 0
+AnswersJob left (pipe_job None) exit a a' =
+    (b : List ℕ) → left a.outside.input ≡ Some b → IsFaultless a.outside a'.outside → (exit ≡ exits.OutOfMemory) ⊎ AnswersAll [] exit b a.outside a'.outside
+AnswersJob left (pipe_job (Some path)) exit a a' =
+    (b : List ℕ) → left a.outside.input ≡ Some b → IsFaultless a.outside a'.outside → (H : History) → HasHistory path H a.stores a'.stores
+    → (exit ≡ exits.OutOfMemory) ⊎ AnswersAll H exit b a.outside a'.outside
+AnswersJob left (serve_job listen workers connections path) exit a a' =
+    (Rises a.outside.output.faults a'.outside.output.faults → ⊥) → (Rises a.gates.faults a'.gates.faults → ⊥) → (H : History) → HasHistory path H a.stores a'.stores
+    → (exit ≡ exits.OutOfMemory) ⊎ (exit ≡ exits.Done)
+AnswersJob left (view_job path name) exit a a' =
+    (Rises a.outside.output.faults a'.outside.output.faults → ⊥) → (H : History) → HasHistory path H a.stores a'.stores
+    → (exit ≡ exits.OutOfMemory) ⊎ AnswersView H name exit a.outside.output a'.outside.output

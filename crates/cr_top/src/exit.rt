@@ -1,13 +1,15 @@
 //! How a run ended.
 ghost use Rattle.std.specs.Prelude.{◌≡◌};
-ghost use Rattle.cr_top.specs.Exits.{exit_of, exit_status};
+ghost use Rattle.cr_top.specs.Exits.{exit_of, exit_of_workers, status_of};
 
 use cr_session::Ending;
+use cr_workers::Worked;
 
 /// How a run ended.
 #[derive(Clone, Copy, Debug, PartialEq, Eq)]
 pub enum Exit {
-    /// The job was done: the connection's stream ended between requests, or the server closed it; or the view was printed.
+    /// The job was done: the connection's stream ended between requests, or the server closed it; each door gave its
+    /// share of connections; or the view was printed.
     Done,
     /// The connection's stream ended inside a request.
     Cut,
@@ -27,16 +29,18 @@ pub enum Exit {
     WriteFault,
     /// The store couldn't be opened or read.
     KeeperFault,
+    /// The address couldn't be listened at, or connections couldn't be taken any more.
+    ListenFault,
     /// Nobody has registered the name in the store.
     NoUser,
-    /// Out of memory.
+    /// Memory is wanting.
     OutOfMemory,
 }
 
 impl Exit {
-    /// The status that the process ends with: 0 to 6, 8 or 9.
+    /// The status that the process ends with: 0 to 9.
     pub fn code(self) -> u8
-        ensures { result ≡ exit_status self }
+        ensures { result ≡ status_of self }
     {
         match self {
             Exit::Done => 0,
@@ -46,9 +50,22 @@ impl Exit {
             Exit::ReadFault => 4,
             Exit::WriteFault => 5,
             Exit::KeeperFault => 6,
+            Exit::ListenFault => 7,
             Exit::NoUser => 8,
             Exit::OutOfMemory => 9,
         }
+    }
+}
+
+/// The exit of a run whose workers ended so, and whose last line was written or wasn't.
+pub(crate) fn exit_of_workers(ended: Worked, is_written: bool) -> Exit
+    ensures { result ≡ exit_of_workers ended is_written }
+{
+    match (ended, is_written) {
+        (Worked::OutOfMemory, _) => Exit::OutOfMemory,
+        (Worked::DoorFailed, _) => Exit::ListenFault,
+        (Worked::Done, true) => Exit::Done,
+        (Worked::Done, false) => Exit::WriteFault,
     }
 }
 

@@ -1,17 +1,19 @@
 //! The top call: a command line, an input, an output and a shelf.
 //!
-//! `top` does what the program's words ask for: `pipe` is one connection from a book's history on, `pipe_store` and
-//! `view_store` work on the rows of a store.
+//! `top` does what the program's words ask for: `pipe` is one connection from a book's history on, `pipe_store`,
+//! `serve_store` and `view_store` work on the rows of a store.
 #![tactic(auto)]
 
 mod exit;
 mod piping;
 mod run;
+mod serve;
 mod storing;
 mod viewing;
 
 pub use exit::{Exit, exit_of};
 pub use piping::pipe;
 pub use run::top;
+pub use serve::{Address, serve_store};
 pub use storing::pipe_store;
 pub use viewing::view_store;

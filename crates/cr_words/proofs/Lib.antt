@@ -1,5 +1,9 @@
 pub mod Simple
 pub mod Filled
+pub mod Numbers
 pub mod Named
 mod PipeLaw
 mod StoreLaws
+mod Values
+mod ServeBy
+mod ServeLaws

@@ -1,23 +1,48 @@
 -- The job that the words name.
-use Rattle.std.specs.Prelude.{List, Option, Some, None, if◌then◌else◌, codes, option_map}
+use Rattle.std.specs.Prelude.{◌≡◌, ℕ, ◌≤◌, ⊤, List, Option, Some, None, if◌then◌else◌, codes, option_map}
 use Rattle.std.specs.Option.{option_and_then}
 use Rattle.std.specs.Str.{bytes_eq}
 use Rattle.clap.specs.Words.{Row, Text, first_of, subcommand_of}
-use Rattle.cr_words.specs.Words.{confd_words}
+use Rattle.cr_words.specs.Words.{confd_words, most_workers, most_connections}
+use Rattle.cr_words.specs.Numbers.{number_of}
 use Rattle.cr_words.specs.declared.read.Job.{Job}
-use Rattle.cr_words.specs.declared.read.Job.TheVariants.{Pipe, View}
+use Rattle.cr_words.specs.declared.read.Job.TheVariants.{Pipe, Serve, View}
 
 -- a job as the texts of its options
 pub data NamedJob : Type 0 where
   -- the store, where one is told
   pipe_job : Option Text → NamedJob
+  -- the address, how many workers and connections, and the store
+  serve_job : Text → ℕ → ℕ → Text → NamedJob
   -- the store and the user's name
   view_job : Text → Text → NamedJob
 
 -- the job that the program is handed, whose texts are lent
 abbrev pub job_seen : Job → NamedJob
 job_seen (Pipe store) = pipe_job (option_map (λ s. s.now) store)
+job_seen (Serve listen workers connections store) = serve_job listen.now workers connections store.now
 job_seen (View store user) = view_job store.now user.now
+
+-- its numbers lie within their ranges
+abbrev pub IsInRange : NamedJob → Type 0
+IsInRange (serve_job listen workers connections store) =
+    (1 ≤ workers) × (workers ≤ most_workers) × (1 ≤ connections) × (connections ≤ most_connections)
+IsInRange _ = ⊤
+
+-- a job is named, and it is one whose numbers lie within their ranges
+abbrev pub IsNamed : Option NamedJob → Type 0
+IsNamed named = (job : NamedJob) × (named ≡ Some job) × IsInRange job
+
+abbrev pub with_all : Option Text → Option ℕ → Option ℕ → Option Text → Option NamedJob
+with_all (Some listen) (Some workers) (Some connections) (Some store) = Some (serve_job listen workers connections store)
+with_all _ _ _ _ = None
+
+abbrev pub number_at : Text → List Row → Option ℕ
+number_at id rows = option_and_then number_of (first_of id rows)
+
+abbrev pub serve_named : List Row → Option NamedJob
+serve_named rows = with_all (first_of (codes "listen") rows) (number_at (codes "workers") rows)
+    (number_at (codes "connections") rows) (first_of (codes "store") rows)
 
 abbrev pub with_both : Option Text → Option Text → Option NamedJob
 with_both (Some store) (Some user) = Some (view_job store user)
@@ -30,7 +55,8 @@ view_named rows = with_both (first_of (codes "store") rows) (first_of (codes "us
 abbrev pub job_named : Text × List Row → Option NamedJob
 job_named sub =
     if bytes_eq sub.0 (codes "pipe") then Some (pipe_job (first_of (codes "store") sub.1))
-    else (if bytes_eq sub.0 (codes "view") then view_named sub.1 else None)
+    else (if bytes_eq sub.0 (codes "serve") then serve_named sub.1
+    else (if bytes_eq sub.0 (codes "view") then view_named sub.1 else None))
 
 -- the job of the subcommand that clap finds among the words
 abbrev pub job_of : List Text → Option NamedJob

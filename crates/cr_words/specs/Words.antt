@@ -1,14 +1,36 @@
 -- The command that the words are read by, as clap's own definitions build one.
-use Rattle.std.specs.Prelude.{Bool, true, false, not, ◌==◌, List, [], ◌∷◌, ◌++◌, Some, codes}
+use Rattle.std.specs.Prelude.{ℕ, Bool, true, false, not, ◌==◌, List, [], ◌∷◌, ◌++◌, Some, codes}
+use Rattle.clap.specs.declared.builder.value_parser.ValueParser.TheVariants.{Unsigned}
 use Rattle.clap.specs.Words.{App, Rule, Text, new_app, new_rule, with_rule, with_subcommand}
 
 -- an option `--id VALUE`: any text, and at most once
 abbrev pub text_option : Text → Bool → Rule
 text_option id is_required = record (new_rule id) { long = Some id; required = is_required }
 
+-- a command with these options more
+abbrev pub with_rules : App → List Rule → App
+with_rules a [] = a
+with_rules a (r ∷ rest) = with_rules (with_rule a r) rest
+
+-- an option `--id NUMBER` that has to be there: a number from low to high, and once
+abbrev pub number_option : Text → ℕ → ℕ → Rule
+number_option id low high = record (text_option id true) { parser = Some (Unsigned low high) }
+
+-- how many workers there may be, and how many connections they may serve
+abbrev pub most_workers : ℕ
+most_workers = 64
+
+abbrev pub most_connections : ℕ
+most_connections = 65536
+
 -- one connection over standard input and output
 unfoldable pub pipe : App
 pipe = with_rule (new_app (codes "pipe")) (text_option (codes "store") false)
+
+-- many connections to an address
+unfoldable pub serve : App
+serve = with_rules (new_app (codes "serve")) (text_option (codes "listen") true ∷ number_option (codes "workers") 1 most_workers
+    ∷ number_option (codes "connections") 1 most_connections ∷ text_option (codes "store") true ∷ [])
 
 -- what one user may see of a store
 unfoldable pub view : App
@@ -20,7 +42,7 @@ required a = record a { top = record a.top { subcommand_required = true; disable
 
 -- the program: one line for each subcommand
 unfoldable pub confd_words : App
-confd_words = with_subcommand (with_subcommand (required (new_app (codes "confd"))) pipe.top) view.top
+confd_words = with_subcommand (with_subcommand (with_subcommand (required (new_app (codes "confd"))) pipe.top) serve.top) view.top
 
 -- ---- options among the words
 
@@ -36,9 +58,19 @@ store_words file = codes "--store" ∷ file ∷ []
 abbrev pub user_words : Text → List Text
 user_words user = codes "--user" ∷ user ∷ []
 
+-- the four options of `serve`, eight words
+abbrev pub serve_words : Text → Text → Text → Text → List Text
+serve_words listen workers connections file =
+    codes "--listen" ∷ listen ∷ codes "--workers" ∷ workers ∷ codes "--connections" ∷ connections ∷ store_words file
+
 -- the option as one word, with its value behind `=`
 abbrev pub store_word : Text → Text
 store_word file = codes "--store=" ++ file
 
 abbrev pub user_word : Text → Text
 user_word user = codes "--user=" ++ user
+
+-- the four options of `serve`, a word each
+abbrev pub serve_word : Text → Text → Text → Text → List Text
+serve_word listen workers connections file =
+    (codes "--listen=" ++ listen) ∷ (codes "--workers=" ++ workers) ∷ (codes "--connections=" ++ connections) ∷ store_word file ∷ []

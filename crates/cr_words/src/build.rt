@@ -2,8 +2,9 @@
 ghost use Rattle.std.specs.Prelude.{◌≡◌, IfOk, false};
 ghost use Rattle.clap.specs.Words.{app_of, rule_of};
 ghost use Rattle.clap.specs.declared.Command.TheViews.{out-Command as fields_of};
-ghost use Rattle.cr_words.specs.Words.{text_option, pipe, view, confd_words};
+ghost use Rattle.cr_words.specs.Words.{text_option, number_option, pipe, serve, view, confd_words};
 
+use clap::builder::ValueParser;
 use clap::{Arg, Command};
 use std::alloc::{AllocError, Global};
 
@@ -15,12 +16,32 @@ fn text_arg<'a>(alloc: Global, id: &'a str, is_required: bool) -> Arg<'a>
     Arg::new(alloc, id).long(id).required(is_required)
 }
 
+/// The option `--id NUMBER`, where NUMBER lies between the two, both included, and has to be there.
+fn number_arg<'a>(alloc: Global, id: &'a str, low: u64, high: u64) -> Arg<'a>
+    ensures rule { rule_of result ≡ number_option id.entry.now low high }
+    ensures local { result.global ≡ false }
+{
+    text_arg(alloc, id, true).value_parser(ValueParser::unsigned(low, high))
+}
+
 #[tactic(auto, unfolding(crate::specs::Words::pipe))]
 fn pipe_command<'a>(alloc: Global) -> Result<Command<'a>, AllocError>
     ensures shape { IfOk result (λ c. app_of c ≡ pipe) }
     ensures local { IfOk result (λ c. (fields_of c).has_globals ≡ false) }
 {
     Command::new(alloc, "pipe").arg(text_arg(alloc, "store", false))
+}
+
+#[tactic(auto, unfolding(crate::specs::Words::serve))]
+fn serve_command<'a>(alloc: Global) -> Result<Command<'a>, AllocError>
+    ensures shape { IfOk result (λ c. app_of c ≡ serve) }
+    ensures local { IfOk result (λ c. (fields_of c).has_globals ≡ false) }
+{
+    Command::new(alloc, "serve")
+        .arg(text_arg(alloc, "listen", true))?
+        .arg(number_arg(alloc, "workers", 1, 64))?
+        .arg(number_arg(alloc, "connections", 1, 65_536))?
+        .arg(text_arg(alloc, "store", true))
 }
 
 #[tactic(auto, unfolding(crate::specs::Words::view))]
@@ -41,5 +62,6 @@ pub(crate) fn confd_command<'a>(alloc: Global) -> Result<Command<'a>, AllocError
         .subcommand_required(true)
         .disable_help_subcommand(true)
         .subcommand(pipe_command(alloc)?)?
+        .subcommand(serve_command(alloc)?)?
         .subcommand(view_command(alloc)?)
 }

@@ -1,8 +1,10 @@
 //! Laws over the definitions alone: which words are taken, and the job that each names, with no run.
-ghost use Rattle.std.specs.Prelude.{◌≡◌, [], ◌∷◌, ◌++◌, Some, None, codes, true, List, is_some};
+ghost use Rattle.std.specs.Prelude.{◌≡◌, [], ◌∷◌, ◌++◌, Some, None, codes, true, false, List};
 ghost use Rattle.clap.specs.Words.{Text, fault_of, takes};
-ghost use Rattle.cr_words.specs.Job.{job_of, pipe_job, view_job};
-ghost use Rattle.cr_words.specs.Words.{confd_words, is_plain_text, store_word, user_word, store_words, user_words};
+ghost use Rattle.clap.specs.declared.error.kind.ErrorKind.TheVariants.{ValueValidation};
+ghost use Rattle.cr_words.specs.Job.{IsNamed, job_of, pipe_job, serve_job, view_job};
+ghost use Rattle.cr_words.specs.Numbers.{spelt, are_workers, are_connections};
+ghost use Rattle.cr_words.specs.Words.{confd_words, is_plain_text, serve_word, serve_words, store_word, user_word, store_words, user_words};
 
 /// `pipe` alone, behind the program's name, whatever that is.
 pub fn law_pipe()
@@ -44,7 +46,41 @@ pub fn law_attached()
     ensures view_job { (name file user : Text) → job_of (name ∷ codes "view" ∷ store_word file ∷ user_word user ∷ []) ≡ Some (view_job file user) }
 {}
 
-/// Words that `clap` takes name a job.
+/// `serve` with its four options as two words each, where no value begins with a hyphen, as no number does that is within its
+/// range. Where one isn't, the words are refused.
+pub fn law_serve()
+    ensures taken { (name listen workers connections file : Text) → is_plain_text listen ≡ true → is_plain_text file ≡ true
+        → are_workers workers ≡ true → are_connections connections ≡ true
+        → fault_of confd_words (name ∷ codes "serve" ∷ serve_words listen workers connections file) ≡ [] }
+    ensures passes { (name listen workers connections file : Text) → is_plain_text listen ≡ true → is_plain_text file ≡ true
+        → are_workers workers ≡ true → are_connections connections ≡ true
+        → takes confd_words (name ∷ codes "serve" ∷ serve_words listen workers connections file) ≡ true }
+    ensures job { (name listen workers connections file : Text) → is_plain_text listen ≡ true → is_plain_text file ≡ true
+        → are_workers workers ≡ true → are_connections connections ≡ true
+        → job_of (name ∷ codes "serve" ∷ serve_words listen workers connections file) ≡ Some (serve_job listen (spelt workers) (spelt connections) file) }
+    ensures bad_workers { (name listen workers connections file : Text) → is_plain_text listen ≡ true → is_plain_text file ≡ true
+        → is_plain_text workers ≡ true → is_plain_text connections ≡ true → are_workers workers ≡ false
+        → fault_of confd_words (name ∷ codes "serve" ∷ serve_words listen workers connections file) ≡ ValueValidation ∷ [] }
+    ensures bad_connections { (name listen workers connections file : Text) → is_plain_text listen ≡ true → is_plain_text file ≡ true
+        → is_plain_text connections ≡ true → are_workers workers ≡ true → are_connections connections ≡ false
+        → fault_of confd_words (name ∷ codes "serve" ∷ serve_words listen workers connections file) ≡ ValueValidation ∷ [] }
+{}
+
+/// `serve` with a word for each of its options: the same, whatever address and store are.
+pub fn law_serve_attached()
+    ensures taken { (name listen workers connections file : Text) → are_workers workers ≡ true → are_connections connections ≡ true
+        → fault_of confd_words (name ∷ codes "serve" ∷ serve_word listen workers connections file) ≡ [] }
+    ensures passes { (name listen workers connections file : Text) → are_workers workers ≡ true → are_connections connections ≡ true
+        → takes confd_words (name ∷ codes "serve" ∷ serve_word listen workers connections file) ≡ true }
+    ensures job { (name listen workers connections file : Text) → are_workers workers ≡ true → are_connections connections ≡ true
+        → job_of (name ∷ codes "serve" ∷ serve_word listen workers connections file) ≡ Some (serve_job listen (spelt workers) (spelt connections) file) }
+    ensures bad_workers { (name listen workers connections file : Text) → are_workers workers ≡ false
+        → fault_of confd_words (name ∷ codes "serve" ∷ serve_word listen workers connections file) ≡ ValueValidation ∷ [] }
+    ensures bad_connections { (name listen workers connections file : Text) → are_workers workers ≡ true → are_connections connections ≡ false
+        → fault_of confd_words (name ∷ codes "serve" ∷ serve_word listen workers connections file) ≡ ValueValidation ∷ [] }
+{}
+
+/// Words that `clap` takes name a job, whose numbers lie within their ranges.
 pub fn law_taken_words()
-    ensures { (words : List Text) → fault_of confd_words words ≡ [] → is_some (job_of words) ≡ true }
+    ensures { (words : List Text) → fault_of confd_words words ≡ [] → IsNamed (job_of words) }
 {}

@@ -9,6 +9,9 @@ mod laws;
 mod read;
 mod usage;
 
-pub use laws::{law_attached, law_pipe, law_pipe_store, law_taken_words, law_view};
+pub use laws::{
+    law_attached, law_pipe, law_pipe_store, law_serve, law_serve_attached, law_taken_words,
+    law_view,
+};
 pub use read::{Job, WordsError, read_words};
 pub use usage::usage_text;

@@ -3,7 +3,8 @@ ghost use Rattle.std.specs.Prelude.{◌≡◌, ◌≢◌, Some, [], IfOk, true, 
 ghost use Rattle.std.specs.Option.{option_and_then};
 ghost use Rattle.clap.specs.Words.{takes, fault_of, first_of, found_of, rows_of, subcommand_rows_of};
 ghost use Rattle.cr_words.specs.Words.{confd_words};
-ghost use Rattle.cr_words.specs.Job.{job_named, job_of, job_seen, view_named};
+ghost use Rattle.cr_words.specs.Numbers.{number_of};
+ghost use Rattle.cr_words.specs.Job.{IsInRange, job_named, job_of, job_seen, number_at, serve_named, view_named};
 
 use crate::build::confd_command;
 use clap::ArgMatches;
@@ -17,6 +18,17 @@ pub enum Job<'a> {
     Pipe {
         /// Where the records are kept, if anywhere.
         store: Option<&'a str>,
+    },
+    /// Many connections to one address.
+    Serve {
+        /// The address that is listened at, as the words have it.
+        listen: &'a str,
+        /// How many connections are served at once, from 1 to 64.
+        workers: u32,
+        /// How many connections are served before the program ends, from 1 to 65,536.
+        connections: u32,
+        /// Where the records are kept.
+        store: &'a str,
     },
     /// What one user may see of the history that a store keeps.
     View {
@@ -43,6 +55,36 @@ fn value_of<'a>(options: &ArgMatches<'a>, id: &str) -> Option<&'a str>
     options.get_str(id)
 }
 
+/// The number that a text spells.
+fn number_of(text: &str) -> Option<u32>
+    ensures { result ≡ number_of text.now }
+{
+    text.parse::<u32>().ok()
+}
+
+/// The number of the option `--id`, if it was given.
+fn number_at(options: &ArgMatches, id: &str) -> Option<u32>
+    ensures { result ≡ number_at id.now (rows_of (found_of options.now)) }
+{
+    number_of(value_of(options, id)?)
+}
+
+/// The job of `serve`, whose options are all there.
+fn serve_job<'a>(options: &ArgMatches<'a>) -> Option<Job<'a>>
+    ensures { option_map job_seen result ≡ serve_named (rows_of (found_of options.now)) }
+{
+    let listen = value_of(options, "listen")?;
+    let workers = number_at(options, "workers")?;
+    let connections = number_at(options, "connections")?;
+    let store = value_of(options, "store")?;
+    Some(Job::Serve {
+        listen,
+        workers,
+        connections,
+        store,
+    })
+}
+
 /// The job of `view`, whose options are both there.
 fn view_job<'a>(options: &ArgMatches<'a>) -> Option<Job<'a>>
     ensures { option_map job_seen result ≡ view_named (rows_of (found_of options.now)) }
@@ -62,17 +104,19 @@ fn named_job<'a>(matches: &ArgMatches<'a>) -> Option<Job<'a>>
         "pipe" => Some(Job::Pipe {
             store: value_of(options, "store"),
         }),
+        "serve" => serve_job(options),
         "view" => view_job(options),
         _ => None,
     }
 }
 
-/// The job that the words name, the first of which is the program's name.
+/// The job that the words name, the first of which is the program's name. Its numbers lie within their ranges.
 ///
 /// `Usage` comes exactly where `clap` refuses the words by `confd_words`, a call for help included.
 /// `OutOfMemory` comes only where memory ran out. What was taken for the reading is given back.
 pub fn read_words<'a>(alloc: Global, words: &'a [String]) -> Result<Job<'a>, WordsError>
     ensures job { IfOk result (λ job. job_of (map string_bytes words.entry.now) ≡ Some (job_seen job)) }
+    ensures ranges { IfOk result (λ job. IsInRange (job_seen job)) }
     ensures taken { IfOk result (λ _. fault_of confd_words (map string_bytes words.entry.now) ≡ []) }
     ensures refused { result ≡ Err WordsError.Usage → fault_of confd_words (map string_bytes words.entry.now) ≢ [] }
     ensures passes { takes confd_words (map string_bytes words.entry.now) ≡ true → result ≢ Err WordsError.Usage }

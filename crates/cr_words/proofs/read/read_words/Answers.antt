@@ -10,6 +10,9 @@ answers c = answered _ _ _ _ _ c.in-Ok.ensures (taken_from _ _ c.in-Ok.ensures c
 pub returns-in-Ok-try_get_matches_from-clause-job : goal.returns-in-Ok-try_get_matches_from-clause-job
 returns-in-Ok-try_get_matches_from-clause-job c = (answers c).job
 
+pub returns-in-Ok-try_get_matches_from-clause-ranges : goal.returns-in-Ok-try_get_matches_from-clause-ranges
+returns-in-Ok-try_get_matches_from-clause-ranges c = (answers c).ranges
+
 pub returns-in-Ok-try_get_matches_from-clause-taken : goal.returns-in-Ok-try_get_matches_from-clause-taken
 returns-in-Ok-try_get_matches_from-clause-taken c = (answers c).taken
 
@@ -22,6 +25,7 @@ returns-in-Ok-try_get_matches_from-clause-passes c = (answers c).passes
 pub returns : goal.returns
 returns c = record {
   job = tt;
+  ranges = tt;
   taken = tt;
   refused = λ _. refused_from _ _ c.in-Err.error c.in-Ok.ensures c.in-Err.ensures.kinds (λ m. c.in_default-kind.not-OutOfMemory (c.kind.ensures ∙ m));
   passes = λ t _. passes_from _ _ c.in-Err.error c.in-Ok.ensures c.in-Err.ensures.passes (λ m. c.in_default-kind.not-OutOfMemory (c.kind.ensures ∙ m)) t;

@@ -1,0 +1,134 @@
+//! What takes connections, one at a time.
+ghost use Rattle.std.specs.Prelude.{◌≡◌, ℕ, None};
+ghost use Rattle.cr_net.specs.Doors.{new_door};
+
+use crate::reason::Reason;
+use crate::stream::{TcpSink, TcpSource, ends_of};
+use cr_ports::{Door, NextConnection};
+use std::alloc::Global;
+use std::io::{self, ErrorKind};
+use std::marker::Model;
+use std::net::TcpListener;
+use std::sync::Arc;
+use std::thread;
+use std::time::Duration;
+
+/// How often a connection is tried to be taken, which with the pauses is a minute.
+const TRIES: u32 = 600;
+
+/// The pause between two tries, in milliseconds.
+const PAUSE: u64 = 100;
+
+/// Takes the connections of one worker.
+///
+/// Contracts see how many it has still to give, whether one is out, and the count of faults.
+#[derive(Drop)]
+pub struct TcpDoor {
+    rt: HostRuntime,
+    alloc: Global,
+    listener: Arc<TcpListener, Global>,
+    left: u32,
+    is_out: bool,
+    faults: u64,
+    reason: Option<Reason>,
+}
+
+impl Model for TcpDoor {
+    ghost use Rattle.cr_net.specs.Doors.{DoorSeen};
+
+    ghost Value = { DoorSeen };
+
+    ghost view = { λ d. record { left = d.left; is_out = d.is_out; faults = d.faults } };
+}
+
+impl TcpDoor {
+    /// A door that gives `left` connections.
+    pub(crate) fn new(
+        rt: &HostRuntime,
+        alloc: Global,
+        listener: Arc<TcpListener, Global>,
+        left: u32,
+    ) -> TcpDoor
+        ensures { result ≡ new_door left }
+    {
+        TcpDoor {
+            rt: *rt,
+            alloc,
+            listener,
+            left,
+            is_out: false,
+            faults: 0,
+            reason: None,
+        }
+    }
+
+    /// How often it has failed.
+    pub(crate) fn faults(&self) -> u64
+        ensures { result ≡ self.now.faults }
+    {
+        self.faults
+    }
+
+    /// What its fault was.
+    pub(crate) fn reason(&self) -> Option<Reason> {
+        self.reason
+    }
+
+    /// Takes one connection, as its two ends.
+    fn take(&self) -> io::Result<(TcpSource, TcpSink)> {
+        let (stream, _) = self.listener.accept()?;
+        ends_of(&self.rt, self.alloc, stream)
+    }
+
+    /// The same, tried again for a minute where it fails.
+    fn take_patiently(&self) -> Result<(TcpSource, TcpSink), ErrorKind> {
+        let mut last = ErrorKind::Other;
+        for _ in 0..TRIES {
+            match self.take() {
+                Ok(ends) => return Ok(ends),
+                Err(error) => last = error.kind(),
+            }
+            thread::sleep(&self.rt, Duration::from_millis(PAUSE));
+        }
+        Err(last)
+    }
+}
+
+impl Door for TcpDoor {
+    type In = TcpSource;
+
+    type Out = TcpSink;
+
+    ghost left = { λ d. d.left };
+
+    ghost is_out = { λ d. d.is_out };
+
+    ghost faults = { λ d. d.faults };
+
+    ghost log = { λ _. None };
+
+    /// Where a connection can't be taken, as when no descriptor is left, it is tried again for a minute.
+    fn next(&mut self) -> NextConnection<TcpSource, TcpSink> {
+        if self.left == 0 {
+            return NextConnection::Done;
+        }
+        match self.take_patiently() {
+            Ok((source, sink)) => {
+                self.left -= 1;
+                self.is_out = true;
+                NextConnection::Conn(source, sink)
+            }
+            Err(kind) => {
+                self.faults = self.faults.saturating_add(1);
+                self.reason = Some(Reason::Taking(kind));
+                NextConnection::Failed
+            }
+        }
+    }
+
+    /// The client still sees the last answer, for which this takes a second at most.
+    fn give_back(&mut self, source: TcpSource, _sink: TcpSink) {
+        source.end();
+        self.is_out = false;
+    }
+}

@@ -1,0 +1,16 @@
+//! Connections over TCP: gates on a loopback address, as the ports see them.
+//!
+//! The trusted edge: no clause says what the system gives and takes. They say that no call fails without a count, and how
+//! many connections a door gives.
+#![tactic(auto)]
+
+mod door;
+mod gates;
+mod reason;
+mod stream;
+mod time;
+
+pub use door::TcpDoor;
+pub use gates::TcpGates;
+pub use reason::Reason;
+pub use stream::{TcpSink, TcpSource};

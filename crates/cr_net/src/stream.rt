@@ -1,0 +1,197 @@
+//! The two ends of a connection.
+ghost use Rattle.std.specs.Prelude.{◌≡◌, ℕ, None, ⊤, length};
+ghost use Rattle.std.specs.Io.{ReadsAtMost, WritesAtMost};
+
+use crate::time::Span;
+use cr_ports::{ReadStep, Sink, Source, WriteStep};
+use std::alloc::Global;
+use std::io::{self, Read, Write};
+use std::marker::Model;
+use std::net::{Shutdown, TcpStream};
+use std::sync::Arc;
+use std::sync::atomic::{AtomicBool, Ordering};
+
+/// The seconds for a request to come whole, and for an answer to go.
+const LIMIT: u64 = 60;
+
+/// The seconds for the client to see the last answer.
+const ENDING: u64 = 1;
+
+/// How many bytes are dropped in that time at most.
+const MOST_DROPPED: usize = 8_388_608;
+
+/// How many of them at a time.
+const PIECE: usize = 16_384;
+
+/// What the two ends of a connection share.
+#[derive(Drop)]
+pub(crate) struct Line {
+    stream: TcpStream,
+    // Whether an answer went out whole since the last read.
+    answered: AtomicBool,
+}
+
+/// The two ends of a stream that was opened just now. An error for want of memory, or where the stream is gone; then
+/// it is closed.
+pub(crate) fn ends_of(
+    rt: &HostRuntime,
+    alloc: Global,
+    stream: TcpStream,
+) -> io::Result<(TcpSource, TcpSink)> {
+    stream.set_nodelay(true)?;
+    let answered = AtomicBool::new(false);
+    let ours = Arc::new(alloc, Line { stream, answered })?;
+    let theirs = Arc::try_clone(&ours)?;
+    Ok((TcpSource::new(rt, ours), TcpSink::new(rt, theirs)))
+}
+
+/// What a client sends. Each request has 60 seconds to come whole, from the first read behind the last answer on;
+/// past that a read fails.
+///
+/// Contracts see the count of faults.
+#[derive(Drop)]
+pub struct TcpSource {
+    rt: HostRuntime,
+    line: Arc<Line, Global>,
+    request: Span,
+    is_ended: bool,
+    faults: u64,
+}
+
+impl Model for TcpSource {
+    ghost use Rattle.std.specs.Prelude.{ℕ};
+
+    ghost Value = { ℕ };
+
+    ghost view = { λ s. s.faults };
+}
+
+impl TcpSource {
+    fn new(rt: &HostRuntime, line: Arc<Line, Global>) -> TcpSource {
+        TcpSource {
+            rt: *rt,
+            line,
+            request: Span::new(LIMIT),
+            is_ended: false,
+            faults: 0,
+        }
+    }
+
+    /// One read, for which there is no more time than the request has left.
+    fn read_in_time(&mut self, buf: &mut [u8]) -> io::Result<usize>
+        ensures size { ReadsAtMost result buf.new }
+        ensures length { length buf.new ≡ length buf.old }
+        ensures same { self.new ≡ self.old }
+    {
+        if self.line.answered.swap(false, Ordering::SeqCst) {
+            self.request.reset();
+        }
+        let left = self.request.left(&self.rt)?;
+        self.line.stream.set_read_timeout(Some(left))?;
+        (&self.line.stream).read(buf)
+    }
+
+    /// Ends the connection so that the client sees the last answer: what it still sends is read and dropped, for a
+    /// second at most. Where a stream is closed before its bytes were read, the client's system may drop the answer.
+    pub(crate) fn end(mut self) {
+        if self.is_ended || self.line.stream.shutdown(Shutdown::Write).is_err() {
+            return;
+        }
+        self.line.answered.store(false, Ordering::SeqCst);
+        self.request = Span::new(ENDING);
+        let mut piece = [0; PIECE];
+        let mut dropped = 0;
+        'dropping: while dropped < MOST_DROPPED {
+            match self.read_in_time(&mut piece) {
+                Ok(n) if n > 0 => dropped += n,
+                _ => return,
+            }
+        }
+    }
+}
+
+impl Source for TcpSource {
+    ghost left = { λ _. None };
+
+    ghost faults = { λ s. s };
+
+    ghost read_gives = { λ _ _ _. ⊤ };
+
+    /// Each `Err` is a fault, the end of the time among them.
+    fn read(&mut self, buf: &mut [u8]) -> ReadStep {
+        match self.read_in_time(buf) {
+            Ok(0) => {
+                self.is_ended = true;
+                ReadStep::End
+            }
+            Ok(n) => ReadStep::Got(n),
+            Err(_) => {
+                self.faults = self.faults.saturating_add(1);
+                ReadStep::Failed
+            }
+        }
+    }
+}
+
+/// What a client is sent. Each answer has 60 seconds to go, from its first write on; past that a write fails.
+///
+/// Contracts see the count of faults.
+#[derive(Drop)]
+pub struct TcpSink {
+    rt: HostRuntime,
+    line: Arc<Line, Global>,
+    answer: Span,
+    faults: u64,
+}
+
+impl Model for TcpSink {
+    ghost use Rattle.std.specs.Prelude.{ℕ};
+
+    ghost Value = { ℕ };
+
+    ghost view = { λ s. s.faults };
+}
+
+impl TcpSink {
+    fn new(rt: &HostRuntime, line: Arc<Line, Global>) -> TcpSink {
+        TcpSink {
+            rt: *rt,
+            line,
+            answer: Span::new(LIMIT),
+            faults: 0,
+        }
+    }
+
+    /// One write, for which there is no more time than the answer has left.
+    fn write_in_time(&mut self, piece: &[u8]) -> io::Result<usize>
+        ensures size { WritesAtMost result piece.now }
+        ensures same { self.new ≡ self.old }
+    {
+        let left = self.answer.left(&self.rt)?;
+        self.line.stream.set_write_timeout(Some(left))?;
+        (&self.line.stream).write(piece)
+    }
+}
+
+impl Sink for TcpSink {
+    ghost taken = { λ _. None };
+
+    ghost faults = { λ s. s };
+
+    /// Each `Err` is a fault, the end of the time among them, and so is a write that takes nothing. A piece of which
+    /// all was taken ends an answer.
+    fn write(&mut self, piece: &[u8]) -> WriteStep {
+        match self.write_in_time(piece) {
+            Ok(n) if n == piece.len() => {
+                self.answer.reset();
+                self.line.answered.store(true, Ordering::SeqCst);
+                WriteStep::Took(n)
+            }
+            Ok(n) if n > 0 => WriteStep::Took(n),
+            _ => {
+                self.faults = self.faults.saturating_add(1);
+                WriteStep::Failed
+            }
+        }
+    }
+}

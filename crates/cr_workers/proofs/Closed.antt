@@ -1,0 +1,63 @@
+-- All turns, once the lock is closed.
+use Rattle.std.proofs.Common.{◌≡◌, ◌∙◌, ℕ, ◌+◌, ◌≤◌, ◌⊎◌, inl, inr, ⊎_elim, List, [], length, refl, sym, ap, subst, arith}
+use mathlib.Core.Logic.{dite}
+use native.Mathlib.Decide.{dec_le}
+use mathlib.Core.List.{IsPrefix}
+use Rattle.cr_base.specs.History.{History}
+use Rattle.cr_lock.specs.Counts.{Every, total, within, last_count}
+use Rattle.cr_lock.specs.Turns.{groups_with, marks, rises}
+use Rattle.cr_lock.specs.Closing.{Closes}
+use Rattle.cr_lock.proofs.Prefixes.{prefix_self}
+use Rattle.cr_lock.proofs.Sums.{within_out}
+use Rattle.cr_session.specs.Passing.{KnownPass}
+use Rattle.cr_session.specs.Replay.{Ledger}
+use Rattle.cr_workers.specs.Connections.{Streams, ServedConnection, IsServedWithin}
+use Rattle.cr_workers.specs.Doors.{SeenDoor, ServesDoors, connections_of}
+use Rattle.cr_workers.specs.OneHistory.{ServesHistory}
+use Rattle.cr_workers.specs.declared.worked.Worked.{Worked}
+use Rattle.cr_workers.specs.declared.worked.Worked.TheVariants as worked
+use Rattle.cr_workers.proofs.Halves.{unasked, unasked-before, unasked-after, unasked-each, unasked-connections}
+
+none-within : (n k : ℕ) → within n n k ≡ 0
+none-within n k = dite (dec_le n k) (λ le. within_out n n k (inl le)) (λ more. within_out n n k (inr (omega (arith, more))))
+
+-- without a lock no door was asked
+pub history-unasked : {I O : Type 0} (streams : Streams I O) (doors : List (SeenDoor I O)) (b : Ledger) → ServesHistory streams worked.OutOfMemory doors doors b b
+history-unasked {I} {O} streams doors b = record {
+  works = unasked doors;
+  before = unasked-before doors;
+  after = unasked-after doors;
+  each = unasked-each doors;
+  cause = tt;
+  served = subst (λ cs. Every (IsServedWithin streams b.history b.history) cs) none tt;
+  begins = prefix_self b.history;
+  once = λ k. sym (ap (λ cs. total (λ (c : ServedConnection I O). groups_with k c.turns) cs) none) ∙ sym (none-within (length b.history) k);
+  counted = (let z = ap (λ cs. total (λ (c : ServedConnection I O). rises c.turns) cs) none in omega (arith, z));
+  marked = inl (let z = ap (λ cs. total (λ (c : ServedConnection I O). marks c.turns) cs) none in omega (arith, z));
+}
+  where
+    none : [] ≡ connections_of (unasked doors)
+    none = unasked-connections doors
+
+-- the one pass of a closed lock has the turns of all connections, and the closed value stands for what it has seen
+pub history-closed : {T I O : Type 0} (list : T → History) (faults : T → ℕ) (streams : Streams I O) (ended : Worked) (doors doors' : List (SeenDoor I O))
+    (first last : T) (p₀ p : KnownPass) → p₀.seen ≡ list first → p₀.mine ≡ [] → ServesDoors streams ended doors doors' p₀ p → Closes list faults first p last
+    → ServesHistory streams ended doors doors' (record { history = list first; faults = faults first }) (record { history = list last; faults = faults last })
+history-closed {T} {I} {O} list faults streams ended doors doors' first last p₀ p saw none x closes = record {
+  works = x.works;
+  before = x.before;
+  after = x.after;
+  each = x.each;
+  cause = x.cause;
+  served = subst (λ (H : History). Every (IsServedWithin streams (list first) H) (connections_of x.works)) (sym closes.stands)
+      (subst (λ (H : History). Every (IsServedWithin streams H p.seen) (connections_of x.works)) saw x.served.each);
+  begins = subst (λ (H : History). IsPrefix (list first) H) (sym closes.stands) closes.begins;
+  once = λ k. (
+    let g = x.served.groups k in
+    let z = ap (groups_with k) none in
+    let w = closes.groups k in
+    let n = ap (λ (H : History). within (length (list first)) (length H) k) closes.stands in
+    omega (arith, g, z, w, n));
+  counted = (let r = x.served.rose in let z = ap rises none in let c = closes.count in omega (arith, r, z, c));
+  marked = ⊎_elim (λ few. inl (let m = x.served.marked in let z = ap marks none in omega (arith, m, z, few))) inr closes.marks;
+}

@@ -1,0 +1,89 @@
+-- Connections that were served one after another, or side by side.
+use Rattle.std.proofs.Common.{◌≡◌, ◌∙◌, ℕ, ◌+◌, ◌⊎◌, inl, inr, ⊎_elim, List, [], ◌∷◌, ◌++◌, length, Bool, true, false, nat_lt, if◌then◌else◌, refl, sym, ap, subst, arith}
+use Rattle.std.proofs.lemmas.Bool.Decides.{nat_tests}
+use mathlib.Core.List.{IsPrefix}
+use Rattle.cr_base.specs.declared.entry.Stamped.{Stamped}
+use Rattle.cr_base.specs.History.{History}
+use Rattle.cr_lock.specs.declared.view.Turn.{Turn}
+use Rattle.cr_lock.specs.Counts.{Every, total, within}
+use Rattle.cr_lock.specs.Turns.{groups_with, marks, rises, end_of, merged, longer}
+use Rattle.cr_lock.specs.Passes.{larger_half, smaller_half, united, Agree}
+use Rattle.cr_lock.proofs.Prefixes.{prefix_self, prefix_trans, prefix_length}
+use Rattle.cr_lock.proofs.Sums.{total_append, total_merged}
+use Rattle.cr_session.specs.Passing.{KnownPass}
+use Rattle.cr_workers.specs.Connections.{Streams, ServedConnection, IsServed, IsServedWithin, ServeAll}
+use Rattle.cr_workers.proofs.Grown.{every-append}
+
+-- ---- the longer of two lists, of which one begins the other
+
+longer-is : {A : Type 0} (xs ys : List A) (b : Bool) → nat_lt (length xs) (length ys) ≡ b → IsPrefix xs ys ⊎ IsPrefix ys xs
+    → IsPrefix xs (if b then ys else xs) × IsPrefix ys (if b then ys else xs)
+longer-is xs ys true lt (inl p) = (p, prefix_self ys)
+longer-is xs ys true lt (inr p) = (let le = prefix_length ys xs p in absurd (grind (arith, nat_tests)))
+longer-is xs ys false ge (inl p) = (prefix_self xs, (let le = prefix_length xs ys p in grind (arith, nat_tests)))
+longer-is xs ys false ge (inr p) = (prefix_self xs, p)
+
+longer-begins : {A : Type 0} (xs ys : List A) → IsPrefix xs ys ⊎ IsPrefix ys xs → IsPrefix xs (longer xs ys) × IsPrefix ys (longer xs ys)
+longer-begins xs ys either = longer-is xs ys (nat_lt (length xs) (length ys)) refl either
+
+module _ {I O : Type 0} (streams : Streams I O) where
+  C : Type 0
+  C = ServedConnection I O
+
+  -- ---- between earlier and later moments
+
+  widened : (first first' last last' : History) → IsPrefix first' first → IsPrefix last last' → (cs : List C)
+      → Every (IsServedWithin streams first last) cs → Every (IsServedWithin streams first' last') cs
+  widened first first' last last' a b [] each = tt
+  widened first first' last last' a b (c ∷ cs) each = (
+    record { served = each.0.served; begins = prefix_trans first' first c.before.seen a each.0.begins; ends = prefix_trans c.after.seen last last' each.0.ends b },
+    widened first first' last last' a b cs each.1,
+  )
+
+  -- ---- none, one, one after another, side by side
+
+  pub serve-none : (p : KnownPass) → ServeAll streams [] p p
+  serve-none p = record { each = tt; seen = prefix_self p.seen; groups = λ k. omega arith; marked = omega arith; rose = omega arith }
+
+  pub serve-one : (c : C) → IsServed streams c → ServeAll streams (c ∷ []) c.before c.after
+  serve-one c is = record {
+    each = (record { served = is; begins = prefix_self c.before.seen; ends = prefix_self c.after.seen }, tt);
+    seen = is.seen;
+    groups = λ k. (let e = ap (groups_with k) is.mine ∙ total_append (λ (t : Turn Stamped). within t.place (end_of t) k) c.before.mine c.turns in omega (arith, e));
+    marked = (let e = ap marks is.mine ∙ total_append (λ (t : Turn Stamped). if t.marked then 1 else 0) c.before.mine c.turns in omega (arith, e));
+    rose = (let e = ap rises is.mine ∙ total_append (λ (t : Turn Stamped). t.rise) c.before.mine c.turns in omega (arith, e));
+  }
+
+  pub serve-then : (cs ds : List C) (p q r : KnownPass) → ServeAll streams cs p q → ServeAll streams ds q r → ServeAll streams (cs ++ ds) p r
+  serve-then cs ds p q r a b = record {
+    each = every-append (IsServedWithin streams p.seen r.seen) cs ds
+        (widened p.seen p.seen q.seen r.seen (prefix_self p.seen) b.seen cs a.each)
+        (widened q.seen p.seen r.seen r.seen a.seen (prefix_self r.seen) ds b.each);
+    seen = prefix_trans p.seen q.seen r.seen a.seen b.seen;
+    groups = λ k. (
+      let x = a.groups k in let y = b.groups k in let z = total_append (λ (c : C). groups_with k c.turns) cs ds in omega (arith, x, y, z));
+    marked = (let x = a.marked in let y = b.marked in let z = total_append (λ (c : C). marks c.turns) cs ds in omega (arith, x, y, z));
+    rose = (let x = a.rose in let y = b.rose in let z = total_append (λ (c : C). rises c.turns) cs ds in omega (arith, x, y, z));
+  }
+
+  pub serve-both : (cs ds : List C) (p q r : KnownPass) → ServeAll streams cs (larger_half p) q → ServeAll streams ds (smaller_half p) r → Agree q r
+      → ServeAll streams (cs ++ ds) p (united q r)
+  serve-both cs ds p q r a b agree =
+      let long = longer-begins q.seen r.seen agree.0 in record {
+        each = every-append (IsServedWithin streams p.seen (longer q.seen r.seen)) cs ds
+            (widened p.seen p.seen q.seen (longer q.seen r.seen) (prefix_self p.seen) long.0 cs a.each)
+            (widened p.seen p.seen r.seen (longer q.seen r.seen) (prefix_self p.seen) long.1 ds b.each);
+        seen = prefix_trans p.seen q.seen (longer q.seen r.seen) a.seen long.0;
+        groups = λ k. (
+          let x = a.groups k in let y = b.groups k in
+          let m = total_merged (λ (t : Turn Stamped). within t.place (end_of t) k) q.mine r.mine in
+          let z = total_append (λ (c : C). groups_with k c.turns) cs ds in omega (arith, x, y, z, m));
+        marked = (
+          let x = a.marked in let y = b.marked in
+          let m = total_merged (λ (t : Turn Stamped). if t.marked then 1 else 0) q.mine r.mine in
+          let z = total_append (λ (c : C). marks c.turns) cs ds in omega (arith, x, y, z, m));
+        rose = (
+          let x = a.rose in let y = b.rose in
+          let m = total_merged (λ (t : Turn Stamped). t.rise) q.mine r.mine in
+          let z = total_append (λ (c : C). rises c.turns) cs ds in omega (arith, x, y, z, m));
+      }

@@ -1,0 +1,5 @@
+pub mod Grown
+pub mod Connections
+pub mod Halves
+pub mod Serving
+pub mod Closed

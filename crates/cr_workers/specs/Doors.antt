@@ -1,0 +1,145 @@
+-- What workers did with their doors.
+use Rattle.std.specs.Prelude.{◌≡◌, ◌≤◌, ◌⊎◌, ℕ, ◌+◌, List, [], ◌∷◌, ◌++◌, length, map, flat_map, Bool, true, false, Option, Some, None, Result, Ok, Err}
+use Rattle.cr_lock.specs.Counts.{Every}
+use Rattle.cr_ports.specs.Count.{Rises}
+use Rattle.cr_ports.specs.Doors.{DoorLog}
+use Rattle.cr_ports.specs.declared.door.DoorAnswer.{DoorAnswer}
+use Rattle.cr_ports.specs.declared.door.DoorAnswer.TheVariants as answers
+use Rattle.cr_ports.specs.declared.door.Served.{Served}
+use Rattle.cr_session.specs.declared.serve.Ending.{Ending}
+use Rattle.cr_session.specs.declared.serve.Ending.TheVariants as endings
+use Rattle.cr_session.specs.Passing.{KnownPass}
+use Rattle.cr_workers.specs.Connections.{Streams, ServedConnection, IsServed, ServeAll}
+use Rattle.cr_workers.specs.declared.worked.Worked.{Worked}
+use Rattle.cr_workers.specs.declared.worked.Worked.TheVariants as worked
+use Rattle.cr_workers.specs.declared.worker.Last.{Last}
+use Rattle.cr_workers.specs.declared.worker.Last.TheVariants as lasts
+
+-- ---- how workers ended
+
+-- how these and those ended together
+abbrev pub joined : Worked → Worked → Worked
+joined worked.OutOfMemory w = worked.OutOfMemory
+joined worked.DoorFailed worked.OutOfMemory = worked.OutOfMemory
+joined worked.DoorFailed worked.DoorFailed = worked.DoorFailed
+joined worked.DoorFailed worked.Done = worked.DoorFailed
+joined worked.Done w = w
+
+-- how a worker ended whose door answered so at last, and of whose connections one ended for lack of memory or none did
+abbrev pub ended_by : Bool → Last → Worked
+ended_by true last = worked.OutOfMemory
+ended_by false lasts.Failed = worked.DoorFailed
+ended_by false lasts.Done = worked.Done
+
+-- ---- one door
+
+-- a door: how many connections it has still to give, whether one is out, its count of faults, and what it tells
+pub record SeenDoor (I O : Type 0) : Type 0 where
+  pub left : ℕ
+  pub is_out : Bool
+  pub faults : ℕ
+  pub log : Option (DoorLog I O)
+
+abbrev pub door_of : {D I O : Type 0} → (D → ℕ) → (D → Bool) → (D → ℕ) → (D → Option (DoorLog I O)) → D → SeenDoor I O
+door_of left is_out faults log door = record { left = left door; is_out = is_out door; faults = faults door; log = log door }
+
+-- the sources and sinks of connections, as they were given and came back
+abbrev pub ends_of : {I O : Type 0} → List (ServedConnection I O) → List (Served I O)
+ends_of {I} {O} connections = map (λ (c : ServedConnection I O). c.ends) connections
+
+-- where the door tells them, the connections that it took back are more by these
+abbrev pub TellsMore : {I O : Type 0} → List (ServedConnection I O) → Option (DoorLog I O) → Option (DoorLog I O) → Type 0
+TellsMore connections None None = Unit {0}
+TellsMore connections None (Some log') = ⊥
+TellsMore connections (Some log) None = ⊥
+TellsMore connections (Some log) (Some log') = log'.served ≡ log.served ++ ends_of connections
+
+-- where the door tells it, this was its last answer
+abbrev pub TellsLast : {I O : Type 0} → DoorAnswer → Option (DoorLog I O) → Type 0
+TellsLast answer None = Unit {0}
+TellsLast answer (Some log) = log.last ≡ Some answer
+
+-- the door gave these connections, and took them back
+pub record Visits {I O : Type 0} (connections : List (ServedConnection I O)) (d d' : SeenDoor I O) : Type 0 where
+  pub left : d.left ≡ d'.left + length connections
+  pub back : d'.is_out ≡ false
+  pub faults : d'.faults ≡ d.faults
+  pub log : TellsMore connections d.log d'.log
+
+-- how its state tells that it has no further one: its share was given, or it failed
+abbrev pub StopsBy : {I O : Type 0} → Last → SeenDoor I O → SeenDoor I O → Type 0
+StopsBy lasts.Done d d' = (d.left ≡ 0) × (d'.left ≡ 0) × (d'.faults ≡ d.faults) × TellsLast answers.Done d'.log
+StopsBy lasts.Failed d d' = (d.faults ≤ d'.faults) × Rises d.faults d'.faults × TellsLast answers.Failed d'.log
+
+-- the door was asked, and had no further connection
+pub record Stops {I O : Type 0} (last : Last) (d d' : SeenDoor I O) : Type 0 where
+  pub by : StopsBy last d d'
+  pub back : d'.is_out ≡ false
+  pub log : TellsMore [] d.log d'.log
+
+-- what a worker did with its door, from end to end: it served these connections, and then there was no further one
+abbrev pub Works : {I O : Type 0} → Last → List (ServedConnection I O) → SeenDoor I O → SeenDoor I O → Type 0
+Works {I} {O} last connections d d' = (between : SeenDoor I O) × Visits connections d between × Stops last between d'
+
+-- a connection ended for lack of memory
+abbrev pub lacks : Ending → Bool
+lacks endings.Clean = false
+lacks endings.Cut = false
+lacks (endings.Closed why) = false
+lacks endings.ReadFault = false
+lacks endings.WriteFault = false
+lacks endings.OutOfMemory = true
+
+-- none of them did
+abbrev pub NoneLacked : {I O : Type 0} → List (ServedConnection I O) → Type 0
+NoneLacked {I} {O} connections = Every (λ (c : ServedConnection I O). lacks c.ending ≡ false) connections
+
+-- ---- all doors
+
+-- a door with the connections that were served by it
+pub record DoorWork (I O : Type 0) : Type 0 where
+  pub before : SeenDoor I O
+  pub after : SeenDoor I O
+  pub connections : List (ServedConnection I O)
+
+-- By how workers ended: each door gave its share; or it did, or failed; or, for lack of memory, it did, or failed, or
+-- wasn't asked.
+abbrev pub IsWorkedOn : {I O : Type 0} → Worked → DoorWork I O → Type 0
+IsWorkedOn worked.Done w = Works lasts.Done w.connections w.before w.after × NoneLacked w.connections
+IsWorkedOn worked.DoorFailed w =
+    (Works lasts.Done w.connections w.before w.after ⊎ Works lasts.Failed w.connections w.before w.after) × NoneLacked w.connections
+IsWorkedOn worked.OutOfMemory w =
+    Works lasts.Done w.connections w.before w.after ⊎ Works lasts.Failed w.connections w.before w.after
+    ⊎ ((w.connections ≡ []) × (w.after ≡ w.before))
+
+-- one of them failed
+abbrev pub OneFailed : {I O : Type 0} → List (DoorWork I O) → Type 0
+OneFailed [] = ⊥
+OneFailed (w ∷ ws) = Works lasts.Failed w.connections w.before w.after ⊎ OneFailed ws
+
+-- where they ended by a door's failure, one of them failed
+abbrev pub HasCause : {I O : Type 0} → Worked → List (DoorWork I O) → Type 0
+HasCause worked.Done works = Unit {0}
+HasCause worked.DoorFailed works = OneFailed works
+HasCause worked.OutOfMemory works = Unit {0}
+
+-- the connections of all doors
+abbrev pub connections_of : {I O : Type 0} → List (DoorWork I O) → List (ServedConnection I O)
+connections_of {I} {O} works = flat_map (λ (w : DoorWork I O). w.connections) works
+
+-- What workers did with these doors, who began with one pass and ended with one.
+pub record ServesDoors {I O : Type 0} (streams : Streams I O) (ended : Worked) (doors doors' : List (SeenDoor I O)) (p p' : KnownPass) : Type 0 where
+  pub works : List (DoorWork I O)
+  pub before : map (λ (w : DoorWork I O). w.before) works ≡ doors
+  pub after : map (λ (w : DoorWork I O). w.after) works ≡ doors'
+  pub each : Every (IsWorkedOn ended) works
+  pub cause : HasCause ended works
+  pub served : ServeAll streams (connections_of works) p p'
+
+-- ---- one worker's steps
+
+-- the next connection of a door was served and given back, or there was none
+abbrev pub ServesNext : {I O : Type 0} → Streams I O → Result Ending Last → SeenDoor I O → SeenDoor I O → KnownPass → KnownPass → Type 0
+ServesNext {I} {O} streams (Ok ending) d d' p p' = (c : ServedConnection I O)
+    × IsServed streams c × (c.ending ≡ ending) × (c.before ≡ p) × (c.after ≡ p') × Visits (c ∷ []) d d'
+ServesNext streams (Err last) d d' p p' = (p' ≡ p) × Stops last d d'

@@ -1,0 +1,45 @@
+//! All workers over one book.
+ghost use Rattle.std.specs.Prelude.{◌≡◌, ◌≤◌, ◌*◌, ◌^◌, length, map, false};
+ghost use Rattle.cr_lock.specs.Counts.{Every, total};
+ghost use Rattle.cr_session.specs.Replay.{ledger_of};
+ghost use Rattle.cr_workers.specs.Connections.{streams_of};
+ghost use Rattle.cr_workers.specs.Doors.{door_of};
+ghost use Rattle.cr_workers.specs.OneHistory.{ServesHistory};
+
+use crate::doors::serve_doors;
+use crate::worked::Worked;
+use cr_book::Book;
+use cr_lock::HistoryLock;
+use cr_ports::{Door, Keeper};
+use std::alloc::Global;
+use std::sync::Wait;
+use std::thread::Threads;
+
+/// Serves the connections of all doors, at most 64, from the book's history on: each door by a worker of its own, in a thread
+/// of its own where one can be made. The book is handed back with the last history, and the doors in their order.
+///
+/// - `Done` comes only where each door has given its share.
+/// - `DoorFailed` comes only where a door failed; the others were served to their ends.
+/// - `OutOfMemory` comes where a connection ended for lack of memory, the others having been served; or where there was none
+///   for the lock, or for a half of the doors, which were then not asked.
+///
+/// A connection's fault ends that connection alone.
+pub fn serve_book<R: Threads + Wait + Sync, K: Keeper + Send, D: Door + Drop + Send>(
+    rt: &R,
+    alloc: Global,
+    book: Book<K>,
+    doors: Vec<D>,
+) -> (Worked, Book<K>, Vec<D>)
+    requires at_most { length doors.items ≤ 64 }
+    requires few { 1048576 * total D.left doors.items ≤ 2 ^ 40 }
+    requires back { Every (λ door. D.is_out door ≡ false) doors.items }
+    ensures { let seen = map (door_of D.left D.is_out D.faults D.log) in
+        ServesHistory (streams_of D.In.left D.In.read_gives D.In.faults D.Out.taken D.Out.faults) result.0 (seen doors.items) (seen result.2.items) (ledger_of K.faults book) (ledger_of K.faults result.1) }
+{
+    let (lock, pass) = match HistoryLock::new(alloc, book) {
+        Ok(made) => made,
+        Err((_, book)) => return (Worked::OutOfMemory, book, doors),
+    };
+    let (pass, doors, worked) = serve_doors(rt, alloc, &lock, pass, doors);
+    (worked, lock.close(pass), doors)
+}

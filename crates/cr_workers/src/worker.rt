@@ -1,0 +1,98 @@
+//! One worker: the connections of one door, one after another.
+ghost use Rattle.std.specs.Prelude.{◌≡◌, ◌≤◌, ◌+◌, ◌*◌, ◌^◌, [], ◌∷◌, ◌||◌, IsFalse};
+ghost use Rattle.cr_session.specs.Passing.{StaysPass};
+ghost use Rattle.cr_workers.specs.Connections.{streams_of};
+ghost use Rattle.cr_workers.specs.Doors.{door_of, ended_by, lacks, ServesDoors, ServesNext};
+
+use crate::worked::Worked;
+use cr_book::Book;
+use cr_lock::{HistoryLock, Pass};
+use cr_ports::{Door, Keeper, NextConnection};
+use cr_session::{Ending, serve_connection};
+use std::alloc::Global;
+use std::sync::Wait;
+
+/// How a door that gives no further connection answered.
+#[derive(Clone, Copy, Debug, PartialEq, Eq)]
+pub(crate) enum Last {
+    /// Its share was given.
+    Done,
+    /// It failed.
+    Failed,
+}
+
+/// Serves the door's next connection to its end and gives it back; or tells how the door answered that has none.
+fn serve_next<R: Wait, K: Keeper, D: Door>(
+    rt: &R,
+    alloc: Global,
+    lock: &HistoryLock<Book<K>>,
+    pass: &mut Pass<Book<K>>,
+    door: &mut D,
+) -> Result<Ending, Last>
+    requires own { pass.old.lock ≡ lock.now.lock }
+    requires few { pass.old.turns + 1048576 * D.left door.old ≤ 2 ^ 40 }
+    requires back { IsFalse (D.is_out door.old) }
+    ensures serves { let seen = door_of D.left D.is_out D.faults D.log in
+        ServesNext (streams_of D.In.left D.In.read_gives D.In.faults D.Out.taken D.Out.faults) result (seen door.old) (seen door.new) pass.old pass.new }
+    ensures pass { StaysPass 1048576 pass.old pass.new }
+{
+    match door.next() {
+        NextConnection::Done => Err(Last::Done),
+        NextConnection::Failed => Err(Last::Failed),
+        NextConnection::Conn(mut source, mut sink) => {
+            let ending = serve_connection(rt, alloc, lock, pass, &mut source, &mut sink);
+            door.give_back(source, sink);
+            Ok(ending)
+        }
+    }
+}
+
+/// Whether a connection ended for lack of memory, this one or one before it.
+fn has_lacked(lacked: bool, ending: Ending) -> bool
+    ensures { result ≡ (lacked || lacks ending) }
+{
+    match ending {
+        Ending::OutOfMemory => true,
+        Ending::Clean
+        | Ending::Cut
+        | Ending::Closed(_)
+        | Ending::ReadFault
+        | Ending::WriteFault => lacked,
+    }
+}
+
+/// How a worker ended whose door answered so at last, and of whose connections one ended for lack of memory or none did.
+fn ended_by(lacked: bool, last: Last) -> Worked
+    ensures { result ≡ ended_by lacked last }
+{
+    match (lacked, last) {
+        (true, _) => Worked::OutOfMemory,
+        (false, Last::Failed) => Worked::DoorFailed,
+        (false, Last::Done) => Worked::Done,
+    }
+}
+
+/// Serves the door's connections, each to its end before the next is asked for. A connection's fault ends that connection
+/// alone.
+pub(crate) fn serve_door<R: Wait, K: Keeper, D: Door>(
+    rt: &R,
+    alloc: Global,
+    lock: &HistoryLock<Book<K>>,
+    pass: &mut Pass<Book<K>>,
+    door: &mut D,
+) -> Worked
+    requires own { pass.old.lock ≡ lock.now.lock }
+    requires few { pass.old.turns + 1048576 * D.left door.old ≤ 2 ^ 40 }
+    requires back { IsFalse (D.is_out door.old) }
+    ensures serves { let seen = door_of D.left D.is_out D.faults D.log in
+        ServesDoors (streams_of D.In.left D.In.read_gives D.In.faults D.Out.taken D.Out.faults) result (seen door.old ∷ []) (seen door.new ∷ []) pass.old pass.new }
+    ensures pass { StaysPass (1048576 * D.left door.old) pass.old pass.new }
+{
+    let mut lacked = false;
+    'serving: loop {
+        match serve_next(rt, alloc, lock, pass, door) {
+            Ok(ending) => lacked = has_lacked(lacked, ending),
+            Err(last) => return ended_by(lacked, last),
+        }
+    }
+}
