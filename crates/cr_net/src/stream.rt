@@ -31,7 +31,7 @@ pub(crate) struct Line {
     answered: AtomicBool,
 }
 
-/// The two ends of a stream that was opened just now. An error for want of memory, or where the stream is gone; then
+/// The two ends of a stream that was opened just now. An error for lack of memory, or where the stream is gone; then
 /// it is closed.
 pub(crate) fn ends_of(
     rt: &HostRuntime,

@@ -39,14 +39,14 @@ exit_of_workers worked.Done true = exits.Done
 exit_of_workers worked.Done false = exits.WriteFault
 
 -- the status that the process ends with
-abbrev pub status_of : Exit → ℕ
-status_of exits.Done = 0
-status_of exits.Cut = 1
-status_of exits.Usage = 2
-status_of (exits.BadStore row kind) = 3
-status_of exits.ReadFault = 4
-status_of exits.WriteFault = 5
-status_of exits.KeeperFault = 6
-status_of exits.ListenFault = 7
-status_of exits.NoUser = 8
-status_of exits.OutOfMemory = 9
+abbrev pub exit_status : Exit → ℕ
+exit_status exits.Done = 0
+exit_status exits.Cut = 1
+exit_status exits.Usage = 2
+exit_status (exits.BadStore row kind) = 3
+exit_status exits.ReadFault = 4
+exit_status exits.WriteFault = 5
+exit_status exits.KeeperFault = 6
+exit_status exits.ListenFault = 7
+exit_status exits.NoUser = 8
+exit_status exits.OutOfMemory = 9

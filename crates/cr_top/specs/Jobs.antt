@@ -28,7 +28,7 @@ around_of read_faults taken write_faults files shelf_faults gate_faults logs inp
   gates = gates_of gate_faults logs gates;
 }
 
--- memory was wanting before anything was read or written
+-- memory ran out before anything was read or written
 pub record IsUntouched {I C D : Type 0} (exit : Exit) (a a' : Surroundings I C D) : Type 0 where
   pub exit_is : exit ≡ exits.OutOfMemory
   pub same : a' ≡ a
@@ -47,7 +47,7 @@ DoesJob rows left gives streams (view_job path name) exit a a' =
     TellsStore path name exit a.outside.output a'.outside.output a.stores a'.stores
     × (a'.outside.input ≡ a.outside.input) × (a'.outside.read_faults ≡ a.outside.read_faults) × (a'.gates ≡ a.gates)
 
--- the same, unless memory was wanting before it began
+-- the same, unless memory ran out before it began
 abbrev pub Does : {K I C D : Type 0} → (K → Option (List Row)) → (I → Option (List ℕ)) → (I → I → List ℕ → Type 0) → Streams C D → NamedJob → Exit → Surroundings I C D → Surroundings I C D → Type 0
 Does rows left gives streams job exit a a' = IsUntouched exit a a' ⊎ DoesJob rows left gives streams job exit a a'
 

@@ -67,7 +67,7 @@ pub record ServesMany {K I O : Type 0} (rows : K → Option (List Row)) (path : 
 
 -- ---- no connection was served
 
--- why not, though the store was opened: the gates failed, which was counted; or memory was wanting
+-- why not, though the store was opened: the gates failed, which was counted; or memory ran out
 abbrev pub IsWhyClosed : {I O : Type 0} → Exit → GatesState I O → GatesState I O → Type 0
 IsWhyClosed exits.ListenFault g g' = Rises g.faults g'.faults
 IsWhyClosed exits.OutOfMemory g g' = Unit {0}

@@ -1,6 +1,6 @@
 //! How a run ended.
 ghost use Rattle.std.specs.Prelude.{◌≡◌};
-ghost use Rattle.cr_top.specs.Exits.{exit_of, exit_of_workers, status_of};
+ghost use Rattle.cr_top.specs.Exits.{exit_of, exit_of_workers, exit_status};
 
 use cr_session::Ending;
 use cr_workers::Worked;
@@ -33,14 +33,14 @@ pub enum Exit {
     ListenFault,
     /// Nobody has registered the name in the store.
     NoUser,
-    /// Memory is wanting.
+    /// Out of memory.
     OutOfMemory,
 }
 
 impl Exit {
     /// The status that the process ends with: 0 to 9.
     pub fn code(self) -> u8
-        ensures { result ≡ status_of self }
+        ensures { result ≡ exit_status self }
     {
         match self {
             Exit::Done => 0,

@@ -111,7 +111,7 @@ where
 /// - `NoUser` comes exactly where `view` opened its store and nobody there has registered the name.
 /// - `ReadFault` and `WriteFault` come only where the count of `input`, of `out` rose in this call, or
 ///   stands at its last value.
-/// - `OutOfMemory` comes for want of memory alone.
+/// - `OutOfMemory` comes for lack of memory alone.
 pub fn top<R: Threads + Wait + Sync, I: Source, O: Sink, S: Shelf, G: Gates>(
     rt: &R,
     alloc: Global,
@@ -132,7 +132,7 @@ where
           job result (around input.old out.old shelf.old gates.old) (around input.new out.new shelf.new gates.new) }
 
     // Where nothing fails, all that the input's bytes spell is answered, each door gives its share, and the view is told whole,
-    // or memory is wanting.
+    // or memory runs out.
     ensures answers { let around = around_of I.faults O.taken O.faults S.rows S.faults G.faults G.logs in
         (job : NamedJob) → AreFor words.now job
         → AnswersJob I.left job result (around input.old out.old shelf.old gates.old) (around input.new out.new shelf.new gates.new) }

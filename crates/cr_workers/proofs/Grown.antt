@@ -63,7 +63,7 @@ grown-takes (j ∷ js) p q (next, turn, rest) =
 grown-vain : (w : Wish) (p q : KnownPass) → TurnsInVain w p q → Grows p q
 grown-vain w p q vain = grown-turn p q vain.seen vain.seen vain.faults vain.faults vain.saw (prefix_self vain.seen) vain.turn
 
--- behind the wishes that were judged there are no turns, or one for which memory was wanting
+-- behind the wishes that were judged there are no turns, or one for which memory ran out
 grown-last : (ending : Ending) (n : ℕ) (came : List ℕ) (answered : List JudgedWish) (failed : Option JudgedWish) (p q : KnownPass) (s s' : Outlet)
     → EndsTurns ending p q → EndsAs TakesTurns TurnsInVain ending n came came answered failed p q s s' → Grows p q
 grown-last endings.Clean n came answered failed p q s s' settled ends = grown-none p q settled
