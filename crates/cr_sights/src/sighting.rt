@@ -137,7 +137,7 @@ fn shows_conflicts(by: &Standing) -> bool
 fn tells_conflict(live: &Live, reader: UserNo, maker: UserNo, user: UserNo, paper: PaperNo) -> bool
     ensures { let r = reader_in live.now.tables (Some reader) in
         result ≡ (user_named r user || ((r.wrote maker paper && authors r paper)
-            || ((is_clear_chair (standing_to r paper) && is_from phases.Bidding r.now) || user_named r maker))) }
+        || ((is_clear_chair (standing_to r paper) && is_from phases.Bidding r.now) || user_named r maker))) }
 {
     let by = live.standing(&Some(reader), &Some(paper));
     let wrote = live.standing(&Some(maker), &Some(paper)).author;
