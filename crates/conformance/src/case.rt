@@ -232,7 +232,9 @@ fn behind(count: usize, more: &str) -> Result<usize, LineError> {
     if more.is_empty() {
         return Ok(count);
     }
-    count.checked_add(read_number(more)?).ok_or(LineError::NoForm)
+    count
+        .checked_add(read_number(more)?)
+        .ok_or(LineError::NoForm)
 }
 
 // The words of a command line.

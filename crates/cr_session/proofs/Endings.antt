@@ -102,7 +102,7 @@ module _ {T S : Type 0} (list : T → List Stamped) (faults : T → ℕ) (first 
       let b : Ledger = record { history = list x; faults = faults x } in
       let behind = stays_behind ending 0 ([] ++ c.got) ([] ++ c.got) c.answered c.failed c.judged p' s s' c.settled c.ends in
       let vain : (w : Wish) → TurnsInVain w c.judged p' → MayWantMemory (list x) w = λ w v.
-          subst (λ (H : History). MayWantMemory H w) (sym (ap (λ (y : KnownPass). y.seen) v.turn) ∙ sym closes.stands) v.wants in
+      subst (λ (H : History). MayWantMemory H w) (sym (ap (λ (y : KnownPass). y.seen) v.turn) ∙ sym closes.stands) v.wants in
       record {
         got = c.got;
         given = c.given;

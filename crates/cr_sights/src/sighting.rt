@@ -6,7 +6,7 @@ ghost use Rattle.cr_base.specs.Phases.{is_from};
 ghost use Rattle.cr_base.specs.Words.{is_anonymous, is_member};
 ghost use Rattle.cr_base.specs.declared.words.Phase.TheVariants as phases;
 ghost use Rattle.cr_base.specs.declared.entry.Entry.TheVariants.{Submitted, Conflict};
-ghost use Rattle.cr_policy.specs.Triggers.{Around, authors, clear_chairs, from, none_alike, user_named};
+ghost use Rattle.cr_policy.specs.Triggers.{Around, authors, none_alike, standing_to, user_named};
 ghost use Rattle.cr_policy.specs.Sighting.{blank as blank_sighting};
 ghost use Rattle.cr_policy.specs.View.{sight as sight_at};
 ghost use Rattle.cr_sights.specs.Readers.{reader_in};
@@ -135,7 +135,9 @@ fn shows_conflicts(by: &Standing) -> bool
 /// Whether she is told that a user is in conflict with a paper, or no longer: who made the entry is, the user
 /// herself, an author where an author made it, and whoever is shown all of the paper's conflicts.
 fn tells_conflict(live: &Live, reader: UserNo, maker: UserNo, user: UserNo, paper: PaperNo) -> bool
-    ensures { let r = reader_in live.now.tables (Some reader) in result ≡ (user_named r user || ((r.wrote maker paper && authors r paper) || ((clear_chairs r paper && from r phases.Bidding) || user_named r maker))) }
+    ensures { let r = reader_in live.now.tables (Some reader) in
+        result ≡ (user_named r user || ((r.wrote maker paper && authors r paper)
+        || ((is_clear_chair (standing_to r paper) && is_from phases.Bidding r.now) || user_named r maker))) }
 {
     let by = live.standing(&Some(reader), &Some(paper));
     let wrote = live.standing(&Some(maker), &Some(paper)).author;
