@@ -54,6 +54,9 @@ pub(crate) fn serve_doors<R: Threads + Wait + Sync, K: Keeper + Send, D: Door + 
     pass: Pass<Book<K>>,
     doors: Vec<D>,
 ) -> (Pass<Book<K>>, Vec<D>, Worked)
+where
+    D::In: Send,
+    D::Out: Send,
     requires own { pass.lock ≡ lock.now.lock }
     requires share { length doors.items ≤ pass.share }
     requires few { pass.turns + 1048576 * total D.left doors.items ≤ 2 ^ 40 }
