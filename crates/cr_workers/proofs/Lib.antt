@@ -1,3 +1,4 @@
+pub mod Lists
 pub mod Grown
 pub mod Connections
 pub mod Halves

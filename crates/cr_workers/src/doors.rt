@@ -1,5 +1,5 @@
 //! All workers: a thread for each door, where one can be made.
-ghost use Rattle.std.specs.Prelude.{◌≡◌, ◌≤◌, ◌<◌, ◌+◌, ◌*◌, ◌^◌, length, map, false, vec_capacity};
+ghost use Rattle.std.specs.Prelude.{◌≡◌, ◌≤◌, ◌<◌, ◌+◌, ◌-◌, ◌*◌, ◌/◌, ◌^◌, ◌++◌, length, map, false, vec_capacity, IfOk, IfErr};
 ghost use Rattle.std.specs.Thread.{IsSync};
 ghost use Rattle.cr_lock.specs.Counts.{Every, total};
 ghost use Rattle.cr_session.specs.Passing.{StaysPass};
@@ -30,15 +30,55 @@ fn serve_last<R: Wait, K: Keeper, D: Door + Drop>(
     ensures serves { let seen = map (door_of D.left D.is_out D.faults D.log) in
         ServesDoors (streams_of D.In.left D.In.read_gives D.In.faults D.Out.taken D.Out.faults) result.2 (seen doors.items) (seen result.1.items) pass result.0 }
     ensures pass { StaysPass (1048576 * total D.left doors.items) pass result.0 }
+    ensures len { length result.1.items ≡ length doors.items }
     ensures room { vec_capacity doors ≤ vec_capacity result.1 }
 {
-    let mut pass = pass;
     let mut doors = doors;
-    let worked = match doors.first_mut() {
-        Some(door) => serve_door(rt, alloc, lock, &mut pass, door),
-        None => Worked::Done,
+    let Some(door) = doors.pop() else {
+        return (pass, doors, Worked::Done);
+    };
+    let mut pass = pass;
+    let mut door = door;
+    let worked = serve_door(rt, alloc, lock, &mut pass, &mut door);
+    let Ok(()) = doors.push(door) else {
+        unreachable!()
     };
     (pass, doors, worked)
+}
+
+/// The doors in halves, the larger first; or, without memory for that, all of them.
+fn halve<D: Door>(doors: Vec<D>) -> Result<(Vec<D>, Vec<D>), Vec<D>>
+    requires back { Every (λ door. D.is_out door ≡ false) doors.items }
+    ensures whole { IfOk result (λ halves. doors.items ≡ halves.0.items ++ halves.1.items) }
+    ensures larger { IfOk result (λ halves. length halves.0.items ≡ length doors.items - length doors.items / 2) }
+    ensures smaller { IfOk result (λ halves. length halves.1.items ≡ length doors.items / 2) }
+    ensures lefts { IfOk result (λ halves. total D.left halves.0.items + total D.left halves.1.items ≡ total D.left doors.items) }
+    ensures first { IfOk result (λ halves. Every (λ door. D.is_out door ≡ false) halves.0.items) }
+    ensures second { IfOk result (λ halves. Every (λ door. D.is_out door ≡ false) halves.1.items) }
+    ensures room { IfOk result (λ halves. vec_capacity halves.0 ≡ vec_capacity doors) }
+    ensures all { IfErr result (λ same. same ≡ doors) }
+{
+    let mut doors = doors;
+    let half = doors.len() - doors.len() / 2;
+    match doors.split_off(half) {
+        Ok(others) => Ok((doors, others)),
+        Err(_) => Err(doors),
+    }
+}
+
+/// Both halves in one, in the room of the first.
+fn rejoin<D: Drop>(front: Vec<D>, back: Vec<D>) -> Vec<D>
+    requires { length front.items + length back.items ≤ vec_capacity front }
+    ensures items { result.items ≡ front.items ++ back.items }
+    ensures len { length result.items ≡ length front.items + length back.items }
+    ensures room { vec_capacity front ≤ vec_capacity result }
+{
+    let mut doors = front;
+    let mut back = back;
+    let Ok(()) = doors.append(&mut back) else {
+        unreachable!()
+    };
+    doors
 }
 
 /// Serves the connections of all doors, each door by a worker of its own, in a thread of its own where one can be made; the
@@ -54,6 +94,9 @@ pub(crate) fn serve_doors<R: Threads + Wait + Sync, K: Keeper + Send, D: Door + 
     pass: Pass<Book<K>>,
     doors: Vec<D>,
 ) -> (Pass<Book<K>>, Vec<D>, Worked)
+where
+    D::In: Send,
+    D::Out: Send,
     requires own { pass.lock ≡ lock.now.lock }
     requires share { length doors.items ≤ pass.share }
     requires few { pass.turns + 1048576 * total D.left doors.items ≤ 2 ^ 40 }
@@ -61,37 +104,36 @@ pub(crate) fn serve_doors<R: Threads + Wait + Sync, K: Keeper + Send, D: Door + 
     ensures serves { let seen = map (door_of D.left D.is_out D.faults D.log) in
         ServesDoors (streams_of D.In.left D.In.read_gives D.In.faults D.Out.taken D.Out.faults) result.2 (seen doors.items) (seen result.1.items) pass result.0 }
     ensures pass { StaysPass (1048576 * total D.left doors.items) pass result.0 }
+    ensures len { length result.1.items ≡ length doors.items }
     ensures room { vec_capacity doors ≤ vec_capacity result.1 }
 {
-    let mut doors = doors;
     if doors.len() <= 1 {
         return serve_last(rt, alloc, lock, pass, doors);
     }
-    let half = doors.len() - doors.len() / 2;
-    let Ok(others) = doors.split_off(half) else {
-        return (pass, doors, Worked::OutOfMemory);
+    let (front, back) = match halve(doors) {
+        Ok(halves) => halves,
+        Err(doors) => return (pass, doors, Worked::OutOfMemory),
     };
     let Ok((larger, smaller)) = lock.split(pass) else {
         unreachable!()
     };
-    let front = move || -> (Pass<Book<K>>, Vec<D>, Worked)
-        requires { IsSync R.row × (larger.lock ≡ lock.now.lock) × (length doors.items ≤ larger.share)
-            × (larger.turns + 1048576 * total D.left doors.items ≤ 2 ^ 40) × Every (λ door. D.is_out door ≡ false) doors.items }
+    let first_half = move || -> (Pass<Book<K>>, Vec<D>, Worked)
+        requires { IsSync R.row × (larger.lock ≡ lock.now.lock) × (length front.items ≤ larger.share)
+            × (larger.turns + 1048576 * total D.left front.items ≤ 2 ^ 40) × Every (λ door. D.is_out door ≡ false) front.items }
         ensures serves { let seen = map (door_of D.left D.is_out D.faults D.log) in
-            ServesDoors (streams_of D.In.left D.In.read_gives D.In.faults D.Out.taken D.Out.faults) result.2 (seen doors.items) (seen result.1.items) larger result.0 }
-        ensures pass { StaysPass (1048576 * total D.left doors.items) larger result.0 }
-        ensures room { vec_capacity doors ≤ vec_capacity result.1 }
-    { serve_doors(rt, alloc, lock, larger, doors) };
-    let back = move || -> (Pass<Book<K>>, Vec<D>, Worked)
-        requires { IsSync R.row × (smaller.lock ≡ lock.now.lock) × (length others.items ≤ smaller.share)
-            × (smaller.turns + 1048576 * total D.left others.items ≤ 2 ^ 40) × Every (λ door. D.is_out door ≡ false) others.items }
+            ServesDoors (streams_of D.In.left D.In.read_gives D.In.faults D.Out.taken D.Out.faults) result.2 (seen front.items) (seen result.1.items) larger result.0 }
+        ensures pass { StaysPass (1048576 * total D.left front.items) larger result.0 }
+        ensures len { length result.1.items ≡ length front.items }
+        ensures room { vec_capacity front ≤ vec_capacity result.1 }
+    { serve_doors(rt, alloc, lock, larger, front) };
+    let second_half = move || -> (Pass<Book<K>>, Vec<D>, Worked)
+        requires { IsSync R.row × (smaller.lock ≡ lock.now.lock) × (length back.items ≤ smaller.share)
+            × (smaller.turns + 1048576 * total D.left back.items ≤ 2 ^ 40) × Every (λ door. D.is_out door ≡ false) back.items }
         ensures serves { let seen = map (door_of D.left D.is_out D.faults D.log) in
-            ServesDoors (streams_of D.In.left D.In.read_gives D.In.faults D.Out.taken D.Out.faults) result.2 (seen others.items) (seen result.1.items) smaller result.0 }
-        ensures pass { StaysPass (1048576 * total D.left others.items) smaller result.0 }
-    { serve_doors(rt, alloc, lock, smaller, others) };
-    let ((one, mut doors, first), (other, mut others, second)) = join(rt, front, back);
-    let Ok(()) = doors.append(&mut others) else {
-        unreachable!()
-    };
-    (lock.join(one, other), doors, first.and(second))
+            ServesDoors (streams_of D.In.left D.In.read_gives D.In.faults D.Out.taken D.Out.faults) result.2 (seen back.items) (seen result.1.items) smaller result.0 }
+        ensures pass { StaysPass (1048576 * total D.left back.items) smaller result.0 }
+        ensures len { length result.1.items ≡ length back.items }
+    { serve_doors(rt, alloc, lock, smaller, back) };
+    let ((one, front, first), (other, back, second)) = join(rt, first_half, second_half);
+    (lock.join(one, other), rejoin(front, back), first.and(second))
 }
