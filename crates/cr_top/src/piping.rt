@@ -45,5 +45,6 @@ pub fn pipe<R: Wait, K: Keeper, I: Source, O: Sink>(
         Err((_, book)) => return (note_no_memory(out, false), book.close()),
     };
     let ending = serve_connection(rt, alloc, &lock, &mut pass, input, out);
-    (ending, lock.close(pass).close())
+    let book = lock.close(pass);
+    (ending, book.close())
 }
