@@ -1,6 +1,7 @@
 -- Gates that were opened over a store, and what the exits of serving tell.
-use Rattle.std.proofs.Common.{◌≡◌, ◌≢◌, ◌∙◌, ℕ, ◌+◌, ◌≤◌, ◌⊎◌, inl, inr, List, [], ◌∷◌, length, map, Bool, true, false, Option, Some, refl, sym, ap, subst, arith}
-use Rattle.std.specs.Prelude.{IfSome, sum_by}
+use Rattle.std.proofs.Common.{◌≡◌, ◌≢◌, ◌∙◌, ℕ, ◌*◌, ◌^◌, ◌+◌, ◌≤◌, ◌<◌, ◌⊎◌, inl, inr, List, length, map, Bool, true, false, Option, Some, None, refl, sym, ap, subst, arith}
+use Rattle.std.specs.Prelude.{IfSome, sum}
+use Rattle.std.proofs.lemmas.List.{length-map}
 use Rattle.cr_base.specs.declared.row.Row.{Row}
 use Rattle.cr_base.specs.History.{History}
 use Rattle.cr_base.specs.Rows.{rows_of}
@@ -9,6 +10,7 @@ use Rattle.cr_ports.specs.Count.{Gains, Rises}
 use Rattle.cr_ports.specs.Doors.{DoorLog, shares}
 use Rattle.cr_ports.specs.Shelving.{and_file}
 use Rattle.cr_ports.specs.Writing.{Outlet}
+use Rattle.cr_ports.proofs.Sharing.{length-shares_below, shares_add_up}
 use Rattle.cr_policy.specs.Legal.{Legal}
 use Rattle.cr_book.specs.Seen.{SeenBook}
 use Rattle.cr_book.specs.Sound.{IsKept}
@@ -23,9 +25,9 @@ use Rattle.cr_top.specs.declared.exit.Exit.TheVariants as exits
 use Rattle.cr_top.specs.Exits.{exit_of_workers}
 use Rattle.cr_top.specs.Serves.{GatesState, IsNew, AreTold, TellsEntries, ServesMany, ServesGates, StaysClosed, IsWhyClosed, lost_in}
 use Rattle.cr_top.specs.Stores.{Files, ShelfState, OpensStore, IsWhyShut}
-use Rattle.cr_top.proofs.Doors.{are-told, back-works, counts-all, failed-counts, none-all}
+use Rattle.cr_top.proofs.Doors.{are-told, back-works, counts-all, failed-counts, none-all, total-sum}
 use Rattle.cr_top.proofs.Lost.{lost-count}
-use Rattle.cr_top.proofs.Stored.{count-now, last-rows, opens-or-memory, risen}
+use Rattle.cr_top.proofs.Stored.{count-now, last-rows, opens-or-memory, risen, same-rows}
 
 -- ---- doors that were shut
 
@@ -35,6 +37,34 @@ pub doors-back : {I O : Type 0} (streams : Streams I O) (ended : Worked) (doors 
 doors-back {I} {O} streams ended doors doors' b b' serves new =
     subst (λ (ds : List (SeenDoor I O)). Every (λ (d : SeenDoor I O). d.is_out ≡ false) ds) serves.after
     (back-works ended serves.works serves.each (subst (λ (ds : List (SeenDoor I O)). Every IsNew ds) (sym serves.before) new))
+
+-- ---- no gate was opened
+
+-- the store of a book that wasn't worked on was shut again
+pub stays-closed : {K I O : Type 0} (rows : K → Option (List Row)) (faults : K → ℕ) (path : List ℕ) (exit : Exit) (book : SeenBook K) (keeper' : K) (s m s' : ShelfState) (g g' : GatesState I O)
+    → OpensStore rows faults path book s m → keeper' ≡ book.keeper → IfSome (rows keeper') (λ told. s'.files ≡ and_file m.files path told) → Gains m.faults (faults keeper') s'.faults
+    → IsWhyClosed exit g g' → g.faults ≤ g'.faults → StaysClosed exit s s' g g'
+stays-closed rows faults path exit book keeper' s m s' g g' opens same kept gains why later = record {
+  refused = why;
+  files = same-rows rows faults path book keeper' s m s' opens kept gains same;
+  count = (count-now rows faults path book keeper' s m s' opens kept gains).0;
+  gates = later;
+}
+
+-- ---- doors within their limits
+
+-- so many doors, one a worker
+pub few-doors : {D : Type 0} (left : D → ℕ) (workers connections : ℕ) (doors : List D) → workers ≤ 64 → map left doors ≡ shares workers connections → length doors ≤ 64
+few-doors left workers connections doors most shared =
+    let n = sym (length-map doors left) ∙ ap length shared ∙ length-shares_below workers workers connections in
+    omega (arith, most, n)
+
+-- the turns that their connections take are few
+pub few-turns : {D : Type 0} (left : D → ℕ) (workers connections : ℕ) (doors : List D) → 1 ≤ workers → connections ≤ 65536 → map left doors ≡ shares workers connections
+    → 1048576 * total left doors ≤ 2 ^ 40
+few-turns left workers connections doors some most shared =
+    let n = total-sum left doors ∙ ap sum shared ∙ shares_add_up workers connections (omega (arith, some)) in
+    omega (arith, most, n)
 
 -- ---- many connections were served
 

@@ -1,13 +1,16 @@
 //! Many connections over a store.
-ghost use Rattle.std.specs.Prelude.{◌≡◌, ◌≢◌, ◌⊎◌, ◌≤◌, Some, is_ok};
+ghost use Rattle.std.specs.Prelude.{◌≡◌, ◌≢◌, ◌⊎◌, ◌≤◌, ◌*◌, ◌^◌, ℕ, length, map, Some, is_ok, IfOk, IfErr};
 ghost use Rattle.cr_base.specs.History.{History};
 ghost use Rattle.cr_base.specs.Rows.{rows_of};
 ghost use Rattle.cr_policy.specs.Legal.{Legal};
+ghost use Rattle.cr_lock.specs.Counts.{Every, total};
 ghost use Rattle.cr_ports.specs.Count.{Rises};
+ghost use Rattle.cr_ports.specs.Doors.{shares};
 ghost use Rattle.cr_ports.specs.Writing.{outlet_of};
 ghost use Rattle.cr_workers.specs.Connections.{streams_of};
+ghost use Rattle.cr_workers.specs.Doors.{door_of};
 ghost use Rattle.cr_top.specs.declared.exit.Exit.{Exit};
-ghost use Rattle.cr_top.specs.Serves.{ServesGates, TellsEntries, gates_of};
+ghost use Rattle.cr_top.specs.Serves.{IsNew, IsWhyClosed, ServesGates, ServesMany, TellsEntries, gates_of};
 ghost use Rattle.cr_top.specs.Stores.{Files, OpensStore, ShelfState, state_of};
 
 use crate::exit::{Exit, exit_of_workers};
@@ -42,14 +45,33 @@ pub struct Address<'a> {
     pub connections: u32,
 }
 
-/// Serves the connections that gates give, from the history of a book on that was opened at the path, and shuts gates and
-/// store.
-fn serve_from<R: Threads + Wait + Sync, S: Shelf, G: Gates, O: Sink>(
+/// Opens the gates, or tells why they don't open.
+fn open_gates<G: Gates>(alloc: Global, address: Address, gates: &mut G) -> Result<Vec<G::Door>, Exit>
+    requires { 1 ≤ address.workers }
+    ensures shared { IfOk result (λ doors. map G.Door.left doors.items ≡ shares address.entry.workers address.entry.connections) }
+    ensures new { IfOk result (λ doors. Every IsNew (map (door_of G.Door.left G.Door.is_out G.Door.faults G.Door.log) doors.items)) }
+    ensures same { IfOk result (λ doors. G.faults gates.new ≡ G.faults gates.old) }
+    ensures refused { IfErr result (λ exit. IsWhyClosed exit (gates_of G.faults G.logs gates.old) (gates_of G.faults G.logs gates.new) × (G.faults gates.old ≤ G.faults gates.new)) }
+{
+    match gates.open(
+        alloc,
+        address.listen,
+        address.workers,
+        address.connections,
+    ) {
+        Opened::Doors(doors) => Ok(doors),
+        Opened::Failed => Err(Exit::ListenFault),
+        Opened::OutOfMemory => Err(Exit::OutOfMemory),
+    }
+}
+
+/// Serves the connections of new doors, from the history of a book on that was opened at the path, and shuts gates and store.
+fn serve_doors<R: Threads + Wait + Sync, S: Shelf, G: Gates, O: Sink>(
     rt: &R,
     alloc: Global,
     book: Book<S::Keeper>,
+    doors: Vec<G::Door>,
     path: &str,
-    address: Address,
     out: &mut O,
     shelf: &mut S,
     gates: &mut G,
@@ -57,30 +79,16 @@ fn serve_from<R: Threads + Wait + Sync, S: Shelf, G: Gates, O: Sink>(
 where
     S::Keeper: Send,
     G::Door: Drop,
-    requires workers { (1 ≤ address.workers) × (address.workers ≤ 64) }
-    requires connections { (1 ≤ address.connections) × (address.connections ≤ 65536) }
+    requires at_most { length doors.items ≤ 64 }
+    requires few { 1048576 * total G.Door.left doors.items ≤ 2 ^ 40 }
+    requires new { Every IsNew (map (door_of G.Door.left G.Door.is_out G.Door.faults G.Door.log) doors.items) }
     requires open { S.has_opened shelf.old path.now }
     ensures { let outlet = outlet_of O.taken O.faults in let stores = state_of S.rows S.faults in let gates_at = gates_of G.faults G.logs in
         (s : ShelfState) → OpensStore S.Keeper.rows S.Keeper.faults path.now book s (stores shelf.old)
-        → ServesGates S.Keeper.rows path.now (streams_of G.Door.In.left G.Door.In.read_gives G.Door.In.faults G.Door.Out.taken G.Door.Out.faults)
-          address.workers address.connections result (outlet out.old) (outlet out.new) s (stores shelf.new) (gates_at gates.old) (gates_at gates.new) }
+        → (workers connections : ℕ) → map G.Door.left doors.items ≡ shares workers connections
+        → ServesMany S.Keeper.rows path.now (streams_of G.Door.In.left G.Door.In.read_gives G.Door.In.faults G.Door.Out.taken G.Door.Out.faults)
+          workers connections result (outlet out.old) (outlet out.new) s (stores shelf.new) (gates_at gates.old) (gates_at gates.new) }
 {
-    let doors = match gates.open(
-        alloc,
-        address.listen,
-        address.workers,
-        address.connections,
-    ) {
-        Opened::Doors(doors) => doors,
-        Opened::Failed => {
-            shelf.shut(path, book.close());
-            return Exit::ListenFault;
-        }
-        Opened::OutOfMemory => {
-            shelf.shut(path, book.close());
-            return Exit::OutOfMemory;
-        }
-    };
     let (ended, book, doors) = serve_book(rt, alloc, book, doors);
     gates.shut(doors);
     let entries = book.entries();
@@ -107,7 +115,7 @@ where
     requires connections { (1 ≤ address.connections) × (address.connections ≤ 65536) }
     ensures serves { let outlet = outlet_of O.taken O.faults in let stores = state_of S.rows S.faults in let gates_at = gates_of G.faults G.logs in
         ServesGates S.Keeper.rows path.now (streams_of G.Door.In.left G.Door.In.read_gives G.Door.In.faults G.Door.Out.taken G.Door.Out.faults)
-        address.workers address.connections result (outlet out.old) (outlet out.new) (stores shelf.old) (stores shelf.new) (gates_at gates.old) (gates_at gates.new) }
+        address.entry.workers address.entry.connections result (outlet out.old) (outlet out.new) (stores shelf.old) (stores shelf.new) (gates_at gates.old) (gates_at gates.new) }
 
     // Where nothing fails and the rows are a legal history's, each door gives its share, or memory is wanting.
     ensures answers { (Rises (O.faults out.old) (O.faults out.new) → ⊥) → (Rises (G.faults gates.old) (G.faults gates.new) → ⊥) → (Rises (S.faults shelf.old) (S.faults shelf.new) → ⊥)
@@ -119,8 +127,15 @@ where
     ensures keeper_fault { result ≡ Exit.KeeperFault → Rises (S.faults shelf.old) (S.faults shelf.new) }
     ensures listen_fault { result ≡ Exit.ListenFault → Rises (G.faults gates.old) (G.faults gates.new) }
 {
-    match open_store(alloc, path, shelf) {
-        Ok(book) => serve_from(rt, alloc, book, path, address, out, shelf, gates),
-        Err(exit) => exit,
+    let book = match open_store(alloc, path, shelf) {
+        Ok(book) => book,
+        Err(exit) => return exit,
+    };
+    match open_gates(alloc, address, gates) {
+        Ok(doors) => serve_doors(rt, alloc, book, doors, path, out, shelf, gates),
+        Err(exit) => {
+            shelf.shut(path, book.close());
+            exit
+        }
     }
 }
