@@ -48,6 +48,12 @@ pub total-sum : {X : Type 0} (g : X → ℕ) (xs : List X) → total g xs ≡ su
 total-sum g [] = refl
 total-sum g (x ∷ xs) = ap (λ n. g x + n) (total-sum g xs) ∙ sym (sum_by-cons (λ n. n) (g x) (map g xs))
 
+more-here : (f t : ℕ) → Rises 0 f → Rises 0 (f + t)
+more-here f t r = λ below. (let some = r (omega (arith, below)) in omega (arith, some))
+
+more-there : (f t : ℕ) → Rises 0 t → Rises 0 (f + t)
+more-there f t r = λ below. (let some = r (omega (arith, below)) in omega (arith, some))
+
 -- ---- new doors
 
 pub new-doors : {D I O : Type 0} (left : D → ℕ) (is_out : D → Bool) (faults : D → ℕ) (log : D → Option (DoorLog I O)) (doors : List D)
@@ -91,6 +97,10 @@ module _ {I O : Type 0} where
   more-then : (cs : List (ServedConnection I O)) (a b c : Option (DoorLog I O)) (l : DoorLog I O) → IfSome a (λ log. log ≡ unasked)
       → TellsMore cs a b → TellsMore [] b c → c ≡ Some l → l.served ≡ ends_of cs
   more-then cs None None None l new x y e = absurd (cc (e))
+  more-then cs None None (Some c) l new x y e = elim y [ ]
+  more-then cs None (Some b) c l new x y e = elim x [ ]
+  more-then cs (Some a) None c l new x y e = elim x [ ]
+  more-then cs (Some a) (Some b) None l new x y e = elim y [ ]
   more-then cs (Some a) (Some b) (Some c) l new x y e =
       let is : c ≡ l = cc (e) in
       ap (λ (z : DoorLog I O). z.served) (sym is) ∙ (y ∙ (sym (append-nil b.served) ∙ (x ∙ ap (λ (z : DoorLog I O). z.served ++ ends_of cs) new)))
@@ -149,12 +159,7 @@ module _ {I O : Type 0} where
   failed-one : (w : DoorWork I O) → Works lasts.Failed w.connections w.before w.after → IsNew w.before → Rises 0 w.after.faults
   failed-one w x new = λ below. (let rose = x.2.by.1 below in let e = x.1.faults in let z = new.faults in omega (arith, rose, e, z))
 
-  more-here : (f t : ℕ) → Rises 0 f → Rises 0 (f + t)
-  more-here f t r = λ below. (let some = r (omega (arith, below)) in omega (arith, some))
-
-  more-there : (f t : ℕ) → Rises 0 t → Rises 0 (f + t)
-  more-there f t r = λ below. (let some = r (omega (arith, below)) in omega (arith, some))
-
   pub failed-counts : (ws : List (DoorWork I O)) → OneFailed ws → Every IsNew (befores ws) → Rises 0 (total (λ (d : SeenDoor I O). d.faults) (afters ws))
+  failed-counts [] x new = elim x [ ]
   failed-counts (w ∷ ws) (inl x) new = more-here w.after.faults (total (λ (d : SeenDoor I O). d.faults) (afters ws)) (failed-one w x new.0)
   failed-counts (w ∷ ws) (inr x) new = more-there w.after.faults (total (λ (d : SeenDoor I O). d.faults) (afters ws)) (failed-counts ws x new.1)

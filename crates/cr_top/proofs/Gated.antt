@@ -1,6 +1,6 @@
 -- Gates that were opened over a store, and what the exits of serving tell.
-use Rattle.std.proofs.Common.{◌≡◌, ◌≢◌, ◌∙◌, ℕ, ◌*◌, ◌^◌, ◌+◌, ◌≤◌, ◌<◌, ◌⊎◌, inl, inr, List, length, map, Bool, true, false, Option, Some, None, refl, sym, ap, subst, arith}
-use Rattle.std.specs.Prelude.{IfSome, sum}
+use Rattle.std.proofs.Common.{◌≡◌, ◌≢◌, ◌∙◌, ℕ, ◌*◌, ◌^◌, ◌+◌, ◌≤◌, ◌<◌, ◌⊎◌, inl, inr, List, [], ◌∷◌, length, map, Bool, true, false, Option, Some, None, refl, sym, ap, subst, arith}
+use Rattle.std.specs.Prelude.{All, IfSome, IsFalse, sum, sum_by}
 use Rattle.std.proofs.lemmas.List.{length-map}
 use Rattle.cr_base.specs.declared.row.Row.{Row}
 use Rattle.cr_base.specs.History.{History}
@@ -16,7 +16,7 @@ use Rattle.cr_book.specs.Seen.{SeenBook}
 use Rattle.cr_book.specs.Sound.{IsKept}
 use Rattle.cr_session.specs.Replay.{Ledger, ledger_of}
 use Rattle.cr_workers.specs.Connections.{Streams, ServedConnection}
-use Rattle.cr_workers.specs.Doors.{SeenDoor, DoorWork, IsWorkedOn, HasCause, OneFailed, connections_of}
+use Rattle.cr_workers.specs.Doors.{SeenDoor, DoorWork, IsWorkedOn, HasCause, connections_of, door_of}
 use Rattle.cr_workers.specs.OneHistory.{ServesHistory}
 use Rattle.cr_workers.specs.declared.worked.Worked.{Worked}
 use Rattle.cr_workers.specs.declared.worked.Worked.TheVariants as worked
@@ -25,7 +25,7 @@ use Rattle.cr_top.specs.declared.exit.Exit.TheVariants as exits
 use Rattle.cr_top.specs.Exits.{exit_of_workers}
 use Rattle.cr_top.specs.Serves.{GatesState, IsNew, AreTold, TellsEntries, ServesMany, ServesGates, StaysClosed, IsWhyClosed, lost_in}
 use Rattle.cr_top.specs.Stores.{Files, ShelfState, OpensStore, IsWhyShut}
-use Rattle.cr_top.proofs.Doors.{are-told, back-works, counts-all, failed-counts, none-all, total-sum}
+use Rattle.cr_top.proofs.Doors.{all-of, are-told, back-works, counts-all, every-seen, failed-counts, map-seen, none-all, total-seen, total-sum}
 use Rattle.cr_top.proofs.Lost.{lost-count}
 use Rattle.cr_top.proofs.Stored.{count-now, last-rows, opens-or-memory, risen, same-rows}
 
@@ -114,6 +114,29 @@ serves-many {K} {I} {O} rows faults path streams workers connections ended writt
     tells (Some logs) t =
         are-told ended from.works logs from.each (subst (λ (ds : List (SeenDoor I O)). Every IsNew ds) (sym from.before) new)
         (ap (λ (ds : List (SeenDoor I O)). map (λ (d : SeenDoor I O). d.log) ds) from.after ∙ t)
+
+-- ---- of doors what is seen of them
+
+module _ {D I O : Type 0} (left : D → ℕ) (is_out : D → Bool) (faults : D → ℕ) (log : D → Option (DoorLog I O)) where
+  pub shared-seen : (doors : List D) (all : List ℕ) → map left doors ≡ all → map (λ (d : SeenDoor I O). d.left) (map (door_of left is_out faults log) doors) ≡ all
+  shared-seen doors all is = map-seen (door_of left is_out faults log) (λ (d : SeenDoor I O). d.left) doors ∙ is
+
+  pub told-seen : (doors : List D) (logs : Option (List (DoorLog I O))) → IfSome logs (λ ls. map log doors ≡ map Some ls)
+      → IfSome logs (λ ls. map (λ (d : SeenDoor I O). d.log) (map (door_of left is_out faults log) doors) ≡ map Some ls)
+  told-seen doors None told = tt
+  told-seen doors (Some logs) told = map-seen (door_of left is_out faults log) (λ (d : SeenDoor I O). d.log) doors ∙ told
+
+  pub counted-seen : (doors : List D) (before now : ℕ) → Gains before (sum_by faults doors) now
+      → Gains before (total (λ (d : SeenDoor I O). d.faults) (map (door_of left is_out faults log) doors)) now
+  counted-seen doors before now gains =
+      subst (λ (n : ℕ). Gains before n now) (sym (total-seen (door_of left is_out faults log) (λ (d : SeenDoor I O). d.faults) doors)) gains
+
+  pub new-back : (doors : List D) → Every IsNew (map (door_of left is_out faults log) doors) → Every (λ (d : D). is_out d ≡ false) doors
+  new-back [] new = tt
+  new-back (d ∷ ds) new = (new.0.back, new-back ds new.1)
+
+  pub back-seen : (doors : List D) → Every (λ (d : SeenDoor I O). d.is_out ≡ false) (map (door_of left is_out faults log) doors) → All (λ (d : D). IsFalse (is_out d)) doors
+  back-seen doors back = all-of (λ (d : D). IsFalse (is_out d)) doors (every-seen (door_of left is_out faults log) (λ (d : SeenDoor I O). d.is_out ≡ false) doors back)
 
 -- ---- what an exit tells
 

@@ -66,6 +66,7 @@ fn open_gates<G: Gates>(alloc: Global, address: Address, gates: &mut G) -> Resul
 }
 
 /// Serves the connections of new doors, from the history of a book on that was opened at the path, and shuts gates and store.
+#[tactic(none)]
 fn serve_doors<R: Threads + Wait + Sync, S: Shelf, G: Gates, O: Sink>(
     rt: &R,
     alloc: Global,
