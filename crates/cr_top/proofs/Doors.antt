@@ -56,17 +56,17 @@ more-there f t r = λ below. (let some = r (omega (arith, below)) in omega (arit
 
 -- ---- new doors
 
-pub new-doors : {D I O : Type 0} (left : D → ℕ) (is_out : D → Bool) (faults : D → ℕ) (log : D → Option (DoorLog I O)) (doors : List D)
+pub new_doors : {D I O : Type 0} (left : D → ℕ) (is_out : D → Bool) (faults : D → ℕ) (log : D → Option (DoorLog I O)) (doors : List D)
     → All (λ d. IsFalse (is_out d)) doors → All (λ d. faults d ≡ 0) doors → All (λ d. IfSome (log d) (λ l. l ≡ unasked)) doors
     → Every IsNew (map (door_of left is_out faults log) doors)
-new-doors left is_out faults log [] idle fresh asked = tt
-new-doors {D} left is_out faults log (d ∷ ds) idle fresh asked = (
+new_doors left is_out faults log [] idle fresh asked = tt
+new_doors {D} left is_out faults log (d ∷ ds) idle fresh asked = (
   record {
     back = All-head (λ (x : D). IsFalse (is_out x)) d ds idle;
     faults = All-head (λ (x : D). faults x ≡ 0) d ds fresh;
     log = All-head (λ (x : D). IfSome (log x) (λ l. l ≡ unasked)) d ds asked;
   },
-  new-doors left is_out faults log ds (All-tail (λ (x : D). IsFalse (is_out x)) d ds idle) (All-tail (λ (x : D). faults x ≡ 0) d ds fresh)
+  new_doors left is_out faults log ds (All-tail (λ (x : D). IsFalse (is_out x)) d ds idle) (All-tail (λ (x : D). faults x ≡ 0) d ds fresh)
       (All-tail (λ (x : D). IfSome (log x) (λ l. l ≡ unasked)) d ds asked),
 )
 

@@ -46,6 +46,7 @@ pub struct Address<'a> {
 }
 
 /// Opens the gates, or tells why they don't open.
+#[tactic(auto, using(crate::proofs::Doors::new_doors))]
 fn open_gates<G: Gates>(alloc: Global, address: Address, gates: &mut G) -> Result<Vec<G::Door>, Exit>
     requires { 1 ≤ address.workers }
     ensures shared { IfOk result (λ doors. map G.Door.left doors.items ≡ shares address.entry.workers address.entry.connections) }

@@ -1,7 +1,5 @@
 use Rattle.std.proofs.Common.{◌∙◌, ℕ, List, [], subst}
 use Rattle.cr_ports.specs.Writing.{BreaksOff, Writes, outlet_of}
-use Rattle.cr_top.proofs.Gated.{stays-closed}
-use Rattle.cr_top.proofs.Named.{does-named}
 use Rattle.cr_top.proofs.Entries.{told_end, told_no_number, told_no_word}
 use Rattle.cr_top.proofs.serve.tell_entries.Goals as goal
 
