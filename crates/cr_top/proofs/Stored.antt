@@ -8,7 +8,7 @@ use Rattle.std.proofs.lemmas.Slice.Eq.{bytes_eq-Decides}
 use Rattle.cr_base.specs.declared.entry.Entry.{Entry}
 use Rattle.cr_base.specs.declared.entry.Entry.TheVariants.{Registered}
 use Rattle.cr_base.specs.declared.row.Row.{Row}
-use Rattle.cr_base.specs.HistoryFacts.{number_of}
+use Rattle.cr_base.specs.Facts.{number_of}
 use Rattle.cr_base.specs.Lists.{given, last}
 use Rattle.cr_base.specs.History.{History, all_told, number_told}
 use Rattle.cr_base.specs.Rows.{rows_of, IsBoundedEntry}
@@ -70,8 +70,8 @@ pub shelf-refuses : (path : List ℕ) (K : Type 0) (error : KeeperError) (s s' :
 shelf-refuses path K refusals.Failed s s' same cause = record { refused = cause.failed refl; files = same-files s s' same; count = cause.later }
 shelf-refuses path K refusals.OutOfMemory s s' same cause = record { refused = tt; files = same-files s s' same; count = cause.later }
 
--- the shelf's count rises where that of the keeper did, from 0 on
-risen : (f faults f' : ℕ) → Rises 0 faults → Gains f faults f' → Rises f f'
+-- a count rises where it gains what another rose by, from 0 on
+pub risen : (f faults f' : ℕ) → Rises 0 faults → Gains f faults f' → Rises f f'
 risen f faults f' rises gains below = let up = gains.1 below in let some = rises (omega (arith, below, up)) in omega (arith, up, some)
 
 -- what is told of rows that don't open, by the rows that stand there
@@ -106,36 +106,45 @@ kept-rows rows keeper files files' path H is kept tells = at (rows keeper) is ke
     at None is kept there = absurd (false≢true there)
     at (Some t) is kept there = kept ∙ ap (and_file files path) is
 
-module _ {K I : Type 0} (rows : K → Option (List Row)) (faults : K → ℕ) (path : List ℕ) (left : I → Option (List ℕ)) (gives : I → I → List ℕ → Type 0)
-    (exit : Exit) (ending : Ending) (is : exit ≡ exit_of ending) (book : SeenBook K) (keeper' : K) (o o' : Outside I) (s m s' : ShelfState)
-    (opens : OpensStore rows faults path book s m) (p : Pipes rows faults left gives book.log ending book.keeper keeper' o o')
-    (kept : IfSome (rows keeper') (λ told. s'.files ≡ and_file m.files path told)) (gains : Gains m.faults (faults keeper') s'.faults) where
-  files-are : m.files ≡ s.files
-  files-are = ap (λ (x : ShelfState). x.files) opens.same
+-- the keeper of a book that was opened and worked on was taken back
+module _ {K : Type 0} (rows : K → Option (List Row)) (faults : K → ℕ) (path : List ℕ) (book : SeenBook K) (keeper' : K) (s m s' : ShelfState)
+    (opens : OpensStore rows faults path book s m) (kept : IfSome (rows keeper') (λ told. s'.files ≡ and_file m.files path told)) (gains : Gains m.faults (faults keeper') s'.faults) where
+  files-now : IfSome (rows keeper') (λ told. s'.files ≡ and_file s.files path told)
+  files-now = subst (λ (f : Option Files). IfSome (rows keeper') (λ told. s'.files ≡ and_file f path told)) (ap (λ (x : ShelfState). x.files) opens.same) kept
 
-  count-is : m.faults ≡ s.faults
-  count-is = ap (λ (x : ShelfState). x.faults) opens.same
+  pub count-now : Gains s.faults (faults keeper') s'.faults
+  count-now = subst (λ (n : ℕ). Gains n (faults keeper') s'.faults) (ap (λ (x : ShelfState). x.faults) opens.same) gains
 
-  pub serves-store : ServesStore rows path left gives exit o o' s s'
-  serves-store = record {
-    opening = book.log;
-    opens = opens.legal;
-    found = opens.found;
-    ending = ending;
-    exit_is = is;
-    history = p.history;
-    legal = p.legal;
-    faults = faults keeper';
-    connection = subst (λ (n : ℕ). ConnectionBytes left gives ending 0 [] (world o book.log n) (world o' p.history (faults keeper'))) opens.fresh p.connection;
-    whole = λ b told. subst (λ (n : ℕ). WholeBytes left ending b (world o book.log n) (world o' p.history (faults keeper'))) opens.fresh (p.whole b told);
-    kept = kept-rows rows keeper' s.files s'.files path p.history p.kept (subst (λ (f : Option Files). IfSome (rows keeper') (λ told. s'.files ≡ and_file f path told)) files-are kept);
-    counted = subst (λ (n : ℕ). Gains n (faults keeper') s'.faults) count-is gains;
-  }
+  -- with the rows of a history, where it has them
+  pub last-rows : (H : History) → IsKept rows keeper' H → TellsRows rows → s'.files ≡ and_file s.files path (rows_of H)
+  last-rows H is = kept-rows rows keeper' s.files s'.files path H is files-now
+
+  -- as it was opened
+  pub same-rows : keeper' ≡ book.keeper → KeepsFiles s s'
+  same-rows same = shut-files s s' path (rows keeper') (subst (λ (k : K). IfSome s.files (λ files. rows k ≡ Some (files path))) (sym same) opens.told) files-now
 
   -- where the shelf's count didn't rise, the keeper's didn't
   pub no_fault : (Rises s.faults s'.faults → ⊥) → Rises (faults book.keeper) (faults keeper') → ⊥
-  no_fault idle rises =
-      idle (risen s.faults (faults keeper') s'.faults (subst (λ (n : ℕ). Rises n (faults keeper')) opens.fresh rises) (subst (λ (n : ℕ). Gains n (faults keeper') s'.faults) count-is gains))
+  no_fault idle rises = idle (risen s.faults (faults keeper') s'.faults (subst (λ (n : ℕ). Rises n (faults keeper')) opens.fresh rises) count-now)
+
+pub serves-store : {K I : Type 0} (rows : K → Option (List Row)) (faults : K → ℕ) (path : List ℕ) (left : I → Option (List ℕ)) (gives : I → I → List ℕ → Type 0)
+    (exit : Exit) (ending : Ending) → exit ≡ exit_of ending → (book : SeenBook K) (keeper' : K) (o o' : Outside I) (s m s' : ShelfState)
+    → OpensStore rows faults path book s m → Pipes rows faults left gives book.log ending book.keeper keeper' o o'
+    → IfSome (rows keeper') (λ told. s'.files ≡ and_file m.files path told) → Gains m.faults (faults keeper') s'.faults → ServesStore rows path left gives exit o o' s s'
+serves-store rows faults path left gives exit ending is book keeper' o o' s m s' opens p kept gains = record {
+  opening = book.log;
+  opens = opens.legal;
+  found = opens.found;
+  ending = ending;
+  exit_is = is;
+  history = p.history;
+  legal = p.legal;
+  faults = faults keeper';
+  connection = subst (λ (n : ℕ). ConnectionBytes left gives ending 0 [] (world o book.log n) (world o' p.history (faults keeper'))) opens.fresh p.connection;
+  whole = λ b told. subst (λ (n : ℕ). WholeBytes left ending b (world o book.log n) (world o' p.history (faults keeper'))) opens.fresh (p.whole b told);
+  kept = last-rows rows faults path book keeper' s m s' opens kept gains p.history p.kept;
+  counted = count-now rows faults path book keeper' s m s' opens kept gains;
+}
 
 -- the book's history is the one that has the rows
 pub the-history : {K : Type 0} (rows : K → Option (List Row)) (faults : K → ℕ) (path : List ℕ) (book : SeenBook K) (s m : ShelfState) → OpensStore rows faults path book s m → (files : Files) → s.files ≡ Some files → (H : History) → Legal H → rows_of H ≡ files path
@@ -143,19 +152,20 @@ pub the-history : {K : Type 0} (rows : K → Option (List Row)) (faults : K → 
 the-history rows faults path book s m opens files told H legal spells =
     sym (subst (λ (f : Option Files). IfSome f (λ files. (H : History) → Legal H → rows_of H ≡ files path → H ≡ book.log)) told opens.only H legal spells)
 
--- a store of a legal history's rows opens where nothing fails, or memory runs out
+-- a store of a legal history's rows opens where nothing fails, or memory is wanting
 pub opens-or-memory : (path : List ℕ) (exit : Exit) (s s' : ShelfState) → StaysShut path exit s s' → (Rises s.faults s'.faults → ⊥) → (files : Files) → s.files ≡ Some files → (H : History) → Legal H → rows_of H ≡ files path
     → exit ≡ exits.OutOfMemory
-opens-or-memory path exits.OutOfMemory s s' stays idle files told H legal spells = refl
-opens-or-memory path exits.KeeperFault s s' stays idle files told H legal spells = absurd (idle stays.refused)
-opens-or-memory path (exits.BadStore row kind) s s' stays idle files told H legal spells =
-    absurd ((subst (λ (f : Option Files). IfSome f (λ files. IsBadStore (files path) row kind)) told stays.refused).none H legal spells)
-opens-or-memory path exits.Done s s' stays idle files told H legal spells = absurd stays.refused
-opens-or-memory path exits.Cut s s' stays idle files told H legal spells = absurd stays.refused
-opens-or-memory path exits.Usage s s' stays idle files told H legal spells = absurd stays.refused
-opens-or-memory path exits.ReadFault s s' stays idle files told H legal spells = absurd stays.refused
-opens-or-memory path exits.WriteFault s s' stays idle files told H legal spells = absurd stays.refused
-opens-or-memory path exits.NoUser s s' stays idle files told H legal spells = absurd stays.refused
+opens-or-memory path exits.OutOfMemory s s' shut idle files told H legal spells = refl
+opens-or-memory path exits.KeeperFault s s' shut idle files told H legal spells = absurd (idle shut.refused)
+opens-or-memory path (exits.BadStore row kind) s s' shut idle files told H legal spells =
+    absurd ((subst (λ (f : Option Files). IfSome f (λ files. IsBadStore (files path) row kind)) told shut.refused).none H legal spells)
+opens-or-memory path exits.Done s s' shut idle files told H legal spells = absurd shut.refused
+opens-or-memory path exits.Cut s s' shut idle files told H legal spells = absurd shut.refused
+opens-or-memory path exits.Usage s s' shut idle files told H legal spells = absurd shut.refused
+opens-or-memory path exits.ReadFault s s' shut idle files told H legal spells = absurd shut.refused
+opens-or-memory path exits.WriteFault s s' shut idle files told H legal spells = absurd shut.refused
+opens-or-memory path exits.NoUser s s' shut idle files told H legal spells = absurd shut.refused
+opens-or-memory path exits.ListenFault s s' shut idle files told H legal spells = absurd shut.refused
 
 -- the keeper of a book that was read alone was taken back
 pub views-store : {K : Type 0} (rows : K → Option (List Row)) (faults : K → ℕ) (path name : List ℕ) (exit : Exit) (book : SeenBook K) (keeper' : K) (o o' : Outlet) (s m s' : ShelfState)
@@ -166,9 +176,8 @@ views-store {K} rows faults path name exit book keeper' o o' s m s' opens same t
   opens = opens.legal;
   found = opens.found;
   tells = tells;
-  files = shut-files s s' path (rows keeper') (subst (λ (k : K). IfSome s.files (λ files. rows k ≡ Some (files path))) (sym same) opens.told)
-      (subst (λ (f : Option Files). IfSome (rows keeper') (λ t. s'.files ≡ and_file f path t)) (ap (λ (x : ShelfState). x.files) opens.same) kept);
-  count = subst (λ (n : ℕ). n ≤ s'.faults) (ap (λ (x : ShelfState). x.faults) opens.same) gains.0;
+  files = same-rows rows faults path book keeper' s m s' opens kept gains same;
+  count = (count-now rows faults path book keeper' s m s' opens kept gains).0;
 }
 
 -- what a view is answered where nothing fails
@@ -179,6 +188,7 @@ answers-view H name exits.OutOfMemory o o' tells idle = inl refl
 answers-view H name exits.WriteFault o o' tells idle = absurd (idle tells.2.rises)
 answers-view H name exits.KeeperFault o o' tells idle = absurd tells
 answers-view H name (exits.BadStore row kind) o o' tells idle = absurd tells
+answers-view H name exits.ListenFault o o' tells idle = absurd tells
 answers-view H name exits.Cut o o' tells idle = absurd tells
 answers-view H name exits.Usage o o' tells idle = absurd tells
 answers-view H name exits.ReadFault o o' tells idle = absurd tells

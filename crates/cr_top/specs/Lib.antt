@@ -4,4 +4,5 @@ pub mod Exits
 pub mod Replayed
 pub mod Runs
 pub mod Stores
+pub mod Serves
 pub mod Jobs

@@ -1,18 +1,23 @@
 -- What a run does that serves many connections over a store.
-use Rattle.std.specs.Prelude.{◌≡◌, ◌≤◌, ◌⊎◌, ℕ, List, [], ◌++◌, codes, decimal, length, map, sum_by, Bool, true, false, Option, Some, IfSome}
+use Rattle.std.specs.Prelude.{◌≡◌, ◌≢◌, ◌≤◌, ◌⊎◌, ℕ, ◌+◌, List, [], ◌∷◌, ◌++◌, codes, decimal, length, map, Bool, true, false, Option, Some, IfSome}
+use Rattle.cr_base.specs.declared.entry.Stamped.{Stamped}
 use Rattle.cr_base.specs.declared.row.Row.{Row}
 use Rattle.cr_base.specs.History.{History}
+use Rattle.cr_base.specs.Lists.{listed}
 use Rattle.cr_base.specs.Rows.{rows_of}
+use Rattle.cr_lock.specs.Counts.{Every, total}
 use Rattle.cr_ports.specs.Count.{Gains, Rises}
-use Rattle.cr_ports.specs.Doors.{DoorLog, shares}
+use Rattle.cr_ports.specs.Doors.{DoorLog, shares, unasked}
 use Rattle.cr_ports.specs.Shelving.{and_file}
 use Rattle.cr_ports.specs.Writing.{Outlet, Writes, BreaksOff}
+use Rattle.cr_ports.specs.declared.door.DoorAnswer.TheVariants as answers
 use Rattle.cr_policy.specs.Legal.{Legal}
-use Rattle.cr_session.specs.Replay.{Ledger}
-use Rattle.cr_workers.specs.Connections.{Streams}
-use Rattle.cr_workers.specs.Doors.{SeenDoor}
+use Rattle.cr_session.specs.Replay.{Ledger, lost_count}
+use Rattle.cr_workers.specs.Connections.{Streams, ServedConnection, IsServedWithin}
+use Rattle.cr_workers.specs.Doors.{SeenDoor, DoorWork, NoneLacked, connections_of, ends_of}
 use Rattle.cr_workers.specs.OneHistory.{ServesHistory}
 use Rattle.cr_workers.specs.declared.worked.Worked.{Worked}
+use Rattle.cr_workers.specs.declared.worked.Worked.TheVariants as worked
 use Rattle.cr_top.specs.declared.exit.Exit.{Exit}
 use Rattle.cr_top.specs.declared.exit.Exit.TheVariants as exits
 use Rattle.cr_top.specs.Exits.{exit_of_workers}
@@ -35,11 +40,40 @@ abbrev pub TellsEntries : Bool → ℕ → Outlet → Outlet → Type 0
 TellsEntries true entries o o' = Writes (entries_line entries) o o'
 TellsEntries false entries o o' = BreaksOff [] (entries_line entries) o o'
 
+-- ---- the doors
+
+-- A door as gates open it: no connection is out, it has counted no fault, and it tells that it wasn't asked yet, where it tells
+-- what it did.
+pub record IsNew {I O : Type 0} (d : SeenDoor I O) : Type 0 where
+  pub back : d.is_out ≡ false
+  pub faults : d.faults ≡ 0
+  pub log : IfSome d.log (λ log. log ≡ unasked)
+
+-- a door's last answer, by how the workers ended: its share was given; or that, or it failed; or, for lack of memory, any
+abbrev pub EndsBy : {I O : Type 0} → Worked → DoorLog I O → Type 0
+EndsBy worked.Done log = log.last ≡ Some answers.Done
+EndsBy worked.DoorFailed log = (log.last ≡ Some answers.Done) ⊎ (log.last ≡ Some answers.Failed)
+EndsBy worked.OutOfMemory log = Unit {0}
+
+-- Doors that were shut, with the connections that were served by each, by what the gates tell: each connection as it was given
+-- and as it came back, in order, and the door's last answer.
+pub record AreTold {I O : Type 0} (ended : Worked) (works : List (DoorWork I O)) (logs : List (DoorLog I O)) : Type 0 where
+  pub served : map (λ (log : DoorLog I O). log.served) logs ≡ map (λ (w : DoorWork I O). ends_of w.connections) works
+  pub last : Every (EndsBy ended) logs
+
+-- ---- answers that a command wasn't kept
+
+-- how many wishes of these connections were lost to the keeper: each has such an answer, or a part of it where its write failed
+abbrev pub lost_in : {I O : Type 0} → (streams : Streams I O) (first last : History) (connections : List (ServedConnection I O)) → Every (IsServedWithin streams first last) connections → ℕ
+lost_in streams first last [] served = 0
+lost_in streams first last (c ∷ cs) served =
+    lost_count (served.0.served.connection.answered ++ listed served.0.served.connection.failed) + lost_in streams first last cs served.1
+
 -- ---- connections were served
 
 -- From the history of the rows at the path on workers served the connections that their doors gave, one door each, and the
--- exit is by how they ended. The rows at the path are then those of the last history, and the output has the number of its
--- entries.
+-- exit is by how they ended: 0 or 5 where each door gave its share, 7 where one failed, and 9 where memory was wanting. The
+-- rows at the path are then those of the last history, and the output has the number of its entries.
 pub record ServesMany {K I O : Type 0} (rows : K → Option (List Row)) (path : List ℕ) (streams : Streams I O) (workers connections : ℕ) (exit : Exit) (o o' : Outlet) (s s' : ShelfState) (g g' : GatesState I O) : Type 0 where
   pub opening : History
   pub opens : Legal opening
@@ -48,22 +82,29 @@ pub record ServesMany {K I O : Type 0} (rows : K → Option (List Row)) (path : 
   pub doors : List (SeenDoor I O)
   pub doors' : List (SeenDoor I O)
   pub shared : map (λ (d : SeenDoor I O). d.left) doors ≡ shares workers connections
+  pub new : Every IsNew doors
   -- the last history, and the keeper's count of faults
   pub history : History
   pub legal : Legal history
   pub faults : ℕ
+  -- What the connections did, on one history: each as it came, on beginnings of it, however their turns interleave.
   pub ended : Worked
   pub serves : ServesHistory streams ended doors doors' (record { history = opening; faults = 0 }) (record { history = history; faults = faults })
+  -- With exit 0 or 5 as many connections were served by each door as its share was, and with 0, 5 or 7 none ended for lack of
+  -- memory.
+  pub all : ended ≡ worked.Done → map (λ (w : DoorWork I O). length w.connections) serves.works ≡ shares workers connections
+  pub none_lacked : ended ≢ worked.OutOfMemory → NoneLacked (connections_of serves.works)
   -- the line at the end
   pub written : Bool
   pub line : TellsEntries written (length history) o o'
   pub exit_is : exit ≡ exit_of_workers ended written
-  -- the store
+  -- The store: its count rose by as many at least as wishes were lost, its last value aside.
   pub kept : TellsRows rows → s'.files ≡ and_file s.files path (rows_of history)
   pub counted : Gains s.faults faults s'.faults
+  pub lost : Gains s.faults (lost_in streams opening history (connections_of serves.works) serves.served) s'.faults
   -- the gates tell what each door did, and count its faults
-  pub told : IfSome g'.logs (λ logs. map (λ (d : SeenDoor I O). d.log) doors' ≡ map Some logs)
-  pub gates : Gains g.faults (sum_by (λ (d : SeenDoor I O). d.faults) doors') g'.faults
+  pub told : IfSome g'.logs (λ logs. AreTold ended serves.works logs)
+  pub gates : Gains g.faults (total (λ (d : SeenDoor I O). d.faults) doors') g'.faults
 
 -- ---- no connection was served
 

@@ -1,71 +1,37 @@
 //! Many connections over a store.
-ghost use Rattle.std.specs.Prelude.{◌≡◌, ◌≢◌, ◌⊎◌, ◌≤◌, ◌<◌, IfErr, IsTrue, IsFalse};
+ghost use Rattle.std.specs.Prelude.{◌≡◌, ◌≢◌, ◌⊎◌, ◌≤◌, ◌*◌, ◌^◌, ℕ, length, map, Some, is_ok, IfOk, IfErr};
 ghost use Rattle.cr_base.specs.History.{History};
 ghost use Rattle.cr_base.specs.Rows.{rows_of};
 ghost use Rattle.cr_policy.specs.Legal.{Legal};
+ghost use Rattle.cr_lock.specs.Counts.{Every, total};
 ghost use Rattle.cr_ports.specs.Count.{Rises};
+ghost use Rattle.cr_ports.specs.Doors.{shares};
 ghost use Rattle.cr_ports.specs.Writing.{outlet_of};
 ghost use Rattle.cr_workers.specs.Connections.{streams_of};
+ghost use Rattle.cr_workers.specs.Doors.{door_of};
 ghost use Rattle.cr_top.specs.declared.exit.Exit.{Exit};
-ghost use Rattle.cr_top.specs.Serves.{ServesStores, TellsEntries, gates_of};
-ghost use Rattle.cr_top.specs.Stores.{state_of};
+ghost use Rattle.cr_top.specs.Serves.{IsNew, IsWhyClosed, ServesGates, ServesMany, TellsEntries, gates_of};
+ghost use Rattle.cr_top.specs.Stores.{Files, OpensStore, ShelfState, state_of};
 
 use crate::exit::{Exit, exit_of_workers};
 use crate::storing::open_store;
 use cr_book::Book;
-use cr_ports::{Gates, Opened, Shelf, Sink, write_all};
+use cr_ports::{Gates, Opened, Shelf, Sink, WriteFault, write_all};
 use cr_workers::serve_book;
 use itoa::Buffer;
 use std::alloc::Global;
 use std::sync::Wait;
 use std::thread::Threads;
 
-/// Writes how many entries the history has, and whether that went. Takes no memory.
-fn tell_entries<O: Sink>(out: &mut O, entries: u64) -> bool
-    ensures { TellsEntries result entries (outlet_of O.taken O.faults out.old) (outlet_of O.taken O.faults out.new) }
+/// Writes how many entries the history has: `entries K` and a line's end. Behind a fault nothing more is written. Takes no
+/// memory.
+fn tell_entries<O: Sink>(out: &mut O, entries: u64) -> Result<(), WriteFault>
+    ensures { TellsEntries (is_ok result) entries (outlet_of O.taken O.faults out.old) (outlet_of O.taken O.faults out.new) }
 {
     let mut digits = Buffer::new();
-    write_all(out, b"entries ").is_ok()
-        && write_all(out, digits.format(entries).as_bytes()).is_ok()
-        && write_all(out, b"\n").is_ok()
-}
-
-/// Serves the connections that gates give, from the book's history on, and shuts gates and store.
-fn serve_from<R: Threads + Wait + Sync, S: Shelf, G: Gates, O: Sink>(
-    rt: &R,
-    alloc: Global,
-    book: Book<S::Keeper>,
-    path: &str,
-    address: Address,
-    out: &mut O,
-    shelf: &mut S,
-    gates: &mut G,
-) -> Exit
-where
-    S::Keeper: Send,
-    G::Door: Drop,
-{
-    let doors = match gates.open(
-        alloc,
-        address.listen,
-        address.workers,
-        address.connections,
-    ) {
-        Opened::Doors(doors) => doors,
-        Opened::Failed => {
-            shelf.shut(path, book.close());
-            return Exit::ListenFault;
-        }
-        Opened::OutOfMemory => {
-            shelf.shut(path, book.close());
-            return Exit::OutOfMemory;
-        }
-    };
-    let (ended, book, doors) = serve_book(rt, alloc, book, doors);
-    gates.shut(doors);
-    let entries = book.entries();
-    shelf.shut(path, book.close());
-    exit_of_workers(ended, tell_entries(out, entries))
+    write_all(out, b"entries ")?;
+    write_all(out, digits.format(entries).as_bytes())?;
+    write_all(out, b"\n")
 }
 
 /// Where connections come from, how many are served at once, and how many in all.
@@ -79,9 +45,62 @@ pub struct Address<'a> {
     pub connections: u32,
 }
 
+/// Opens the gates, or tells why they don't open.
+#[tactic(auto, using(crate::proofs::Doors::new_doors))]
+fn open_gates<G: Gates>(alloc: Global, address: Address, gates: &mut G) -> Result<Vec<G::Door>, Exit>
+    requires { 1 ≤ address.workers }
+    ensures shared { IfOk result (λ doors. map G.Door.left doors.items ≡ shares address.entry.workers address.entry.connections) }
+    ensures new { IfOk result (λ doors. Every IsNew (map (door_of G.Door.left G.Door.is_out G.Door.faults G.Door.log) doors.items)) }
+    ensures same { IfOk result (λ doors. G.faults gates.new ≡ G.faults gates.old) }
+    ensures refused { IfErr result (λ exit. IsWhyClosed exit (gates_of G.faults G.logs gates.old) (gates_of G.faults G.logs gates.new) × (G.faults gates.old ≤ G.faults gates.new)) }
+{
+    match gates.open(
+        alloc,
+        address.listen,
+        address.workers,
+        address.connections,
+    ) {
+        Opened::Doors(doors) => Ok(doors),
+        Opened::Failed => Err(Exit::ListenFault),
+        Opened::OutOfMemory => Err(Exit::OutOfMemory),
+    }
+}
+
+/// Serves the connections of new doors, from the history of a book on that was opened at the path, and shuts gates and store.
+#[tactic(none)]
+fn serve_doors<R: Threads + Wait + Sync, S: Shelf, G: Gates, O: Sink>(
+    rt: &R,
+    alloc: Global,
+    book: Book<S::Keeper>,
+    doors: Vec<G::Door>,
+    path: &str,
+    out: &mut O,
+    shelf: &mut S,
+    gates: &mut G,
+) -> Exit
+where
+    S::Keeper: Send,
+    G::Door: Drop,
+    requires at_most { length doors.items ≤ 64 }
+    requires few { 1048576 * total G.Door.left doors.items ≤ 2 ^ 40 }
+    requires new { Every IsNew (map (door_of G.Door.left G.Door.is_out G.Door.faults G.Door.log) doors.items) }
+    requires open { S.has_opened shelf.old path.now }
+    ensures { let outlet = outlet_of O.taken O.faults in let stores = state_of S.rows S.faults in let gates_at = gates_of G.faults G.logs in
+        (s : ShelfState) → OpensStore S.Keeper.rows S.Keeper.faults path.now book s (stores shelf.old)
+        → (workers connections : ℕ) → map G.Door.left doors.items ≡ shares workers connections
+        → ServesMany S.Keeper.rows path.now (streams_of G.Door.In.left G.Door.In.read_gives G.Door.In.faults G.Door.Out.taken G.Door.Out.faults)
+          workers connections result (outlet out.old) (outlet out.new) s (stores shelf.new) (gates_at gates.old) (gates_at gates.new) }
+{
+    let (ended, book, doors) = serve_book(rt, alloc, book, doors);
+    gates.shut(doors);
+    let entries = book.entries();
+    shelf.shut(path, book.close());
+    exit_of_workers(ended, tell_entries(out, entries).is_ok())
+}
+
 /// Serves so many connections at the address from the history of the rows at the path on, which are then those of the last
 /// history: each worker those of a door of its own, one after another. Then writes `entries K`, K the number of entries of the
-/// history.
+/// history. Where the rows don't open no gate is asked, and where the gates don't nothing is written.
 pub fn serve_store<R: Threads + Wait + Sync, S: Shelf, G: Gates, O: Sink>(
     rt: &R,
     alloc: Global,
@@ -94,9 +113,31 @@ pub fn serve_store<R: Threads + Wait + Sync, S: Shelf, G: Gates, O: Sink>(
 where
     S::Keeper: Send,
     G::Door: Drop,
+    requires workers { (1 ≤ address.workers) × (address.workers ≤ 64) }
+    requires connections { (1 ≤ address.connections) × (address.connections ≤ 65536) }
+    ensures serves { let outlet = outlet_of O.taken O.faults in let stores = state_of S.rows S.faults in let gates_at = gates_of G.faults G.logs in
+        ServesGates S.Keeper.rows path.now (streams_of G.Door.In.left G.Door.In.read_gives G.Door.In.faults G.Door.Out.taken G.Door.Out.faults)
+        address.entry.workers address.entry.connections result (outlet out.old) (outlet out.new) (stores shelf.old) (stores shelf.new) (gates_at gates.old) (gates_at gates.new) }
+
+    // Where nothing fails and the rows are a legal history's, each door gives its share, or memory is wanting.
+    ensures answers { (Rises (O.faults out.old) (O.faults out.new) → ⊥) → (Rises (G.faults gates.old) (G.faults gates.new) → ⊥) → (Rises (S.faults shelf.old) (S.faults shelf.new) → ⊥)
+        → (files : Files) → S.rows shelf.old ≡ Some files → (H : History) → Legal H → rows_of H ≡ files path.now
+        → (result ≡ Exit.OutOfMemory) ⊎ (result ≡ Exit.Done) }
+    ensures known { result ≢ Exit.Usage }
+    ensures unread { result ≢ Exit.ReadFault }
+    ensures write_fault { result ≡ Exit.WriteFault → Rises (O.faults out.old) (O.faults out.new) }
+    ensures keeper_fault { result ≡ Exit.KeeperFault → Rises (S.faults shelf.old) (S.faults shelf.new) }
+    ensures listen_fault { result ≡ Exit.ListenFault → Rises (G.faults gates.old) (G.faults gates.new) }
 {
-    match open_store(alloc, path, shelf) {
-        Ok(book) => serve_from(rt, alloc, book, path, address, out, shelf, gates),
-        Err(exit) => exit,
+    let book = match open_store(alloc, path, shelf) {
+        Ok(book) => book,
+        Err(exit) => return exit,
+    };
+    match open_gates(alloc, address, gates) {
+        Ok(doors) => serve_doors(rt, alloc, book, doors, path, out, shelf, gates),
+        Err(exit) => {
+            shelf.shut(path, book.close());
+            exit
+        }
     }
 }

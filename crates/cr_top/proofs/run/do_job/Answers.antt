@@ -1,10 +1,9 @@
-use Rattle.std.proofs.Common.{◌≡◌, ◌∙◌, Some, None, inr, refl, sym, ap, subst}
+use Rattle.std.proofs.Common.{◌≡◌, ◌∙◌, Some, None, refl, ap, subst}
 use Rattle.std.specs.Prelude.{option_map}
 use Rattle.cr_base.specs.History.{History}
-use Rattle.cr_words.specs.Job.{NamedJob, pipe_job, job_seen}
-use Rattle.cr_top.specs.Jobs.{AnswersJob, Does}
+use Rattle.cr_words.specs.Job.{pipe_job, job_seen}
 use Rattle.cr_top.specs.Runs.{ServesPipe, outside_of}
-use Rattle.cr_top.specs.Stores.{state_of}
+use Rattle.cr_top.proofs.Named.{answers-named, does-named}
 use Rattle.cr_top.proofs.Serving.{serves-from}
 use Rattle.cr_top.proofs.run.do_job.Goals as goal
 
@@ -13,21 +12,18 @@ returns-in-Some-clause-does g c =
     let outside = outside_of g.I.Source.faults g.O.Sink.taken g.O.Sink.faults in
     let o = outside c.args.input.now c.args.out.now in
     let o' = outside c.pipe-ending.new.input c.pipe-ending.new.out in
-    let s = state_of g.S.Shelf.rows g.S.Shelf.faults c.args.shelf.now in
     let none : c.in-Pipe-None.store ≡ None = rw c.in-Pipe-None.is at c.in-Pipe-None.store-is in
     let seen : job_seen c.args.job ≡ pipe_job None = ap job_seen c.in-Pipe-None.is ∙ ap (λ t. pipe_job (option_map (λ x. x.now) t)) none in
-    subst (λ (job : NamedJob). Does g.S.Keeper.Keeper.rows g.I.Source.left g.I.Source.read_gives job c.exit_of.result o o' s s) (sym seen)
-    (inr (
+    does-named _ _ _ _ _ (pipe_job None) _ _ _ seen (
       subst (λ (opening : History). ServesPipe g.I.Source.left g.I.Source.read_gives opening c.exit_of.result o o') c.in-Some.ensures
           (serves-from _ g.I.Source.left g.I.Source.read_gives c.in-Some.book.log c.exit_of.result _ _ _ o o' c.exit_of.ensures c.pipe-ending.ensures.pipes),
       refl,
-    ))
+      refl,
+    )
 
 pub returns-in-Pipe-Some-clause-answers : goal.returns-in-Pipe-Some-clause-answers
 returns-in-Pipe-Some-clause-answers g c =
-    let outside = outside_of g.I.Source.faults g.O.Sink.taken g.O.Sink.faults in
-    let stores = state_of g.S.Shelf.rows g.S.Shelf.faults in
     let some : c.in-Pipe-Some.store ≡ Some c.in-Pipe-Some.path = rw c.in-Pipe-Some.is at c.in-Pipe-Some.store-is in
     let seen : job_seen c.args.job ≡ pipe_job (Some c.in-Pipe-Some.path.now) = ap job_seen c.in-Pipe-Some.is ∙ ap (λ t. pipe_job (option_map (λ x. x.now) t)) some in
-    subst (λ (job : NamedJob). AnswersJob g.I.Source.left job c.pipe_store.result (outside c.args.input.now c.args.out.now) (outside c.pipe_store.new.input c.pipe_store.new.out) (stores c.args.shelf.now) (stores c.pipe_store.new.shelf)) (sym seen)
+    answers-named _ _ (pipe_job (Some c.in-Pipe-Some.path.now)) _ _ _ seen
     (λ b left faultless H has. c.pipe_store.ensures.answers b left faultless has.faultless has.files has.told H has.legal has.spells)

@@ -28,5 +28,4 @@ returns-in-Ok-clause-answers g c b left faultless idle files told H legal spells
     subst (λ (opening : History). (c.exit_of.result ≡ exits.OutOfMemory) ⊎ AnswersAll opening c.exit_of.result b o o') same
     (subst (λ (x : Exit). (x ≡ exits.OutOfMemory) ⊎ AnswersAll c.in-Ok.book.log x b o o') (sym c.exit_of.ensures)
     (c.pipe-ending.ensures.answers b left faultless
-    (no_fault g.S.Keeper.Keeper.rows g.S.Keeper.Keeper.faults c.args.path.now g.I.Source.left g.I.Source.read_gives c.exit_of.result _ c.exit_of.ensures c.in-Ok.book _ o o' s m s'
-    c.in-Ok.ensures.opened c.pipe-ending.ensures.pipes c.shut.ensures.kept c.shut.ensures.count idle)))
+    (no_fault g.S.Keeper.Keeper.rows g.S.Keeper.Keeper.faults c.args.path.now c.in-Ok.book _ s m s' c.in-Ok.ensures.opened c.shut.ensures.kept c.shut.ensures.count idle)))

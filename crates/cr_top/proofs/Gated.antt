@@ -1,0 +1,241 @@
+-- Gates that were opened over a store, and what the exits of serving tell.
+use Rattle.std.proofs.Common.{◌≡◌, ◌≢◌, ◌∙◌, ℕ, ◌*◌, ◌^◌, ◌+◌, ◌≤◌, ◌<◌, ◌⊎◌, inl, inr, List, [], ◌∷◌, length, map, Bool, true, false, Option, Some, None, refl, sym, ap, subst, arith}
+use Rattle.std.specs.Prelude.{All, IfSome, IsFalse, sum, sum_by}
+use Rattle.std.proofs.lemmas.List.{length-map}
+use Rattle.cr_base.specs.declared.row.Row.{Row}
+use Rattle.cr_base.specs.History.{History}
+use Rattle.cr_base.specs.Rows.{rows_of}
+use Rattle.cr_lock.specs.Counts.{Every, total}
+use Rattle.cr_ports.specs.Count.{Gains, Rises}
+use Rattle.cr_ports.specs.Doors.{DoorLog, shares}
+use Rattle.cr_ports.specs.Shelving.{and_file}
+use Rattle.cr_ports.specs.Writing.{Outlet}
+use Rattle.cr_ports.proofs.Sharing.{length-shares_below, shares_add_up}
+use Rattle.cr_policy.specs.Legal.{Legal}
+use Rattle.cr_book.specs.Seen.{SeenBook}
+use Rattle.cr_book.specs.Sound.{IsKept}
+use Rattle.cr_session.specs.Replay.{Ledger, ledger_of}
+use Rattle.cr_workers.specs.Connections.{Streams, ServedConnection}
+use Rattle.cr_workers.specs.Doors.{SeenDoor, DoorWork, IsWorkedOn, HasCause, connections_of, door_of}
+use Rattle.cr_workers.specs.OneHistory.{ServesHistory}
+use Rattle.cr_workers.specs.declared.worked.Worked.{Worked}
+use Rattle.cr_workers.specs.declared.worked.Worked.TheVariants as worked
+use Rattle.cr_top.specs.declared.exit.Exit.{Exit}
+use Rattle.cr_top.specs.declared.exit.Exit.TheVariants as exits
+use Rattle.cr_top.specs.Exits.{exit_of_workers}
+use Rattle.cr_top.specs.Serves.{GatesState, IsNew, AreTold, TellsEntries, ServesMany, ServesGates, StaysClosed, IsWhyClosed, lost_in}
+use Rattle.cr_top.specs.Stores.{Files, ShelfState, OpensStore, IsWhyShut}
+use Rattle.cr_top.proofs.Doors.{all-of, are-told, back-works, counts-all, every-seen, failed-counts, map-seen, none-all, total-seen, total-sum}
+use Rattle.cr_top.proofs.Lost.{lost-count}
+use Rattle.cr_top.proofs.Stored.{count-now, last-rows, opens-or-memory, risen, same-rows}
+
+-- ---- doors that were shut
+
+-- none has a connection out
+pub doors-back : {I O : Type 0} (streams : Streams I O) (ended : Worked) (doors doors' : List (SeenDoor I O)) (b b' : Ledger) → ServesHistory streams ended doors doors' b b' → Every IsNew doors
+    → Every (λ (d : SeenDoor I O). d.is_out ≡ false) doors'
+doors-back {I} {O} streams ended doors doors' b b' serves new =
+    subst (λ (ds : List (SeenDoor I O)). Every (λ (d : SeenDoor I O). d.is_out ≡ false) ds) serves.after
+    (back-works ended serves.works serves.each (subst (λ (ds : List (SeenDoor I O)). Every IsNew ds) (sym serves.before) new))
+
+-- ---- no gate was opened
+
+-- the store of a book that wasn't worked on was shut again
+pub stays-closed : {K I O : Type 0} (rows : K → Option (List Row)) (faults : K → ℕ) (path : List ℕ) (exit : Exit) (book : SeenBook K) (keeper' : K) (s m s' : ShelfState) (g g' : GatesState I O)
+    → OpensStore rows faults path book s m → keeper' ≡ book.keeper → IfSome (rows keeper') (λ told. s'.files ≡ and_file m.files path told) → Gains m.faults (faults keeper') s'.faults
+    → IsWhyClosed exit g g' → g.faults ≤ g'.faults → StaysClosed exit s s' g g'
+stays-closed rows faults path exit book keeper' s m s' g g' opens same kept gains why later = record {
+  refused = why;
+  files = same-rows rows faults path book keeper' s m s' opens kept gains same;
+  count = (count-now rows faults path book keeper' s m s' opens kept gains).0;
+  gates = later;
+}
+
+-- ---- doors within their limits
+
+-- so many doors, one a worker
+pub few-doors : {D : Type 0} (left : D → ℕ) (workers connections : ℕ) (doors : List D) → workers ≤ 64 → map left doors ≡ shares workers connections → length doors ≤ 64
+few-doors left workers connections doors most shared =
+    let n = sym (length-map doors left) ∙ ap length shared ∙ length-shares_below workers workers connections in
+    omega (arith, most, n)
+
+-- the turns that their connections take are few
+pub few-turns : {D : Type 0} (left : D → ℕ) (workers connections : ℕ) (doors : List D) → 1 ≤ workers → connections ≤ 65536 → map left doors ≡ shares workers connections
+    → 1048576 * total left doors ≤ 2 ^ 40
+few-turns left workers connections doors some most shared =
+    let n = total-sum left doors ∙ ap sum shared ∙ shares_add_up workers connections (omega (arith, some)) in
+    omega (arith, most, n)
+
+-- ---- many connections were served
+
+pub serves-many : {K I O : Type 0} (rows : K → Option (List Row)) (faults : K → ℕ) (path : List ℕ) (streams : Streams I O) (workers connections : ℕ) (ended : Worked) (written : Bool) (exit : Exit)
+    → exit ≡ exit_of_workers ended written → (book book' : SeenBook K) (keeper' : K) (doors doors' : List (SeenDoor I O)) (o o' : Outlet) (s m s' : ShelfState) (g g' : GatesState I O)
+    → OpensStore rows faults path book s m → keeper' ≡ book'.keeper → Legal book'.log → IsKept rows keeper' book'.log
+    → IfSome (rows keeper') (λ told. s'.files ≡ and_file m.files path told) → Gains m.faults (faults keeper') s'.faults
+    → map (λ (d : SeenDoor I O). d.left) doors ≡ shares workers connections → Every IsNew doors
+    → ServesHistory streams ended doors doors' (ledger_of faults book) (ledger_of faults book') → TellsEntries written (length book'.log) o o'
+    → IfSome g'.logs (λ logs. map (λ (d : SeenDoor I O). d.log) doors' ≡ map Some logs) → Gains g.faults (total (λ (d : SeenDoor I O). d.faults) doors') g'.faults
+    → ServesMany rows path streams workers connections exit o o' s s' g g'
+serves-many {K} {I} {O} rows faults path streams workers connections ended written exit is book book' keeper' doors doors' o o' s m s' g g' opens same legal kept files gains shared new serves line told counted = record {
+  opening = book.log;
+  opens = opens.legal;
+  found = opens.found;
+  doors = doors;
+  doors' = doors';
+  shared = shared;
+  new = new;
+  history = book'.log;
+  legal = legal;
+  faults = faults keeper';
+  ended = ended;
+  serves = from;
+  all = λ done. counts-all from.works (subst (λ (e : Worked). Every (IsWorkedOn e) from.works) done from.each) ∙ ap (λ (ds : List (SeenDoor I O)). map (λ (d : SeenDoor I O). d.left) ds) from.before ∙ shared;
+  none_lacked = λ some. none-all ended some from.works from.each;
+  written = written;
+  line = line;
+  exit_is = is;
+  kept = last-rows rows faults path book keeper' s m s' opens files gains book'.log kept;
+  counted = gained;
+  lost = lost-count streams book.log book'.log (connections_of from.works) from.served (faults keeper') s.faults s'.faults from.marked gained;
+  told = tells g'.logs told;
+  gates = counted;
+}
+  where
+    from : ServesHistory streams ended doors doors' (record { history = book.log; faults = 0 }) (record { history = book'.log; faults = faults keeper' })
+    from =
+        subst (λ (n : ℕ). ServesHistory streams ended doors doors' (record { history = book.log; faults = 0 }) (record { history = book'.log; faults = n })) (ap faults (sym same))
+        (subst (λ (n : ℕ). ServesHistory streams ended doors doors' (record { history = book.log; faults = n }) (record { history = book'.log; faults = faults book'.keeper })) opens.fresh serves)
+
+    gained : Gains s.faults (faults keeper') s'.faults
+    gained = count-now rows faults path book keeper' s m s' opens files gains
+
+    tells : (logs : Option (List (DoorLog I O))) → IfSome logs (λ ls. map (λ (d : SeenDoor I O). d.log) doors' ≡ map Some ls) → IfSome logs (λ ls. AreTold ended from.works ls)
+    tells None t = tt
+    tells (Some logs) t =
+        are-told ended from.works logs from.each (subst (λ (ds : List (SeenDoor I O)). Every IsNew ds) (sym from.before) new)
+        (ap (λ (ds : List (SeenDoor I O)). map (λ (d : SeenDoor I O). d.log) ds) from.after ∙ t)
+
+-- ---- of doors what is seen of them
+
+module _ {D I O : Type 0} (left : D → ℕ) (is_out : D → Bool) (faults : D → ℕ) (log : D → Option (DoorLog I O)) where
+  pub shared-seen : (doors : List D) (all : List ℕ) → map left doors ≡ all → map (λ (d : SeenDoor I O). d.left) (map (door_of left is_out faults log) doors) ≡ all
+  shared-seen doors all is = map-seen (door_of left is_out faults log) (λ (d : SeenDoor I O). d.left) doors ∙ is
+
+  pub told-seen : (doors : List D) (logs : Option (List (DoorLog I O))) → IfSome logs (λ ls. map log doors ≡ map Some ls)
+      → IfSome logs (λ ls. map (λ (d : SeenDoor I O). d.log) (map (door_of left is_out faults log) doors) ≡ map Some ls)
+  told-seen doors None told = tt
+  told-seen doors (Some logs) told = map-seen (door_of left is_out faults log) (λ (d : SeenDoor I O). d.log) doors ∙ told
+
+  pub counted-seen : (doors : List D) (before now : ℕ) → Gains before (sum_by faults doors) now
+      → Gains before (total (λ (d : SeenDoor I O). d.faults) (map (door_of left is_out faults log) doors)) now
+  counted-seen doors before now gains =
+      subst (λ (n : ℕ). Gains before n now) (sym (total-seen (door_of left is_out faults log) (λ (d : SeenDoor I O). d.faults) doors)) gains
+
+  pub new-back : (doors : List D) → Every IsNew (map (door_of left is_out faults log) doors) → Every (λ (d : D). is_out d ≡ false) doors
+  new-back [] new = tt
+  new-back (d ∷ ds) new = (new.0.back, new-back ds new.1)
+
+  pub back-seen : (doors : List D) → Every (λ (d : SeenDoor I O). d.is_out ≡ false) (map (door_of left is_out faults log) doors) → All (λ (d : D). IsFalse (is_out d)) doors
+  back-seen doors back = all-of (λ (d : D). IsFalse (is_out d)) doors (every-seen (door_of left is_out faults log) (λ (d : SeenDoor I O). d.is_out ≡ false) doors back)
+
+-- ---- what an exit tells
+
+module _ {K I O : Type 0} (rows : K → Option (List Row)) (path : List ℕ) (streams : Streams I O) (workers connections : ℕ) (exit : Exit) (o o' : Outlet) (s s' : ShelfState) (g g' : GatesState I O) where
+  abbrev pub Serves : Type 0
+  Serves = ServesGates rows path streams workers connections exit o o' s s' g g'
+
+  -- a door failed, which the gates counted
+  door-counted : (ended : Worked) (works : List (DoorWork I O)) (doors doors' : List (SeenDoor I O)) → map (λ (w : DoorWork I O). w.before) works ≡ doors → map (λ (w : DoorWork I O). w.after) works ≡ doors'
+      → Every IsNew doors → HasCause ended works → ended ≡ worked.DoorFailed → Gains g.faults (total (λ (d : SeenDoor I O). d.faults) doors') g'.faults → Rises g.faults g'.faults
+  door-counted ended works doors doors' before after new cause failed gains =
+      let up : Rises 0 (total (λ (d : SeenDoor I O). d.faults) doors') =
+          subst (λ (ds : List (SeenDoor I O)). Rises 0 (total (λ (d : SeenDoor I O). d.faults) ds)) after
+          (failed-counts works (subst (λ (e : Worked). HasCause e works) failed cause) (subst (λ (ds : List (SeenDoor I O)). Every IsNew ds) (sym before) new)) in
+      risen g.faults (total (λ (d : SeenDoor I O). d.faults) doors') g'.faults up gains
+
+  by-listen : (ended : Worked) (written : Bool) → exits.ListenFault ≡ exit_of_workers ended written → ended ≡ worked.DoorFailed
+  by-listen worked.DoorFailed written e = refl
+  by-listen worked.OutOfMemory written e = absurd (cc (e))
+  by-listen worked.Done true e = absurd (cc (e))
+  by-listen worked.Done false e = absurd (cc (e))
+
+  pub listen-rises : Serves → exit ≡ exits.ListenFault → Rises g.faults g'.faults
+  listen-rises (inl shut) e = absurd (subst (λ (x : Exit). IsWhyShut path x s s') e shut.0.refused)
+  listen-rises (inr (inl closed)) e = subst (λ (x : Exit). IsWhyClosed x g g') e closed.0.refused
+  listen-rises (inr (inr m)) e =
+      door-counted m.ended m.serves.works m.doors m.doors' m.serves.before m.serves.after m.new m.serves.cause (by-listen m.ended m.written (sym e ∙ m.exit_is)) m.gates
+
+  by-write : (ended : Worked) (written : Bool) (n : ℕ) → exits.WriteFault ≡ exit_of_workers ended written → TellsEntries written n o o' → Rises o.faults o'.faults
+  by-write worked.Done false n e line = line.rises
+  by-write worked.Done true n e line = absurd (cc (e))
+  by-write worked.DoorFailed written n e line = absurd (cc (e))
+  by-write worked.OutOfMemory written n e line = absurd (cc (e))
+
+  pub write-rises : Serves → exit ≡ exits.WriteFault → Rises o.faults o'.faults
+  write-rises (inl shut) e = absurd (subst (λ (x : Exit). IsWhyShut path x s s') e shut.0.refused)
+  write-rises (inr (inl closed)) e = absurd (subst (λ (x : Exit). IsWhyClosed x g g') e closed.0.refused)
+  write-rises (inr (inr m)) e = by-write m.ended m.written (length m.history) (sym e ∙ m.exit_is) m.line
+
+  by-keeper : (ended : Worked) (written : Bool) → exits.KeeperFault ≢ exit_of_workers ended written
+  by-keeper worked.Done false e = absurd (cc (e))
+  by-keeper worked.Done true e = absurd (cc (e))
+  by-keeper worked.DoorFailed written e = absurd (cc (e))
+  by-keeper worked.OutOfMemory written e = absurd (cc (e))
+
+  pub keeper-rises : Serves → exit ≡ exits.KeeperFault → Rises s.faults s'.faults
+  keeper-rises (inl shut) e = subst (λ (x : Exit). IsWhyShut path x s s') e shut.0.refused
+  keeper-rises (inr (inl closed)) e = absurd (subst (λ (x : Exit). IsWhyClosed x g g') e closed.0.refused)
+  keeper-rises (inr (inr m)) e = absurd (by-keeper m.ended m.written (sym e ∙ m.exit_is))
+
+  -- no input is read
+  by-read : (ended : Worked) (written : Bool) → exits.ReadFault ≢ exit_of_workers ended written
+  by-read worked.Done false e = absurd (cc (e))
+  by-read worked.Done true e = absurd (cc (e))
+  by-read worked.DoorFailed written e = absurd (cc (e))
+  by-read worked.OutOfMemory written e = absurd (cc (e))
+
+  pub never-reads : Serves → exit ≢ exits.ReadFault
+  never-reads (inl shut) e = absurd (subst (λ (x : Exit). IsWhyShut path x s s') e shut.0.refused)
+  never-reads (inr (inl closed)) e = absurd (subst (λ (x : Exit). IsWhyClosed x g g') e closed.0.refused)
+  never-reads (inr (inr m)) e = absurd (by-read m.ended m.written (sym e ∙ m.exit_is))
+
+  by-usage : (ended : Worked) (written : Bool) → exits.Usage ≢ exit_of_workers ended written
+  by-usage worked.Done false e = absurd (cc (e))
+  by-usage worked.Done true e = absurd (cc (e))
+  by-usage worked.DoorFailed written e = absurd (cc (e))
+  by-usage worked.OutOfMemory written e = absurd (cc (e))
+
+  pub never-usage : Serves → exit ≢ exits.Usage
+  never-usage (inl shut) e = absurd (subst (λ (x : Exit). IsWhyShut path x s s') e shut.0.refused)
+  never-usage (inr (inl closed)) e = absurd (subst (λ (x : Exit). IsWhyClosed x g g') e closed.0.refused)
+  never-usage (inr (inr m)) e = absurd (by-usage m.ended m.written (sym e ∙ m.exit_is))
+
+  -- ---- where nothing fails
+
+  by-closed : (x : Exit) → IsWhyClosed x g g' → (Rises g.faults g'.faults → ⊥) → x ≡ exits.OutOfMemory
+  by-closed exits.OutOfMemory why idle = refl
+  by-closed exits.ListenFault why idle = absurd (idle why)
+  by-closed exits.Done why idle = absurd why
+  by-closed exits.Cut why idle = absurd why
+  by-closed exits.Usage why idle = absurd why
+  by-closed (exits.BadStore row kind) why idle = absurd why
+  by-closed exits.ReadFault why idle = absurd why
+  by-closed exits.WriteFault why idle = absurd why
+  by-closed exits.KeeperFault why idle = absurd why
+  by-closed exits.NoUser why idle = absurd why
+
+  by-ended : (ended : Worked) (written : Bool) (n : ℕ) → TellsEntries written n o o' → (Rises o.faults o'.faults → ⊥) → (ended ≡ worked.DoorFailed → ⊥)
+      → (exit_of_workers ended written ≡ exits.OutOfMemory) ⊎ (exit_of_workers ended written ≡ exits.Done)
+  by-ended worked.OutOfMemory written n line idle none = inl refl
+  by-ended worked.DoorFailed written n line idle none = absurd (none refl)
+  by-ended worked.Done true n line idle none = inr refl
+  by-ended worked.Done false n line idle none = absurd (idle line.rises)
+
+  pub serves-or-memory : Serves → (Rises o.faults o'.faults → ⊥) → (Rises g.faults g'.faults → ⊥) → (Rises s.faults s'.faults → ⊥)
+      → (files : Files) → s.files ≡ Some files → (H : History) → Legal H → rows_of H ≡ files path → (exit ≡ exits.OutOfMemory) ⊎ (exit ≡ exits.Done)
+  serves-or-memory (inl shut) quiet idle still files told H legal spells = inl (opens-or-memory path exit s s' shut.0 still files told H legal spells)
+  serves-or-memory (inr (inl closed)) quiet idle still files told H legal spells = inl (by-closed exit closed.0.refused idle)
+  serves-or-memory (inr (inr m)) quiet idle still files told H legal spells =
+      subst (λ (x : Exit). (x ≡ exits.OutOfMemory) ⊎ (x ≡ exits.Done)) (sym m.exit_is)
+      (by-ended m.ended m.written (length m.history) m.line quiet
+      (λ failed. idle (door-counted m.ended m.serves.works m.doors m.doors' m.serves.before m.serves.after m.new m.serves.cause failed m.gates)))
