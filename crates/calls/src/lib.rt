@@ -19,3 +19,5 @@ mod tables;
 mod tcp;
 #[cfg(test)]
 mod words;
+#[cfg(test)]
+mod workers;

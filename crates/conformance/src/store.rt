@@ -126,6 +126,11 @@ pub fn add_row(rows: &mut Vec<Row>, place: &str, row: Row) -> Result<(), LineErr
     }
 }
 
+/// Whether the row is one of these.
+pub fn is_among(row: &Row, rows: &[Row]) -> bool {
+    rows.iter().any(|other| other.is_same(row))
+}
+
 /// Whether these are the same rows.
 pub fn are_same(rows: &[Row], others: &[Row]) -> bool {
     rows.len() == others.len()
