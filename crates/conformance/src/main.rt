@@ -22,7 +22,7 @@
 //! | `@N ROW` | the same in place of row number N, from 0, of those told so far |
 //! | `=@ same`, `=@ ROW` | the rows that are due there behind the run: those that stood there ahead of it; and then this one |
 //! | `!open` | the store can't be opened |
-//! | `!append N`, `!row N` | append number N, from 1, fails, in a store without rows; any other call of the keeper does |
+//! | `!append N`, `!row N` | append number N, from 1, fails, from 2 where rows stand in the store ahead; any other call of the keeper does |
 //! | `!each end`, `!each read`, `!each write` | the case is run once for each place at which the input may end, may fail, the output may fail |
 //! | `!each row` | the case is run once for each row at which the store may end |
 //! | `!whole` | the case is run with its bytes whole alone |
@@ -30,7 +30,7 @@
 //! | `=bad_store ROW KIND` | it ends since that row, from 0, of that kind, is a bad one |
 //! | `=rows N` | N rows are kept by the answer ahead of this line |
 //! | `=unread` | what is sent from here on isn't read, where the bytes come one by one |
-//! | `&[N]` | a connection of `serve` begins, or N that are alike: what is sent, due and fails behind this line, up to the next such one, is so on it; ahead of the first such line, on the program's own input and output |
+//! | `&[N]` | a connection of `serve` begins, or N that are alike; what stands ahead of the first is of the program's own streams |
 //! | `\| CODE CONTENT` | this may be answered in place of the answer ahead of it, by the way in which workers' turns interleave |
 //! | `=kept ROW` | this row is kept exactly where the answer ahead of it is given, and none in its place |
 //! | `=times N CODE CONTENT` | N answers on all connections together are this one |
