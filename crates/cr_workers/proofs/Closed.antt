@@ -3,11 +3,9 @@ use Rattle.std.proofs.Common.{◌≡◌, ◌∙◌, ℕ, ◌+◌, ◌≤◌, ◌
 use mathlib.Core.Logic.{dite}
 use native.Mathlib.Decide.{dec_le}
 use mathlib.Core.List.{IsPrefix}
-use Rattle.atomic_table.specs.Seated.{TableId}
 use Rattle.cr_base.specs.History.{History}
 use Rattle.cr_lock.specs.Counts.{Every, total, within, last_count}
 use Rattle.cr_lock.specs.Turns.{groups_with, marks, rises}
-use Rattle.cr_lock.specs.Passes.{first_pass}
 use Rattle.cr_lock.specs.Closing.{Closes}
 use Rattle.cr_lock.proofs.Prefixes.{prefix_self}
 use Rattle.cr_lock.proofs.Sums.{within_out}
@@ -43,21 +41,23 @@ history-unasked {I} {O} streams doors b = record {
 
 -- the one pass of a closed lock has the turns of all connections, and the closed value stands for what it has seen
 pub history-closed : {T I O : Type 0} (list : T → History) (faults : T → ℕ) (streams : Streams I O) (ended : Worked) (doors doors' : List (SeenDoor I O))
-    (lock : TableId) (first last : T) (p : KnownPass) → ServesDoors streams ended doors doors' (first_pass lock (list first)) p → Closes list faults first p last
+    (first last : T) (p₀ p : KnownPass) → p₀.seen ≡ list first → p₀.mine ≡ [] → ServesDoors streams ended doors doors' p₀ p → Closes list faults first p last
     → ServesHistory streams ended doors doors' (record { history = list first; faults = faults first }) (record { history = list last; faults = faults last })
-history-closed {T} {I} {O} list faults streams ended doors doors' lock first last p x closes = record {
+history-closed {T} {I} {O} list faults streams ended doors doors' first last p₀ p saw none x closes = record {
   works = x.works;
   before = x.before;
   after = x.after;
   each = x.each;
   cause = x.cause;
-  served = subst (λ (H : History). Every (IsServedWithin streams (list first) H) (connections_of x.works)) (sym closes.stands) x.served.each;
+  served = subst (λ (H : History). Every (IsServedWithin streams (list first) H) (connections_of x.works)) (sym closes.stands)
+      (subst (λ (H : History). Every (IsServedWithin streams H p.seen) (connections_of x.works)) saw x.served.each);
   begins = subst (λ (H : History). IsPrefix (list first) H) (sym closes.stands) closes.begins;
   once = λ k. (
     let g = x.served.groups k in
+    let z = ap (groups_with k) none in
     let w = closes.groups k in
     let n = ap (λ (H : History). within (length (list first)) (length H) k) closes.stands in
-    omega (arith, g, w, n));
-  counted = (let r = x.served.rose in let c = closes.count in omega (arith, r, c));
-  marked = ⊎_elim (λ few. inl (let m = x.served.marked in omega (arith, m, few))) inr closes.marks;
+    omega (arith, g, z, w, n));
+  counted = (let r = x.served.rose in let z = ap rises none in let c = closes.count in omega (arith, r, z, c));
+  marked = ⊎_elim (λ few. inl (let m = x.served.marked in let z = ap marks none in omega (arith, m, z, few))) inr closes.marks;
 }

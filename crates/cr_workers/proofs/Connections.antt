@@ -1,5 +1,5 @@
 -- Connections that were served one after another, or side by side.
-use Rattle.std.proofs.Common.{◌≡◌, ◌∙◌, ℕ, ◌+◌, ◌⊎◌, inl, inr, ⊎_elim, List, [], ◌∷◌, ◌++◌, length, Bool, true, false, nat_lt, if◌then◌else◌, refl, sym, ap, subst, arith}
+use Rattle.std.proofs.Common.{◌≡◌, ◌∙◌, ℕ, ◌+◌, ◌<◌, ◌≤◌, ◌⊎◌, inl, inr, ⊎_elim, List, [], ◌∷◌, ◌++◌, length, Bool, true, false, nat_lt, if◌then◌else◌, refl, sym, ap, subst, arith}
 use Rattle.std.proofs.lemmas.Bool.Decides.{nat_tests}
 use mathlib.Core.List.{IsPrefix}
 use Rattle.cr_base.specs.declared.entry.Stamped.{Stamped}
@@ -8,7 +8,7 @@ use Rattle.cr_lock.specs.declared.view.Turn.{Turn}
 use Rattle.cr_lock.specs.Counts.{Every, total, within}
 use Rattle.cr_lock.specs.Turns.{groups_with, marks, rises, end_of, merged, longer}
 use Rattle.cr_lock.specs.Passes.{larger_half, smaller_half, united, Agree}
-use Rattle.cr_lock.proofs.Prefixes.{prefix_self, prefix_trans, prefix_length}
+use Rattle.cr_lock.proofs.Prefixes.{prefix_self, prefix_trans, prefix_length, prefix_whole}
 use Rattle.cr_lock.proofs.Sums.{total_append, total_merged}
 use Rattle.cr_session.specs.Passing.{KnownPass}
 use Rattle.cr_workers.specs.Connections.{Streams, ServedConnection, IsServed, IsServedWithin, ServeAll}
@@ -16,23 +16,20 @@ use Rattle.cr_workers.proofs.Grown.{every-append}
 
 -- ---- the longer of two lists, of which one begins the other
 
-longer-is : {A : Type 0} (xs ys : List A) (b : Bool) → nat_lt (length xs) (length ys) ≡ b → IsPrefix xs ys ⊎ IsPrefix ys xs
+longer-is : {A : Type 0} (xs ys : List A) (b : Bool) → (b ≡ true → length xs < length ys) → (b ≡ false → length ys ≤ length xs) → IsPrefix xs ys ⊎ IsPrefix ys xs
     → IsPrefix xs (if b then ys else xs) × IsPrefix ys (if b then ys else xs)
-longer-is xs ys true lt (inl p) = (p, prefix_self ys)
-longer-is xs ys true lt (inr p) = (let le = prefix_length ys xs p in absurd (grind (arith, nat_tests)))
-longer-is xs ys false ge (inl p) = (prefix_self xs, (let le = prefix_length xs ys p in grind (arith, nat_tests)))
-longer-is xs ys false ge (inr p) = (prefix_self xs, p)
+longer-is xs ys true up down (inl p) = (p, prefix_self ys)
+longer-is xs ys true up down (inr p) = absurd (let le = prefix_length ys xs p in let lt = up refl in omega (arith, le, lt))
+longer-is xs ys false up down (inl p) = (prefix_self xs, subst (λ zs. IsPrefix ys zs) (sym (prefix_whole xs ys p (down refl))) (prefix_self ys))
+longer-is xs ys false up down (inr p) = (prefix_self xs, p)
 
 longer-begins : {A : Type 0} (xs ys : List A) → IsPrefix xs ys ⊎ IsPrefix ys xs → IsPrefix xs (longer xs ys) × IsPrefix ys (longer xs ys)
-longer-begins xs ys either = longer-is xs ys (nat_lt (length xs) (length ys)) refl either
+longer-begins xs ys either = longer-is xs ys (nat_lt (length xs) (length ys)) (λ e. grind (arith, nat_tests)) (λ e. grind (arith, nat_tests)) either
 
 module _ {I O : Type 0} (streams : Streams I O) where
-  C : Type 0
-  C = ServedConnection I O
-
   -- ---- between earlier and later moments
 
-  widened : (first first' last last' : History) → IsPrefix first' first → IsPrefix last last' → (cs : List C)
+  widened : (first first' last last' : History) → IsPrefix first' first → IsPrefix last last' → (cs : List (ServedConnection I O))
       → Every (IsServedWithin streams first last) cs → Every (IsServedWithin streams first' last') cs
   widened first first' last last' a b [] each = tt
   widened first first' last last' a b (c ∷ cs) each = (
@@ -45,7 +42,7 @@ module _ {I O : Type 0} (streams : Streams I O) where
   pub serve-none : (p : KnownPass) → ServeAll streams [] p p
   serve-none p = record { each = tt; seen = prefix_self p.seen; groups = λ k. omega arith; marked = omega arith; rose = omega arith }
 
-  pub serve-one : (c : C) → IsServed streams c → ServeAll streams (c ∷ []) c.before c.after
+  pub serve-one : (c : ServedConnection I O) → IsServed streams c → ServeAll streams (c ∷ []) c.before c.after
   serve-one c is = record {
     each = (record { served = is; begins = prefix_self c.before.seen; ends = prefix_self c.after.seen }, tt);
     seen = is.seen;
@@ -54,19 +51,19 @@ module _ {I O : Type 0} (streams : Streams I O) where
     rose = (let e = ap rises is.mine ∙ total_append (λ (t : Turn Stamped). t.rise) c.before.mine c.turns in omega (arith, e));
   }
 
-  pub serve-then : (cs ds : List C) (p q r : KnownPass) → ServeAll streams cs p q → ServeAll streams ds q r → ServeAll streams (cs ++ ds) p r
+  pub serve-then : (cs ds : List (ServedConnection I O)) (p q r : KnownPass) → ServeAll streams cs p q → ServeAll streams ds q r → ServeAll streams (cs ++ ds) p r
   serve-then cs ds p q r a b = record {
     each = every-append (IsServedWithin streams p.seen r.seen) cs ds
         (widened p.seen p.seen q.seen r.seen (prefix_self p.seen) b.seen cs a.each)
         (widened q.seen p.seen r.seen r.seen a.seen (prefix_self r.seen) ds b.each);
     seen = prefix_trans p.seen q.seen r.seen a.seen b.seen;
     groups = λ k. (
-      let x = a.groups k in let y = b.groups k in let z = total_append (λ (c : C). groups_with k c.turns) cs ds in omega (arith, x, y, z));
-    marked = (let x = a.marked in let y = b.marked in let z = total_append (λ (c : C). marks c.turns) cs ds in omega (arith, x, y, z));
-    rose = (let x = a.rose in let y = b.rose in let z = total_append (λ (c : C). rises c.turns) cs ds in omega (arith, x, y, z));
+      let x = a.groups k in let y = b.groups k in let z = total_append (λ (c : ServedConnection I O). groups_with k c.turns) cs ds in omega (arith, x, y, z));
+    marked = (let x = a.marked in let y = b.marked in let z = total_append (λ (c : ServedConnection I O). marks c.turns) cs ds in omega (arith, x, y, z));
+    rose = (let x = a.rose in let y = b.rose in let z = total_append (λ (c : ServedConnection I O). rises c.turns) cs ds in omega (arith, x, y, z));
   }
 
-  pub serve-both : (cs ds : List C) (p q r : KnownPass) → ServeAll streams cs (larger_half p) q → ServeAll streams ds (smaller_half p) r → Agree q r
+  pub serve-both : (cs ds : List (ServedConnection I O)) (p q r : KnownPass) → ServeAll streams cs (larger_half p) q → ServeAll streams ds (smaller_half p) r → Agree q r
       → ServeAll streams (cs ++ ds) p (united q r)
   serve-both cs ds p q r a b agree =
       let long = longer-begins q.seen r.seen agree.0 in record {
@@ -77,13 +74,13 @@ module _ {I O : Type 0} (streams : Streams I O) where
         groups = λ k. (
           let x = a.groups k in let y = b.groups k in
           let m = total_merged (λ (t : Turn Stamped). within t.place (end_of t) k) q.mine r.mine in
-          let z = total_append (λ (c : C). groups_with k c.turns) cs ds in omega (arith, x, y, z, m));
+          let z = total_append (λ (c : ServedConnection I O). groups_with k c.turns) cs ds in omega (arith, x, y, z, m));
         marked = (
           let x = a.marked in let y = b.marked in
           let m = total_merged (λ (t : Turn Stamped). if t.marked then 1 else 0) q.mine r.mine in
-          let z = total_append (λ (c : C). marks c.turns) cs ds in omega (arith, x, y, z, m));
+          let z = total_append (λ (c : ServedConnection I O). marks c.turns) cs ds in omega (arith, x, y, z, m));
         rose = (
           let x = a.rose in let y = b.rose in
           let m = total_merged (λ (t : Turn Stamped). t.rise) q.mine r.mine in
-          let z = total_append (λ (c : C). rises c.turns) cs ds in omega (arith, x, y, z, m));
+          let z = total_append (λ (c : ServedConnection I O). rises c.turns) cs ds in omega (arith, x, y, z, m));
       }

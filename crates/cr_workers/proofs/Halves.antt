@@ -1,5 +1,5 @@
 -- Doors that workers shared.
-use Rattle.std.proofs.Common.{◌≡◌, ◌∙◌, ℕ, ◌⊎◌, inl, inr, List, [], ◌∷◌, ◌++◌, ◌×◌, map, flat_map, refl, sym, ap, subst, append_assoc}
+use Rattle.std.proofs.Common.{◌≡◌, ◌∙◌, ℕ, ◌⊎◌, inl, inr, List, [], ◌∷◌, ◌++◌, map, flat_map, refl, sym, ap, subst, append_assoc}
 use Rattle.cr_lock.specs.Counts.{Every}
 use Rattle.cr_lock.specs.Passes.{larger_half, smaller_half, united, Agree}
 use Rattle.cr_session.specs.Passing.{KnownPass}
@@ -15,12 +15,9 @@ map-append f [] ys = refl
 map-append f (x ∷ xs) ys = ap (λ zs. f x ∷ zs) (map-append f xs ys)
 
 module _ {I O : Type 0} where
-  W : Type 0
-  W = DoorWork I O
-
   -- ---- what holds however others ended
 
-  worked-left : (a b : Worked) (w : W) → IsWorkedOn a w → IsWorkedOn (joined a b) w
+  worked-left : (a b : Worked) (w : DoorWork I O) → IsWorkedOn a w → IsWorkedOn (joined a b) w
   worked-left worked.OutOfMemory b w is = is
   worked-left worked.DoorFailed worked.OutOfMemory w (inl done, none) = inl done
   worked-left worked.DoorFailed worked.OutOfMemory w (inr failed, none) = inr (inl failed)
@@ -30,7 +27,7 @@ module _ {I O : Type 0} where
   worked-left worked.Done worked.DoorFailed w is = (inl is.0, is.1)
   worked-left worked.Done worked.OutOfMemory w is = inl is.0
 
-  worked-right : (a b : Worked) (w : W) → IsWorkedOn b w → IsWorkedOn (joined a b) w
+  worked-right : (a b : Worked) (w : DoorWork I O) → IsWorkedOn b w → IsWorkedOn (joined a b) w
   worked-right worked.OutOfMemory worked.OutOfMemory w is = is
   worked-right worked.OutOfMemory worked.DoorFailed w (inl done, none) = inl done
   worked-right worked.OutOfMemory worked.DoorFailed w (inr failed, none) = inr (inl failed)
@@ -40,25 +37,26 @@ module _ {I O : Type 0} where
   worked-right worked.DoorFailed worked.Done w is = (inl is.0, is.1)
   worked-right worked.Done b w is = is
 
-  every-left : (a b : Worked) (ws : List W) → Every (IsWorkedOn a) ws → Every (IsWorkedOn (joined a b)) ws
+  every-left : (a b : Worked) (ws : List (DoorWork I O)) → Every (IsWorkedOn a) ws → Every (IsWorkedOn (joined a b)) ws
   every-left a b [] each = tt
   every-left a b (w ∷ ws) each = (worked-left a b w each.0, every-left a b ws each.1)
 
-  every-right : (a b : Worked) (ws : List W) → Every (IsWorkedOn b) ws → Every (IsWorkedOn (joined a b)) ws
+  every-right : (a b : Worked) (ws : List (DoorWork I O)) → Every (IsWorkedOn b) ws → Every (IsWorkedOn (joined a b)) ws
   every-right a b [] each = tt
   every-right a b (w ∷ ws) each = (worked-right a b w each.0, every-right a b ws each.1)
 
   -- ---- why they ended so
 
-  failed-left : (vs ws : List W) → OneFailed vs → OneFailed (vs ++ ws)
+  failed-left : (vs ws : List (DoorWork I O)) → OneFailed vs → OneFailed (vs ++ ws)
+  failed-left [] ws x' = elim x' [ ]
   failed-left (v ∷ vs) ws (inl here) = inl here
   failed-left (v ∷ vs) ws (inr there) = inr (failed-left vs ws there)
 
-  failed-right : (vs ws : List W) → OneFailed ws → OneFailed (vs ++ ws)
+  failed-right : (vs ws : List (DoorWork I O)) → OneFailed ws → OneFailed (vs ++ ws)
   failed-right [] ws failed = failed
   failed-right (v ∷ vs) ws failed = inr (failed-right vs ws failed)
 
-  cause-both : (a b : Worked) (vs ws : List W) → HasCause a vs → HasCause b ws → HasCause (joined a b) (vs ++ ws)
+  cause-both : (a b : Worked) (vs ws : List (DoorWork I O)) → HasCause a vs → HasCause b ws → HasCause (joined a b) (vs ++ ws)
   cause-both worked.OutOfMemory b vs ws x y = tt
   cause-both worked.DoorFailed worked.OutOfMemory vs ws x y = tt
   cause-both worked.DoorFailed worked.DoorFailed vs ws x y = failed-left vs ws x
@@ -67,20 +65,20 @@ module _ {I O : Type 0} where
   cause-both worked.Done worked.DoorFailed vs ws x y = failed-right vs ws y
   cause-both worked.Done worked.OutOfMemory vs ws x y = tt
 
-  connections-both : (vs ws : List W) → connections_of (vs ++ ws) ≡ connections_of vs ++ connections_of ws
+  connections-both : (vs ws : List (DoorWork I O)) → connections_of (vs ++ ws) ≡ connections_of vs ++ connections_of ws
   connections-both [] ws = refl
   connections-both (v ∷ vs) ws = ap (λ cs. v.connections ++ cs) (connections-both vs ws) ∙ sym (append_assoc v.connections (connections_of vs) (connections_of ws))
 
   -- ---- lists of doors
 
-  pub unasked : List (SeenDoor I O) → List W
+  abbrev pub unasked : List (SeenDoor I O) → List (DoorWork I O)
   unasked doors = map (λ (d : SeenDoor I O). record { before = d; after = d; connections = [] }) doors
 
-  pub unasked-before : (doors : List (SeenDoor I O)) → map (λ (w : W). w.before) (unasked doors) ≡ doors
+  pub unasked-before : (doors : List (SeenDoor I O)) → map (λ (w : DoorWork I O). w.before) (unasked doors) ≡ doors
   unasked-before [] = refl
   unasked-before (d ∷ ds) = ap (λ xs. d ∷ xs) (unasked-before ds)
 
-  pub unasked-after : (doors : List (SeenDoor I O)) → map (λ (w : W). w.after) (unasked doors) ≡ doors
+  pub unasked-after : (doors : List (SeenDoor I O)) → map (λ (w : DoorWork I O). w.after) (unasked doors) ≡ doors
   unasked-after [] = refl
   unasked-after (d ∷ ds) = ap (λ xs. d ∷ xs) (unasked-after ds)
 
@@ -112,8 +110,8 @@ module _ {I O : Type 0} where
       → ServesDoors streams (joined a b) (ds ++ es) (ds' ++ es') p (united q r)
   doors-both streams a b ds ds' es es' p q r x y agree = record {
     works = x.works ++ y.works;
-    before = map-append (λ (w : W). w.before) x.works y.works ∙ ap (λ (z : List (SeenDoor I O) × List (SeenDoor I O)). z.0 ++ z.1) (λ i. (x.before i, y.before i));
-    after = map-append (λ (w : W). w.after) x.works y.works ∙ ap (λ (z : List (SeenDoor I O) × List (SeenDoor I O)). z.0 ++ z.1) (λ i. (x.after i, y.after i));
+    before = map-append (λ (w : DoorWork I O). w.before) x.works y.works ∙ ap (λ (z : List (SeenDoor I O) × List (SeenDoor I O)). z.0 ++ z.1) (λ i. (x.before i, y.before i));
+    after = map-append (λ (w : DoorWork I O). w.after) x.works y.works ∙ ap (λ (z : List (SeenDoor I O) × List (SeenDoor I O)). z.0 ++ z.1) (λ i. (x.after i, y.after i));
     each = every-append (IsWorkedOn (joined a b)) x.works y.works (every-left a b x.works x.each) (every-right a b y.works y.each);
     cause = cause-both a b x.works y.works x.cause y.cause;
     served = subst (λ cs. ServeAll streams cs p (united q r)) (sym (connections-both x.works y.works))

@@ -1,10 +1,11 @@
 -- A worker between two connections of its door, and at its end.
 use Rattle.std.proofs.Common.{◌≡◌, ◌∙◌, ℕ, ◌+◌, ◌*◌, ◌^◌, ◌≤◌, inl, inr, List, [], ◌∷◌, ◌++◌, length, map, Bool, true, false, ◌||◌, Option, Some, None, Ok, Err, refl, sym, ap, subst, arith, append_assoc, length-append}
 use Rattle.cr_lock.specs.Counts.{Every}
-use Rattle.cr_ports.specs.Doors.{DoorLog}
+use Rattle.cr_ports.specs.Doors.{DoorLog, and_answer, and_back}
+use Rattle.cr_ports.specs.declared.door.NextConnection.TheVariants as next
 use Rattle.cr_session.specs.declared.serve.Ending.{Ending}
 use Rattle.cr_session.specs.Passing.{KnownPass, StaysPass}
-use Rattle.cr_session.proofs.Passes.{stays-now, stays-then, stays-within}
+use Rattle.cr_session.proofs.Passes.{stays-now, stays-then}
 use Rattle.cr_workers.specs.Connections.{Streams, ServedConnection, ServeAll}
 use Rattle.cr_workers.specs.Doors.{SeenDoor, DoorWork, IsWorkedOn, HasCause, TellsMore, Visits, Stops, Works, NoneLacked, lacks, ended_by, ends_of, ServesNext, ServesDoors}
 use Rattle.cr_workers.specs.declared.worker.Last.{Last}
@@ -13,25 +14,38 @@ use Rattle.cr_workers.proofs.Grown.{append-nil, every-append}
 use Rattle.cr_workers.proofs.Connections.{serve-none, serve-one, serve-then}
 use Rattle.cr_workers.proofs.Halves.{map-append}
 
-module _ {I O : Type 0} where
-  C : Type 0
-  C = ServedConnection I O
+stays-within : (m n : ℕ) (p q : KnownPass) → m ≤ n → StaysPass m p q → StaysPass n p q
+stays-within m n p q le x = record { lock = x.lock; share = x.share; few = (let a = x.few in omega (arith, a, le)) }
 
+module _ {I O : Type 0} where
   -- ---- doors that gave connections
 
   tells-none : (log : Option (DoorLog I O)) → TellsMore [] log log
   tells-none None = tt
   tells-none (Some log) = append-nil log.served
 
-  tells-then : (cs ds : List C) (a b c : Option (DoorLog I O)) → TellsMore cs a b → TellsMore ds b c → TellsMore (cs ++ ds) a c
+  tells-then : (cs ds : List (ServedConnection I O)) (a b c : Option (DoorLog I O)) → TellsMore cs a b → TellsMore ds b c → TellsMore (cs ++ ds) a c
   tells-then cs ds None None None x y = tt
+  tells-then cs ds None None (Some c) x y = elim y [ ]
+  tells-then cs ds None (Some b) c x y = elim x [ ]
+  tells-then cs ds (Some a) None c x y = elim x [ ]
+  tells-then cs ds (Some a) (Some b) None x y = elim y [ ]
   tells-then cs ds (Some a) (Some b) (Some c) x y =
-      y ∙ (ap (λ s. s ++ ends_of ds) x ∙ (append_assoc a.served (ends_of cs) (ends_of ds) ∙ ap (λ s. a.served ++ s) (sym (map-append (λ (z : C). z.ends) cs ds))))
+      y ∙ (ap (λ s. s ++ ends_of ds) x ∙ (append_assoc a.served (ends_of cs) (ends_of ds) ∙ ap (λ s. a.served ++ s) (sym (map-append (λ (z : ServedConnection I O). z.ends) cs ds))))
 
-  visits-none : (d : SeenDoor I O) → d.is_out ≡ false → Visits {I} {O} [] d d
+  -- one connection was given and came back
+  pub tells-one : (c : ServedConnection I O) (a b z : Option (DoorLog I O)) → b ≡ and_answer a (next.Conn c.ends.given.0 c.ends.given.1) → z ≡ and_back b c.ends.back.0 c.ends.back.1 → TellsMore (c ∷ []) a z
+  tells-one c a b z gave back =
+      subst (λ (l : Option (DoorLog I O)). TellsMore (c ∷ []) a l) (sym (back ∙ ap (λ l. and_back l c.ends.back.0 c.ends.back.1) gave)) (at a)
+    where
+      at : (l : Option (DoorLog I O)) → TellsMore (c ∷ []) l (and_back (and_answer l (next.Conn c.ends.given.0 c.ends.given.1)) c.ends.back.0 c.ends.back.1)
+      at None = tt
+      at (Some log) = refl
+
+  visits-none : (d : SeenDoor I O) → d.is_out ≡ false → Visits [] d d
   visits-none d back = record { left = omega arith; back = back; faults = refl; log = tells-none d.log }
 
-  visits-then : (cs ds : List C) (d e f : SeenDoor I O) → Visits cs d e → Visits ds e f → Visits (cs ++ ds) d f
+  visits-then : (cs ds : List (ServedConnection I O)) (d e f : SeenDoor I O) → Visits cs d e → Visits ds e f → Visits (cs ++ ds) d f
   visits-then cs ds d e f x y = record {
     left = (let a = x.left in let b = y.left in let n = length-append cs ds in omega (arith, a, b, n));
     back = y.back;
@@ -43,7 +57,7 @@ module _ {I O : Type 0} where
 
   -- it served these connections, of which one ended for lack of memory or none did
   pub record ServesSoFar (streams : Streams I O) (lacked : Bool) (d d' : SeenDoor I O) (p p' : KnownPass) : Type 0 where
-    pub connections : List C
+    pub connections : List (ServedConnection I O)
     pub visits : Visits connections d d'
     pub served : ServeAll streams connections p p'
     pub none : lacked ≡ false → NoneLacked connections
@@ -52,9 +66,9 @@ module _ {I O : Type 0} where
   pub serves-none : (streams : Streams I O) (d : SeenDoor I O) (p : KnownPass) → d.is_out ≡ false → ServesSoFar streams false d d p p
   serves-none streams d p back = record { connections = []; visits = visits-none d back; served = serve-none streams p; none = λ e. tt; stays = stays-now p }
 
-  none-then : (lacked : Bool) (cs : List C) (c : C) → (lacked ≡ false → NoneLacked cs) → (lacked || lacks c.ending) ≡ false → NoneLacked (cs ++ c ∷ [])
+  none-then : (lacked : Bool) (cs : List (ServedConnection I O)) (c : ServedConnection I O) → (lacked ≡ false → NoneLacked cs) → (lacked || lacks c.ending) ≡ false → NoneLacked (cs ++ c ∷ [])
   none-then true cs c none is = absurd (cc (is))
-  none-then false cs c none is = every-append (λ (z : C). lacks z.ending ≡ false) cs (c ∷ []) (none refl) (is, tt)
+  none-then false cs c none is = every-append (λ (z : ServedConnection I O). lacks z.ending ≡ false) cs (c ∷ []) (none refl) (is, tt)
 
   pub serves-next : (streams : Streams I O) (lacked : Bool) (ending : Ending) (d e f : SeenDoor I O) (p q r : KnownPass)
       → ServesSoFar streams lacked d e p q → ServesNext streams (Ok ending) e f q r → StaysPass 1048576 q r
@@ -93,7 +107,7 @@ module _ {I O : Type 0} where
         after = refl;
         each = (worked-by lacked last w works so.none, tt);
         cause = cause-by lacked last w works;
-        served = subst (λ (cs : List C). ServeAll streams cs p r) (append-nil so.connections) (subst (λ (x : KnownPass). ServeAll streams so.connections p x) (sym next.0) so.served);
+        served = subst (λ (cs : List (ServedConnection I O)). ServeAll streams cs p r) (append-nil so.connections) (subst (λ (x : KnownPass). ServeAll streams so.connections p x) (sym next.0) so.served);
       }
 
   -- not more connections than the door had to give

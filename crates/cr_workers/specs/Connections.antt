@@ -12,7 +12,7 @@ use Rattle.cr_session.specs.Serving.{World, world_of, ConnectionInHistory, Whole
 
 -- what sources and sinks of these types tell: the bytes that are left, what reads give, the bytes that were taken, and the
 -- counts of faults
-pub record Streams (I O : Type 0) : Type 0 where
+pub record Streams (I O : Type 0) : Type 1 where
   pub left : I → Option (List ℕ)
   pub gives : I → I → List ℕ → Type 0
   pub read_faults : I → ℕ

@@ -46,6 +46,7 @@ fn serve_last<R: Wait, K: Keeper, D: Door + Drop>(
 ///
 /// `DoorFailed` comes only where a door failed. Where a list of doors can't be split for lack of memory, these doors are not
 /// asked, and the answer is `OutOfMemory`.
+#[cycle(halves)]
 pub(crate) fn serve_doors<R: Threads + Wait + Sync, K: Keeper + Send, D: Door + Drop + Send>(
     rt: &R,
     alloc: Global,
@@ -53,6 +54,9 @@ pub(crate) fn serve_doors<R: Threads + Wait + Sync, K: Keeper + Send, D: Door + 
     pass: Pass<Book<K>>,
     doors: Vec<D>,
 ) -> (Pass<Book<K>>, Vec<D>, Worked)
+where
+    D::In: Send,
+    D::Out: Send,
     requires own { pass.lock ≡ lock.now.lock }
     requires share { length doors.items ≤ pass.share }
     requires few { pass.turns + 1048576 * total D.left doors.items ≤ 2 ^ 40 }

@@ -30,6 +30,9 @@ pub fn serve_book<R: Threads + Wait + Sync, K: Keeper + Send, D: Door + Drop + S
     book: Book<K>,
     doors: Vec<D>,
 ) -> (Worked, Book<K>, Vec<D>)
+where
+    D::In: Send,
+    D::Out: Send,
     requires at_most { length doors.items ≤ 64 }
     requires few { 1048576 * total D.left doors.items ≤ 2 ^ 40 }
     requires back { Every (λ door. D.is_out door ≡ false) doors.items }
