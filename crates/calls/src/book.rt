@@ -10,11 +10,11 @@ use std::alloc::{AllocError, Global};
 use std::sync::Wait;
 use std::test::Fail;
 
-const ROOM: usize = 4096;
+pub(crate) const ROOM: usize = 4096;
 
-const GET_PHASE: &str = "GET /phase HTTP/1.1\r\nHost: c\r\n\r\n";
+pub(crate) const GET_PHASE: &str = "GET /phase HTTP/1.1\r\nHost: c\r\n\r\n";
 
-const ALICE: &str =
+pub(crate) const ALICE: &str =
     "POST /register HTTP/1.1\r\nHost: c\r\nContent-Length: 47\r\n\r\n{\"name\":\"alice\",\"secret\":\"alice-secret-000001\"}";
 
 /// The first 20 bytes of a body of 47.
@@ -84,7 +84,7 @@ fn rows(keeper: &mut PlainKeeper) -> u64 {
 }
 
 /// The book of a keeper's rows.
-fn opened(alloc: Global, keeper: PlainKeeper) -> Result<Book<PlainKeeper>, AllocError> {
+pub(crate) fn opened(alloc: Global, keeper: PlainKeeper) -> Result<Book<PlainKeeper>, AllocError> {
     match Book::open(alloc, keeper) {
         Ok(book) => Ok(book),
         Err(_) => Err(AllocError),
@@ -102,7 +102,7 @@ fn view(alloc: Global, book: &Book<PlainKeeper>) -> Result<[u64; 2], AllocError>
 }
 
 /// A lock round the book, and its one pass.
-fn locked(
+pub(crate) fn locked(
     alloc: Global,
     book: Book<PlainKeeper>,
 ) -> Result<(HistoryLock<Book<PlainKeeper>>, Pass<Book<PlainKeeper>>), AllocError>

@@ -21,3 +21,5 @@ mod tables;
 mod tcp;
 #[cfg(test)]
 mod words;
+#[cfg(test)]
+mod workers;

@@ -1,65 +1,58 @@
-//! A case: what is sent on one connection, what fails meanwhile, and what is due.
+//! A case: what is sent on its connections, what fails meanwhile, and what is due.
 
-use crate::message::{add_answer, add_request};
+use crate::connection::{Connection, Talk};
+use crate::message::add_answer;
 use crate::store::{add_row, copied, read_row};
-use crate::text::{LineError, add_raw, read_number};
+use crate::text::{LineError, read_number};
 use cr_base::Row;
 use cr_top::Exit;
 use std::alloc::{AllocError, Global};
 
-/// What is sent on one connection, what fails, and what is due.
+/// What is sent, what fails, and what is due.
 #[derive(Drop)]
 pub struct Case {
     /// Its title, from the line that begins it.
     pub title: String,
     /// The words of the command line, the program's name first.
     pub words: Vec<String>,
-    /// All that is sent.
-    pub sent: Vec<u8>,
-    /// All that is due.
-    pub due: Vec<u8>,
+    /// The program's own input and output.
+    pub talk: Talk,
+    /// The connections that the gates give, in order.
+    pub connections: Vec<Connection>,
     /// How it is due to end.
     pub exit: Exit,
-    /// The answers that are due, in order.
-    pub answers: Vec<Mark>,
-    /// What fails.
+    /// What fails beside the connections.
     pub faults: Faults,
     /// The rows that stand in the store ahead of the run.
     pub rows: Vec<Row>,
     /// The rows that are due there behind it, where they are told.
     pub rows_due: Option<Vec<Row>>,
+    /// How often some answers come on the connections.
+    pub times: Vec<Times>,
     /// In which ways it is run.
     pub ways: Ways,
-    /// Where the bytes begin that aren't to be read, where some are told.
-    pub unread: Option<usize>,
 }
 
-/// A line that tells an answer.
-#[derive(Clone, Copy, Drop)]
-pub struct Mark {
-    /// Its number in the file, from 1.
-    pub line: usize,
-    /// How many bytes are sent ahead of it.
-    pub sent: usize,
-    /// How many bytes are due up to its end.
-    pub end: usize,
-    /// How many rows are kept by then, where that is told.
-    pub rows: Option<u64>,
+/// How often an answer comes on all connections together.
+#[derive(Drop)]
+pub struct Times {
+    pub times: u64,
+    pub answer: Vec<u8>,
 }
 
-/// What fails in a case.
+/// What fails in a case beside its connections.
 #[derive(Drop)]
 pub struct Faults {
-    /// Behind how many bytes the input fails.
-    pub read: Option<usize>,
-    /// Behind how many bytes the output fails.
-    pub write: Option<usize>,
     /// Whether the store can't be opened.
     pub is_shut: bool,
     /// The numbers of the appends that fail, from 0.
     pub appends: Vec<u64>,
     /// The numbers of the keeper's other calls that fail, from 0.
     pub reads: Vec<u64>,
+    /// Whether the gates can't be opened.
+    pub has_no_doors: bool,
+    /// Of each door the numbers of the calls that fail, from 0.
+    pub doors: Vec<Vec<u64>>,
 }
 
 /// In which ways a case is run.
@@ -85,22 +78,35 @@ impl Case {
         Ok(Case {
             title: String::from_str(alloc, title)?,
             words: words_of(alloc, "confd pipe")?,
-            sent: Vec::new(alloc),
-            due: Vec::new(alloc),
+            talk: Talk::new(alloc),
+            connections: Vec::new(alloc),
             exit: Exit::Done,
-            answers: Vec::new(alloc),
             faults: Faults {
-                read: None,
-                write: None,
                 is_shut: false,
                 appends: Vec::new(alloc),
                 reads: Vec::new(alloc),
+                has_no_doors: false,
+                doors: Vec::new(alloc),
             },
             rows: Vec::new(alloc),
             rows_due: None,
+            times: Vec::new(alloc),
             ways: Ways::AllCuts,
-            unread: None,
         })
+    }
+
+    /// How many answers are due.
+    pub fn answers(&self) -> usize {
+        let mut answers = self.talk.answers.len();
+        for connection in self.connections.iter() {
+            let more = connection
+                .talk
+                .answers
+                .len()
+                .saturating_mul(connection.count);
+            answers = answers.saturating_add(more);
+        }
+        answers
     }
 
     /// Adds what a line says, which has this number in the file: once, or as often as `*N` ahead of it says.
@@ -120,46 +126,34 @@ impl Case {
         Ok(())
     }
 
+    // The connection that was begun last, or the program's own input and output.
+    fn current(&mut self) -> &mut Talk {
+        match self.connections.last_mut() {
+            Some(connection) => &mut connection.talk,
+            None => &mut self.talk,
+        }
+    }
+
     // Adds what a line says that is neither empty nor a comment.
     fn add_line(&mut self, alloc: Global, number: usize, line: &str) -> Result<(), LineError> {
         let (form, rest) = line.split_once(' ').unwrap_or((line, ""));
-        if form.starts_with('<') {
-            self.add_due(alloc, form, rest)?;
-            self.answers.push(Mark {
-                line: number,
-                sent: self.sent.len(),
-                end: self.due.len(),
-                rows: None,
-            })?;
-            return Ok(());
-        }
-        if let Some(count) = form.strip_prefix(">>") {
-            return add_raw(&mut self.sent, count, rest);
-        }
         if let Some(place) = form.strip_prefix('@') {
             return add_row(&mut self.rows, place, read_row(alloc, rest)?);
         }
+        if let Some(count) = form.strip_prefix('&') {
+            self.connections.push(Connection::new(alloc, count)?)?;
+            return Ok(());
+        }
         match form {
-            ">" => add_request(alloc, &mut self.sent, rest),
             "$" => {
                 self.words = words_of(alloc, rest)?;
                 Ok(())
             }
             "=@" => self.add_row_due(alloc, rest),
-            _ if form.starts_with('!') => self.add_fault(form, rest),
-            _ => self.add_end(form, rest),
-        }
-    }
-
-    // < CODE CONTENT, <! CODE CONTENT, <<[N] TEXT
-    fn add_due(&mut self, alloc: Global, form: &str, rest: &str) -> Result<(), LineError> {
-        match form {
-            "<" => add_answer(alloc, &mut self.due, rest, false),
-            "<!" => add_answer(alloc, &mut self.due, rest, true),
-            _ => match form.strip_prefix("<<") {
-                Some(count) => add_raw(&mut self.due, count, rest),
-                None => Err(LineError::NoForm),
-            },
+            "=times" => self.add_times(alloc, rest),
+            _ if form.starts_with('!') => self.add_fault(alloc, form, rest),
+            _ if form.starts_with('=') => self.add_end(alloc, form, rest),
+            _ => self.current().add(alloc, number, form, rest),
         }
     }
 
@@ -175,32 +169,43 @@ impl Case {
         Ok(())
     }
 
-    // !read [N], !write [N], !open, !append N, !row N, !each end, !each read, !each write, !each row, !whole
-    fn add_fault(&mut self, form: &str, rest: &str) -> Result<(), LineError> {
+    // =times N CODE CONTENT
+    fn add_times(&mut self, alloc: Global, rest: &str) -> Result<(), LineError> {
+        let (times, text) = rest.split_once(' ').ok_or(LineError::NoForm)?;
+        let times = read_number(times)? as u64;
+        let mut answer = Vec::new(alloc);
+        add_answer(alloc, &mut answer, text, false)?;
+        self.times.push(Times { times, answer })?;
+        Ok(())
+    }
+
+    // !open, !append N, !row N, !gates, !door N CALL, !each end, !each read, !each write, !each row, !whole
+    fn add_fault(&mut self, alloc: Global, form: &str, rest: &str) -> Result<(), LineError> {
         match (form, rest) {
-            ("!read", _) => self.faults.read = Some(behind(self.sent.len(), rest)?),
-            ("!write", _) => self.faults.write = Some(behind(self.due.len(), rest)?),
             ("!open", "") => self.faults.is_shut = true,
             ("!append", _) => self.faults.appends.push(before(rest)?)?,
             ("!row", _) => self.faults.reads.push(before(rest)?)?,
+            ("!gates", "") => self.faults.has_no_doors = true,
+            ("!door", _) => return add_door(alloc, &mut self.faults.doors, rest),
             ("!whole", "") => self.ways = Ways::Whole,
             ("!each", "end") => self.ways = Ways::EachEnd,
             ("!each", "read") => self.ways = Ways::EachRead,
             ("!each", "write") => self.ways = Ways::EachWrite,
             ("!each", "row") => self.ways = Ways::EachRow,
-            _ => return Err(LineError::NoForm),
+            _ => return self.current().add_fault(form, rest),
         }
         Ok(())
     }
 
-    // =EXIT, =bad_store ROW KIND, =unread, =rows N
-    fn add_end(&mut self, form: &str, rest: &str) -> Result<(), LineError> {
+    // =EXIT, =bad_store ROW KIND, =unasked
+    fn add_end(&mut self, alloc: Global, form: &str, rest: &str) -> Result<(), LineError> {
         match (form, rest) {
             ("=cut", "") => self.exit = Exit::Cut,
             ("=usage", "") => self.exit = Exit::Usage,
             ("=read_fault", "") => self.exit = Exit::ReadFault,
             ("=write_fault", "") => self.exit = Exit::WriteFault,
             ("=keeper_fault", "") => self.exit = Exit::KeeperFault,
+            ("=listen_fault", "") => self.exit = Exit::ListenFault,
             ("=no_user", "") => self.exit = Exit::NoUser,
             ("=bad_store", _) => {
                 let (row, kind) = rest.split_once(' ').ok_or(LineError::NoForm)?;
@@ -209,32 +214,33 @@ impl Case {
                     kind: read_number(kind)? as u64,
                 };
             }
-            ("=unread", "") => self.unread = Some(self.sent.len()),
-            ("=rows", _) => {
-                let rows = read_number(rest)? as u64;
-                let last = self.answers.last_mut().ok_or(LineError::NoForm)?;
-                last.rows = Some(rows);
+            ("=unasked", "") => {
+                let last = self.connections.last_mut().ok_or(LineError::NoForm)?;
+                last.is_asked = false;
             }
-            _ => return Err(LineError::NoForm),
+            _ => return self.current().add_end(alloc, form, rest),
         }
         Ok(())
     }
+}
+
+// Adds the call that `N CALL` tells to the failing ones of door number N; both count from 1.
+fn add_door(alloc: Global, doors: &mut Vec<Vec<u64>>, text: &str) -> Result<(), LineError> {
+    let (door, call) = text.split_once(' ').ok_or(LineError::NoForm)?;
+    let door = read_number(door)?;
+    let call = before(call)?;
+    for _ in doors.len()..door {
+        doors.push(Vec::new(alloc))?;
+    }
+    let place = door.checked_sub(1).ok_or(LineError::NoForm)?;
+    doors.get_mut(place).ok_or(LineError::NoForm)?.push(call)?;
+    Ok(())
 }
 
 // One less than a number from 1.
 fn before(text: &str) -> Result<u64, LineError> {
     let number = read_number(text)?.checked_sub(1).ok_or(LineError::NoForm)?;
     Ok(number as u64)
-}
-
-// So many bytes, or so many more as a text says.
-fn behind(count: usize, more: &str) -> Result<usize, LineError> {
-    if more.is_empty() {
-        return Ok(count);
-    }
-    count
-        .checked_add(read_number(more)?)
-        .ok_or(LineError::NoForm)
 }
 
 // The words of a command line.

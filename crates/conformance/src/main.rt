@@ -1,8 +1,8 @@
 //! Whole runs as data: the case files of the folder that this runs in, against the program.
 //!
-//! A case is what is sent on one connection and what is due: each answer's every byte, and how the run
-//! ends. It is run by `top` over streams in memory, with its bytes whole and cut into pieces in several
-//! ways, and gets a line: that all is as due, or the first difference.
+//! A case is what is sent, on the program's own input or on many connections, and what is due: each answer's every
+//! byte, and how the run ends. It is run by `top` over streams, a store and gates in memory, with its bytes whole and cut
+//! into pieces in several ways, and gets a line: that all is as due, or the first difference.
 //!
 //! A case file is lines of these forms. What stands ahead of the first case stands ahead of each.
 //!
@@ -22,23 +22,35 @@
 //! | `@N ROW` | the same in place of row number N, from 0, of those told so far |
 //! | `=@ same`, `=@ ROW` | the rows that are due there behind the run: those that stood there ahead of it; and then this one |
 //! | `!open` | the store can't be opened |
-//! | `!append N`, `!row N` | append number N, from 1, fails, in a store without rows; any other call of the keeper does |
+//! | `!append N`, `!row N` | append number N, from 1, fails, from 2 where rows stand in the store ahead; any other call of the keeper does |
 //! | `!each end`, `!each read`, `!each write` | the case is run once for each place at which the input may end, may fail, the output may fail |
 //! | `!each row` | the case is run once for each row at which the store may end |
 //! | `!whole` | the case is run with its bytes whole alone |
-//! | `=cut`, `=usage`, `=read_fault`, `=write_fault`, `=keeper_fault`, `=no_user` | how the run ends, where that isn't with status 0 |
+//! | `=cut`, `=usage`, `=read_fault`, `=write_fault`, `=keeper_fault`, `=listen_fault`, `=no_user` | how the run ends, where that isn't with status 0 |
 //! | `=bad_store ROW KIND` | it ends since that row, from 0, of that kind, is a bad one |
 //! | `=rows N` | N rows are kept by the answer ahead of this line |
 //! | `=unread` | what is sent from here on isn't read, where the bytes come one by one |
+//! | `&[N]` | a connection of `serve` begins, or N that are alike; what stands ahead of the first is of the program's own streams |
+//! | `\| CODE CONTENT` | this may be answered in place of the answer ahead of it, by the way in which workers' turns interleave |
+//! | `=kept ROW` | this row is kept exactly where the answer ahead of it is given, and none in its place |
+//! | `=times N CODE CONTENT` | N answers on all connections together are this one |
+//! | `!gates` | the gates can't be opened |
+//! | `!door N CALL` | call number CALL of door number N fails, both from 1 |
+//! | `=unasked` | no door is asked for this connection |
+//!
+//! Door number 1 gives the first connections, up to its share, door number 2 the next ones, and so on. With one worker they
+//! are served in their order.
 //!
 //! In bodies, contents and raw bytes `\r`, `\n` and `\\` are as usual, `\xHH` is a byte, and `\(N TEXT)` is N
 //! times a text.
 #![tactic(auto)]
 
 mod case;
+mod connection;
 mod file;
 mod message;
 mod run;
+mod served;
 mod store;
 mod text;
 mod verdict;
@@ -48,6 +60,7 @@ use file::{FileError, read_cases};
 use std::alloc::{AllocError, Global};
 use std::process::ExitCode;
 use std::sync::Wait;
+use std::thread::Threads;
 use std::{fs, io};
 use verdict::difference;
 
@@ -86,13 +99,13 @@ fn case_names(rt: &HostRuntime) -> io::Result<Vec<String>> {
 }
 
 // Runs a case, counts it, and tells what came of it.
-fn told<R: Wait>(
+fn told<R: Threads + Wait + Sync>(
     rt: &R,
     alloc: Global,
     case: &Case,
     total: &mut Total,
 ) -> Result<String, AllocError> {
-    let answers = case.answers.len();
+    let answers = case.answers();
     let difference = difference(rt, alloc, case)?;
     total.add(answers, difference.is_some());
     match difference {
@@ -102,7 +115,7 @@ fn told<R: Wait>(
 }
 
 // Runs the cases of a file, a line a case. The handle is the same runtime, as one that may wait.
-fn run_file<R: Wait>(
+fn run_file<R: Threads + Wait + Sync>(
     rt: &HostRuntime,
     handle: &R,
     name: &str,

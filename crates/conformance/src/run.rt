@@ -1,11 +1,16 @@
-//! One run of a case, over streams in memory.
+//! One run of a case, over streams, a store and gates in memory.
 
+use crate::connection::{Connection, Talk};
 use crate::store::{PATH, Store, copied};
 use cr_base::Row;
-use cr_ports::{MemSink, MemSource};
+use cr_ports::{MemGates, MemSink, MemSource};
 use cr_top::{Exit, top};
 use std::alloc::{AllocError, Global};
 use std::sync::Wait;
+use std::thread::Threads;
+
+/// More room than any answers that are due need, so that what comes too much is told.
+pub const SPARE_ROOM: usize = 4096;
 
 /// How a stream is cut: one piece of `first` bytes, where that isn't 0, then pieces of `size`.
 #[derive(Clone, Copy, Drop)]
@@ -41,6 +46,44 @@ impl Cut {
         }
         Ok(pieces)
     }
+
+    // What gives these bytes. Where a read is to fail, it is the one behind the pieces ahead.
+    fn source(
+        self,
+        alloc: Global,
+        sent: &[u8],
+        read_fault: Option<usize>,
+    ) -> Result<MemSource, AllocError> {
+        let count = read_fault.unwrap_or(sent.len());
+        let pieces = self.pieces(alloc, count)?;
+        let mut failing = Vec::new(alloc);
+        if read_fault.is_some() {
+            failing.push(pieces.len() as u64)?;
+        }
+        Ok(MemSource::new(sent.to_vec(alloc)?, pieces, failing))
+    }
+
+    // What takes answers, with room for so many bytes, or up to where a write is to fail.
+    fn sink(
+        self,
+        alloc: Global,
+        room: usize,
+        write_fault: Option<usize>,
+    ) -> Result<MemSink, AllocError> {
+        let room = write_fault.unwrap_or(room);
+        let pieces = self.pieces(alloc, room)?;
+        MemSink::new(alloc, room, pieces, Vec::new(alloc))
+    }
+}
+
+/// What the gates give, and what fails of them.
+#[derive(Clone, Copy, Drop)]
+pub struct Doors<'a> {
+    pub connections: &'a [Connection],
+    /// Whether they can't be opened.
+    pub are_shut: bool,
+    /// Of each door the numbers of the calls that fail, from 0.
+    pub failing: &'a [Vec<u64>],
 }
 
 /// What comes in, in which pieces, and what fails.
@@ -55,48 +98,106 @@ pub struct Input<'a> {
     /// Behind how many bytes the output fails.
     pub write_fault: Option<usize>,
     pub store: Store<'a>,
+    pub doors: Doors<'a>,
 }
 
-/// What came of it.
+/// What came of one connection.
+#[derive(Drop)]
+pub struct Came {
+    pub out: Vec<u8>,
+    /// How many bytes of its input weren't read.
+    pub unread: usize,
+}
+
+/// What came of a run.
 #[derive(Drop)]
 pub struct Outcome {
     pub exit: Exit,
-    pub out: Vec<u8>,
-    /// How many bytes of the input weren't read.
-    pub unread: usize,
+    pub own: Came,
+    /// The connections that doors gave, in order.
+    pub connections: Vec<Came>,
     /// The rows that stand in the store.
     pub rows: Vec<Row>,
 }
 
-impl Input<'_> {
-    // What gives the bytes that are sent. Where a read is to fail, it is the one behind the pieces ahead.
-    fn source(&self, alloc: Global) -> Result<MemSource, AllocError> {
-        let count = self.read_fault.unwrap_or(self.sent.len());
-        let pieces = self.cut.pieces(alloc, count)?;
-        let mut failing = Vec::new(alloc);
-        if self.read_fault.is_some() {
-            failing.push(pieces.len() as u64)?;
+// What came of a connection.
+fn end_of(alloc: Global, source: &MemSource, sink: &MemSink) -> Result<Came, AllocError> {
+    Ok(Came {
+        out: sink.taken().to_vec(alloc)?,
+        unread: source.unread().len(),
+    })
+}
+
+// What came of each connection that a door gave, door by door.
+fn ends_of(alloc: Global, gates: &MemGates) -> Result<Vec<Came>, AllocError> {
+    let mut all = Vec::new(alloc);
+    for door in gates.doors() {
+        for served in door.served() {
+            let (source, sink) = &served.back;
+            all.push(end_of(alloc, source, sink)?)?;
         }
-        Ok(MemSource::new(self.sent.to_vec(alloc)?, pieces, failing))
+    }
+    Ok(all)
+}
+
+// A copy of the lists.
+fn lists(alloc: Global, lists: &[Vec<u64>]) -> Result<Vec<Vec<u64>>, AllocError> {
+    let mut copies = Vec::new(alloc);
+    for list in lists {
+        copies.push(list.to_vec(alloc)?)?;
+    }
+    Ok(copies)
+}
+
+impl Input<'_> {
+    // Puts so many connections behind those that the gates give.
+    fn add(
+        &self,
+        alloc: Global,
+        gates: &mut MemGates,
+        talk: &Talk,
+        count: usize,
+    ) -> Result<(), AllocError> {
+        let room = talk.due.len().saturating_add(SPARE_ROOM);
+        for _ in 0..count {
+            let source = self.cut.source(alloc, talk.sent.as_slice(), talk.read)?;
+            let sink = self.out_cut.sink(alloc, room, talk.write)?;
+            gates.add(alloc, source, sink)?;
+        }
+        Ok(())
     }
 
-    // What takes the answers, with room for so many bytes, or up to where a write is to fail.
-    fn sink(&self, alloc: Global, room: usize) -> Result<MemSink, AllocError> {
-        let room = self.write_fault.unwrap_or(room);
-        let pieces = self.out_cut.pieces(alloc, room)?;
-        MemSink::new(alloc, room, pieces, Vec::new(alloc))
+    // Gates that give the connections.
+    fn gates(&self, alloc: Global) -> Result<MemGates, AllocError> {
+        let mut opens = Vec::new(alloc);
+        if self.doors.are_shut {
+            opens.push(0)?;
+        }
+        let mut gates = MemGates::new(alloc, opens, lists(alloc, self.doors.failing)?);
+        for connection in self.doors.connections {
+            self.add(alloc, &mut gates, &connection.talk, connection.count)?;
+        }
+        Ok(gates)
     }
 
     /// Runs it, with room for so many bytes of answers.
-    pub fn run<R: Wait>(&self, rt: &R, alloc: Global, room: usize) -> Result<Outcome, AllocError> {
-        let mut source = self.source(alloc)?;
-        let mut sink = self.sink(alloc, room)?;
+    pub fn run<R: Threads + Wait + Sync>(
+        &self,
+        rt: &R,
+        alloc: Global,
+        room: usize,
+    ) -> Result<Outcome, AllocError> {
+        let mut source = self.cut.source(alloc, self.sent, self.read_fault)?;
+        let mut sink = self.out_cut.sink(alloc, room, self.write_fault)?;
         let mut shelf = self.store.shelf(alloc)?;
-        let exit = top(rt, alloc, self.words, &mut source, &mut sink, &mut shelf);
+        let mut gates = self.gates(alloc)?;
+        let exit = top(
+            rt, alloc, self.words, &mut source, &mut sink, &mut shelf, &mut gates,
+        );
         Ok(Outcome {
             exit,
-            out: sink.taken().to_vec(alloc)?,
-            unread: source.unread().len(),
+            own: end_of(alloc, &source, &sink)?,
+            connections: ends_of(alloc, &gates)?,
             rows: copied(alloc, shelf.rows_at(PATH))?,
         })
     }

@@ -14,7 +14,7 @@ pub struct Store<'a> {
     pub rows: &'a [Row],
     /// Whether the store can't be opened.
     pub is_shut: bool,
-    /// The numbers of the appends that fail, from 0, in a store that has no row ahead of the run.
+    /// The numbers of the appends that fail, from 0; 0 only where no row stands there ahead, since rows are put there so.
     pub appends: &'a [u64],
     /// The numbers of the keeper's other calls that fail, from 0.
     pub reads: &'a [u64],
@@ -124,6 +124,11 @@ pub fn add_row(rows: &mut Vec<Row>, place: &str, row: Row) -> Result<(), LineErr
         }
         None => Err(LineError::NoForm),
     }
+}
+
+/// Whether the row is one of these.
+pub fn is_among(row: &Row, rows: &[Row]) -> bool {
+    rows.iter().any(|other| other.is_same(row))
 }
 
 /// Whether these are the same rows.

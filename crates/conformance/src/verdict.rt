@@ -1,16 +1,16 @@
 //! Whether the runs of a case come to what is due.
 
-use crate::case::{Case, Mark, Ways};
-use crate::run::{Cut, Input, Outcome};
+use crate::case::{Case, Ways};
+use crate::connection::{Mark, Talk};
+use crate::run::{Cut, Doors, Input, Outcome, SPARE_ROOM};
+use crate::served::differing_connection;
 use crate::store::{Store, are_same};
 use cr_base::Row;
 use cr_top::Exit;
 use std::alloc::{AllocError, Global};
 use std::fmt::Debug;
 use std::sync::Wait;
-
-/// More room than any answers that are due need, so that what comes too much is told.
-const SPARE_ROOM: usize = 4096;
+use std::thread::Threads;
 
 /// How many bytes of an answer are told where it isn't the one that is due.
 const TOLD: usize = 600;
@@ -49,7 +49,7 @@ struct Due<'a> {
 }
 
 /// The first difference between what is due of a case and what comes, in words; none where all is as due.
-pub fn difference<R: Wait>(
+pub fn difference<R: Threads + Wait + Sync>(
     rt: &R,
     alloc: Global,
     case: &Case,
@@ -70,8 +70,8 @@ fn runs(case: &Case) -> usize {
     match case.ways {
         Ways::AllCuts => CUTS.len(),
         Ways::Whole => 1,
-        Ways::EachEnd | Ways::EachRead => case.sent.len().saturating_add(1),
-        Ways::EachWrite => case.due.len(),
+        Ways::EachEnd | Ways::EachRead => case.talk.sent.len().saturating_add(1),
+        Ways::EachWrite => case.talk.due.len(),
         Ways::EachRow => case.rows.len().saturating_add(1),
     }
 }
@@ -95,8 +95,8 @@ fn name_of(ways: Ways, number: usize) -> &'static str {
     }
 }
 
-// The first bytes of a text, all where no number is told or it has fewer.
-fn front(bytes: &[u8], count: Option<usize>) -> &[u8] {
+/// The first bytes of a text, all where no number is told or it has fewer.
+pub fn front(bytes: &[u8], count: Option<usize>) -> &[u8] {
     match count.and_then(|count| bytes.get(..count)) {
         Some(front) => front,
         None => bytes,
@@ -118,6 +118,15 @@ fn store_of<'a>(case: &'a Case, rows: &'a [Row]) -> Store<'a> {
     }
 }
 
+// The gates of a case.
+fn doors_of(case: &Case) -> Doors<'_> {
+    Doors {
+        connections: case.connections.as_slice(),
+        are_shut: case.faults.has_no_doors,
+        failing: case.faults.doors.as_slice(),
+    }
+}
+
 // The first rows of a case.
 fn first_rows(case: &Case, count: usize) -> &[Row] {
     case.rows.get(..count).unwrap_or(&[])
@@ -127,12 +136,13 @@ fn first_rows(case: &Case, count: usize) -> &[Row] {
 fn input_of(case: &Case, cut: Cut, out_cut: Cut) -> Input<'_> {
     Input {
         words: case.words.as_slice(),
-        sent: case.sent.as_slice(),
+        sent: case.talk.sent.as_slice(),
         cut,
         out_cut,
-        read_fault: case.faults.read,
-        write_fault: case.faults.write,
+        read_fault: case.talk.read,
+        write_fault: case.talk.write,
         store: store_of(case, case.rows.as_slice()),
+        doors: doors_of(case),
     }
 }
 
@@ -144,7 +154,7 @@ fn input_at(case: &Case, number: usize) -> Input<'_> {
             input_of(case, cut, out_cut)
         }
         Ways::EachEnd => Input {
-            sent: front(case.sent.as_slice(), Some(number)),
+            sent: front(case.talk.sent.as_slice(), Some(number)),
             ..input_of(case, Cut::BYTES, Cut::WHOLE)
         },
         Ways::EachRead => Input {
@@ -173,28 +183,33 @@ fn due_at(case: &Case, number: usize) -> Due<'_> {
     }
 }
 
+/// How many bytes aren't to be read by a cut, where that is told: it is where the bytes come one by one.
+pub fn unread_due(talk: &Talk, cut: Cut) -> Option<usize> {
+    talk.unread
+        .filter(|_| cut.size == 1)
+        .map(|at| talk.sent.len().saturating_sub(at))
+}
+
 // By a cut. What isn't to be read is told where the bytes come one by one.
 fn due_of_cut(case: &Case, cut: Cut) -> Due<'_> {
     Due {
-        out: front(case.due.as_slice(), case.faults.write),
+        out: front(case.talk.due.as_slice(), case.talk.write),
         exit: case.exit,
-        rows: rows_by(case.answers.as_slice()),
+        rows: rows_by(case.talk.answers.as_slice()),
         rows_due: case.rows_due.as_ref().map(|rows| rows.as_slice()),
-        unread: case
-            .unread
-            .filter(|_| cut.size == 1)
-            .map(|at| case.sent.len().saturating_sub(at)),
+        unread: unread_due(&case.talk, cut),
     }
 }
 
 // The answers that are due where the input gives so many bytes.
 fn answered(case: &Case, count: usize) -> &[Mark] {
     let whole = case
+        .talk
         .answers
         .iter()
         .take_while(|mark| mark.sent <= count)
         .count();
-    case.answers.get(..whole).unwrap_or(&[])
+    case.talk.answers.get(..whole).unwrap_or(&[])
 }
 
 // How many bytes are due up to the last of these answers.
@@ -208,7 +223,7 @@ fn due_of_end(case: &Case, count: usize) -> Due<'_> {
     let answers = answered(case, count);
     let is_clean = count == answers.last().map_or(0, |mark| mark.sent);
     Due {
-        out: front(case.due.as_slice(), Some(end_of(answers))),
+        out: front(case.talk.due.as_slice(), Some(end_of(answers))),
         exit: if is_clean { Exit::Done } else { Exit::Cut },
         rows: rows_by(answers),
         rows_due: None,
@@ -220,30 +235,32 @@ fn due_of_end(case: &Case, count: usize) -> Due<'_> {
 fn due_of_read(case: &Case, count: usize) -> Due<'_> {
     let answers = answered(case, count);
     Due {
-        out: front(case.due.as_slice(), Some(end_of(answers))),
+        out: front(case.talk.due.as_slice(), Some(end_of(answers))),
         exit: Exit::ReadFault,
         rows: rows_by(answers),
         rows_due: None,
-        unread: Some(case.sent.len().saturating_sub(count)),
+        unread: Some(case.talk.sent.len().saturating_sub(count)),
     }
 }
 
 // The answers up to the one in which so many bytes end.
 fn begun(case: &Case, count: usize) -> &[Mark] {
     let whole = case
+        .talk
         .answers
         .iter()
         .take_while(|mark| mark.end <= count)
         .count();
-    case.answers
+    case.talk
+        .answers
         .get(..whole.saturating_add(1))
-        .unwrap_or(case.answers.as_slice())
+        .unwrap_or(case.talk.answers.as_slice())
 }
 
 // Where the output fails behind so many bytes.
 fn due_of_write(case: &Case, count: usize) -> Due<'_> {
     Due {
-        out: front(case.due.as_slice(), Some(count)),
+        out: front(case.talk.due.as_slice(), Some(count)),
         exit: Exit::WriteFault,
         rows: rows_by(begun(case, count)),
         rows_due: None,
@@ -269,7 +286,7 @@ fn due_of_rows(case: &Case, count: usize) -> Due<'_> {
 }
 
 // Runs it, and tells the first difference.
-fn compare<R: Wait>(
+fn compare<R: Threads + Wait + Sync>(
     rt: &R,
     alloc: Global,
     case: &Case,
@@ -277,10 +294,14 @@ fn compare<R: Wait>(
     due: &Due<'_>,
 ) -> Result<Option<String>, AllocError> {
     let outcome = input.run(rt, alloc, due.out.len().saturating_add(SPARE_ROOM))?;
-    if outcome.out.as_slice() != due.out {
-        return Ok(Some(differing_answer(alloc, case, outcome.out.as_slice(), due.out)?));
+    if outcome.own.out.as_slice() != due.out {
+        return Ok(Some(differing_answer(alloc, case, outcome.own.out.as_slice(), due.out)?));
     }
-    differing_end(alloc, &outcome, due)
+    if let Some(why) = differing_end(alloc, &outcome, due)? {
+        return Ok(Some(why));
+    }
+    let rows = outcome.rows.as_slice();
+    differing_connection(alloc, case, input.cut, outcome.connections.as_slice(), rows)
 }
 
 // The first answer that isn't the one that is due.
@@ -296,7 +317,7 @@ fn differing_answer(
         .take_while(|(came, due)| came == due)
         .count();
     let (mut line, mut start) = (0, 0);
-    for mark in case.answers.iter() {
+    for mark in case.talk.answers.iter() {
         line = mark.line;
         if same < mark.end {
             break;
@@ -308,14 +329,18 @@ fn differing_answer(
     format!(in alloc; "line {line}: came {came:?}, due {due:?}")
 }
 
-// What stands in a text from a place on, cut short.
-fn told(alloc: Global, bytes: &[u8], start: usize) -> Result<String, AllocError> {
-    let rest = bytes.get(start..).unwrap_or(&[]);
-    String::from_utf8_lossy(alloc, front(rest, Some(TOLD)))
+/// The text that bytes are, cut short.
+pub fn text_of(alloc: Global, bytes: &[u8]) -> Result<String, AllocError> {
+    String::from_utf8_lossy(alloc, front(bytes, Some(TOLD)))
 }
 
-// What came and what was due, in words.
-fn differing<T: Debug>(
+// What stands in a text from a place on, cut short.
+fn told(alloc: Global, bytes: &[u8], start: usize) -> Result<String, AllocError> {
+    text_of(alloc, bytes.get(start..).unwrap_or(&[]))
+}
+
+/// What came and what was due, in words.
+pub fn differing<T: Debug>(
     alloc: Global,
     what: &str,
     came: &T,
@@ -343,7 +368,7 @@ fn differing_end(
     {
         return Ok(Some(String::from_str(alloc, "other rows are kept than are due")?));
     }
-    let unread = Some(outcome.unread);
+    let unread = Some(outcome.own.unread);
     if due.unread.is_some() && unread != due.unread {
         return differing(alloc, "unread", &unread, &due.unread);
     }

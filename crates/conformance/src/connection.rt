@@ -1,0 +1,166 @@
+//! One connection of a case: what is sent on it, where it fails, and what is due.
+
+use crate::message::{add_answer, add_request};
+use crate::store::read_row;
+use crate::text::{LineError, add_raw, read_number};
+use cr_base::Row;
+use std::alloc::Global;
+
+/// What is sent on one connection, where it fails, and what is due.
+#[derive(Drop)]
+pub struct Talk {
+    /// All that is sent.
+    pub sent: Vec<u8>,
+    /// All that is due.
+    pub due: Vec<u8>,
+    /// The answers that are due, in order.
+    pub answers: Vec<Mark>,
+    /// Behind how many bytes the input fails.
+    pub read: Option<usize>,
+    /// Behind how many bytes the output fails.
+    pub write: Option<usize>,
+    /// Where the bytes begin that aren't to be read, where some are told.
+    pub unread: Option<usize>,
+}
+
+/// A line that tells an answer.
+#[derive(Drop)]
+pub struct Mark {
+    /// Its number in the file, from 1.
+    pub line: usize,
+    /// How many bytes are sent ahead of it.
+    pub sent: usize,
+    /// How many bytes are due up to its end.
+    pub end: usize,
+    /// How many rows are kept by then, where that is told.
+    pub rows: Option<u64>,
+    /// What may be answered in its place.
+    pub others: Vec<Vec<u8>>,
+    /// The row that is kept exactly where it is answered itself, where that is told.
+    pub kept: Option<Row>,
+}
+
+/// One of many connections, or several that are alike.
+#[derive(Drop)]
+pub struct Connection {
+    /// What is sent on it, where it fails, and what is due.
+    pub talk: Talk,
+    /// How many are like this.
+    pub count: usize,
+    /// Whether a door is asked for it.
+    pub is_asked: bool,
+}
+
+impl Connection {
+    /// So many connections as a text says, one where it is empty, that send nothing yet.
+    pub fn new(alloc: Global, count: &str) -> Result<Connection, LineError> {
+        let count = if count.is_empty() {
+            1
+        } else {
+            read_number(count)?
+        };
+        Ok(Connection {
+            talk: Talk::new(alloc),
+            count,
+            is_asked: true,
+        })
+    }
+}
+
+impl Talk {
+    /// A connection that sends nothing yet.
+    pub fn new(alloc: Global) -> Talk {
+        Talk {
+            sent: Vec::new(alloc),
+            due: Vec::new(alloc),
+            answers: Vec::new(alloc),
+            read: None,
+            write: None,
+            unread: None,
+        }
+    }
+
+    /// Adds what a line says of what is sent and due, which has this number in the file.
+    pub fn add(
+        &mut self,
+        alloc: Global,
+        number: usize,
+        form: &str,
+        rest: &str,
+    ) -> Result<(), LineError> {
+        if form.starts_with('<') {
+            self.add_due(alloc, form, rest)?;
+            self.answers.push(Mark {
+                line: number,
+                sent: self.sent.len(),
+                end: self.due.len(),
+                rows: None,
+                others: Vec::new(alloc),
+                kept: None,
+            })?;
+            return Ok(());
+        }
+        if let Some(count) = form.strip_prefix(">>") {
+            return add_raw(&mut self.sent, count, rest);
+        }
+        match form {
+            ">" => add_request(alloc, &mut self.sent, rest),
+            "|" => self.add_other(alloc, rest),
+            _ => Err(LineError::NoForm),
+        }
+    }
+
+    // < CODE CONTENT, <! CODE CONTENT, <<[N] TEXT
+    fn add_due(&mut self, alloc: Global, form: &str, rest: &str) -> Result<(), LineError> {
+        match form {
+            "<" => add_answer(alloc, &mut self.due, rest, false),
+            "<!" => add_answer(alloc, &mut self.due, rest, true),
+            _ => match form.strip_prefix("<<") {
+                Some(count) => add_raw(&mut self.due, count, rest),
+                None => Err(LineError::NoForm),
+            },
+        }
+    }
+
+    // | CODE CONTENT
+    fn add_other(&mut self, alloc: Global, rest: &str) -> Result<(), LineError> {
+        let mut other = Vec::new(alloc);
+        add_answer(alloc, &mut other, rest, false)?;
+        self.last()?.others.push(other)?;
+        Ok(())
+    }
+
+    // The last answer.
+    fn last(&mut self) -> Result<&mut Mark, LineError> {
+        self.answers.last_mut().ok_or(LineError::NoForm)
+    }
+
+    /// Adds what a line says that fails: `!read [N]`, `!write [N]`.
+    pub fn add_fault(&mut self, form: &str, rest: &str) -> Result<(), LineError> {
+        match form {
+            "!read" => self.read = Some(behind(self.sent.len(), rest)?),
+            "!write" => self.write = Some(behind(self.due.len(), rest)?),
+            _ => return Err(LineError::NoForm),
+        }
+        Ok(())
+    }
+
+    /// Adds what a line says of the connection's end: `=unread`, `=rows N`, `=kept ROW`.
+    pub fn add_end(&mut self, alloc: Global, form: &str, rest: &str) -> Result<(), LineError> {
+        match (form, rest) {
+            ("=unread", "") => self.unread = Some(self.sent.len()),
+            ("=rows", _) => self.last()?.rows = Some(read_number(rest)? as u64),
+            ("=kept", _) => self.last()?.kept = Some(read_row(alloc, rest)?),
+            _ => return Err(LineError::NoForm),
+        }
+        Ok(())
+    }
+}
+
+// So many bytes, or so many more as a text says.
+fn behind(count: usize, more: &str) -> Result<usize, LineError> {
+    if more.is_empty() {
+        return Ok(count);
+    }
+    count.checked_add(read_number(more)?).ok_or(LineError::NoForm)
+}
