@@ -8,7 +8,7 @@ use Rattle.std.proofs.lemmas.Slice.Eq.{bytes_eq-Decides}
 use Rattle.cr_base.specs.declared.entry.Entry.{Entry}
 use Rattle.cr_base.specs.declared.entry.Entry.TheVariants.{Registered}
 use Rattle.cr_base.specs.declared.row.Row.{Row}
-use Rattle.cr_base.specs.Facts.{number_of}
+use Rattle.cr_base.specs.HistoryFacts.{number_of}
 use Rattle.cr_base.specs.Lists.{given, last}
 use Rattle.cr_base.specs.History.{History, all_told, number_told}
 use Rattle.cr_base.specs.Rows.{rows_of, IsBoundedEntry}
@@ -152,7 +152,7 @@ pub the-history : {K : Type 0} (rows : K → Option (List Row)) (faults : K → 
 the-history rows faults path book s m opens files told H legal spells =
     sym (subst (λ (f : Option Files). IfSome f (λ files. (H : History) → Legal H → rows_of H ≡ files path → H ≡ book.log)) told opens.only H legal spells)
 
--- a store of a legal history's rows opens where nothing fails, or memory is wanting
+-- a store of a legal history's rows opens where nothing fails, or memory runs out
 pub opens-or-memory : (path : List ℕ) (exit : Exit) (s s' : ShelfState) → StaysShut path exit s s' → (Rises s.faults s'.faults → ⊥) → (files : Files) → s.files ≡ Some files → (H : History) → Legal H → rows_of H ≡ files path
     → exit ≡ exits.OutOfMemory
 opens-or-memory path exits.OutOfMemory s s' shut idle files told H legal spells = refl

@@ -72,7 +72,7 @@ lost_in streams first last (c ∷ cs) served =
 -- ---- connections were served
 
 -- From the history of the rows at the path on workers served the connections that their doors gave, one door each, and the
--- exit is by how they ended: 0 or 5 where each door gave its share, 7 where one failed, and 9 where memory was wanting. The
+-- exit is by how they ended: 0 or 5 where each door gave its share, 7 where one failed, and 9 where memory ran out. The
 -- rows at the path are then those of the last history, and the output has the number of its entries.
 pub record ServesMany {K I O : Type 0} (rows : K → Option (List Row)) (path : List ℕ) (streams : Streams I O) (workers connections : ℕ) (exit : Exit) (o o' : Outlet) (s s' : ShelfState) (g g' : GatesState I O) : Type 0 where
   pub opening : History

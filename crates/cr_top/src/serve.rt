@@ -119,7 +119,7 @@ where
         ServesGates S.Keeper.rows path.now (streams_of G.Door.In.left G.Door.In.read_gives G.Door.In.faults G.Door.Out.taken G.Door.Out.faults)
         address.entry.workers address.entry.connections result (outlet out.old) (outlet out.new) (stores shelf.old) (stores shelf.new) (gates_at gates.old) (gates_at gates.new) }
 
-    // Where nothing fails and the rows are a legal history's, each door gives its share, or memory is wanting.
+    // Where nothing fails and the rows are a legal history's, each door gives its share, or memory runs out.
     ensures answers { (Rises (O.faults out.old) (O.faults out.new) → ⊥) → (Rises (G.faults gates.old) (G.faults gates.new) → ⊥) → (Rises (S.faults shelf.old) (S.faults shelf.new) → ⊥)
         → (files : Files) → S.rows shelf.old ≡ Some files → (H : History) → Legal H → rows_of H ≡ files path.now
         → (result ≡ Exit.OutOfMemory) ⊎ (result ≡ Exit.Done) }
