@@ -138,11 +138,7 @@ fn door(source: HeldSource, sink: FlagSink) -> OneDoor
 
 /// A door whose connection asks for the phase. Its source waits for the flag inside the request where `waits`; else its
 /// sink sets the flag.
-fn asks_phase(
-    alloc: Global,
-    flag: &Arc<AtomicBool, Global>,
-    waits: bool,
-) -> Result<OneDoor, Fail>
+fn asks_phase(alloc: Global, flag: &Arc<AtomicBool, Global>, waits: bool) -> Result<OneDoor, Fail>
     ensures { IfOk result (λ door. (is_some door.coming ≡ true) × (door.is_out ≡ false)) }
 {
     let (front, rest) = if waits {
@@ -184,7 +180,10 @@ fn serves_both<R: Threads + Wait + Sync>(
     let book = opened(alloc, PlainKeeper::new(alloc))?;
     let (worked, book, doors) = serve_book(rt, alloc, book, doors);
     let _ = book.close();
-    Ok((worked, [is_answered(doors.first()), is_answered(doors.get(1))]))
+    Ok((
+        worked,
+        [is_answered(doors.first()), is_answered(doors.get(1))],
+    ))
 }
 
 #[test]

@@ -162,5 +162,7 @@ fn behind(count: usize, more: &str) -> Result<usize, LineError> {
     if more.is_empty() {
         return Ok(count);
     }
-    count.checked_add(read_number(more)?).ok_or(LineError::NoForm)
+    count
+        .checked_add(read_number(more)?)
+        .ok_or(LineError::NoForm)
 }

@@ -192,7 +192,13 @@ impl Input<'_> {
         let mut shelf = self.store.shelf(alloc)?;
         let mut gates = self.gates(alloc)?;
         let exit = top(
-            rt, alloc, self.words, &mut source, &mut sink, &mut shelf, &mut gates,
+            rt,
+            alloc,
+            self.words,
+            &mut source,
+            &mut sink,
+            &mut shelf,
+            &mut gates,
         );
         Ok(Outcome {
             exit,

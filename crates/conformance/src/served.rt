@@ -11,7 +11,11 @@ use std::alloc::{AllocError, Global};
 // What is due of each connection that is asked for, in order.
 fn due(alloc: Global, case: &Case) -> Result<Vec<&Talk>, AllocError> {
     let mut due = Vec::new(alloc);
-    for connection in case.connections.iter().filter(|connection| connection.is_asked) {
+    for connection in case
+        .connections
+        .iter()
+        .filter(|connection| connection.is_asked)
+    {
         for _ in 0..connection.count {
             due.push(&connection.talk)?;
         }
@@ -79,7 +83,11 @@ impl Looked<'_> {
     }
 
     // The first difference in what came.
-    fn difference(&self, alloc: Global, tally: &mut Tally<'_>) -> Result<Option<String>, AllocError> {
+    fn difference(
+        &self,
+        alloc: Global,
+        tally: &mut Tally<'_>,
+    ) -> Result<Option<String>, AllocError> {
         let due = front(self.talk.due.as_slice(), self.talk.write);
         let mut start = 0;
         let mut rest = self.came.out.as_slice();
@@ -94,7 +102,9 @@ impl Looked<'_> {
                 return differing(alloc, what.as_str(), &came, &text_of(alloc, answer)?);
             };
             if !self.is_kept_as_due(mark, rest.starts_with(answer)) {
-                return Ok(Some(format!(in alloc; "line {line}: its row is kept, though it didn't come, or isn't")?));
+                return Ok(Some(format!(in alloc;
+                    "line {line}: its row is kept, though it didn't come, or isn't"
+                )?));
             }
             let (came, behind) = rest.split_at_checked(length).unwrap_or((rest, &[]));
             tally.add(came);
@@ -102,7 +112,12 @@ impl Looked<'_> {
         }
         if !rest.is_empty() {
             let none = String::new(alloc);
-            return differing(alloc, "behind the last answer", &text_of(alloc, rest)?, &none);
+            return differing(
+                alloc,
+                "behind the last answer",
+                &text_of(alloc, rest)?,
+                &none,
+            );
         }
         let unread = unread_due(self.talk, self.cut);
         if unread.is_some_and(|unread| unread != self.came.unread) {

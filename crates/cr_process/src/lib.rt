@@ -27,9 +27,8 @@ fn words(rt: &HostRuntime) -> Result<Vec<String>, AllocError> {
 // The file that the words name as the store.
 fn store_named(alloc: Global, words: &[String]) -> &str {
     match read_words(alloc, words) {
-        Ok(Job::Pipe { store: Some(store) } | Job::Serve { store, .. } | Job::View { store, .. }) => {
-            store
-        }
+        Ok(Job::Pipe { store: Some(store) } | Job::Serve { store, .. } | Job::View { store, .. }) =>
+            { store }
         Ok(Job::Pipe { store: None }) | Err(_) => "",
     }
 }

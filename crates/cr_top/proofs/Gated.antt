@@ -149,8 +149,8 @@ module _ {K I O : Type 0} (rows : K → Option (List Row)) (path : List ℕ) (st
       → Every IsNew doors → HasCause ended works → ended ≡ worked.DoorFailed → Gains g.faults (total (λ (d : SeenDoor I O). d.faults) doors') g'.faults → Rises g.faults g'.faults
   door-counted ended works doors doors' before after new cause failed gains =
       let up : Rises 0 (total (λ (d : SeenDoor I O). d.faults) doors') =
-          subst (λ (ds : List (SeenDoor I O)). Rises 0 (total (λ (d : SeenDoor I O). d.faults) ds)) after
-          (failed-counts works (subst (λ (e : Worked). HasCause e works) failed cause) (subst (λ (ds : List (SeenDoor I O)). Every IsNew ds) (sym before) new)) in
+      subst (λ (ds : List (SeenDoor I O)). Rises 0 (total (λ (d : SeenDoor I O). d.faults) ds)) after
+      (failed-counts works (subst (λ (e : Worked). HasCause e works) failed cause) (subst (λ (ds : List (SeenDoor I O)). Every IsNew ds) (sym before) new)) in
       risen g.faults (total (λ (d : SeenDoor I O). d.faults) doors') g'.faults up gains
 
   by-listen : (ended : Worked) (written : Bool) → exits.ListenFault ≡ exit_of_workers ended written → ended ≡ worked.DoorFailed

@@ -56,9 +56,9 @@ module _ {I O : Type 0} (streams : Streams I O) where
       → lost_in streams first last cs each ≤ total (λ (c : ServedConnection I O). marks c.turns) cs
   lost-all first last [] each = omega arith
   lost-all first last (c ∷ cs) each = (
-    let one = lost-one c each.0.served in
-    let more = lost-all first last cs each.1 in
-    omega (arith, one, more))
+      let one = lost-one c each.0.served in
+      let more = lost-all first last cs each.1 in
+      omega (arith, one, more))
 
   -- the shelf's count rose by as many at least as were lost
   pub lost-count : (first last : History) (cs : List (ServedConnection I O)) (each : Every (IsServedWithin streams first last) cs) (faults n n' : ℕ)

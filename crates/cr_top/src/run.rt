@@ -129,7 +129,7 @@ where
     ensures does { let around = around_of I.faults O.taken O.faults S.rows S.faults G.faults G.logs in
         (job : NamedJob) → AreFor words.now job
         → Does S.Keeper.rows I.left I.read_gives (streams_of G.Door.In.left G.Door.In.read_gives G.Door.In.faults G.Door.Out.taken G.Door.Out.faults)
-          job result (around input.old out.old shelf.old gates.old) (around input.new out.new shelf.new gates.new) }
+        job result (around input.old out.old shelf.old gates.old) (around input.new out.new shelf.new gates.new) }
 
     // Where nothing fails, all that the input's bytes spell is answered, each door gives its share, and the view is told whole,
     // or memory runs out.

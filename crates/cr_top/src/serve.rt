@@ -47,19 +47,18 @@ pub struct Address<'a> {
 
 /// Opens the gates, or tells why they don't open.
 #[tactic(auto, using(crate::proofs::Doors::new_doors))]
-fn open_gates<G: Gates>(alloc: Global, address: Address, gates: &mut G) -> Result<Vec<G::Door>, Exit>
+fn open_gates<G: Gates>(
+    alloc: Global,
+    address: Address,
+    gates: &mut G,
+) -> Result<Vec<G::Door>, Exit>
     requires { 1 ≤ address.workers }
     ensures shared { IfOk result (λ doors. map G.Door.left doors.items ≡ shares address.entry.workers address.entry.connections) }
     ensures new { IfOk result (λ doors. Every IsNew (map (door_of G.Door.left G.Door.is_out G.Door.faults G.Door.log) doors.items)) }
     ensures same { IfOk result (λ doors. G.faults gates.new ≡ G.faults gates.old) }
     ensures refused { IfErr result (λ exit. IsWhyClosed exit (gates_of G.faults G.logs gates.old) (gates_of G.faults G.logs gates.new) × (G.faults gates.old ≤ G.faults gates.new)) }
 {
-    match gates.open(
-        alloc,
-        address.listen,
-        address.workers,
-        address.connections,
-    ) {
+    match gates.open(alloc, address.listen, address.workers, address.connections) {
         Opened::Doors(doors) => Ok(doors),
         Opened::Failed => Err(Exit::ListenFault),
         Opened::OutOfMemory => Err(Exit::OutOfMemory),
@@ -89,7 +88,7 @@ where
         (s : ShelfState) → OpensStore S.Keeper.rows S.Keeper.faults path.now book s (stores shelf.old)
         → (workers connections : ℕ) → map G.Door.left doors.items ≡ shares workers connections
         → ServesMany S.Keeper.rows path.now (streams_of G.Door.In.left G.Door.In.read_gives G.Door.In.faults G.Door.Out.taken G.Door.Out.faults)
-          workers connections result (outlet out.old) (outlet out.new) s (stores shelf.new) (gates_at gates.old) (gates_at gates.new) }
+        workers connections result (outlet out.old) (outlet out.new) s (stores shelf.new) (gates_at gates.old) (gates_at gates.new) }
 {
     let (ended, book, doors) = serve_book(rt, alloc, book, doors);
     gates.shut(doors);

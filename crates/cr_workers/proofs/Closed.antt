@@ -53,11 +53,11 @@ history-closed {T} {I} {O} list faults streams ended doors doors' first last p鈧
       (subst (位 (H : History). Every (IsServedWithin streams H p.seen) (connections_of x.works)) saw x.served.each);
   begins = subst (位 (H : History). IsPrefix (list first) H) (sym closes.stands) closes.begins;
   once = 位 k. (
-    let g = x.served.groups k in
-    let z = ap (groups_with k) none in
-    let w = closes.groups k in
-    let n = ap (位 (H : History). within (length (list first)) (length H) k) closes.stands in
-    omega (arith, g, z, w, n));
+      let g = x.served.groups k in
+      let z = ap (groups_with k) none in
+      let w = closes.groups k in
+      let n = ap (位 (H : History). within (length (list first)) (length H) k) closes.stands in
+      omega (arith, g, z, w, n));
   counted = (let r = x.served.rose in let z = ap rises none in let c = closes.count in omega (arith, r, z, c));
   marked = 鈯巁elim (位 few. inl (let m = x.served.marked in let z = ap marks none in omega (arith, m, z, few))) inr closes.marks;
 }

@@ -58,7 +58,7 @@ module _ {I O : Type 0} (streams : Streams I O) where
         (widened q.seen p.seen r.seen r.seen a.seen (prefix_self r.seen) ds b.each);
     seen = prefix_trans p.seen q.seen r.seen a.seen b.seen;
     groups = λ k. (
-      let x = a.groups k in let y = b.groups k in let z = total_append (λ (c : ServedConnection I O). groups_with k c.turns) cs ds in omega (arith, x, y, z));
+        let x = a.groups k in let y = b.groups k in let z = total_append (λ (c : ServedConnection I O). groups_with k c.turns) cs ds in omega (arith, x, y, z));
     marked = (let x = a.marked in let y = b.marked in let z = total_append (λ (c : ServedConnection I O). marks c.turns) cs ds in omega (arith, x, y, z));
     rose = (let x = a.rose in let y = b.rose in let z = total_append (λ (c : ServedConnection I O). rises c.turns) cs ds in omega (arith, x, y, z));
   }
@@ -72,15 +72,15 @@ module _ {I O : Type 0} (streams : Streams I O) where
             (widened p.seen p.seen r.seen (longer q.seen r.seen) (prefix_self p.seen) long.1 ds b.each);
         seen = prefix_trans p.seen q.seen (longer q.seen r.seen) a.seen long.0;
         groups = λ k. (
-          let x = a.groups k in let y = b.groups k in
-          let m = total_merged (λ (t : Turn Stamped). within t.place (end_of t) k) q.mine r.mine in
-          let z = total_append (λ (c : ServedConnection I O). groups_with k c.turns) cs ds in omega (arith, x, y, z, m));
+            let x = a.groups k in let y = b.groups k in
+            let m = total_merged (λ (t : Turn Stamped). within t.place (end_of t) k) q.mine r.mine in
+            let z = total_append (λ (c : ServedConnection I O). groups_with k c.turns) cs ds in omega (arith, x, y, z, m));
         marked = (
-          let x = a.marked in let y = b.marked in
-          let m = total_merged (λ (t : Turn Stamped). if t.marked then 1 else 0) q.mine r.mine in
-          let z = total_append (λ (c : ServedConnection I O). marks c.turns) cs ds in omega (arith, x, y, z, m));
+            let x = a.marked in let y = b.marked in
+            let m = total_merged (λ (t : Turn Stamped). if t.marked then 1 else 0) q.mine r.mine in
+            let z = total_append (λ (c : ServedConnection I O). marks c.turns) cs ds in omega (arith, x, y, z, m));
         rose = (
-          let x = a.rose in let y = b.rose in
-          let m = total_merged (λ (t : Turn Stamped). t.rise) q.mine r.mine in
-          let z = total_append (λ (c : ServedConnection I O). rises c.turns) cs ds in omega (arith, x, y, z, m));
+            let x = a.rose in let y = b.rose in
+            let m = total_merged (λ (t : Turn Stamped). t.rise) q.mine r.mine in
+            let z = total_append (λ (c : ServedConnection I O). rises c.turns) cs ds in omega (arith, x, y, z, m));
       }

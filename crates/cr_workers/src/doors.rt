@@ -135,5 +135,9 @@ where
         ensures len { length result.1.items ≡ length back.items }
     { serve_doors(rt, alloc, lock, smaller, back) };
     let ((one, front, first), (other, back, second)) = join(rt, first_half, second_half);
-    (lock.join(one, other), rejoin(front, back), first.and(second))
+    (
+        lock.join(one, other),
+        rejoin(front, back),
+        first.and(second),
+    )
 }

@@ -53,11 +53,8 @@ fn has_lacked(lacked: bool, ending: Ending) -> bool
 {
     match ending {
         Ending::OutOfMemory => true,
-        Ending::Clean
-        | Ending::Cut
-        | Ending::Closed(_)
-        | Ending::ReadFault
-        | Ending::WriteFault => lacked,
+        Ending::Clean | Ending::Cut | Ending::Closed(_) | Ending::ReadFault | Ending::WriteFault =>
+            lacked,
     }
 }
 

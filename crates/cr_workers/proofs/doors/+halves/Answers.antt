@@ -9,7 +9,7 @@ use Rattle.cr_workers.proofs.doors.+halves.Goals as goal
 pub returns-in-Err-clause-serves : goal.returns-in-Err-clause-serves
 returns-in-Err-clause-serves g t c =
     rw c.in-Err.ensures.all (doors-unasked (streams_of g.D.In.Source.left g.D.In.Source.read_gives g.D.In.Source.faults g.D.Out.Sink.taken g.D.Out.Sink.faults)
-      (map (door_of g.D.Door.left g.D.Door.is_out g.D.Door.faults g.D.Door.log) c.args.doors.items) c.args.pass)
+    (map (door_of g.D.Door.left g.D.Door.is_out g.D.Door.faults g.D.Door.log) c.args.doors.items) c.args.pass)
 
 pub returns-clause-serves : goal.returns-clause-serves
 returns-clause-serves g t c =
@@ -20,10 +20,10 @@ returns-clause-serves g t c =
     let one = c.join-one.result.0 in
     let other = c.join-one.result.1 in
     let first : ServesDoors streams one.2 (map seen front) (map seen one.1.items) (larger_half c.args.pass) one.0 =
-        subst (λ (p : KnownPass). ServesDoors streams one.2 (map seen front) (map seen one.1.items) p one.0) c.in-Ok-split.ensures.1 c.join-one.ensures.first.0 in
+    subst (λ (p : KnownPass). ServesDoors streams one.2 (map seen front) (map seen one.1.items) p one.0) c.in-Ok-split.ensures.1 c.join-one.ensures.first.0 in
     let second : ServesDoors streams other.2 (map seen back) (map seen other.1.items) (smaller_half c.args.pass) other.0 =
-        subst (λ (p : KnownPass). ServesDoors streams other.2 (map seen back) (map seen other.1.items) p other.0) c.in-Ok-split.ensures.2 c.join-one.ensures.second.0 in
+    subst (λ (p : KnownPass). ServesDoors streams other.2 (map seen back) (map seen other.1.items) p other.0) c.in-Ok-split.ensures.2 c.join-one.ensures.second.0 in
     let before = ap (map seen) c.in-Ok.ensures.whole ∙ map-append seen front back in
     let after = ap (map seen) c.rejoin.ensures.items ∙ map-append seen one.1.items other.1.items in
     rw c.and.ensures (rw c.join.ensures.both (rw before (rw after
-      (doors-both streams one.2 other.2 (map seen front) (map seen one.1.items) (map seen back) (map seen other.1.items) c.args.pass one.0 other.0 first second c.join.ensures.agree))))
+    (doors-both streams one.2 other.2 (map seen front) (map seen one.1.items) (map seen back) (map seen other.1.items) c.args.pass one.0 other.0 first second c.join.ensures.agree))))
