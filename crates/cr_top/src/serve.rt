@@ -16,7 +16,7 @@ ghost use Rattle.cr_top.specs.Stores.{Files, OpensStore, ShelfState, state_of};
 use crate::exit::{Exit, exit_of_workers};
 use crate::storing::open_store;
 use cr_book::Book;
-use cr_ports::{Gates, Opened, Shelf, Sink, WriteFault, write_all};
+use cr_ports::{Door, Gates, Opened, Shelf, Sink, WriteFault, write_all};
 use cr_workers::serve_book;
 use itoa::Buffer;
 use std::alloc::Global;
@@ -56,6 +56,7 @@ fn open_gates<G: Gates>(
     ensures shared { IfOk result (λ doors. map G.Door.left doors.items ≡ shares address.entry.workers address.entry.connections) }
     ensures new { IfOk result (λ doors. Every IsNew (map (door_of G.Door.left G.Door.is_out G.Door.faults G.Door.log) doors.items)) }
     ensures same { IfOk result (λ doors. G.faults gates.new ≡ G.faults gates.old) }
+    ensures logs { IfOk result (λ doors. G.logs gates.new ≡ G.logs gates.old) }
     ensures refused { IfErr result (λ exit. IsWhyClosed exit (gates_of G.faults G.logs gates.old) (gates_of G.faults G.logs gates.new) × (G.faults gates.old ≤ G.faults gates.new)) }
 {
     match gates.open(alloc, address.listen, address.workers, address.connections) {
@@ -80,6 +81,8 @@ fn serve_doors<R: Threads + Wait + Sync, S: Shelf, G: Gates, O: Sink>(
 where
     S::Keeper: Send,
     G::Door: Drop,
+    <G::Door as Door>::In: Send,
+    <G::Door as Door>::Out: Send,
     requires at_most { length doors.items ≤ 64 }
     requires few { 1048576 * total G.Door.left doors.items ≤ 2 ^ 40 }
     requires new { Every IsNew (map (door_of G.Door.left G.Door.is_out G.Door.faults G.Door.log) doors.items) }
@@ -112,6 +115,8 @@ pub fn serve_store<R: Threads + Wait + Sync, S: Shelf, G: Gates, O: Sink>(
 where
     S::Keeper: Send,
     G::Door: Drop,
+    <G::Door as Door>::In: Send,
+    <G::Door as Door>::Out: Send,
     requires workers { (1 ≤ address.workers) × (address.workers ≤ 64) }
     requires connections { (1 ≤ address.connections) × (address.connections ≤ 65536) }
     ensures serves { let outlet = outlet_of O.taken O.faults in let stores = state_of S.rows S.faults in let gates_at = gates_of G.faults G.logs in

@@ -13,3 +13,4 @@ mod worker;
 
 pub use history::serve_book;
 pub use worked::Worked;
+pub use worker::Last;

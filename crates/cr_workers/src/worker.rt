@@ -14,7 +14,7 @@ use std::sync::Wait;
 
 /// How a door that gives no further connection answered.
 #[derive(Clone, Copy, Debug, PartialEq, Eq)]
-pub(crate) enum Last {
+pub enum Last {
     /// Its share was given.
     Done,
     /// It failed.

@@ -1,7 +1,7 @@
 use Rattle.std.proofs.Common.{◌≡◌, ◌∙◌, Some, None, refl, ap, subst}
 use Rattle.std.specs.Prelude.{option_map}
 use Rattle.cr_base.specs.History.{History}
-use Rattle.cr_words.specs.Job.{pipe_job, job_seen}
+use Rattle.cr_words.specs.Job.{pipe_job, view_job, job_seen}
 use Rattle.cr_top.specs.Runs.{ServesPipe, outside_of}
 use Rattle.cr_top.proofs.Named.{answers-named, does-named}
 use Rattle.cr_top.proofs.Serving.{serves-from}
@@ -27,3 +27,9 @@ returns-in-Pipe-Some-clause-answers g c =
     let seen : job_seen c.args.job ≡ pipe_job (Some c.in-Pipe-Some.path.now) = ap job_seen c.in-Pipe-Some.is ∙ ap (λ t. pipe_job (option_map (λ x. x.now) t)) some in
     answers-named _ _ (pipe_job (Some c.in-Pipe-Some.path.now)) _ _ _ seen
     (λ b left faultless H has. c.pipe_store.ensures.answers b left faultless has.faultless has.files has.told H has.legal has.spells)
+
+pub returns-in-View-clause-answers : goal.returns-in-View-clause-answers
+returns-in-View-clause-answers g c =
+    let seen : job_seen c.args.job ≡ view_job c.in-View.store.now c.in-View.user.now = ap job_seen c.in-View.is in
+    answers-named _ _ (view_job c.in-View.store.now c.in-View.user.now) _ _ _ seen
+    (λ quiet H has. c.view_store.ensures.answers quiet has.faultless has.files has.told H has.legal has.spells)
