@@ -1,0 +1,277 @@
+#!/usr/bin/env python3
+"""How fast `confd serve` answers, beside others in the same run.
+
+    python3 bench/serve_speed.py [PROGRAM] [FOLDER]
+
+PROGRAM is `confd` as `rt run` builds it (crates/confd/out/confd where none is named), FOLDER where the stores are made (the
+system's folder for such where none is named; it decides which disk is measured). Debian's packages nginx-light, wrk,
+python3-flask and gunicorn are needed. The peers: nginx with one worker, which gives the same bytes from memory; a small Flask
+application over a database of SQLite's in WAL mode, under gunicorn with two processes of four threads; and, for what is
+kept, SQLite's own commits with the setting that confd uses. All loads keep their connections alive; all talk on loopback.
+"""
+
+import contextlib
+import json
+import os
+import platform
+import re
+import signal
+import socket
+import sqlite3
+import subprocess
+import sys
+import tempfile
+import time
+
+HERE = os.path.dirname(os.path.abspath(__file__))
+SECONDS = 5
+SUBMISSIONS = 1_000
+ABSTRACT = "We prove that nobody learns what the rules forbid. " * 11
+
+FLASK = """
+import sqlite3
+from flask import Flask, g, jsonify, request
+app = Flask(__name__)
+def db():
+    if "db" not in g:
+        g.db = sqlite3.connect(STORE)
+        g.db.execute("PRAGMA synchronous = FULL")
+    return g.db
+@app.teardown_appcontext
+def close(_):
+    if "db" in g:
+        g.pop("db").close()
+@app.get("/phase")
+def phase():
+    papers = db().execute("SELECT count(*) FROM papers").fetchone()[0]
+    return jsonify(mode="blind", papers=papers, phase="submission")
+@app.get("/papers/<int:paper>")
+def page(paper):
+    name, _, secret = request.headers.get("Authorization", "")[7:].partition(".")
+    if db().execute("SELECT 1 FROM people WHERE name = ? AND secret = ?", (name, secret)).fetchone() is None:
+        return jsonify(error="unauthorized"), 401
+    title, abstract = db().execute("SELECT title, abstract FROM papers WHERE paper = ?", (paper,)).fetchone()
+    return jsonify(paper=paper, title=title, abstract=abstract)
+@app.post("/papers")
+def submit():
+    told = request.get_json(force=True)
+    with db():
+        added = db().execute("INSERT INTO papers (title, abstract) VALUES (?, ?)", (told["title"], told["abstract"]))
+    return jsonify(paper=added.lastrowid), 201
+"""
+
+NGINX = """
+worker_processes 1;
+pid {folder}/nginx.pid;
+error_log {folder}/nginx.log;
+events {{ worker_connections 512; }}
+http {{
+    access_log off;
+    keepalive_requests 100000000;
+    server {{
+        listen 127.0.0.1:{port};
+        default_type application/json;
+        location = /phase {{ return 200 '{phase}'; }}
+        location = /papers/1 {{ return 200 '{page}'; }}
+    }}
+}}
+"""
+
+
+def secret_of(name):
+    return f"{name}-secret-0123456789"
+
+
+def request(method, path, who=None, body=None):
+    """One request as bytes; `who` is a name, whose secret is made of it."""
+    lines = [f"{method} {path} HTTP/1.1", "Host: c"]
+    if who is not None:
+        lines.append(f"Authorization: Bearer {who}.{secret_of(who)}")
+    content = b""
+    if body is not None:
+        content = json.dumps(body, separators=(",", ":")).encode()
+        lines += ["Content-Type: application/json", f"Content-Length: {len(content)}"]
+    return "\r\n".join(lines).encode() + b"\r\n\r\n" + content
+
+
+def submission(who):
+    return request("POST", "/papers", who, {"abstract": ABSTRACT, "title": "Proofs"})
+
+
+class Client:
+    """One connection that is kept alive."""
+
+    def __init__(self, port):
+        self.socket = socket.create_connection(("127.0.0.1", port))
+        self.socket.setsockopt(socket.IPPROTO_TCP, socket.TCP_NODELAY, 1)
+
+    def ask(self, sent):
+        """The status and the content of the answer."""
+        self.socket.sendall(sent)
+        came = b""
+        while b"\r\n\r\n" not in came:
+            came += self.more()
+        head, _, content = came.partition(b"\r\n\r\n")
+        length = int(re.search(rb"(?i)content-length: *(\d+)", head).group(1))
+        while len(content) < length:
+            content += self.more()
+        return int(head.split()[1]), content
+
+    def more(self):
+        piece = self.socket.recv(65536)
+        if not piece:
+            raise ConnectionError("the server ended the connection")
+        return piece
+
+
+def free_port():
+    with socket.socket() as probe:
+        probe.bind(("127.0.0.1", 0))
+        return probe.getsockname()[1]
+
+
+@contextlib.contextmanager
+def running(words, port, **more):
+    """A server, as soon as it listens; killed at the end."""
+    server = subprocess.Popen(words, stdout=subprocess.DEVNULL, stderr=subprocess.DEVNULL, start_new_session=True, **more)
+    try:
+        for _ in range(100):
+            try:
+                socket.create_connection(("127.0.0.1", port)).close()
+                break
+            except OSError:
+                time.sleep(0.1)
+        yield
+    finally:
+        os.killpg(server.pid, signal.SIGKILL)
+        server.wait()
+
+
+def confd(program, store, port, workers):
+    return running(
+        [program, "serve", "--listen", f"127.0.0.1:{port}", "--workers", str(workers), "--connections", "65536",
+         "--store", store], port)
+
+
+def load(port, path, connections, threads, who=None):
+    """Requests a second by wrk; the failures that it counted end the run."""
+    words = ["wrk", f"-t{threads}", f"-c{connections}", f"-d{SECONDS}s"]
+    if who is not None:
+        words += ["-H", f"Authorization: Bearer {who}.{secret_of(who)}"]
+    out = subprocess.run(words + [f"http://127.0.0.1:{port}{path}"], capture_output=True, text=True, check=True).stdout
+    if "Non-2xx" in out or "Socket errors" in out:
+        sys.exit(f"wrk: {path}: {out}")
+    return float(re.search(r"Requests/sec: *([\d.]+)", out).group(1))
+
+
+def conference(port):
+    """Fills a server of confd: alice is chair, in submission, and erin submits paper 1, whose page is told."""
+    client = Client(port)
+    for name in ("alice", "erin"):
+        client.ask(request("POST", "/register", body={"name": name, "secret": secret_of(name)}))
+    client.ask(request("POST", "/phase", "alice", {"phase": "submission"}))
+    client.ask(submission("erin"))
+    return client.ask(request("GET", "/phase"))[1], client.ask(request("GET", "/papers/1", "erin"))[1]
+
+
+def submissions_a_second(port, told_names):
+    """Submissions, one after another on one connection; a user of confd's may make 20."""
+    client = Client(port)
+    users = [f"u{number}" for number in range(SUBMISSIONS // 20)]
+    if told_names:
+        for name in users:
+            client.ask(request("POST", "/register", body={"name": name, "secret": secret_of(name)}))
+    sent = [submission(users[number // 20]) for number in range(SUBMISSIONS)]
+    began = time.perf_counter()
+    for piece in sent:
+        status, content = client.ask(piece)
+        if status != 201:
+            sys.exit(f"a submission was answered {status} {content}")
+    return SUBMISSIONS / (time.perf_counter() - began)
+
+
+def commits_a_second(folder):
+    """SQLite's own commits of such a row, in WAL mode and with each commit on the disk."""
+    with contextlib.closing(sqlite3.connect(os.path.join(folder, "peer.store"), isolation_level=None)) as db:
+        db.execute("PRAGMA journal_mode = WAL")
+        db.execute("PRAGMA synchronous = FULL")
+        db.execute("CREATE TABLE papers (paper INTEGER PRIMARY KEY, title TEXT, abstract TEXT)")
+        began = time.perf_counter()
+        for _ in range(SUBMISSIONS):
+            db.execute("INSERT INTO papers (title, abstract) VALUES ('Proofs', ?)", (ABSTRACT,))
+        return SUBMISSIONS / (time.perf_counter() - began)
+
+
+def flask_app(folder):
+    store = os.path.join(folder, "flask.store")
+    with contextlib.closing(sqlite3.connect(store)) as db, db:
+        db.execute("PRAGMA journal_mode = WAL")
+        db.execute("CREATE TABLE people (name TEXT PRIMARY KEY, secret TEXT)")
+        db.execute("CREATE TABLE papers (paper INTEGER PRIMARY KEY, title TEXT, abstract TEXT)")
+        db.execute("INSERT INTO people VALUES ('erin', ?)", (secret_of("erin"),))
+        db.execute("INSERT INTO papers VALUES (1, 'Proofs', ?)", (ABSTRACT,))
+    with open(os.path.join(folder, "peer.py"), "w", encoding="utf-8") as file:
+        file.write(f"STORE = {store!r}\n{FLASK}")
+
+
+def reads(name, port):
+    """One line a load of one server; the figures by load."""
+    found = {}
+    for title, path, connections, who in (
+        ("GET /phase, 1 connection", "/phase", 1, None),
+        ("GET /phase, 64 connections", "/phase", 64, None),
+        ("GET /papers/1 with a login, 1 connection", "/papers/1", 1, "erin"),
+        ("GET /papers/1 with a login, 64 connections", "/papers/1", 64, "erin"),
+    ):
+        found[title] = load(port, path, connections, 1 if connections == 1 else 2, who)
+        print(f"{name}: {title}: {found[title]:,.0f} a second", flush=True)
+    return found
+
+
+def main():
+    program = os.path.abspath(sys.argv[1] if len(sys.argv) > 1 else os.path.join(HERE, "../crates/confd/out/confd"))
+    with open("/proc/cpuinfo", encoding="utf-8") as file:
+        model = re.search(r"model name\s*: (.*)", file.read()).group(1)
+    print(f"{time.strftime('%Y-%m-%d')}, {os.cpu_count()} processors, {model}, Linux {platform.release()}")
+    for words in (["nginx", "-v"], ["wrk", "-v"], [sys.executable, "--version"]):
+        told = subprocess.run(words, capture_output=True, text=True)
+        print((told.stdout + told.stderr).splitlines()[0])
+    with tempfile.TemporaryDirectory(dir=sys.argv[2] if len(sys.argv) > 2 else None) as folder:
+        port = free_port()
+        with confd(program, os.path.join(folder, "reads.store"), port, 64):
+            phase, page = conference(port)
+            ours = reads("confd, 64 workers", port)
+        print(f"the page has {len(page)} bytes")
+        port = free_port()
+        with open(os.path.join(folder, "nginx.conf"), "w", encoding="utf-8") as file:
+            file.write(NGINX.format(folder=folder, port=port, phase=phase.decode(), page=page.decode()))
+        with running(["nginx", "-c", os.path.join(folder, "nginx.conf"), "-g", "daemon off;"], port):
+            theirs = reads("nginx, 1 worker", port)
+        flask_app(folder)
+        port = free_port()
+        with running(["gunicorn", "-w", "2", "-k", "gthread", "--threads", "4", "--keep-alive", "60",
+                      "-b", f"127.0.0.1:{port}", "peer:app"], port, cwd=folder):
+            flasks = reads("Flask", port)
+            flask_posts = submissions_a_second(port, False)
+        for title, ours_a_second in ours.items():
+            print(f"{title}: {ours_a_second / theirs[title]:.2f} of nginx's, {ours_a_second / flasks[title]:.0f} times Flask's")
+
+        figures = []
+        for workers in (1, 2):
+            port = free_port()
+            with confd(program, os.path.join(folder, f"workers{workers}.store"), port, workers):
+                figures.append(load(port, "/phase", workers, workers))
+        print(f"confd, 1 worker and 1 connection {figures[0]:,.0f} a second, 2 and 2 {figures[1]:,.0f}: "
+              f"{figures[1] / figures[0]:.2f} times")
+
+        port = free_port()
+        with confd(program, os.path.join(folder, "posts.store"), port, 4):
+            conference(port)
+            posts = submissions_a_second(port, True)
+        commits = commits_a_second(folder)
+        print(f"POST /papers, kept: {posts:,.0f} a second; Flask {flask_posts:,.0f}; SQLite's own commits {commits:,.0f}; "
+              f"ours are {posts / commits:.2f} of these")
+
+
+if __name__ == "__main__":
+    main()
