@@ -26,7 +26,7 @@ import time
 HERE = os.path.dirname(os.path.abspath(__file__))
 SECONDS = 5
 SUBMISSIONS = 1_000
-ABSTRACT = "We prove that nobody learns what the rules forbid. " * 11
+ABSTRACT = "We prove that nobody learns what the rules forbid. " * 13
 
 FLASK = """
 import sqlite3
