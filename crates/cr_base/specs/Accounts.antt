@@ -7,7 +7,7 @@ use Rattle.cr_base.specs.declared.words.Role.{Role}
 use Rattle.cr_base.specs.declared.words.Role.TheVariants as role
 use Rattle.cr_base.specs.declared.entry.Account.{Account}
 use Rattle.cr_base.specs.declared.entry.Entry.{Entry}
-use Rattle.cr_base.specs.declared.entry.Entry.TheVariants.{Registered, Named, Conflict}
+use Rattle.cr_base.specs.declared.entry.Entry.TheVariants.{Registered, Named, Coauthor, Conflict}
 use Rattle.cr_base.specs.declared.reply.AccountLine.{AccountLine}
 use Rattle.cr_base.specs.Lists.{numbered}
 
@@ -64,5 +64,6 @@ lines_of accounts = lines_from 1 accounts
 abbrev pub AccountsFit : List Account → Entry → Type 0
 AccountsFit accounts (Registered user name digest) = (user ≡ length accounts + 1) × (user ≤ 9999) × (number_at accounts name ≡ None)
 AccountsFit accounts (Named user role) = (1 ≤ user) × (user ≤ length accounts)
+AccountsFit accounts (Coauthor paper user) = (1 ≤ user) × (user ≤ length accounts)
 AccountsFit accounts (Conflict paper user on) = (1 ≤ user) × (user ≤ length accounts)
 AccountsFit accounts _ = Unit {0}

@@ -1,5 +1,6 @@
 -- The one answer to queries: filled with the facts of a view it is Answer, filled with those of the tables it is RoleAnswer.
-use Rattle.std.specs.Prelude.{ℕ, not, ◌&&◌, List, [], length, Option, Some, None, filter, unwrap_or, Result, Ok, Err}
+use Rattle.std.specs.Prelude.{ℕ, Bool, true, false, not, ◌&&◌, ◌==◌, List, [], length, map, Option, Some, None, is_some, filter, find, unwrap_or, Result, Ok, Err}
+use Rattle.std.specs.Option.{option_map, option_and_then}
 use Rattle.cr_base.specs.declared.command.Query.{Query}
 use Rattle.cr_base.specs.declared.command.Query.TheVariants as queries
 use Rattle.cr_base.specs.declared.me.Me.{Me}
@@ -7,17 +8,42 @@ use Rattle.cr_base.specs.declared.page.Page.{Page}
 use Rattle.cr_base.specs.declared.reply.Reply.{Reply}
 use Rattle.cr_base.specs.declared.reply.Reply.TheVariants as replies
 use Rattle.cr_base.specs.declared.reply.Rule.{Rule}
-use Rattle.cr_base.specs.Checks.{Check, judged, of_there, page_checks}
+use Rattle.cr_base.specs.Checks.{Check, judged, of_there, page_checks, content_checks}
+use Rattle.cr_base.specs.History.{Upload}
+use Rattle.cr_base.specs.Lists.{listed, last}
 use Rattle.cr_base.specs.Page.{page_of}
 use Rattle.cr_base.specs.Sources.{Facts, Shown, names_in, name_in, has_paper, maker_of, facts_of_tables, shown_in_tables}
 use Rattle.cr_base.specs.Tables.{Tables}
 
+-- which of a paper's uploads are told: all to its authors, the last alone to others
+abbrev pub uploads_told : Bool → List Upload → List Upload
+uploads_told true uploads = uploads
+uploads_told false uploads = listed (last uploads)
+
+-- the last of these, and the one of a version
+abbrev pub upload_of : Option ℕ → List Upload → Option Upload
+upload_of None uploads = last uploads
+upload_of (Some version) uploads = find (λ (u : Upload). u.version == version) uploads
+
+-- the content of the paper, where one is told: of its last version, or of the one that is asked for
+abbrev pub content_by : Facts → Shown → Option ℕ → Option ℕ → Option (List ℕ)
+content_by facts shown paper version =
+    let told = λ (p : ℕ). upload_of version (uploads_told (facts.standing paper).author (shown.uploads p)) in
+    option_map (λ (u : Upload). u.content) (option_and_then told paper)
+
+-- the rules of asking for it
+abbrev pub content_asked : Facts → Shown → Option ℕ → Option ℕ → List Check
+content_asked facts shown paper version =
+    content_checks (facts.standing paper) (of_there (has_paper facts paper)) (is_some (content_by facts shown paper version))
+
 -- the rules of a query
-abbrev pub query_checks : Facts → Query → List Check
-query_checks facts queries.Accounts = []
-query_checks facts queries.Phase = []
-query_checks facts queries.Me = []
-query_checks facts (queries.Page paper) = page_checks (facts.standing paper) (of_there (has_paper facts paper))
+abbrev pub query_checks : Facts → Shown → Query → List Check
+query_checks facts shown queries.Accounts = []
+query_checks facts shown queries.Phase = []
+query_checks facts shown queries.Me = []
+query_checks facts shown (queries.Page paper) = page_checks (facts.standing paper) (of_there (has_paper facts paper))
+query_checks facts shown (queries.Content paper) = content_asked facts shown paper None
+query_checks facts shown (queries.Version paper version) = content_asked facts shown paper (Some version)
 
 -- the page of a paper that is there
 abbrev pub page_by : Facts → Shown → ℕ → Page
@@ -28,11 +54,14 @@ page_by facts shown p =
       authors = names_in facts.accounts (shown.authors p);
       conflicts = names_in facts.accounts (shown.conflicts p);
       declared = names_in facts.accounts (shown.declared p);
+      versions = map (λ (u : Upload). u.version) (uploads_told (facts.standing (Some p)).author (shown.uploads p));
+      withdrawn = shown.withdrawn p;
     })
 
 -- what a user is told of herself: nobody is told anything
 abbrev pub me_by : Facts → ℕ → Me
 me_by facts user = record {
+  bytes = facts.own_bytes;
   conflicts = filter (λ p. (facts.standing (Some p)).conflicted && not (facts.standing (Some p)).author) facts.papers;
   name = unwrap_or (name_in facts.accounts user) [];
   papers = filter (λ p. (facts.standing (Some p)).author) facts.papers;
@@ -48,6 +77,8 @@ told_by facts shown caller queries.Phase =
     replies.Conference (record { mode = by.mode; papers = length facts.papers; phase = by.phase })
 told_by facts shown caller queries.Me = replies.Me (me_by facts (maker_of caller))
 told_by facts shown caller (queries.Page paper) = replies.Page (page_by facts shown (unwrap_or paper 0))
+told_by facts shown caller (queries.Content paper) = replies.Content (unwrap_or (content_by facts shown paper None) [])
+told_by facts shown caller (queries.Version paper version) = replies.Content (unwrap_or (content_by facts shown paper (Some version)) [])
 
 -- a reply, or the rule that stands in its way
 abbrev pub reply_or_rule : Result Reply Rule → Reply
@@ -56,7 +87,7 @@ reply_or_rule (Err rule) = replies.Refused rule
 
 -- the answer to a query: the first broken rule of its list, or what is told
 abbrev pub answer_by : Facts → Shown → Option ℕ → Query → Reply
-answer_by facts shown caller query = reply_or_rule (judged (query_checks facts query) (told_by facts shown caller query))
+answer_by facts shown caller query = reply_or_rule (judged (query_checks facts shown query) (told_by facts shown caller query))
 
 -- RoleAnswer of a query: the same by checks on the tables
 abbrev pub answer_by_role : Tables → Option ℕ → Query → Reply

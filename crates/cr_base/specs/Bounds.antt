@@ -1,12 +1,14 @@
 -- The bounds on one command: what a body has to be within, so that no entry is added that no row spells.
-use Rattle.std.specs.Prelude.{◌≡◌, length, IsTrue}
+use Rattle.std.specs.Prelude.{◌≡◌, ◌≤◌, length, IsTrue}
 use Rattle.cr_base.specs.declared.command.Command.{Command}
-use Rattle.cr_base.specs.declared.command.Command.TheVariants.{Register, Submit, Name}
-use Rattle.cr_base.specs.Texts.{IsName, IsTitle, IsAbstract}
+use Rattle.cr_base.specs.declared.command.Command.TheVariants.{Register, Submit, Revise, Upload, Name}
+use Rattle.cr_base.specs.Texts.{IsName, IsTitle, IsAbstract, IsContent}
 use Rattle.cr_base.specs.Words.{is_member}
 
 abbrev pub IsBoundedCommand : Command → Type 0
 IsBoundedCommand (Register name digest) = IsName name × (length digest ≡ 32)
-IsBoundedCommand (Submit title abstract) = IsTitle title × IsAbstract abstract
+IsBoundedCommand (Submit title abstract authors) = IsTitle title × IsAbstract abstract × (length authors ≤ 19)
+IsBoundedCommand (Revise paper title abstract) = IsTitle title × IsAbstract abstract
+IsBoundedCommand (Upload paper content) = IsContent content
 IsBoundedCommand (Name user role) = IsTrue (is_member role)
 IsBoundedCommand _ = Unit {0}

@@ -1,6 +1,6 @@
 -- The rules of each command and query, in order, over plain values: a list of checks, of which the first broken one
 -- answers. They are the server's own, by CoCon's phases and roles and the HotCRP manual's conflicts.
-use Rattle.std.specs.Prelude.{ℕ, Bool, true, false, not, ◌||◌, ◌&&◌, nat_le, List, [], ◌∷◌, Option, is_none, Result, Ok, Err, if◌then◌else◌}
+use Rattle.std.specs.Prelude.{ℕ, Bool, true, false, not, ◌||◌, ◌&&◌, ◌+◌, nat_le, nat_lt, List, [], ◌∷◌, ◌++◌, Option, is_none, Result, Ok, Err, if◌then◌else◌}
 use Rattle.std.specs.Option.{option_map_or}
 use Rattle.cr_base.specs.declared.reply.Rule.{Rule}
 use Rattle.cr_base.specs.declared.reply.Rule.TheVariants as rules
@@ -66,10 +66,11 @@ phase_checks by now to =
     ∷ not (is_next now to) breaks rules.WrongPhase
     ∷ []
 
--- submit: the caller's standing, how many papers there are, and how many of them are hers
-abbrev pub submit_checks : Standing → ℕ → ℕ → List Check
-submit_checks by count own =
-    not (is_phase by.phase Submission) breaks rules.WrongPhase
+-- submit: whether a co-author isn't there, the caller's standing, how many papers there are, and how many of them are hers
+abbrev pub submit_checks : Bool → Standing → ℕ → ℕ → List Check
+submit_checks missing by count own =
+    missing breaks rules.NoUser
+    ∷ not (is_phase by.phase Submission) breaks rules.WrongPhase
     ∷ nat_le 9999 count breaks rules.FullPapers
     ∷ nat_le 20 own breaks rules.QuotaPapers
     ∷ []
@@ -79,6 +80,29 @@ abbrev pub page_checks : Standing → NamedPaper → List Check
 page_checks by paper =
     not paper.there breaks rules.NoPaper
     ∷ not (is_member by.role || by.author) breaks rules.NotMember
+    ∷ []
+
+-- revise and withdraw: the caller's standing at the paper, and the paper
+abbrev pub revise_checks : Standing → NamedPaper → List Check
+revise_checks by paper =
+    not paper.there breaks rules.NoPaper
+    ∷ not by.author breaks rules.NotAuthor
+    ∷ not (is_phase by.phase Submission) breaks rules.WrongPhase
+    ∷ paper.withdrawn breaks rules.Withdrawn
+    ∷ []
+
+-- upload: the same, how many bytes the caller has uploaded, and how many she uploads
+abbrev pub upload_checks : Standing → NamedPaper → ℕ → ℕ → List Check
+upload_checks by paper own more = revise_checks by paper ++ nat_lt 67108864 (own + more) breaks rules.QuotaBytes ∷ []
+
+-- a paper's content: the caller's standing at the paper, the paper, and whether the version that is asked for is hers to read
+abbrev pub content_checks : Standing → NamedPaper → Bool → List Check
+content_checks by paper found =
+    not paper.there breaks rules.NoPaper
+    ∷ not (by.author || is_member by.role) breaks rules.NotMember
+    ∷ (not by.author && by.conflicted) breaks rules.Conflict
+    ∷ not (by.author || is_from Bidding by.phase) breaks rules.WrongPhase
+    ∷ not found breaks rules.NoContent
     ∷ []
 
 -- name: the caller's standing, the user named, if there is one, and the role that she is to have

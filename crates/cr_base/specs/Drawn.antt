@@ -1,7 +1,9 @@
 -- What an accepted command draws: the entries that it adds, and its receipt.
-use Rattle.std.specs.Prelude.{ℕ, Bool, true, false, ◌==◌, List, [], ◌∷◌, if◌then◌else◌}
+use Rattle.std.specs.Prelude.{ℕ, Bool, true, false, ◌==◌, List, [], ◌∷◌, ◌++◌, map, if◌then◌else◌}
+use Rattle.std.specs.List.{list_any}
 use Rattle.cr_base.specs.declared.entry.Entry.{Entry}
-use Rattle.cr_base.specs.declared.entry.Entry.TheVariants.{Registered, Named, PhaseSet, ModeSet, Submitted, Conflict}
+use Rattle.cr_base.specs.declared.entry.Entry.TheVariants.{Registered, Named, PhaseSet, ModeSet, Submitted}
+use Rattle.cr_base.specs.declared.entry.Entry.TheVariants.{Coauthor, Revised, Uploaded, Withdrawn, Conflict}
 use Rattle.cr_base.specs.declared.reply.Receipt.{Receipt}
 use Rattle.cr_base.specs.declared.reply.Receipt.TheVariants as receipts
 use Rattle.cr_base.specs.declared.words.Mode.{Mode}
@@ -31,8 +33,30 @@ registration_drawn user name digest = record { group = grouped user (registratio
 abbrev pub phase_drawn : ℕ → Phase → Drawn
 phase_drawn maker to = record { group = grouped maker (PhaseSet to ∷ []); receipt = receipts.Phase to }
 
-abbrev pub submission_drawn : ℕ → ℕ → List ℕ → List ℕ → Drawn
-submission_drawn maker paper title abstract = record { group = grouped maker (Submitted paper title abstract ∷ []); receipt = receipts.Paper paper }
+-- those of the users who are none of these, each where she comes first
+abbrev pub besides : List ℕ → List ℕ → List ℕ
+besides these [] = []
+besides these (u ∷ users) = if list_any (λ v. v == u) these then besides these users else u ∷ besides (these ++ u ∷ []) users
+
+-- a submission with these co-authors, in the order told; who submits it, or was told before, makes no second entry
+abbrev pub submission : ℕ → ℕ → List ℕ → List ℕ → List ℕ → List Entry
+submission maker paper title abstract users =
+    Submitted paper title abstract ∷ map (λ (user : ℕ). Coauthor paper user) (besides (maker ∷ []) users)
+
+abbrev pub submission_drawn : ℕ → ℕ → List ℕ → List ℕ → List ℕ → Drawn
+submission_drawn maker paper title abstract users = record {
+  group = grouped maker (submission maker paper title abstract users);
+  receipt = receipts.Paper paper;
+}
+
+abbrev pub revision_drawn : ℕ → ℕ → List ℕ → List ℕ → Drawn
+revision_drawn maker paper title abstract = record { group = grouped maker (Revised paper title abstract ∷ []); receipt = receipts.Changed paper }
+
+abbrev pub upload_drawn : ℕ → ℕ → ℕ → List ℕ → Drawn
+upload_drawn maker paper version content = record { group = grouped maker (Uploaded paper version content ∷ []); receipt = receipts.Version version }
+
+abbrev pub withdrawal_drawn : ℕ → ℕ → Drawn
+withdrawal_drawn maker paper = record { group = grouped maker (Withdrawn paper ∷ []); receipt = receipts.Changed paper }
 
 abbrev pub naming_drawn : ℕ → ℕ → List ℕ → Role → Drawn
 naming_drawn maker user name role = record { group = grouped maker (Named user role ∷ []); receipt = receipts.Named name role }
@@ -41,4 +65,4 @@ abbrev pub mode_drawn : ℕ → Mode → Drawn
 mode_drawn maker to = record { group = grouped maker (ModeSet to ∷ []); receipt = receipts.Mode to }
 
 abbrev pub conflict_drawn : ℕ → ℕ → ℕ → Bool → Drawn
-conflict_drawn maker paper user on = record { group = grouped maker (Conflict paper user on ∷ []); receipt = receipts.Conflict paper }
+conflict_drawn maker paper user on = record { group = grouped maker (Conflict paper user on ∷ []); receipt = receipts.Changed paper }

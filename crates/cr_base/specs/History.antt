@@ -1,10 +1,11 @@
 -- Histories, and what one entry tells: each definition gives the values that the entry adds to one fact, at
 -- most one.
-use Rattle.std.specs.Prelude.{ℕ, Bool, false, List, [], ◌∷◌, Option, ◌&&◌, ◌==◌}
+use Rattle.std.specs.Prelude.{ℕ, Bool, true, false, List, [], ◌∷◌, Option, ◌&&◌, ◌==◌, length}
 use Rattle.std.specs.List.{flat_map}
 use Rattle.std.specs.Str.{bytes_eq}
 use Rattle.cr_base.specs.declared.entry.Entry.{Entry}
-use Rattle.cr_base.specs.declared.entry.Entry.TheVariants.{Registered, Named, PhaseSet, ModeSet, Submitted, Conflict}
+use Rattle.cr_base.specs.declared.entry.Entry.TheVariants.{Registered, Named, PhaseSet, ModeSet, Submitted}
+use Rattle.cr_base.specs.declared.entry.Entry.TheVariants.{Coauthor, Revised, Uploaded, Withdrawn, Conflict}
 use Rattle.cr_base.specs.declared.entry.Stamped.{Stamped}
 use Rattle.cr_base.specs.declared.words.Phase.{Phase}
 use Rattle.cr_base.specs.declared.words.Mode.{Mode}
@@ -21,6 +22,11 @@ History = List Stamped
 pub record Registration : Type 0 where
   pub user : ℕ
   pub name : List ℕ
+
+-- what was uploaded to a paper: the number of the version, and its bytes
+pub record Upload : Type 0 where
+  pub version : ℕ
+  pub content : List ℕ
 
 -- what each entry tells, in order
 abbrev pub all_told : {A : Type 0} → (Entry → List A) → History → List A
@@ -57,6 +63,7 @@ own_paper_told u maker _ = []
 -- the author whom it gives the paper, where `maker` made it
 abbrev pub author_told : ℕ → ℕ → Entry → List ℕ
 author_told p maker (Submitted paper title abstract) = given (paper == p) maker
+author_told p maker (Coauthor paper user) = given (paper == p) user
 author_told p maker _ = []
 
 -- whether it turns the user's declared conflict with the paper on or off
@@ -72,11 +79,28 @@ declared_told authors p _ = []
 -- the title, the abstract that it gives the paper
 abbrev pub title_told : ℕ → Entry → List (List ℕ)
 title_told p (Submitted paper title abstract) = given (paper == p) title
+title_told p (Revised paper title abstract) = given (paper == p) title
 title_told p _ = []
 
 abbrev pub abstract_told : ℕ → Entry → List (List ℕ)
 abstract_told p (Submitted paper title abstract) = given (paper == p) abstract
+abstract_told p (Revised paper title abstract) = given (paper == p) abstract
 abstract_told p _ = []
+
+-- what it uploads to the paper
+abbrev pub upload_told : ℕ → Entry → List Upload
+upload_told p (Uploaded paper version content) = given (paper == p) (record { version = version; content = content })
+upload_told p _ = []
+
+-- how many bytes it uploads, where the user made it
+abbrev pub own_bytes_told : Option ℕ → ℕ → Entry → List ℕ
+own_bytes_told u maker (Uploaded paper version content) = given (is_number u maker) (length content)
+own_bytes_told u maker _ = []
+
+-- that it withdraws the paper
+abbrev pub withdrawal_told : ℕ → Entry → List Bool
+withdrawal_told p (Withdrawn paper) = given (paper == p) true
+withdrawal_told p _ = []
 
 -- the account that it makes
 abbrev pub registration_told : Entry → List Registration

@@ -10,10 +10,10 @@ use Rattle.cr_base.specs.declared.words.Role.{Role}
 use Rattle.cr_base.specs.declared.words.Role.TheVariants.{Account}
 use Rattle.cr_base.specs.declared.reply.AccountLine.{AccountLine}
 use Rattle.cr_base.specs.declared.standing.Standing.{Standing}
-use Rattle.cr_base.specs.Lists.{last, last_or, is_number, at_some}
-use Rattle.cr_base.specs.History.{History, Registration, all_told, all_told_by, phase_told, mode_told, paper_told}
+use Rattle.cr_base.specs.Lists.{last, last_or, total, is_number, at_some}
+use Rattle.cr_base.specs.History.{History, Registration, Upload, all_told, all_told_by, phase_told, mode_told, paper_told}
 use Rattle.cr_base.specs.History.{own_paper_told, author_told, conflict_told, declared_told, title_told}
-use Rattle.cr_base.specs.History.{abstract_told, registration_told, role_told, number_told, caller_told}
+use Rattle.cr_base.specs.History.{abstract_told, upload_told, own_bytes_told, withdrawal_told, registration_told, role_told, number_told, caller_told}
 
 -- ---- PublicFacts
 
@@ -47,7 +47,7 @@ caller_of name digest H = last (all_told (caller_told name digest) H)
 
 -- ---- Ties
 
--- the paper's authors, the submitter first
+-- the paper's authors, the submitter first, the others in the order in which they were told
 abbrev pub authors_of : ℕ → History → List ℕ
 authors_of p H = all_told_by (author_told p) H
 
@@ -85,6 +85,18 @@ title_of p H = last (all_told (title_told p) H)
 abbrev pub abstract_of : ℕ → History → Option (List ℕ)
 abstract_of p H = last (all_told (abstract_told p) H)
 
+-- what was uploaded to the paper, in order
+abbrev pub uploads_of : ℕ → History → List Upload
+uploads_of p H = all_told (upload_told p) H
+
+-- the paper was withdrawn
+abbrev pub is_withdrawn : ℕ → History → Bool
+is_withdrawn p H = last_or false (all_told (withdrawal_told p) H)
+
 -- how many papers the user has submitted
 abbrev pub own_papers_of : Option ℕ → History → ℕ
 own_papers_of u H = length (all_told_by (own_paper_told u) H)
+
+-- how many bytes the user has uploaded, in all versions of all papers
+abbrev pub own_bytes_of : Option ℕ → History → ℕ
+own_bytes_of u H = total (all_told_by (own_bytes_told u) H)

@@ -1,13 +1,17 @@
 -- The one judgement of commands: filled with the facts of a view it is Judge, filled with those of the tables it is RoleAnswer.
-use Rattle.std.specs.Prelude.{ℕ, Bool, ◌+◌, List, [], length, Option, None, is_some, unwrap_or, Result}
+use Rattle.std.specs.Prelude.{ℕ, Bool, ◌+◌, List, [], length, Option, None, is_some, is_none, unwrap_or, Result}
+use Rattle.std.specs.List.{flat_map, list_any}
 use Rattle.std.specs.Option.{option_map}
 use Rattle.cr_base.specs.declared.command.Command.{Command}
-use Rattle.cr_base.specs.declared.command.Command.TheVariants.{Register, SetPhase, Submit, Name, SetMode, SetConflict}
+use Rattle.cr_base.specs.declared.command.Command.TheVariants.{Register, SetPhase, Submit, Revise, Upload, Withdraw, Name, SetMode, SetConflict}
 use Rattle.cr_base.specs.declared.reply.Rule.{Rule}
 use Rattle.cr_base.specs.declared.words.Role.{Role}
-use Rattle.cr_base.specs.Checks.{judged, of_role, register_checks, phase_checks, submit_checks, name_checks, mode_checks, conflict_checks}
-use Rattle.cr_base.specs.Drawn.{Drawn, registration_drawn, phase_drawn, submission_drawn, naming_drawn, mode_drawn, conflict_drawn}
-use Rattle.cr_base.specs.Sources.{Facts, Shown, number_in, user_among, role_among, paper_named, target_named, maker_of, facts_of_tables, shown_in_tables}
+use Rattle.cr_base.specs.Checks.{judged, of_role, register_checks, phase_checks, submit_checks, revise_checks, upload_checks}
+use Rattle.cr_base.specs.Checks.{name_checks, mode_checks, conflict_checks}
+use Rattle.cr_base.specs.Drawn.{Drawn, registration_drawn, phase_drawn, submission_drawn, revision_drawn, upload_drawn}
+use Rattle.cr_base.specs.Drawn.{withdrawal_drawn, naming_drawn, mode_drawn, conflict_drawn}
+use Rattle.cr_base.specs.Lists.{listed}
+use Rattle.cr_base.specs.Sources.{Facts, Shown, number_in, user_among, users_among, role_among, paper_named, target_named, maker_of, facts_of_tables, shown_in_tables}
 use Rattle.cr_base.specs.Tables.{Tables}
 
 -- naming this user, if there is one
@@ -16,6 +20,13 @@ name_judged facts caller target name role =
     judged
     (name_checks (facts.standing None) (option_map of_role (role_among facts.accounts target)) role)
     (naming_drawn (maker_of caller) (unwrap_or target 0) name role)
+
+-- submitting a paper with these co-authors, those who are there
+abbrev pub submission_judged : Facts → Option ℕ → List (Option ℕ) → List ℕ → List ℕ → Result Drawn Rule
+submission_judged facts caller users title abstract =
+    judged
+    (submit_checks (list_any is_none users) (facts.standing None) (length facts.papers) facts.own_papers)
+    (submission_drawn (maker_of caller) (length facts.papers + 1) title abstract (flat_map listed users))
 
 -- turning this user's conflict, if there is one, on or off
 abbrev pub conflict_judged : Facts → Shown → Option ℕ → Option ℕ → Option ℕ → Bool → Result Drawn Rule
@@ -30,10 +41,18 @@ judge_by facts shown caller (Register name digest) =
     judged (register_checks (is_some (number_in facts.accounts name)) (length facts.accounts)) (registration_drawn (length facts.accounts + 1) name digest)
 judge_by facts shown caller (SetPhase to) =
     judged (phase_checks (facts.standing None) (facts.standing None).phase to) (phase_drawn (maker_of caller) to)
-judge_by facts shown caller (Submit title abstract) =
+judge_by facts shown caller (Submit title abstract authors) =
+    submission_judged facts caller (users_among facts.accounts authors) title abstract
+judge_by facts shown caller (Revise paper title abstract) =
     judged
-    (submit_checks (facts.standing None) (length facts.papers) facts.own_papers)
-    (submission_drawn (maker_of caller) (length facts.papers + 1) title abstract)
+    (revise_checks (facts.standing paper) (paper_named facts shown paper))
+    (revision_drawn (maker_of caller) (unwrap_or paper 0) title abstract)
+judge_by facts shown caller (Upload paper content) =
+    judged
+    (upload_checks (facts.standing paper) (paper_named facts shown paper) facts.own_bytes (length content))
+    (upload_drawn (maker_of caller) (unwrap_or paper 0) (length (shown.uploads (unwrap_or paper 0)) + 1) content)
+judge_by facts shown caller (Withdraw paper) =
+    judged (revise_checks (facts.standing paper) (paper_named facts shown paper)) (withdrawal_drawn (maker_of caller) (unwrap_or paper 0))
 judge_by facts shown caller (Name name role) =
     name_judged facts caller (user_among facts.accounts name) (unwrap_or name []) role
 judge_by facts shown caller (SetMode to) =

@@ -33,6 +33,11 @@ abbrev pub since : {A : Type 0} → (A → Bool) → List A → List A
 since test [] = []
 since test (x ∷ xs) = if test x then xs else since test xs
 
+-- the sum of the numbers
+abbrev pub total : List ℕ → ℕ
+total [] = 0
+total (n ∷ ns) = n + total ns
+
 -- there is no value
 abbrev pub is_nothing : {A : Type 0} → List A → Bool
 is_nothing [] = true

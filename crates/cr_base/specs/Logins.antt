@@ -18,7 +18,12 @@ ask_wants_login asks.Name = true
 ask_wants_login asks.SetMode = true
 ask_wants_login asks.SetPhase = true
 ask_wants_login asks.Submit = true
+ask_wants_login asks.Revise = true
+ask_wants_login asks.Withdraw = true
 ask_wants_login asks.Page = true
+ask_wants_login asks.Upload = true
+ask_wants_login asks.Content = true
+ask_wants_login asks.Version = true
 ask_wants_login asks.SetConflict = true
 ask_wants_login asks.Me = true
 
@@ -32,7 +37,12 @@ ask_reads_credentials asks.Name = true
 ask_reads_credentials asks.SetMode = true
 ask_reads_credentials asks.SetPhase = true
 ask_reads_credentials asks.Submit = true
+ask_reads_credentials asks.Revise = true
+ask_reads_credentials asks.Withdraw = true
 ask_reads_credentials asks.Page = true
+ask_reads_credentials asks.Upload = true
+ask_reads_credentials asks.Content = true
+ask_reads_credentials asks.Version = true
 ask_reads_credentials asks.SetConflict = true
 ask_reads_credentials asks.Me = true
 
@@ -42,7 +52,10 @@ ask_reads_credentials asks.Me = true
 abbrev pub command_ask : Command → Ask
 command_ask (commands.Register name digest) = asks.Register
 command_ask (commands.SetPhase phase) = asks.SetPhase
-command_ask (commands.Submit title abstract) = asks.Submit
+command_ask (commands.Submit title abstract authors) = asks.Submit
+command_ask (commands.Revise paper title abstract) = asks.Revise
+command_ask (commands.Upload paper content) = asks.Upload
+command_ask (commands.Withdraw paper) = asks.Withdraw
 command_ask (commands.Name user role) = asks.Name
 command_ask (commands.SetMode mode) = asks.SetMode
 command_ask (commands.SetConflict paper user on) = asks.SetConflict
@@ -52,6 +65,8 @@ query_ask queries.Me = asks.Me
 query_ask queries.Accounts = asks.Accounts
 query_ask queries.Phase = asks.Phase
 query_ask (queries.Page paper) = asks.Page
+query_ask (queries.Content paper) = asks.Content
+query_ask (queries.Version paper version) = asks.Version
 
 -- each wants the login that its request does
 abbrev pub command_wants_login : Command → Bool

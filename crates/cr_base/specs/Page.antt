@@ -46,6 +46,14 @@ gets_conflicts by = is_clear_chair by && is_from Bidding by.phase
 abbrev pub gets_declared : Standing → Bool
 gets_declared by = by.author
 
+-- the versions of its content: authors all; clear members from bidding the last
+abbrev pub gets_versions : Standing → Bool
+gets_versions by = by.author || (is_clear_member by && is_from Bidding by.phase)
+
+-- whether it is withdrawn: authors; members from bidding
+abbrev pub gets_withdrawn : Standing → Bool
+gets_withdrawn by = by.author || (is_member by.role && is_from Bidding by.phase)
+
 -- the keys that have nothing to tell yet
 abbrev pub bare_keys : Standing → BareKeys
 bare_keys by = record {
@@ -57,8 +65,6 @@ bare_keys by = record {
       || (is_clear_member by && is_from Discussion by.phase)
       || (by.author && is_overt by.mode && is_from Notification by.phase);
   tags = is_clear_member by && is_from Bidding by.phase;
-  versions = by.author || (is_clear_member by && is_from Bidding by.phase);
-  withdrawn = by.author || (is_member by.role && is_from Bidding by.phase);
 }
 
 -- ---- the page
@@ -70,6 +76,8 @@ pub record PaperTexts : Type 0 where
   pub authors : List (List ℕ)
   pub conflicts : List (List ℕ)
   pub declared : List (List ℕ)
+  pub versions : List ℕ
+  pub withdrawn : Bool
 
 -- the value, where it is told
 abbrev pub where_told : {A : Type 0} → Bool → Option A → Option A
@@ -85,5 +93,7 @@ page_of by paper texts = record {
   conflicts = where_told (gets_conflicts by) (Some texts.conflicts);
   declared = where_told (gets_declared by) (Some texts.declared);
   title = where_told (gets_title by) texts.title;
+  versions = where_told (gets_versions by) (Some texts.versions);
+  withdrawn = where_told (gets_withdrawn by) (Some texts.withdrawn);
   bare = bare_keys by;
 }

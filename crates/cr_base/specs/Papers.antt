@@ -1,36 +1,66 @@
 -- The table of papers: what an entry makes of it, and what is read from it.
-use Rattle.std.specs.Prelude.{ℕ, ◌≡◌, ◌≤◌, ◌<◌, ◌+◌, List, [], ◌∷◌, ◌++◌, length, zero, suc, slice_index, Option, Some, None}
-use Rattle.std.specs.Option.{option_map}
+use Rattle.std.specs.Prelude.{ℕ, Bool, true, false, ◌≡◌, ◌≤◌, ◌<◌, ◌+◌, ◌-◌, ◌==◌, List, [], ◌∷◌, ◌++◌, length, zero, suc}
+use Rattle.std.specs.Prelude.{slice_index, slice_get, slice_set, Option, Some, None}
+use Rattle.std.specs.List.{flat_map}
+use Rattle.std.specs.Option.{option_map, option_map_or}
 use Rattle.cr_base.specs.declared.entry.Entry.{Entry}
-use Rattle.cr_base.specs.declared.entry.Entry.TheVariants.{Submitted, Conflict}
+use Rattle.cr_base.specs.declared.entry.Entry.TheVariants.{Submitted, Coauthor, Revised, Uploaded, Withdrawn, Conflict}
 use Rattle.cr_base.specs.declared.paper.Paper.{Paper}
-use Rattle.cr_base.specs.Lists.{numbered, numbers_from}
+use Rattle.cr_base.specs.History.{Upload}
+use Rattle.cr_base.specs.Lists.{given, numbered, numbers_from}
 
 -- ---- the state
 
--- what is kept of each paper: paper number n stands at index n - 1; and how many papers each user has submitted: her
--- number is the index, and who is past the end has submitted none
+-- an upload, and the paper that it was to
+pub record PaperUpload : Type 0 where
+  pub paper : ℕ
+  pub upload : Upload
+
+-- what is kept of each paper: paper number n stands at index n - 1; all uploads in their order; how many papers each user
+-- has submitted, and how many bytes she has uploaded: her number is the index, and who is past the end has none
 pub record PapersState : Type 0 where
   pub papers : List Paper
+  pub uploads : List PaperUpload
   pub submitted : List ℕ
+  pub uploaded : List ℕ
 
 -- no papers
 abbrev pub no_papers : PapersState
-no_papers = record { papers = []; submitted = [] }
+no_papers = record { papers = []; uploads = []; submitted = []; uploaded = [] }
 
--- the counts with one more at this index, with none before it that isn't there yet
-abbrev pub with_one_more : ℕ → List ℕ → List ℕ
-with_one_more zero [] = 1 ∷ []
-with_one_more zero (n ∷ counts) = (n + 1) ∷ counts
-with_one_more (suc i) [] = 0 ∷ with_one_more i []
-with_one_more (suc i) (n ∷ counts) = n ∷ with_one_more i counts
+-- the sums with this much more at this index, with 0 before it where nothing is there yet
+abbrev pub with_more : ℕ → ℕ → List ℕ → List ℕ
+with_more zero more [] = more ∷ []
+with_more zero more (n ∷ sums) = (n + more) ∷ sums
+with_more (suc i) more [] = 0 ∷ with_more i more []
+with_more (suc i) more (n ∷ sums) = n ∷ with_more i more sums
+
+-- the papers with the one of this number changed, where it is there
+abbrev pub with_paper : ℕ → (Paper → Paper) → List Paper → List Paper
+with_paper p change papers = option_map_or (λ (paper : Paper). slice_set papers (p - 1) (change paper)) (numbered papers p) papers
+
+-- a paper as it is submitted; with other texts; and withdrawn
+abbrev pub new_paper : List ℕ → List ℕ → Paper
+new_paper title abstract = record { title = title; abstract_ = abstract; withdrawn = false }
+
+abbrev pub with_texts : List ℕ → List ℕ → Paper → Paper
+with_texts title abstract paper = record { title = title; abstract_ = abstract; withdrawn = paper.withdrawn }
+
+abbrev pub as_withdrawn : Paper → Paper
+as_withdrawn paper = record { title = paper.title; abstract_ = paper.abstract_; withdrawn = true }
 
 -- the papers after one more entry, by this maker
 abbrev pub papers_after : PapersState → ℕ → Entry → PapersState
-papers_after state maker (Submitted paper title abstract) = record {
-  papers = state.papers ++ record { title = title; abstract_ = abstract } ∷ [];
-  submitted = with_one_more maker state.submitted;
+papers_after state maker (Submitted paper title abstract) = record state {
+  papers = state.papers ++ new_paper title abstract ∷ [];
+  submitted = with_more maker 1 state.submitted;
 }
+papers_after state maker (Revised paper title abstract) = record state { papers = with_paper paper (with_texts title abstract) state.papers }
+papers_after state maker (Uploaded paper version content) = record state {
+  uploads = state.uploads ++ (record { paper = paper; upload = record { version = version; content = content } }) ∷ [];
+  uploaded = with_more maker (length content) state.uploaded;
+}
+papers_after state maker (Withdrawn paper) = record state { papers = with_paper paper as_withdrawn state.papers }
 papers_after state maker _ = state
 
 -- ---- what is read
@@ -52,15 +82,38 @@ title_at state p = text_at (λ (paper : Paper). paper.title) state p
 abbrev pub abstract_at : PapersState → ℕ → Option (List ℕ)
 abstract_at state p = text_at (λ (paper : Paper). paper.abstract_) state p
 
+-- whether the paper is withdrawn
+abbrev pub is_withdrawn_at : PapersState → ℕ → Bool
+is_withdrawn_at state p = option_map_or (λ (paper : Paper). paper.withdrawn) (numbered state.papers p) false
+
+-- what was uploaded to the paper, in order
+abbrev pub uploads_at : PapersState → ℕ → List Upload
+uploads_at state p = flat_map (λ (u : PaperUpload). given (u.paper == p) u.upload) state.uploads
+
 -- how many papers the user has submitted
 abbrev pub own_count : PapersState → Option ℕ → ℕ
 own_count state None = 0
 own_count state (Some user) = slice_index state.submitted user
 
+-- how many bytes the user has uploaded, in all versions of all papers
+abbrev pub own_bytes : PapersState → Option ℕ → ℕ
+own_bytes state None = 0
+own_bytes state (Some user) = slice_index state.uploaded user
+
 -- ---- which entry may come next
 
--- an entry fits: the number drawn is the next one, and its maker hasn't submitted 20 papers; or the paper is there
+-- the paper is there
+abbrev pub IsPaper : PapersState → ℕ → Type 0
+IsPaper state paper = (1 ≤ paper) × (paper ≤ paper_count state)
+
+-- an entry fits: the number drawn is the next one, and its maker hasn't submitted 20 papers, nor uploaded too many bytes;
+-- the paper is there, and co-authors are told of the last one
 abbrev pub PapersFit : PapersState → ℕ → Entry → Type 0
 PapersFit state maker (Submitted paper title abstract) = (paper ≡ paper_count state + 1) × (paper ≤ 9999) × (own_count state (Some maker) < 20)
-PapersFit state maker (Conflict paper user on) = (1 ≤ paper) × (paper ≤ paper_count state)
+PapersFit state maker (Coauthor paper user) = (1 ≤ paper) × (paper ≡ paper_count state)
+PapersFit state maker (Revised paper title abstract) = IsPaper state paper
+PapersFit state maker (Uploaded paper version content) =
+    IsPaper state paper × (version ≡ length (uploads_at state paper) + 1) × (own_bytes state (Some maker) + length content ≤ 67108864)
+PapersFit state maker (Withdrawn paper) = IsPaper state paper
+PapersFit state maker (Conflict paper user on) = IsPaper state paper
 PapersFit state maker _ = Unit {0}

@@ -3,13 +3,14 @@ use Rattle.std.specs.Prelude.{ℕ, Bool, ◌==◌, List, [], codes, if◌then◌
 use Rattle.cr_base.specs.declared.entry.EntryKind.{EntryKind}
 use Rattle.cr_base.specs.declared.entry.EntryKind.TheVariants as kind
 use Rattle.cr_base.specs.declared.entry.Entry.{Entry}
-use Rattle.cr_base.specs.declared.entry.Entry.TheVariants.{Registered, Named, PhaseSet, ModeSet, Submitted, Conflict}
+use Rattle.cr_base.specs.declared.entry.Entry.TheVariants.{Registered, Named, PhaseSet, ModeSet, Submitted}
+use Rattle.cr_base.specs.declared.entry.Entry.TheVariants.{Coauthor, Revised, Uploaded, Withdrawn, Conflict}
 use Rattle.cr_base.specs.declared.entry.Stamped.{Stamped}
 use Rattle.cr_base.specs.declared.row.Row.{Row}
 use Rattle.cr_base.specs.Words.{phase_number, phase_numbered, mode_number, mode_numbered, role_number, role_numbered}
 use Rattle.cr_base.specs.declared.shape.Shape.{Shape}
-use Rattle.cr_base.specs.declared.shape.TextKind.TheVariants.{Nothing, Name, Digest, Title, Abstract}
-use Rattle.cr_base.specs.Shapes.{user_range, paper_range, phase_range, mode_range, bit, role_range, unused, shape, FitsShape}
+use Rattle.cr_base.specs.declared.shape.TextKind.TheVariants.{Nothing, Name, Digest, Title, Abstract, Content}
+use Rattle.cr_base.specs.Shapes.{user_range, paper_range, phase_range, mode_range, bit, role_range, version_range, unused, shape, FitsShape}
 
 -- the number by which rows tell the kind
 abbrev pub kind_number : EntryKind → ℕ
@@ -18,6 +19,10 @@ kind_number kind.Named = 2
 kind_number kind.PhaseSet = 3
 kind_number kind.ModeSet = 4
 kind_number kind.Submitted = 5
+kind_number kind.Coauthor = 6
+kind_number kind.Revised = 7
+kind_number kind.Uploaded = 8
+kind_number kind.Withdrawn = 9
 kind_number kind.Conflict = 10
 
 -- the word for the kind: its name in lower case
@@ -27,6 +32,10 @@ kind_name kind.Named = codes "named"
 kind_name kind.PhaseSet = codes "phaseset"
 kind_name kind.ModeSet = codes "modeset"
 kind_name kind.Submitted = codes "submitted"
+kind_name kind.Coauthor = codes "coauthor"
+kind_name kind.Revised = codes "revised"
+kind_name kind.Uploaded = codes "uploaded"
+kind_name kind.Withdrawn = codes "withdrawn"
 kind_name kind.Conflict = codes "conflict"
 
 -- the fields of each kind, a line a kind
@@ -36,6 +45,10 @@ shape_of kind.Named = shape user_range role_range unused Nothing Nothing
 shape_of kind.PhaseSet = shape phase_range unused unused Nothing Nothing
 shape_of kind.ModeSet = shape mode_range unused unused Nothing Nothing
 shape_of kind.Submitted = shape paper_range unused unused Title Abstract
+shape_of kind.Coauthor = shape paper_range user_range unused Nothing Nothing
+shape_of kind.Revised = shape paper_range unused unused Title Abstract
+shape_of kind.Uploaded = shape paper_range version_range unused Content Nothing
+shape_of kind.Withdrawn = shape paper_range unused unused Nothing Nothing
 shape_of kind.Conflict = shape paper_range user_range bit Nothing Nothing
 
 -- the kind of an entry
@@ -45,6 +58,10 @@ kind_of (Named user role) = kind.Named
 kind_of (PhaseSet phase) = kind.PhaseSet
 kind_of (ModeSet mode) = kind.ModeSet
 kind_of (Submitted paper title abstract) = kind.Submitted
+kind_of (Coauthor paper user) = kind.Coauthor
+kind_of (Revised paper title abstract) = kind.Revised
+kind_of (Uploaded paper version content) = kind.Uploaded
+kind_of (Withdrawn paper) = kind.Withdrawn
 kind_of (Conflict paper user on) = kind.Conflict
 
 -- what a row tells of an entry beside its kind, its maker and the mark
@@ -71,6 +88,10 @@ fields_of (Named user role) = fields user (role_number role) 0 [] []
 fields_of (PhaseSet phase) = fields (phase_number phase) 0 0 [] []
 fields_of (ModeSet mode) = fields (mode_number mode) 0 0 [] []
 fields_of (Submitted paper title abstract) = fields paper 0 0 title abstract
+fields_of (Coauthor paper user) = fields paper user 0 [] []
+fields_of (Revised paper title abstract) = fields paper 0 0 title abstract
+fields_of (Uploaded paper version content) = fields paper version 0 content []
+fields_of (Withdrawn paper) = fields paper 0 0 [] []
 fields_of (Conflict paper user on) = fields paper user (bit_number on) [] []
 
 -- the row of an entry
@@ -105,6 +126,10 @@ built kind.Named r = Named r.n1 (role_numbered r.n2)
 built kind.PhaseSet r = PhaseSet (phase_numbered r.n1)
 built kind.ModeSet r = ModeSet (mode_numbered r.n1)
 built kind.Submitted r = Submitted r.n1 r.b1 r.b2
+built kind.Coauthor r = Coauthor r.n1 r.n2
+built kind.Revised r = Revised r.n1 r.b1 r.b2
+built kind.Uploaded r = Uploaded r.n1 r.n2 r.b1
+built kind.Withdrawn r = Withdrawn r.n1
 built kind.Conflict r = Conflict r.n1 r.n2 (r.n3 == 1)
 
 abbrev pub stamped : EntryKind → Row → Stamped

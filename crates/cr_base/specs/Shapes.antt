@@ -1,14 +1,14 @@
 -- What may stand in the fields of a row: ranges of numbers and grammars of bytes.
-use Rattle.std.specs.Prelude.{ℕ, ◌≡◌, ◌≤◌, List, [], length}
+use Rattle.std.specs.Prelude.{ℕ, ◌≡◌, ◌≤◌, List, [], length, Option, Some, None}
 use Rattle.cr_base.specs.declared.shape.Range.{Range}
 use Rattle.cr_base.specs.declared.shape.Shape.{Shape}
 use Rattle.cr_base.specs.declared.shape.TextKind.{TextKind}
-use Rattle.cr_base.specs.declared.shape.TextKind.TheVariants.{Nothing, Name, Digest, Title, Abstract}
+use Rattle.cr_base.specs.declared.shape.TextKind.TheVariants.{Nothing, Name, Digest, Title, Abstract, Content}
 use Rattle.cr_base.specs.declared.row.Row.{Row}
-use Rattle.cr_base.specs.Texts.{IsName, IsTitle, IsAbstract}
+use Rattle.cr_base.specs.Texts.{IsName, IsTitle, IsAbstract, IsContent}
 
 abbrev pub range : ℕ → ℕ → Range
-range low high = record { low = low; high = high }
+range low high = record { low = low; high = Some high }
 
 -- the numbers of users
 abbrev pub user_range : Range
@@ -34,6 +34,10 @@ bit = range 0 1
 abbrev pub role_range : Range
 role_range = range 1 2
 
+-- the numbers of a paper's versions: from 1, with no greatest
+abbrev pub version_range : Range
+version_range = record { low = 1; high = None }
+
 -- an unused number is 0
 abbrev pub unused : Range
 unused = range 0 0
@@ -41,8 +45,13 @@ unused = range 0 0
 abbrev pub shape : Range → Range → Range → TextKind → TextKind → Shape
 shape n1 n2 n3 b1 b2 = record { n1 = n1; n2 = n2; n3 = n3; n4 = unused; n5 = unused; b1 = b1; b2 = b2 }
 
+-- a number is no more than the greatest, where there is one
+abbrev pub IsAtMost : Option ℕ → ℕ → Type 0
+IsAtMost None n = Unit {0}
+IsAtMost (Some high) n = n ≤ high
+
 abbrev pub InRange : Range → ℕ → Type 0
-InRange r n = (r.low ≤ n) × (n ≤ r.high)
+InRange r n = (r.low ≤ n) × IsAtMost r.high n
 
 -- the bytes that a field may hold
 abbrev pub HasText : TextKind → List ℕ → Type 0
@@ -51,6 +60,7 @@ HasText Name bytes = IsName bytes
 HasText Digest bytes = length bytes ≡ 32
 HasText Title bytes = IsTitle bytes
 HasText Abstract bytes = IsAbstract bytes
+HasText Content bytes = IsContent bytes
 
 -- the row's fields are as the shape wants them; who made it, and the mark, are alike in every kind
 pub record FitsShape (s : Shape) (r : Row) : Type 0 where

@@ -1,6 +1,6 @@
 -- What rules and answers read, over a record of facts and one of what is shown of a paper: filled by a view they make
 -- Judge and Answer, filled by the tables they make RoleAnswer.
-use Rattle.std.specs.Prelude.{ℕ, Bool, false, ◌==◌, List, Option, find, unwrap_or}
+use Rattle.std.specs.Prelude.{ℕ, Bool, ◌==◌, List, Option, find, map, unwrap_or}
 use Rattle.std.specs.Option.{option_map, option_and_then}
 use Rattle.std.specs.List.{flat_map, list_any}
 use Rattle.std.specs.Str.{bytes_eq}
@@ -12,26 +12,30 @@ use Rattle.cr_base.specs.Accounts.{lines_of, role_in}
 use Rattle.cr_base.specs.Checks.{NamedPaper}
 use Rattle.cr_base.specs.Lists.{listed, is_number, at_some}
 use Rattle.cr_base.specs.Pairs.{users_tied_to}
-use Rattle.cr_base.specs.Papers.{paper_numbers, title_at, abstract_at, own_count}
+use Rattle.cr_base.specs.History.{Upload}
+use Rattle.cr_base.specs.Papers.{paper_numbers, title_at, abstract_at, is_withdrawn_at, uploads_at, own_count, own_bytes}
 use Rattle.cr_base.specs.Tables.{Tables}
 use Rattle.cr_base.specs.Ties.{authors_in, is_author_in, is_conflicted_in}
 
 -- what rules and drawn numbers read: how the caller stands, to a paper if one is named; who has registered; the papers;
--- and how many of them are the caller's
+-- how many of them are the caller's, and how many bytes she has uploaded
 pub record Facts : Type 0 where
   pub standing : Option ℕ → Standing
   pub accounts : List AccountLine
   pub papers : List ℕ
   pub own_papers : ℕ
+  pub own_bytes : ℕ
 
--- what pages, and some rules, tell of a paper beside the standing: its texts, its authors, who is declared in conflict
--- with it, and whom its authors declared, both by user number; and whether it is withdrawn
+-- what pages, contents and some rules tell of a paper beside the standing: its texts, its authors, who is declared in
+-- conflict with it, and whom its authors declared, both by user number; what was uploaded to it, in order; and whether it is
+-- withdrawn
 pub record Shown : Type 0 where
   pub title : ℕ → Option (List ℕ)
   pub abstract_ : ℕ → Option (List ℕ)
   pub authors : ℕ → List ℕ
   pub conflicts : ℕ → List ℕ
   pub declared : ℕ → List ℕ
+  pub uploads : ℕ → List Upload
   pub withdrawn : ℕ → Bool
 
 -- how a user stands, by the tables
@@ -51,12 +55,8 @@ facts_of_tables t u = record {
   accounts = lines_of t.accounts;
   papers = paper_numbers t.papers;
   own_papers = own_count t.papers u;
+  own_bytes = own_bytes t.papers u;
 }
-
--- No entry withdraws a paper yet, so that none is withdrawn holds by a view and by the tables alike, which both read it
--- here; with such an entry each gets its own, and this goes.
-abbrev pub none_withdrawn : ℕ → Bool
-none_withdrawn paper = false
 
 abbrev pub shown_in_tables : Tables → Shown
 shown_in_tables t = record {
@@ -65,7 +65,8 @@ shown_in_tables t = record {
   authors = authors_in t.ties;
   conflicts = λ p. users_tied_to p t.ties.conflicts;
   declared = λ p. users_tied_to p t.ties.declared;
-  withdrawn = none_withdrawn;
+  uploads = uploads_at t.papers;
+  withdrawn = is_withdrawn_at t.papers;
 }
 
 -- who makes the entries of a caller's command: nobody makes any but a registration
@@ -82,6 +83,10 @@ name_in accounts user = option_map (λ a. a.name) (find (λ a. a.user == user) a
 -- the user of a name that may be none, and the role of a user who may be nobody
 abbrev pub user_among : List AccountLine → Option (List ℕ) → Option ℕ
 user_among accounts name = option_and_then (number_in accounts) name
+
+-- the users of these names
+abbrev pub users_among : List AccountLine → List (Option (List ℕ)) → List (Option ℕ)
+users_among accounts names = map (user_among accounts) names
 
 abbrev pub role_among : List AccountLine → Option ℕ → Option Role
 role_among accounts user = option_and_then (λ v. option_map (λ a. a.role) (find (λ a. a.user == v) accounts)) user

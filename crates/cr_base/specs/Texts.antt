@@ -1,4 +1,4 @@
--- The grammar of names, titles and abstracts.
+-- The grammar of names, titles and abstracts, and how long a content may be.
 use Rattle.std.specs.Prelude.{ℕ, Bool, ◌≤◌, ◌==◌, ◌||◌, ◌&&◌, not, nat_le, List, length, IsTrue}
 use Rattle.std.specs.List.{list_all}
 use Rattle.std.specs.Char.{is_ascii_lowercase, is_ascii_digit}
@@ -47,3 +47,9 @@ pub record IsAbstract (text : List ℕ) : Type 0 where
 -- the same as a test
 abbrev pub is_abstract : List ℕ → Bool
 is_abstract text = nat_le (length text) 5000 && is_utf8 text
+
+-- ---- contents
+
+-- what is uploaded at once: any bytes, at most 4,194,304
+abbrev pub IsContent : List ℕ → Type 0
+IsContent bytes = length bytes ≤ 4194304

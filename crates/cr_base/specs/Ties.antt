@@ -1,8 +1,8 @@
 -- The table of ties: who is an author of which paper, and who is declared in conflict with it.
-use Rattle.std.specs.Prelude.{ℕ, Bool, ◌||◌, ◌&&◌, nat_le, nat_lt, IsTrue, List, [], ◌∷◌, ◌++◌, Option, Some, None, false, if◌then◌else◌}
+use Rattle.std.specs.Prelude.{ℕ, Bool, ◌||◌, ◌&&◌, nat_le, nat_lt, IsTrue, IsFalse, List, [], ◌∷◌, ◌++◌, Option, Some, None, false, if◌then◌else◌}
 use Rattle.std.specs.List.{list_any, list_all}
 use Rattle.cr_base.specs.declared.entry.Entry.{Entry}
-use Rattle.cr_base.specs.declared.entry.Entry.TheVariants.{Submitted, Conflict}
+use Rattle.cr_base.specs.declared.entry.Entry.TheVariants.{Submitted, Coauthor, Conflict}
 use Rattle.cr_base.specs.declared.pairs.Order.TheVariants.{ByPaper}
 use Rattle.cr_base.specs.declared.pairs.Pair.{Pair}
 use Rattle.cr_base.specs.declared.pairs.Tie.{Tie}
@@ -33,7 +33,7 @@ pair_of paper user = record { paper = paper; user = user }
 abbrev pub bare_tie : ℕ → ℕ → Tie (Unit {0})
 bare_tie paper user = record { pair = pair_of paper user; value = tt }
 
--- the paper's authors, the submitter first
+-- the paper's authors, the submitter first, the others in the order in which they were told
 abbrev pub authors_in : TiesState → ℕ → List ℕ
 authors_in ties p = users_tied_to p ties.authors
 
@@ -48,6 +48,7 @@ switched on paper user ties = if on then with_tie ByPaper (bare_tie paper user) 
 -- the ties after one more entry, by this maker
 abbrev pub ties_after : TiesState → ℕ → Entry → TiesState
 ties_after ties maker (Submitted paper title abstract) = record ties { authors = ties.authors ++ bare_tie paper maker ∷ [] }
+ties_after ties maker (Coauthor paper user) = record ties { authors = ties.authors ++ bare_tie paper user ∷ [] }
 ties_after ties maker (Conflict paper user on) = record ties {
   conflicts = switched on paper user ties.conflicts;
   declared = if is_author_in ties (Some maker) paper then with_tie ByPaper (bare_tie paper user) ties.declared else ties.declared;
@@ -71,6 +72,10 @@ is_conflicted_in ties u p = is_author_in ties u p || is_conflict_on_in ties u p
 abbrev pub are_before : ℕ → BareTies → Bool
 are_before paper ties = list_all (λ (t : Tie (Unit {0})). nat_lt t.pair.paper paper) ties
 
+-- and the papers of all these have no higher ones
+abbrev pub are_up_to : ℕ → BareTies → Bool
+are_up_to paper ties = list_all (λ (t : Tie (Unit {0})). nat_le t.pair.paper paper) ties
+
 -- the papers of all these ties have one of the first n numbers
 abbrev pub are_within : ℕ → BareTies → Bool
 are_within n ties = list_all (λ (t : Tie (Unit {0})). nat_le 1 t.pair.paper && nat_le t.pair.paper n) ties
@@ -80,7 +85,9 @@ pub record AreWithin (n : ℕ) (ties : TiesState) : Type 0 where
   pub authors : IsTrue (are_within n ties.authors)
   pub conflicts : IsTrue (are_within n ties.conflicts)
 
--- an entry fits: the paper that it makes comes behind all that have authors
+-- an entry fits: the paper that it makes comes behind all that have authors; the co-author's is the last of these, and she
+-- is none of its authors
 abbrev pub TiesFit : TiesState → Entry → Type 0
 TiesFit ties (Submitted paper title abstract) = IsTrue (are_before paper ties.authors)
+TiesFit ties (Coauthor paper user) = IsTrue (are_up_to paper ties.authors) × IsFalse (has_pair (pair_of paper user) ties.authors)
 TiesFit ties _ = Unit {0}

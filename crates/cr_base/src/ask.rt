@@ -21,6 +21,16 @@ pub enum Ask {
     Submit,
     /// A paper's page: GET or HEAD of `/papers/{p}`.
     Page,
+    /// Other texts of a paper: PUT of `/papers/{p}`.
+    Revise,
+    /// That a paper is withdrawn: DELETE of `/papers/{p}`.
+    Withdraw,
+    /// The last version of a paper's content: GET or HEAD of `/papers/{p}/content`.
+    Content,
+    /// One more version of a paper's content: PUT of `/papers/{p}/content`.
+    Upload,
+    /// A version of a paper's content: GET or HEAD of `/papers/{p}/content/{v}`.
+    Version,
     /// Whether a user is in conflict with a paper: POST of `/papers/{p}/conflicts`.
     SetConflict,
     /// What the caller is to the conference: GET or HEAD of `/me`.
@@ -29,14 +39,15 @@ pub enum Ask {
 
 impl Ask {
     /// Whether it is a registered user's, so that nobody is answered `unauthorized`: every command but a registration, a
-    /// paper's page, and what the caller is to the conference.
+    /// paper's page and content, and what the caller is to the conference.
     pub fn wants_login(self) -> bool
         ensures { result ≡ ask_wants_login self }
     {
         match self {
             Ask::Register | Ask::Accounts | Ask::Phase => false,
-            Ask::Name | Ask::SetMode | Ask::SetPhase | Ask::Submit => true,
-            Ask::SetConflict | Ask::Page | Ask::Me => true,
+            Ask::Name | Ask::SetMode | Ask::SetPhase | Ask::SetConflict => true,
+            Ask::Submit | Ask::Revise | Ask::Upload | Ask::Withdraw => true,
+            Ask::Me | Ask::Page | Ask::Content | Ask::Version => true,
         }
     }
 
@@ -47,8 +58,9 @@ impl Ask {
     {
         match self {
             Ask::Register | Ask::Accounts | Ask::Phase => false,
-            Ask::Me | Ask::Page => true,
-            Ask::Name | Ask::SetMode | Ask::SetPhase | Ask::Submit | Ask::SetConflict => true,
+            Ask::Me | Ask::Page | Ask::Content | Ask::Version => true,
+            Ask::Name | Ask::SetMode | Ask::SetPhase | Ask::SetConflict => true,
+            Ask::Submit | Ask::Revise | Ask::Upload | Ask::Withdraw => true,
         }
     }
 }

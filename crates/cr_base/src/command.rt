@@ -5,7 +5,8 @@ ghost use Rattle.cr_base.specs.Logins.{command_ask, command_wants_login, query_a
 use crate::ask::Ask;
 use crate::entry::Digest;
 use crate::numbers::PaperNo;
-use crate::texts::{Short, Text};
+use crate::texts::{Blob, Short, Text};
+use crate::told::ToldNames;
 use crate::words::{Mode, Phase, Role};
 
 /// What a request may change.
@@ -23,12 +24,35 @@ pub enum Command {
         /// The phase told.
         phase: Phase,
     },
-    /// A new paper, whose author is the caller.
+    /// A new paper, whose first author is the caller.
     Submit {
         /// Its title: UTF-8, 1 to 200 bytes, no control characters.
         title: Text,
         /// Its abstract: UTF-8, at most 5,000 bytes.
         abstract_: Text,
+        /// The names told of its other authors, at most 19.
+        authors: ToldNames,
+    },
+    /// A paper has other texts.
+    Revise {
+        /// The paper told; None where what was told is no number of a paper.
+        paper: Option<PaperNo>,
+        /// Its title: UTF-8, 1 to 200 bytes, no control characters.
+        title: Text,
+        /// Its abstract: UTF-8, at most 5,000 bytes.
+        abstract_: Text,
+    },
+    /// A paper has one more version of its content.
+    Upload {
+        /// The paper told; None where what was told is no number of a paper.
+        paper: Option<PaperNo>,
+        /// The content: any bytes, at most 4,194,304.
+        content: Blob,
+    },
+    /// A paper is withdrawn.
+    Withdraw {
+        /// The paper told; None where what was told is no number of a paper.
+        paper: Option<PaperNo>,
     },
     /// Somebody becomes a member or a chair.
     Name {
@@ -67,6 +91,18 @@ pub enum Query {
         /// The paper told; None where what was told is no number of a paper.
         paper: Option<PaperNo>,
     },
+    /// The last version of a paper's content.
+    Content {
+        /// The paper told; None where what was told is no number of a paper.
+        paper: Option<PaperNo>,
+    },
+    /// A version of a paper's content.
+    Version {
+        /// The paper told; None where what was told is no number of a paper.
+        paper: Option<PaperNo>,
+        /// The version told; 0, which no version has, where what was told is no number of one.
+        version: u64,
+    },
 }
 
 impl Command {
@@ -78,6 +114,9 @@ impl Command {
             Command::Register { .. } => Ask::Register,
             Command::SetPhase { .. } => Ask::SetPhase,
             Command::Submit { .. } => Ask::Submit,
+            Command::Revise { .. } => Ask::Revise,
+            Command::Upload { .. } => Ask::Upload,
+            Command::Withdraw { .. } => Ask::Withdraw,
             Command::Name { .. } => Ask::Name,
             Command::SetMode { .. } => Ask::SetMode,
             Command::SetConflict { .. } => Ask::SetConflict,
@@ -102,6 +141,8 @@ impl Query {
             Query::Accounts => Ask::Accounts,
             Query::Phase => Ask::Phase,
             Query::Page { .. } => Ask::Page,
+            Query::Content { .. } => Ask::Content,
+            Query::Version { .. } => Ask::Version,
         }
     }
 

@@ -3,7 +3,7 @@ ghost use Rattle.std.specs.Prelude.{◌≡◌, IfOk};
 ghost use Rattle.cr_base.specs.Rows.{kind_of};
 
 use crate::numbers::{PaperNo, UserNo};
-use crate::texts::{Short, Text};
+use crate::texts::{Blob, Short, Text};
 use crate::words::{Mode, Phase, Role};
 use std::alloc::AllocError;
 
@@ -34,6 +34,11 @@ pub enum Entry {
         /// The phase.
         phase: Phase,
     },
+    /// The conference is in another mode from here on.
+    ModeSet {
+        /// The mode.
+        mode: Mode,
+    },
     /// A paper is there from here on; its maker is its first author.
     Submitted {
         /// The paper's number: the count of papers before it plus 1.
@@ -43,10 +48,35 @@ pub enum Entry {
         /// Its abstract: UTF-8, at most 5,000 bytes.
         abstract_: Text,
     },
-    /// The conference is in another mode from here on.
-    ModeSet {
-        /// The mode.
-        mode: Mode,
+    /// A paper has one more author from here on. It stands behind the paper's submission, among the entries of that command.
+    Coauthor {
+        /// The paper.
+        paper: PaperNo,
+        /// The author: neither who submitted it nor one who was told before.
+        user: UserNo,
+    },
+    /// A paper has other texts from here on.
+    Revised {
+        /// The paper.
+        paper: PaperNo,
+        /// Its title: UTF-8, 1 to 200 bytes, no control characters.
+        title: Text,
+        /// Its abstract: UTF-8, at most 5,000 bytes.
+        abstract_: Text,
+    },
+    /// A paper has one more version of its content from here on.
+    Uploaded {
+        /// The paper.
+        paper: PaperNo,
+        /// The version's number: the count of the paper's versions before it plus 1.
+        version: u64,
+        /// Its content: any bytes, at most 4,194,304.
+        content: Blob,
+    },
+    /// A paper is withdrawn from here on.
+    Withdrawn {
+        /// The paper.
+        paper: PaperNo,
     },
     /// A user's declared conflict with a paper is on or off from here on.
     Conflict {
@@ -68,10 +98,18 @@ pub enum EntryKind {
     Named,
     /// An [`Entry::PhaseSet`].
     PhaseSet,
-    /// An [`Entry::Submitted`].
-    Submitted,
     /// An [`Entry::ModeSet`].
     ModeSet,
+    /// An [`Entry::Submitted`].
+    Submitted,
+    /// An [`Entry::Coauthor`].
+    Coauthor,
+    /// An [`Entry::Revised`].
+    Revised,
+    /// An [`Entry::Uploaded`].
+    Uploaded,
+    /// An [`Entry::Withdrawn`].
+    Withdrawn,
     /// An [`Entry::Conflict`].
     Conflict,
 }
@@ -107,8 +145,12 @@ impl Entry {
             Entry::Registered { .. } => EntryKind::Registered,
             Entry::Named { .. } => EntryKind::Named,
             Entry::PhaseSet { .. } => EntryKind::PhaseSet,
-            Entry::Submitted { .. } => EntryKind::Submitted,
             Entry::ModeSet { .. } => EntryKind::ModeSet,
+            Entry::Submitted { .. } => EntryKind::Submitted,
+            Entry::Coauthor { .. } => EntryKind::Coauthor,
+            Entry::Revised { .. } => EntryKind::Revised,
+            Entry::Uploaded { .. } => EntryKind::Uploaded,
+            Entry::Withdrawn { .. } => EntryKind::Withdrawn,
             Entry::Conflict { .. } => EntryKind::Conflict,
         }
     }
@@ -129,11 +171,6 @@ impl Entry {
             }),
             Entry::PhaseSet { phase } => Ok(Entry::PhaseSet { phase: *phase }),
             Entry::ModeSet { mode } => Ok(Entry::ModeSet { mode: *mode }),
-            Entry::Conflict { paper, user, on } => Ok(Entry::Conflict {
-                paper: *paper,
-                user: *user,
-                on: *on,
-            }),
             Entry::Submitted {
                 paper,
                 title,
@@ -142,6 +179,34 @@ impl Entry {
                 paper: *paper,
                 title: title.copy()?,
                 abstract_: abstract_.copy()?,
+            }),
+            Entry::Coauthor { paper, user } => Ok(Entry::Coauthor {
+                paper: *paper,
+                user: *user,
+            }),
+            Entry::Revised {
+                paper,
+                title,
+                abstract_,
+            } => Ok(Entry::Revised {
+                paper: *paper,
+                title: title.copy()?,
+                abstract_: abstract_.copy()?,
+            }),
+            Entry::Uploaded {
+                paper,
+                version,
+                content,
+            } => Ok(Entry::Uploaded {
+                paper: *paper,
+                version: *version,
+                content: content.copy()?,
+            }),
+            Entry::Withdrawn { paper } => Ok(Entry::Withdrawn { paper: *paper }),
+            Entry::Conflict { paper, user, on } => Ok(Entry::Conflict {
+                paper: *paper,
+                user: *user,
+                on: *on,
             }),
         }
     }

@@ -19,6 +19,7 @@ mod target;
 #[cfg(test)]
 mod tests;
 mod texts;
+mod told;
 mod words;
 
 pub use ask::Ask;
@@ -26,12 +27,13 @@ pub use command::{Command, Query};
 pub use entry::{Account, Digest, Entry, EntryKind, Stamped};
 pub use me::{Me, PaperNos};
 pub use numbers::{LAST_NUMBER, PaperNo, UserNo};
-pub use page::{BareKeys, Names, Page};
+pub use page::{BareKeys, Names, Page, Versions};
 pub use pairs::{Order, Pair, Tie};
 pub use paper::Paper;
 pub use reply::{AccountLine, AccountLines, Conference, Receipt, Reply, Rule};
 pub use row::Row;
 pub use standing::Standing;
 pub use target::Target;
-pub use texts::{Blob, Short, Text, is_abstract, is_name, is_title};
+pub use texts::{Blob, Short, Text, is_abstract, is_content, is_name, is_title};
+pub use told::{Coauthors, MOST_COAUTHORS, ToldNames};
 pub use words::{Mode, Phase, Role};

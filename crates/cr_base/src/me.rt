@@ -36,10 +36,11 @@ impl PaperNos {
     }
 }
 
-/// What a user is told of herself. She reviews nothing, has uploaded nothing and commented on nothing,
-/// since nobody can yet.
+/// What a user is told of herself. She reviews nothing and has commented on nothing, since nobody can yet.
 #[derive(Drop, Debug)]
 pub struct Me {
+    /// How many bytes she has uploaded, in all versions of all papers: 0 to 67,108,864.
+    pub bytes: u64,
     /// The papers with which she is in conflict and whose author she isn't.
     pub conflicts: PaperNos,
     /// Her name.

@@ -35,8 +35,38 @@ impl Names {
     }
 }
 
+/// Numbers of versions, in ascending order. Contracts see the list.
+#[derive(Drop, Debug)]
+pub struct Versions {
+    numbers: Vec<u64>,
+}
+
+impl Model for Versions {
+    ghost use Rattle.std.specs.Prelude.{List, ℕ};
+
+    ghost Value = { List ℕ };
+
+    ghost view = { λ v. v.numbers.items };
+}
+
+impl Versions {
+    /// The numbers of a vector; takes no memory.
+    pub fn from_vec(numbers: Vec<u64>) -> Versions
+        ensures { result ≡ numbers.items }
+    {
+        Versions { numbers }
+    }
+
+    /// The numbers.
+    pub fn as_slice(&self) -> &[u64]
+        ensures { result.now ≡ self.now }
+    {
+        self.numbers.as_slice()
+    }
+}
+
 /// Which of those keys of a page are there that have nothing to tell yet, since no entry says it: no
-/// bid, no decision, no reviewer, no tag, no content, no withdrawal.
+/// bid, no decision, no reviewer, no tag.
 #[derive(Clone, Copy, Debug, PartialEq, Eq)]
 pub struct BareKeys {
     /// The caller's own bid: 0.
@@ -49,10 +79,6 @@ pub struct BareKeys {
     pub reviewers: bool,
     /// The tags: none.
     pub tags: bool,
-    /// The versions of the content: none.
-    pub versions: bool,
-    /// Whether it was withdrawn: no.
-    pub withdrawn: bool,
 }
 
 /// A paper's page: each key is there only where the caller may be told it.
@@ -72,6 +98,10 @@ pub struct Page {
     pub declared: Option<Names>,
     /// Its title.
     pub title: Option<Text>,
+    /// The numbers of its versions: all for its authors, the last alone for others.
+    pub versions: Option<Versions>,
+    /// Whether it was withdrawn.
+    pub withdrawn: Option<bool>,
     /// The keys that have nothing to tell yet.
     pub bare: BareKeys,
 }

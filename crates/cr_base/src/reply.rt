@@ -4,7 +4,7 @@ ghost use Rattle.std.specs.Prelude.{◌≡◌};
 use crate::me::Me;
 use crate::numbers::{PaperNo, UserNo};
 use crate::page::Page;
-use crate::texts::Short;
+use crate::texts::{Blob, Short};
 use crate::words::{Mode, Phase, Role};
 use std::marker::Model;
 
@@ -34,12 +34,16 @@ pub enum Rule {
     /// The user named is no member of the committee.
     NotAMember,
     /// The caller is no member of the committee, and declares a conflict of her own; or she is no author
-    /// of the paper either, and asks for its page.
+    /// of the paper either, and asks for its page or its content.
     NotMember,
     /// The caller is in conflict with the paper.
     Conflict,
-    /// The paper was withdrawn. No entry withdraws one yet, so no request breaks this rule.
+    /// The paper was withdrawn.
     Withdrawn,
+    /// The bytes that the caller has uploaded, with those of this upload, are more than 67,108,864.
+    QuotaBytes,
+    /// The paper has no such version of its content, or none that the caller may read.
+    NoContent,
     /// The user named is an author of the paper, and stays in conflict with it.
     AuthorConflict,
 }
@@ -74,10 +78,15 @@ pub enum Receipt {
         /// The mode.
         mode: Mode,
     },
-    /// The paper with which a conflict was turned on or off.
-    Conflict {
+    /// The paper that was revised or withdrawn, or with which a conflict was turned on or off.
+    Changed {
         /// Its number.
         paper: PaperNo,
+    },
+    /// The version uploaded.
+    Version {
+        /// Its number.
+        version: u64,
     },
 }
 
@@ -149,4 +158,6 @@ pub enum Reply {
     Page(Page),
     /// The answer to `Query::Me`.
     Me(Me),
+    /// The answer to `Query::Content` and `Query::Version`.
+    Content(Blob),
 }

@@ -1,18 +1,18 @@
 //! What may stand in the fields of a row: ranges of numbers and grammars of bytes.
 ghost use Rattle.std.specs.Prelude.{◌≡◌, ◌↔◌, IsTrue};
-ghost use Rattle.cr_base.specs.Shapes.{FitsShape, HasText, InRange};
+ghost use Rattle.cr_base.specs.Shapes.{FitsShape, HasText, InRange, IsAtMost};
 
 use crate::numbers::LAST_NUMBER;
 use crate::row::Row;
-use crate::texts::{is_abstract, is_name, is_title};
+use crate::texts::{is_abstract, is_content, is_name, is_title};
 
 /// The numbers that a field may hold, both ends among them.
 #[derive(Clone, Copy, Debug, PartialEq, Eq)]
 pub struct Range {
     /// The least.
     pub low: u64,
-    /// The greatest.
-    pub high: u64,
+    /// The greatest, where there is one.
+    pub high: Option<u64>,
 }
 
 /// The bytes that a field may hold.
@@ -28,6 +28,8 @@ pub enum TextKind {
     Title,
     /// A paper's abstract.
     Abstract,
+    /// A paper's content.
+    Content,
 }
 
 /// What may stand in a row of one kind.
@@ -51,29 +53,56 @@ pub struct Shape {
 
 pub(crate) const USERS: Range = Range {
     low: 1,
-    high: LAST_NUMBER,
+    high: Some(LAST_NUMBER),
 };
 
 pub(crate) const PAPERS: Range = Range {
     low: 1,
-    high: LAST_NUMBER,
+    high: Some(LAST_NUMBER),
 };
 
-pub(crate) const PHASES: Range = Range { low: 0, high: 6 };
+pub(crate) const PHASES: Range = Range {
+    low: 0,
+    high: Some(6),
+};
 
-pub(crate) const MODES: Range = Range { low: 0, high: 2 };
+pub(crate) const MODES: Range = Range {
+    low: 0,
+    high: Some(2),
+};
 
-pub(crate) const ROLES: Range = Range { low: 1, high: 2 };
+pub(crate) const ROLES: Range = Range {
+    low: 1,
+    high: Some(2),
+};
 
-pub(crate) const BIT: Range = Range { low: 0, high: 1 };
+pub(crate) const VERSIONS: Range = Range { low: 1, high: None };
 
-pub(crate) const UNUSED: Range = Range { low: 0, high: 0 };
+pub(crate) const BIT: Range = Range {
+    low: 0,
+    high: Some(1),
+};
+
+pub(crate) const UNUSED: Range = Range {
+    low: 0,
+    high: Some(0),
+};
+
+/// Whether a number is no more than the greatest, where there is one.
+fn is_at_most(high: Option<u64>, number: u64) -> bool
+    ensures { IsTrue result ↔ IsAtMost high number }
+{
+    match high {
+        Some(high) => number <= high,
+        None => true,
+    }
+}
 
 impl Range {
     fn holds(self, number: u64) -> bool
         ensures { IsTrue result ↔ InRange self number }
     {
-        self.low <= number && number <= self.high
+        self.low <= number && is_at_most(self.high, number)
     }
 }
 
@@ -87,6 +116,7 @@ impl TextKind {
             TextKind::Digest => bytes.len() == 32,
             TextKind::Title => is_title(bytes),
             TextKind::Abstract => is_abstract(bytes),
+            TextKind::Content => is_content(bytes),
         }
     }
 }

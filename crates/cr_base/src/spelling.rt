@@ -8,7 +8,7 @@ ghost use Rattle.cr_base.specs.declared.entry.Stamped.{Stamped};
 use crate::entry::{Digest, Entry, EntryKind, Stamped};
 use crate::numbers::{PaperNo, UserNo};
 use crate::row::Row;
-use crate::shape::{BIT, MODES, PAPERS, PHASES, ROLES, Shape, TextKind, UNUSED, USERS};
+use crate::shape::{BIT, MODES, PAPERS, PHASES, ROLES, Shape, TextKind, UNUSED, USERS, VERSIONS};
 use crate::texts::{Blob, Short, Text};
 use crate::words::{Mode, Phase, Role};
 use std::alloc::{AllocError, Global};
@@ -24,6 +24,10 @@ impl EntryKind {
             EntryKind::PhaseSet => 3,
             EntryKind::ModeSet => 4,
             EntryKind::Submitted => 5,
+            EntryKind::Coauthor => 6,
+            EntryKind::Revised => 7,
+            EntryKind::Uploaded => 8,
+            EntryKind::Withdrawn => 9,
             EntryKind::Conflict => 10,
         }
     }
@@ -40,6 +44,10 @@ impl EntryKind {
             3 => Some(EntryKind::PhaseSet),
             4 => Some(EntryKind::ModeSet),
             5 => Some(EntryKind::Submitted),
+            6 => Some(EntryKind::Coauthor),
+            7 => Some(EntryKind::Revised),
+            8 => Some(EntryKind::Uploaded),
+            9 => Some(EntryKind::Withdrawn),
             10 => Some(EntryKind::Conflict),
             _ => None,
         }
@@ -55,6 +63,10 @@ impl EntryKind {
             EntryKind::PhaseSet => "phaseset",
             EntryKind::ModeSet => "modeset",
             EntryKind::Submitted => "submitted",
+            EntryKind::Coauthor => "coauthor",
+            EntryKind::Revised => "revised",
+            EntryKind::Uploaded => "uploaded",
+            EntryKind::Withdrawn => "withdrawn",
             EntryKind::Conflict => "conflict",
         }
     }
@@ -70,9 +82,18 @@ impl EntryKind {
             EntryKind::Named => Shape::of_numbers(USERS, ROLES, UNUSED),
             EntryKind::PhaseSet => Shape::of_numbers(PHASES, UNUSED, UNUSED),
             EntryKind::ModeSet => Shape::of_numbers(MODES, UNUSED, UNUSED),
-            EntryKind::Submitted => {
+            EntryKind::Submitted | EntryKind::Revised => {
                 Shape::of(PAPERS, UNUSED, UNUSED, TextKind::Title, TextKind::Abstract)
             }
+            EntryKind::Coauthor => Shape::of_numbers(PAPERS, USERS, UNUSED),
+            EntryKind::Uploaded => Shape::of(
+                PAPERS,
+                VERSIONS,
+                UNUSED,
+                TextKind::Content,
+                TextKind::Nothing,
+            ),
+            EntryKind::Withdrawn => Shape::of_numbers(PAPERS, UNUSED, UNUSED),
             EntryKind::Conflict => Shape::of_numbers(PAPERS, USERS, BIT),
         }
     }
@@ -97,12 +118,12 @@ impl Entry {
             }
             Entry::PhaseSet { phase } => row.n1 = phase.number(),
             Entry::ModeSet { mode } => row.n1 = mode.number(),
-            Entry::Conflict { paper, user, on } => {
-                row.n1 = paper.number();
-                row.n2 = user.number();
-                row.n3 = u64::from(*on);
-            }
             Entry::Submitted {
+                paper,
+                title,
+                abstract_,
+            }
+            | Entry::Revised {
                 paper,
                 title,
                 abstract_,
@@ -110,6 +131,25 @@ impl Entry {
                 row.n1 = paper.number();
                 row.b1 = title.to_blob()?;
                 row.b2 = abstract_.to_blob()?;
+            }
+            Entry::Coauthor { paper, user } => {
+                row.n1 = paper.number();
+                row.n2 = user.number();
+            }
+            Entry::Uploaded {
+                paper,
+                version,
+                content,
+            } => {
+                row.n1 = paper.number();
+                row.n2 = *version;
+                row.b1 = content.copy()?;
+            }
+            Entry::Withdrawn { paper } => row.n1 = paper.number(),
+            Entry::Conflict { paper, user, on } => {
+                row.n1 = paper.number();
+                row.n2 = user.number();
+                row.n3 = u64::from(*on);
             }
         }
         Ok(row)
@@ -167,15 +207,32 @@ fn entry_from(kind: EntryKind, row: &Row) -> Result<Entry, AllocError>
         EntryKind::ModeSet => Ok(Entry::ModeSet {
             mode: Mode::from_number(row.n1),
         }),
-        EntryKind::Conflict => Ok(Entry::Conflict {
-            paper: PaperNo::new(row.n1),
-            user: UserNo::new(row.n2),
-            on: row.n3 == 1,
-        }),
         EntryKind::Submitted => Ok(Entry::Submitted {
             paper: PaperNo::new(row.n1),
             title: Text::from_blob(&row.b1)?,
             abstract_: Text::from_blob(&row.b2)?,
+        }),
+        EntryKind::Coauthor => Ok(Entry::Coauthor {
+            paper: PaperNo::new(row.n1),
+            user: UserNo::new(row.n2),
+        }),
+        EntryKind::Revised => Ok(Entry::Revised {
+            paper: PaperNo::new(row.n1),
+            title: Text::from_blob(&row.b1)?,
+            abstract_: Text::from_blob(&row.b2)?,
+        }),
+        EntryKind::Uploaded => Ok(Entry::Uploaded {
+            paper: PaperNo::new(row.n1),
+            version: row.n2,
+            content: row.b1.copy()?,
+        }),
+        EntryKind::Withdrawn => Ok(Entry::Withdrawn {
+            paper: PaperNo::new(row.n1),
+        }),
+        EntryKind::Conflict => Ok(Entry::Conflict {
+            paper: PaperNo::new(row.n1),
+            user: UserNo::new(row.n2),
+            on: row.n3 == 1,
         }),
     }
 }

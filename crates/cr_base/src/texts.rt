@@ -2,7 +2,7 @@
 ghost use Rattle.std.specs.Prelude.{◌≡◌, ℕ, ◌≤◌, ◌+◌, List, [], length, take, drop, replicate, IfOk, IsTrue, ◌↔◌};
 ghost use Rattle.std.specs.List.{list_all};
 ghost use Rattle.std.specs.Str.{is_utf8};
-ghost use Rattle.cr_base.specs.Texts.{IsName, IsTitle, IsAbstract, is_name as is_name_text, is_name_byte};
+ghost use Rattle.cr_base.specs.Texts.{IsName, IsTitle, IsAbstract, IsContent, is_name as is_name_text, is_name_byte};
 ghost use Rattle.cr_base.specs.Texts.{is_title as is_title_text, is_title_byte, is_abstract as is_abstract_text};
 
 use bytes::{ByteStr, Bytes};
@@ -266,4 +266,11 @@ pub fn is_abstract(bytes: &[u8]) -> bool
     ensures test { result ≡ is_abstract_text bytes.now }
 {
     bytes.len() <= 5_000 && is_text(bytes)
+}
+
+/// Whether these bytes may be uploaded at once: any, at most 4,194,304.
+pub fn is_content(bytes: &[u8]) -> bool
+    ensures { IsTrue result ↔ IsContent bytes.now }
+{
+    bytes.len() <= 4_194_304
 }
