@@ -1,17 +1,20 @@
 -- What an accepted command may add to a history, by the rules on it.
-use Rattle.std.specs.Prelude.{ℕ, ◌≡◌, List, [], ◌∷◌, length, false}
+use Rattle.std.specs.Prelude.{ℕ, ◌≡◌, ◌==◌, List, [], ◌∷◌, length, IsFalse}
+use Rattle.std.specs.List.{AllByRecursion}
 use Rattle.cr_base.specs.declared.entry.Entry.{Entry}
-use Rattle.cr_base.specs.declared.entry.Entry.TheVariants.{Registered, Named, Submitted}
+use Rattle.cr_base.specs.declared.entry.Entry.TheVariants.{Registered, Named, Submitted, Coauthor, Revised, Uploaded}
 use Rattle.cr_base.specs.declared.words.Role.TheVariants.{Chair}
 use Rattle.cr_base.specs.History.{History}
-use Rattle.cr_base.specs.Drawn.{grouped}
-use Rattle.cr_base.specs.Texts.{IsName, IsTitle, IsAbstract}
-use Rattle.cr_history.specs.Invariants.{IsMadeByUser, IsMarked, IsInPhase, IsByChair, RaisesRole, IsOfMember, IsByRight}
+use Rattle.cr_base.specs.Drawn.{grouped, submission}
+use Rattle.cr_base.specs.Texts.{IsName, IsTitle, IsAbstract, IsContent}
+use Rattle.cr_history.specs.Invariants.{IsRegistered, IsMadeByUser, IsInPhase, IsByChair, RaisesRole, IsOfMember, IsByRight}
 
 -- the texts of the entry are within their bounds
 abbrev pub HasTexts : Entry → Type 0
 HasTexts (Registered user name digest) = IsName name × (length digest ≡ 32)
 HasTexts (Submitted paper title abstract) = IsTitle title × IsAbstract abstract
+HasTexts (Revised paper title abstract) = IsTitle title × IsAbstract abstract
+HasTexts (Uploaded paper version content) = IsContent content
 HasTexts _ = Unit {0}
 
 -- what the rules say of an entry, on the history before it, and the bounds of its texts
@@ -23,8 +26,18 @@ pub record IsRuled (H : History) (maker : ℕ) (e : Entry) : Type 0 where
   pub right : IsByRight H maker e
   pub texts : HasTexts e
 
--- one entry, or the registration of the first user and the role that comes with it
+-- the entry may be all that a command adds: the first user's registration isn't, and no co-author is
+abbrev pub StandsAlone : Entry → Type 0
+StandsAlone (Registered user name digest) = IsFalse (user == 1)
+StandsAlone (Coauthor paper user) = ⊥
+StandsAlone _ = Unit {0}
+
+-- one entry; a submission with those of these users who become co-authors; or the registration of the first user and the
+-- role that comes with it
 pub data Adds (H : History) : History → Type 0 where
-  single : (maker : ℕ) (e : Entry) → IsMadeByUser H maker e → IsMarked false e → IsRuled H maker e → Adds H (grouped maker (e ∷ []))
+  single : (maker : ℕ) (e : Entry) → IsMadeByUser H maker e → StandsAlone e → IsRuled H maker e → Adds H (grouped maker (e ∷ []))
+  submitted : (maker paper : ℕ) (title abstract : List ℕ) (users : List ℕ)
+      → IsMadeByUser H maker (Submitted paper title abstract) → IsRuled H maker (Submitted paper title abstract) → AllByRecursion (IsRegistered H) users
+      → Adds H (grouped maker (submission maker paper title abstract users))
   first_user : (user : ℕ) (name digest : List ℕ) → user ≡ 1 → HasTexts (Registered user name digest)
       → Adds H (grouped user (Registered user name digest ∷ Named user Chair ∷ []))

@@ -2,10 +2,11 @@
 use Rattle.std.specs.Prelude.{ℕ, Bool, ◌≡◌, ◌==◌, ◌<◌, ◌+◌, ◌&&◌, ◌||◌, not, [], ◌∷◌, ◌++◌, length, Some, None, IsTrue, IsFalse, if◌then◌else◌}
 use Rattle.std.specs.List.{All, AllByRecursion, list_any}
 use Rattle.cr_base.specs.declared.entry.Entry.{Entry}
-use Rattle.cr_base.specs.declared.entry.Entry.TheVariants.{Registered, Named, PhaseSet, ModeSet, Submitted, Conflict}
+use Rattle.cr_base.specs.declared.entry.Entry.TheVariants.{Registered, Named, PhaseSet, ModeSet, Submitted}
+use Rattle.cr_base.specs.declared.entry.Entry.TheVariants.{Coauthor, Revised, Uploaded, Withdrawn, Conflict}
 use Rattle.cr_base.specs.declared.entry.Stamped.{Stamped}
 use Rattle.cr_base.specs.declared.words.Phase.TheVariants.{Setup, Submission, Bidding, Notification}
-use Rattle.cr_base.specs.HistoryFacts.{phase_of, role_of, accounts_of, papers_of, number_of, is_author, is_conflicted}
+use Rattle.cr_base.specs.HistoryFacts.{phase_of, role_of, accounts_of, papers_of, uploads_of, number_of, is_author, is_conflicted}
 use Rattle.cr_base.specs.History.{History, Registration, all_told, registration_told, opens}
 use Rattle.cr_base.specs.Lists.{until, since}
 use Rattle.cr_base.specs.Phases.{is_from, is_phase, is_next}
@@ -26,17 +27,25 @@ IsMadeByUser H maker (Named user role) = IsRegistered H maker
 IsMadeByUser H maker (PhaseSet phase) = IsRegistered H maker
 IsMadeByUser H maker (ModeSet mode) = IsRegistered H maker
 IsMadeByUser H maker (Submitted paper title abstract) = IsRegistered H maker
+IsMadeByUser H maker (Coauthor paper user) = IsRegistered H maker
+IsMadeByUser H maker (Revised paper title abstract) = IsRegistered H maker
+IsMadeByUser H maker (Uploaded paper version content) = IsRegistered H maker
+IsMadeByUser H maker (Withdrawn paper) = IsRegistered H maker
 IsMadeByUser H maker (Conflict paper user on) = IsRegistered H maker
 
--- of the entries that commands add, the first user's registration alone has another of its command behind it
+-- of the entries that commands add, the first user's registration has another of its command behind it, and a submission
+-- and its co-authors may have one
 abbrev pub IsMarked : Bool → Entry → Type 0
 IsMarked more (Registered user name digest) = more ≡ (user == 1)
+IsMarked more (Submitted paper title abstract) = Unit {0}
+IsMarked more (Coauthor paper user) = Unit {0}
 IsMarked more _ = IsFalse more
 
--- users are numbered from 1 as they register, papers as they are submitted
+-- users are numbered from 1 as they register, papers as they are submitted, and the versions of each paper as they are uploaded
 abbrev pub HasNextNumber : History → Entry → Type 0
 HasNextNumber H (Registered user name digest) = user ≡ length (accounts_of H) + 1
 HasNextNumber H (Submitted paper title abstract) = paper ≡ length (papers_of H) + 1
+HasNextNumber H (Uploaded paper version content) = version ≡ length (uploads_of paper H) + 1
 HasNextNumber H _ = Unit {0}
 
 -- nobody has registered under the name before
@@ -51,10 +60,14 @@ IsSubmitted H paper = IsTrue (list_any (λ p. p == paper) (papers_of H))
 -- the user and the paper that it is about are there
 abbrev pub IsAboutThose : History → Entry → Type 0
 IsAboutThose H (Named user role) = IsRegistered H user
+IsAboutThose H (Coauthor paper user) = IsSubmitted H paper × IsRegistered H user
+IsAboutThose H (Revised paper title abstract) = IsSubmitted H paper
+IsAboutThose H (Uploaded paper version content) = IsSubmitted H paper
+IsAboutThose H (Withdrawn paper) = IsSubmitted H paper
 IsAboutThose H (Conflict paper user on) = IsSubmitted H paper × IsRegistered H user
 IsAboutThose H _ = Unit {0}
 
--- the phase goes on by one; the mode is set in setup and papers are submitted in submission; from the notification on
+-- the phase goes on by one; the mode is set in setup; papers are submitted, changed and withdrawn in submission; from the notification on
 -- nobody is named a member or a chair, and no conflict is turned on or off
 abbrev pub IsInPhase : History → Entry → Type 0
 IsInPhase H (Registered user name digest) = Unit {0}
@@ -62,6 +75,10 @@ IsInPhase H (Named user role) = IsFalse (is_from Notification (phase_of H))
 IsInPhase H (PhaseSet phase) = IsTrue (is_next (phase_of H) phase)
 IsInPhase H (ModeSet mode) = IsTrue (is_phase (phase_of H) Setup)
 IsInPhase H (Submitted paper title abstract) = IsTrue (is_phase (phase_of H) Submission)
+IsInPhase H (Coauthor paper user) = IsTrue (is_phase (phase_of H) Submission)
+IsInPhase H (Revised paper title abstract) = IsTrue (is_phase (phase_of H) Submission)
+IsInPhase H (Uploaded paper version content) = IsTrue (is_phase (phase_of H) Submission)
+IsInPhase H (Withdrawn paper) = IsTrue (is_phase (phase_of H) Submission)
 IsInPhase H (Conflict paper user on) = IsFalse (is_from Notification (phase_of H))
 
 -- chairs set the phase and the mode, and name members and chairs; the first user alone is named otherwise, as she
@@ -90,9 +107,24 @@ may_turn H maker paper user on =
     then (user == maker && on) || (is_chair (role_of (Some maker) H) && not (is_conflicted (Some maker) paper H))
     else is_author (Some maker) paper H && on
 
+-- and a paper's authors alone name its co-authors, revise it, upload its content and withdraw it
 abbrev pub IsByRight : History → ℕ → Entry → Type 0
+IsByRight H maker (Coauthor paper user) = IsTrue (is_author (Some maker) paper H)
+IsByRight H maker (Revised paper title abstract) = IsTrue (is_author (Some maker) paper H)
+IsByRight H maker (Uploaded paper version content) = IsTrue (is_author (Some maker) paper H)
+IsByRight H maker (Withdrawn paper) = IsTrue (is_author (Some maker) paper H)
 IsByRight H maker (Conflict paper user on) = IsTrue (may_turn H maker paper user on)
 IsByRight H maker _ = Unit {0}
+
+-- the entry turns a conflict with the paper on or off
+abbrev pub is_conflict_with : ℕ → Entry → Bool
+is_conflict_with p (Conflict paper user on) = paper == p
+is_conflict_with p _ = false
+
+-- a paper's co-authors are told before any conflict with it
+abbrev pub ComesFirst : History → Entry → Type 0
+ComesFirst H (Coauthor paper user) = IsFalse (list_any (λ (e : Stamped). is_conflict_with paper e.entry) H)
+ComesFirst H _ = Unit {0}
 
 -- all of it
 pub record IsInOrder (H : History) (e : Stamped) : Type 0 where
@@ -106,6 +138,7 @@ pub record IsInOrder (H : History) (e : Stamped) : Type 0 where
   pub role : RaisesRole H e.entry
   pub member : IsOfMember H e.entry
   pub right : IsByRight H e.maker e.entry
+  pub first : ComesFirst H e.entry
 
 -- it is so of each entry, on what stands before it
 abbrev pub InTurn : (History → Stamped → Type 0) → History → History → Type 0

@@ -2,16 +2,17 @@
 use Rattle.std.specs.Prelude.{ℕ, ◌≡◌, ◌==◌, List, [], ◌++◌, Option}
 use Rattle.std.specs.List.{list_any}
 use Rattle.cr_base.specs.Accounts.{lines_of, number_at, caller_at}
-use Rattle.cr_base.specs.HistoryFacts.{standing_of, accounts_of, number_of, caller_of, papers_of, own_papers_of}
-use Rattle.cr_base.specs.HistoryFacts.{title_of, abstract_of, authors_of, is_conflict_on, declared_by_authors}
+use Rattle.cr_base.specs.HistoryFacts.{standing_of, accounts_of, number_of, caller_of, papers_of, own_papers_of, own_bytes_of}
+use Rattle.cr_base.specs.HistoryFacts.{title_of, abstract_of, uploads_of, is_withdrawn, authors_of, is_conflict_on, declared_by_authors}
+use Rattle.cr_base.specs.declared.entry.Stamped.{Stamped}
 use Rattle.cr_base.specs.History.{History}
 use Rattle.cr_base.specs.Sources.{standing_at}
 use Rattle.cr_base.specs.Pairs.{has_pair}
-use Rattle.cr_base.specs.Papers.{paper_numbers, own_count, title_at, abstract_at}
+use Rattle.cr_base.specs.Papers.{paper_numbers, own_count, own_bytes, title_at, abstract_at, uploads_at, is_withdrawn_at}
 use Rattle.cr_base.specs.Tables.{no_tables, tables_of, FitInTurn}
 use Rattle.cr_base.specs.Ties.{pair_of, authors_in, is_conflict_on_in}
 use Rattle.cr_history.specs.Groups.{Adds}
-use Rattle.cr_history.specs.Invariants.{Invariants}
+use Rattle.cr_history.specs.Invariants.{Invariants, InTurn, ComesFirst}
 
 -- what a history tells is what its tables have
 pub record AreTold (H : History) : Type 0 where
@@ -21,15 +22,18 @@ pub record AreTold (H : History) : Type 0 where
   pub caller : (name digest : List ℕ) → caller_of name digest H ≡ caller_at (tables_of H).accounts name digest
   pub papers : papers_of H ≡ paper_numbers (tables_of H).papers
   pub own_papers : (u : Option ℕ) → own_papers_of u H ≡ own_count (tables_of H).papers u
+  pub own_bytes : (u : Option ℕ) → own_bytes_of u H ≡ own_bytes (tables_of H).papers u
   pub title : (p : ℕ) → title_of p H ≡ title_at (tables_of H).papers p
   pub abstract_ : (p : ℕ) → abstract_of p H ≡ abstract_at (tables_of H).papers p
+  pub uploads : (p : ℕ) → uploads_of p H ≡ uploads_at (tables_of H).papers p
+  pub withdrawn : (p : ℕ) → is_withdrawn p H ≡ is_withdrawn_at (tables_of H).papers p
   pub authors : (p : ℕ) → authors_of p H ≡ authors_in (tables_of H).ties p
   pub conflict : (u : Option ℕ) (p : ℕ) → is_conflict_on u p H ≡ is_conflict_on_in (tables_of H).ties u p
   pub declared : (p v : ℕ) → list_any (λ w. w == v) (declared_by_authors p H) ≡ has_pair (pair_of p v) (tables_of H).ties.declared
 
--- TablesTell: it is so where each entry fits in its turn
+-- TablesTell: it is so where each entry fits in its turn, and a paper's co-authors are told before any conflict with it
 abbrev pub TablesTell : Type 0
-TablesTell = (H : History) → FitInTurn no_tables H → AreTold H
+TablesTell = (H : History) → FitInTurn no_tables H → InTurn (λ (before : History) (e : Stamped). ComesFirst before e.entry) [] H → AreTold H
 
 -- GrowthKeeps: histories that grow by what the rules let commands add and the tables take keep the invariants
 pub record GrowthKeeps : Type 0 where

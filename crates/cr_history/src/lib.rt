@@ -7,9 +7,9 @@
 
 ghost use Rattle.cr_history.specs.Laws.{TablesTell, GrowthKeeps};
 
-/// The tables tell what the history tells, where each entry fits in its turn: how any user stands to the conference and to
+/// The tables tell what the history tells, where each entry fits in its turn and co-authors are told before any conflict with their paper: how any user stands to the conference and to
 /// any paper, the accounts with their roles, who has a name, and who has it with a digest, the papers with their titles,
-/// abstracts and authors, how many of them are a user's own, whose conflict with a paper is on, and whom its authors declared.
+/// abstracts, authors and uploads, and whether they are withdrawn, how many of them, and how many uploaded bytes, are a user's own, whose conflict with a paper is on, and whom its authors declared.
 pub fn law_tables()
     ensures { TablesTell }
 {}
