@@ -13,6 +13,8 @@ pub data Part : Type 0 where
   by : Part
   title : Part
   abstract : Part
+  version : Part
+  content : Part
   on : Part
 
 -- a number of its own for each part
@@ -26,7 +28,9 @@ part_number mode = 5
 part_number by = 6
 part_number title = 7
 part_number abstract = 8
-part_number on = 9
+part_number version = 9
+part_number content = 10
+part_number on = 11
 
 -- the part is one of these
 abbrev pub these : List Part → Part → Bool
@@ -43,6 +47,8 @@ whole mode = true
 whole by = false
 whole title = true
 whole abstract = true
+whole version = true
+whole content = true
 whole on = true
 
 -- it does, or is one of these besides

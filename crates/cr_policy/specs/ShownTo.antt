@@ -7,7 +7,8 @@
 use Rattle.std.specs.Prelude.{ℕ, Bool, true, false, not, List, [], ◌∷◌, ◌++◌, Option, Some, None, ◌&&◌, ◌||◌, ◌==◌, if◌then◌else◌}
 use Rattle.std.specs.List.{list_any}
 use Rattle.cr_base.specs.declared.entry.Entry.{Entry}
-use Rattle.cr_base.specs.declared.entry.Entry.TheVariants.{Registered, Named, PhaseSet, ModeSet, Submitted, Conflict}
+use Rattle.cr_base.specs.declared.entry.Entry.TheVariants.{Registered, Named, PhaseSet, ModeSet, Submitted}
+use Rattle.cr_base.specs.declared.entry.Entry.TheVariants.{Coauthor, Revised, Uploaded, Withdrawn, Conflict}
 use Rattle.cr_base.specs.declared.entry.EntryKind.{EntryKind}
 use Rattle.cr_base.specs.declared.entry.Stamped.{Stamped}
 use Rattle.cr_base.specs.declared.words.Phase.{Phase}
@@ -68,15 +69,42 @@ oversees u p H = handles u p H && leads_committee (role_of u H)
 
 -- ---- which entries she is told of
 
--- all but conflicts; of these the ones that name her, the ones that she made, those that an author made where she is one,
--- and all where she oversees the paper
-abbrev pub is_told : Option ℕ → History → ℕ → Entry → Bool
-is_told u H maker (Registered user name digest) = true
-is_told u H maker (Named user role) = true
-is_told u H maker (PhaseSet phase) = true
-is_told u H maker (ModeSet mode) = true
-is_told u H maker (Submitted paper title abstract) = true
-is_told u H maker (Conflict paper user on) =
+-- the entry gives the paper its texts; and one of these later ones gives it others
+abbrev pub gives_texts : ℕ → Entry → Bool
+gives_texts p (Submitted paper title abstract) = paper == p
+gives_texts p (Revised paper title abstract) = paper == p
+gives_texts p _ = false
+
+abbrev pub is_replaced : ℕ → History → Bool
+is_replaced p later = list_any (λ (e : Stamped). gives_texts p e.entry) later
+
+-- the entry gives the paper its content; and one of these later ones gives it another
+abbrev pub gives_content : ℕ → Entry → Bool
+gives_content p (Uploaded paper version content) = paper == p
+gives_content p _ = false
+
+abbrev pub is_superseded : ℕ → History → Bool
+is_superseded p later = list_any (λ (e : Stamped). gives_content p e.entry) later
+
+-- she made the entry, or is an author of its paper
+abbrev pub owns : Option ℕ → History → ℕ → ℕ → Bool
+owns u H maker paper = is_number u maker || is_author u paper H
+
+-- accounts, roles, phases, modes and submissions, all of them. Of a paper's other entries her own and, as an author, all but
+-- conflicts that no author made; co-authors where she oversees the paper, and where she handles it unless authors are hidden;
+-- a revision that none has replaced where she serves, an upload that none has superseded where she handles the paper; a
+-- withdrawal where she serves; and of conflicts the ones that name her, and all where she oversees the paper
+abbrev pub is_told : Option ℕ → History → History → ℕ → Entry → Bool
+is_told u H later maker (Registered user name digest) = true
+is_told u H later maker (Named user role) = true
+is_told u H later maker (PhaseSet phase) = true
+is_told u H later maker (ModeSet mode) = true
+is_told u H later maker (Submitted paper title abstract) = true
+is_told u H later maker (Coauthor paper user) = owns u H maker paper || oversees u paper H || (handles u paper H && not (hides_authors (mode_of H)))
+is_told u H later maker (Revised paper title abstract) = owns u H maker paper || (not (is_replaced paper later) && serves u H)
+is_told u H later maker (Uploaded paper version content) = owns u H maker paper || (not (is_superseded paper later) && handles u paper H)
+is_told u H later maker (Withdrawn paper) = owns u H maker paper || serves u H
+is_told u H later maker (Conflict paper user on) =
     is_number u user
     || is_number u maker
     || (is_author u paper H && is_author (Some maker) paper H)
@@ -102,13 +130,18 @@ mark_for u H later maker e = is_number u maker
 -- the paper's number: always
 abbrev pub paper_for : PartFor (Option ℕ)
 paper_for u H later maker (Submitted paper title abstract) = Some paper
+paper_for u H later maker (Coauthor paper user) = Some paper
+paper_for u H later maker (Revised paper title abstract) = Some paper
+paper_for u H later maker (Uploaded paper version content) = Some paper
+paper_for u H later maker (Withdrawn paper) = Some paper
 paper_for u H later maker (Conflict paper user on) = Some paper
 paper_for u H later maker _ = None
 
--- the user registered, named to a role, or named in a conflict: always
+-- the user registered, named to a role, named as a co-author or in a conflict: always
 abbrev pub user_for : PartFor (Option ℕ)
 user_for u H later maker (Registered user name digest) = Some user
 user_for u H later maker (Named user role) = Some user
+user_for u H later maker (Coauthor paper user) = Some user
 user_for u H later maker (Conflict paper user on) = Some user
 user_for u H later maker _ = None
 
@@ -144,25 +177,32 @@ maker_for u H later maker (Submitted paper title abstract) =
     where_known (is_author u paper H || oversees u paper H || (handles u paper H && not (hides_authors (mode_of H)))) maker
 maker_for u H later maker _ = None
 
--- the entry gives the paper its texts
-abbrev pub gives_texts : ℕ → Entry → Bool
-gives_texts p (Submitted paper title abstract) = paper == p
-gives_texts p _ = false
-
--- one of these later entries gives the paper other texts
-abbrev pub is_replaced : ℕ → History → Bool
-is_replaced p later = list_any (λ (e : Stamped). gives_texts p e.entry) later
-
--- a title: to the paper's authors, and the last one to those who serve
+-- a title: to the paper's authors and to whoever made the entry, and the last one to those who serve
 abbrev pub title_for : PartFor (Option (List ℕ))
 title_for u H later maker (Submitted paper title abstract) = where_known (is_author u paper H || (not (is_replaced paper later) && serves u H)) title
+title_for u H later maker (Revised paper title abstract) =
+    where_known (owns u H maker paper || (not (is_replaced paper later) && serves u H)) title
 title_for u H later maker _ = None
 
--- an abstract: to the paper's authors, and the last one to those who handle the paper
+-- an abstract: to the paper's authors and to whoever made the entry, and the last one to those who handle the paper
 abbrev pub abstract_for : PartFor (Option (List ℕ))
 abstract_for u H later maker (Submitted paper title abstract) =
     where_known (is_author u paper H || (not (is_replaced paper later) && handles u paper H)) abstract
+abstract_for u H later maker (Revised paper title abstract) =
+    where_known (owns u H maker paper || (not (is_replaced paper later) && handles u paper H)) abstract
 abstract_for u H later maker _ = None
+
+-- a version's number, and its content: to the paper's authors and to whoever made the entry, and the last one to those who
+-- handle the paper
+abbrev pub version_for : PartFor (Option ℕ)
+version_for u H later maker (Uploaded paper version content) =
+    where_known (owns u H maker paper || (not (is_superseded paper later) && handles u paper H)) version
+version_for u H later maker _ = None
+
+abbrev pub content_for : PartFor (Option (List ℕ))
+content_for u H later maker (Uploaded paper version content) =
+    where_known (owns u H maker paper || (not (is_superseded paper later) && handles u paper H)) content
+content_for u H later maker _ = None
 
 -- whether a conflict is on: always
 abbrev pub switch_for : PartFor (Option Bool)
@@ -174,4 +214,4 @@ switch_for u H later maker _ = None
 -- the part of each entry that she is told of, in order; H is the whole history
 abbrev pub each_told : {A : Type 0} → Option ℕ → History → (History → ℕ → Entry → A) → History → List A
 each_told u H part [] = []
-each_told u H part (e ∷ later) = given (is_told u H e.maker e.entry) (part later e.maker e.entry) ++ each_told u H part later
+each_told u H part (e ∷ later) = given (is_told u H later e.maker e.entry) (part later e.maker e.entry) ++ each_told u H part later

@@ -3,7 +3,8 @@ use Rattle.std.specs.Prelude.{ℕ, Bool, false, List, Option, Some, None, if◌t
 use Rattle.cr_base.specs.declared.entry.EntryKind.{EntryKind}
 use Rattle.cr_base.specs.declared.entry.EntryKind.TheVariants as kinds
 use Rattle.cr_base.specs.declared.entry.Entry.{Entry}
-use Rattle.cr_base.specs.declared.entry.Entry.TheVariants.{Registered, Named, PhaseSet, ModeSet, Submitted, Conflict}
+use Rattle.cr_base.specs.declared.entry.Entry.TheVariants.{Registered, Named, PhaseSet, ModeSet, Submitted}
+use Rattle.cr_base.specs.declared.entry.Entry.TheVariants.{Coauthor, Revised, Uploaded, Withdrawn, Conflict}
 use Rattle.cr_base.specs.declared.entry.Stamped.{Stamped}
 use Rattle.cr_base.specs.declared.words.Phase.{Phase}
 use Rattle.cr_base.specs.declared.words.Mode.{Mode}
@@ -26,6 +27,8 @@ pub record Sighting : Type 0 where
   pub by : Option ℕ
   pub title : Option (List ℕ)
   pub abstract : Option (List ℕ)
+  pub version : Option ℕ
+  pub content : Option (List ℕ)
   pub on : Option Bool
 
 -- ---- an entry with all its parts
@@ -45,6 +48,8 @@ blank kind = record {
   by = None;
   title = None;
   abstract = None;
+  version = None;
+  content = None;
   on = None;
 }
 
@@ -55,6 +60,10 @@ entire by (Named user role) = record (blank kinds.Named) { user = Some user; rol
 entire by (PhaseSet phase) = record (blank kinds.PhaseSet) { phase = Some phase }
 entire by (ModeSet mode) = record (blank kinds.ModeSet) { mode = Some mode }
 entire by (Submitted paper title abstract) = record (blank kinds.Submitted) { paper = Some paper; by = Some by; title = Some title; abstract = Some abstract }
+entire by (Coauthor paper user) = record (blank kinds.Coauthor) { paper = Some paper; user = Some user }
+entire by (Revised paper title abstract) = record (blank kinds.Revised) { paper = Some paper; title = Some title; abstract = Some abstract }
+entire by (Uploaded paper version content) = record (blank kinds.Uploaded) { paper = Some paper; version = Some version; content = Some content }
+entire by (Withdrawn paper) = record (blank kinds.Withdrawn) { paper = Some paper }
 entire by (Conflict paper user on) = record (blank kinds.Conflict) { paper = Some paper; user = Some user; on = Some on }
 
 -- ---- the parts that are shown
@@ -79,6 +88,8 @@ masked shows mine s = record {
   by = where_shown (shows part.by) s.by;
   title = where_shown (shows part.title) s.title;
   abstract = where_shown (shows part.abstract) s.abstract;
+  version = where_shown (shows part.version) s.version;
+  content = where_shown (shows part.content) s.content;
   on = where_shown (shows part.on) s.on;
 }
 

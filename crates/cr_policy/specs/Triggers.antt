@@ -3,7 +3,8 @@
 use Rattle.std.specs.Prelude.{ℕ, Bool, true, not, List, [], ◌∷◌, Option, Some, ◌&&◌}
 use Rattle.std.specs.List.{list_any}
 use Rattle.cr_base.specs.declared.entry.Entry.{Entry}
-use Rattle.cr_base.specs.declared.entry.Entry.TheVariants.{Registered, Named, PhaseSet, ModeSet, Submitted, Conflict}
+use Rattle.cr_base.specs.declared.entry.Entry.TheVariants.{Registered, Named, PhaseSet, ModeSet, Submitted}
+use Rattle.cr_base.specs.declared.entry.Entry.TheVariants.{Coauthor, Revised, Uploaded, Withdrawn, Conflict}
 use Rattle.cr_base.specs.declared.words.Phase.{Phase}
 use Rattle.cr_base.specs.declared.entry.Stamped.{Stamped}
 use Rattle.cr_base.specs.declared.standing.Standing.{Standing}
@@ -11,7 +12,7 @@ use Rattle.cr_base.specs.declared.words.Phase.TheVariants.{Bidding, Discussion}
 use Rattle.cr_base.specs.declared.words.Mode.{Mode}
 use Rattle.cr_base.specs.declared.words.Role.{Role}
 use Rattle.cr_base.specs.Lists.{is_nothing, is_number, until}
-use Rattle.cr_base.specs.History.{History, all_told, opens, title_told}
+use Rattle.cr_base.specs.History.{History, all_told, opens, title_told, upload_told}
 use Rattle.cr_base.specs.HistoryFacts.{phase_of, mode_of, role_of, is_author, is_conflicted}
 use Rattle.cr_base.specs.Page.{is_clear_member, is_clear_chair}
 use Rattle.cr_base.specs.Phases.{is_from}
@@ -78,13 +79,17 @@ unless_anonymous r = not (is_anonymous r.mode)
 abbrev pub none_in : {A : Type 0} → (Entry → List A) → History → Bool
 none_in told H = is_nothing (all_told told H)
 
--- none of these entries is of the same matter as this one: a paper's texts
+-- none of these entries is of the same matter as this one: a paper's texts, or its content
 abbrev pub none_alike : Entry → History → Bool
 none_alike (Registered user name digest) H = true
 none_alike (Named user role) H = true
 none_alike (PhaseSet phase) H = true
 none_alike (ModeSet mode) H = true
 none_alike (Submitted paper title abstract) H = none_in (title_told paper) H
+none_alike (Coauthor paper user) H = true
+none_alike (Revised paper title abstract) H = none_in (title_told paper) H
+none_alike (Uploaded paper version content) H = none_in (upload_told paper) H
+none_alike (Withdrawn paper) H = true
 none_alike (Conflict paper user on) H = true
 
 -- what a row may ask of where an entry stands: whether it is the first of its matter; the last; the last of those before the
@@ -144,6 +149,24 @@ rows r at by (Submitted paper title abstract) =
     ∷ (at.last && is_clear_member (standing_to r paper) && is_from Bidding r.now) see these (part.abstract ∷ [])
     ∷ (is_clear_chair (standing_to r paper) && is_from Bidding r.now) see these (part.by ∷ [])
     ∷ (is_clear_member (standing_to r paper) && unless_anonymous r && is_from Bidding r.now) see these (part.by ∷ [])
+    ∷ []
+rows r at by (Coauthor paper user) =
+    authors r paper see whole
+    ∷ (is_clear_chair (standing_to r paper) && is_from Bidding r.now) see these (part.user ∷ [])
+    ∷ (is_clear_member (standing_to r paper) && unless_anonymous r && is_from Bidding r.now) see these (part.user ∷ [])
+    ∷ []
+rows r at by (Revised paper title abstract) =
+    authors r paper see whole
+    ∷ (at.last && members r && is_from Bidding r.now) see these (part.title ∷ [])
+    ∷ (at.last && is_clear_member (standing_to r paper) && is_from Bidding r.now) see these (part.abstract ∷ [])
+    ∷ []
+rows r at by (Uploaded paper version content) =
+    authors r paper see whole
+    ∷ (at.last && is_clear_member (standing_to r paper) && is_from Bidding r.now) see whole
+    ∷ []
+rows r at by (Withdrawn paper) =
+    authors r paper see paper_alone
+    ∷ (members r && is_from Bidding r.now) see paper_alone
     ∷ []
 rows r at by (Conflict paper user on) =
     user_named r user see whole

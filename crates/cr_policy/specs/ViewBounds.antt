@@ -1,9 +1,9 @@
 -- The bounds of a view: of each part of the entries who is shown it, neither more nor less, and what that leaves for those
 -- who should know little. They hold of every history, legal or not, of every user and of nobody.
-use Rattle.std.specs.Prelude.{ℕ, Bool, false, ◌≡◌, ◌≤◌, ◌||◌, List, length, map, Option, None, All, IsTrue, IsFalse, if◌then◌else◌}
+use Rattle.std.specs.Prelude.{ℕ, Bool, false, ◌≡◌, ◌≤◌, ◌||◌, ◌&&◌, not, List, length, map, Option, None, All, IsTrue, IsFalse, if◌then◌else◌}
 use Rattle.std.specs.List.{flat_map, list_any}
 use Rattle.cr_base.specs.declared.entry.Entry.{Entry}
-use Rattle.cr_base.specs.declared.entry.Entry.TheVariants.{Conflict}
+use Rattle.cr_base.specs.declared.entry.Entry.TheVariants.{Coauthor, Conflict}
 use Rattle.cr_base.specs.declared.entry.EntryKind.{EntryKind}
 use Rattle.cr_base.specs.declared.entry.EntryKind.TheVariants as kinds
 use Rattle.cr_base.specs.declared.entry.Stamped.{Stamped}
@@ -14,7 +14,7 @@ use Rattle.cr_policy.specs.Sighting.{Sighting, blank}
 use Rattle.cr_policy.specs.View.{view}
 use Rattle.cr_policy.specs.ViewFacts.{only, is_user}
 use Rattle.cr_policy.specs.ShownTo.{PartFor, each_told, serves, handles, kind_for, mark_for, paper_for, user_for, name_for}
-use Rattle.cr_policy.specs.ShownTo.{digest_for, role_for, phase_for, mode_for, maker_for, title_for, abstract_for, switch_for}
+use Rattle.cr_policy.specs.ShownTo.{digest_for, role_for, phase_for, mode_for, maker_for, title_for, abstract_for, version_for, content_for, switch_for}
 
 -- ---- each part
 
@@ -60,33 +60,50 @@ TitlesShown = Shows (λ (s : Sighting). s.title) title_for
 abbrev pub AbstractsShown : Type 0
 AbstractsShown = Shows (λ (s : Sighting). s.abstract) abstract_for
 
+abbrev pub VersionsShown : Type 0
+VersionsShown = Shows (λ (s : Sighting). s.version) version_for
+
+abbrev pub ContentsShown : Type 0
+ContentsShown = Shows (λ (s : Sighting). s.content) content_for
+
 -- whether a conflict is on
 abbrev pub SwitchesShown : Type 0
 SwitchesShown = Shows (λ (s : Sighting). s.on) switch_for
 
--- ---- earlier texts
+-- ---- earlier texts and contents
 
--- the text that a sighting shows of the paper, whatever kind of entry it is of
+-- the text that a sighting shows of the paper, whatever kind of entry it is of, where another than the reader made it
 abbrev pub text_shown : (Sighting → Option (List ℕ)) → ℕ → Sighting → List (List ℕ)
-text_shown text p s = only (is_number s.paper p) (listed (text s))
+text_shown text p s = only (is_number s.paper p && not s.mine) (listed (text s))
 
--- of a paper's titles others than its authors are shown one at most, and of its abstracts too
+-- of a paper's titles that they didn't give it themselves, others than its authors are shown one at most, and of its abstracts
+-- and its contents too
 abbrev pub OneTitle : Type 0
 OneTitle = (u : Option ℕ) (p : ℕ) (H : History) → IsFalse (is_author u p H) → length (flat_map (text_shown (λ (s : Sighting). s.title) p) (view u H)) ≤ 1
 
 abbrev pub OneAbstract : Type 0
 OneAbstract = (u : Option ℕ) (p : ℕ) (H : History) → IsFalse (is_author u p H) → length (flat_map (text_shown (λ (s : Sighting). s.abstract) p) (view u H)) ≤ 1
 
+abbrev pub OneContent : Type 0
+OneContent = (u : Option ℕ) (p : ℕ) (H : History) → IsFalse (is_author u p H) → length (flat_map (text_shown (λ (s : Sighting). s.content) p) (view u H)) ≤ 1
+
 -- ---- who neither wrote a paper nor handles it
 
--- all that a sighting on a paper has for one who neither wrote nor handles it: the number, the title where she serves, and
--- the whole of a conflict that names her or that she made
+-- all that a sighting on a paper has for one who neither wrote nor handles it: the number, the title and that it is withdrawn
+-- where she serves, the whole of a conflict that names her, and the whole of what she made
 abbrev pub IsLeft : Option ℕ → Bool → EntryKind → Sighting → Type 0
 IsLeft u titled kinds.Registered s = ⊥
 IsLeft u titled kinds.Named s = ⊥
 IsLeft u titled kinds.PhaseSet s = ⊥
 IsLeft u titled kinds.ModeSet s = ⊥
 IsLeft u titled kinds.Submitted s = s ≡ record (blank kinds.Submitted) { paper = s.paper; title = if titled then s.title else None }
+IsLeft u titled kinds.Coauthor s = IsTrue s.mine × (s ≡ record (blank kinds.Coauthor) { mine = s.mine; paper = s.paper; user = s.user })
+IsLeft u titled kinds.Revised s =
+    IsTrue (s.mine || titled)
+    × (s ≡ record (blank kinds.Revised) { mine = s.mine; paper = s.paper; title = s.title; abstract = if s.mine then s.abstract else None })
+IsLeft u titled kinds.Uploaded s =
+    IsTrue s.mine × (s ≡ record (blank kinds.Uploaded) { mine = s.mine; paper = s.paper; version = s.version; content = s.content })
+IsLeft u titled kinds.Withdrawn s = IsTrue (s.mine || titled) × (s ≡ record (blank kinds.Withdrawn) { mine = s.mine; paper = s.paper })
 IsLeft u titled kinds.Conflict s =
     IsTrue (s.mine || is_user u s.user) × (s ≡ record (blank kinds.Conflict) { mine = s.mine; paper = s.paper; user = s.user; on = s.on })
 
@@ -105,10 +122,15 @@ IsPublic kinds.Named s = s ≡ record (blank kinds.Named) { user = s.user; role 
 IsPublic kinds.PhaseSet s = s ≡ record (blank kinds.PhaseSet) { phase = s.phase }
 IsPublic kinds.ModeSet s = s ≡ record (blank kinds.ModeSet) { mode = s.mode }
 IsPublic kinds.Submitted s = s ≡ record (blank kinds.Submitted) { paper = s.paper }
+IsPublic kinds.Coauthor s = ⊥
+IsPublic kinds.Revised s = ⊥
+IsPublic kinds.Uploaded s = ⊥
+IsPublic kinds.Withdrawn s = ⊥
 IsPublic kinds.Conflict s = ⊥
 
 -- the entry is on a paper, and names her
 abbrev pub names_her : Option ℕ → Entry → Bool
+names_her u (Coauthor paper user) = is_number u user
 names_her u (Conflict paper user on) = is_number u user
 names_her u _ = false
 

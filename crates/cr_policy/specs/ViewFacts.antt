@@ -1,5 +1,5 @@
 -- ViewFacts and Quotas: what a view says of the conference, of its papers and of its reader, folds over the view alone.
-use Rattle.std.specs.Prelude.{ℕ, Bool, false, List, [], ◌∷◌, Option, Some, None, length, map, filter, not, ◌==◌, ◌&&◌, ◌||◌, ◌++◌, if◌then◌else◌}
+use Rattle.std.specs.Prelude.{ℕ, Bool, true, false, List, [], ◌∷◌, Option, Some, None, length, map, filter, not, ◌==◌, ◌&&◌, ◌||◌, ◌++◌, if◌then◌else◌}
 use Rattle.std.specs.List.{flat_map, list_any}
 use Rattle.std.specs.Str.{bytes_eq}
 use Rattle.cr_base.specs.declared.entry.EntryKind.{EntryKind}
@@ -12,11 +12,11 @@ use Rattle.cr_base.specs.declared.words.Role.{Role}
 use Rattle.cr_base.specs.declared.words.Role.TheVariants.{Account}
 use Rattle.cr_base.specs.declared.reply.AccountLine.{AccountLine}
 use Rattle.cr_base.specs.declared.standing.Standing.{Standing}
-use Rattle.cr_base.specs.Lists.{listed, last, last_or, is_number, at_some, until, since}
+use Rattle.cr_base.specs.Lists.{listed, last, last_or, total, is_number, at_some, until, since}
 use Rattle.cr_base.specs.Phases.{is_phase}
 use Rattle.cr_base.specs.Rows.{kind_number}
-use Rattle.cr_base.specs.History.{Registration}
-use Rattle.cr_base.specs.Sources.{Facts, Shown, none_withdrawn}
+use Rattle.cr_base.specs.History.{Registration, Upload}
+use Rattle.cr_base.specs.Sources.{Facts, Shown}
 use Rattle.cr_policy.specs.Sighting.{Sighting}
 use Rattle.cr_policy.specs.View.{View}
 
@@ -48,7 +48,19 @@ registration_shown _ _ = []
 -- the text that is shown, of the kinds of entry that give a paper its texts
 abbrev pub text_by_kind : EntryKind → Option (List ℕ) → List (List ℕ)
 text_by_kind kinds.Submitted text = listed text
+text_by_kind kinds.Revised text = listed text
 text_by_kind _ text = []
+
+-- the author who is shown, of the kinds of entry that give a paper its authors: the maker of a submission, or a user
+abbrev pub author_by_kind : EntryKind → Option ℕ → Option ℕ → List ℕ
+author_by_kind kinds.Submitted by user = listed by
+author_by_kind kinds.Coauthor by user = listed user
+author_by_kind _ by user = []
+
+-- the upload whose number and content are shown
+abbrev pub upload_shown : Option ℕ → Option (List ℕ) → List Upload
+upload_shown (Some version) (Some content) = record { version = version; content = content } ∷ []
+upload_shown _ _ = []
 
 -- ---- what one sighting tells: each tells the facts of its kind of entry, and nothing of others
 
@@ -77,7 +89,7 @@ own_paper_seen s = only s.mine (paper_seen s)
 
 -- the author whom it gives the paper
 abbrev pub author_seen : ℕ → Sighting → List ℕ
-author_seen p s = only (is_number s.paper p) (of_kind kinds.Submitted s (listed s.by))
+author_seen p s = only (is_number s.paper p) (author_by_kind s.kind s.by s.user)
 
 -- whether it turns the user's declared conflict with the paper on or off
 abbrev pub conflict_seen : Option ℕ → ℕ → Sighting → List Bool
@@ -101,6 +113,18 @@ title_seen p s = only (is_number s.paper p) (text_by_kind s.kind s.title)
 
 abbrev pub abstract_seen : ℕ → Sighting → List (List ℕ)
 abstract_seen p s = only (is_number s.paper p) (text_by_kind s.kind s.abstract)
+
+-- what it uploads to the paper
+abbrev pub upload_seen : ℕ → Sighting → List Upload
+upload_seen p s = only (is_number s.paper p) (of_kind kinds.Uploaded s (upload_shown s.version s.content))
+
+-- how many bytes it uploads, where it is the reader's own
+abbrev pub own_bytes_seen : Sighting → List ℕ
+own_bytes_seen s = only s.mine (of_kind kinds.Uploaded s (map length (listed s.content)))
+
+-- that it withdraws the paper
+abbrev pub withdrawal_seen : ℕ → Sighting → List Bool
+withdrawal_seen p s = only (is_number s.paper p) (of_kind kinds.Withdrawn s (true ∷ []))
 
 -- the account that it makes
 abbrev pub registration_seen : Sighting → List Registration
@@ -142,7 +166,7 @@ number_in_view name V = last (flat_map (number_seen name) V)
 
 -- ---- the reader's ties
 
--- AuthorsOf: the paper's authors that are shown, the submitter first
+-- AuthorsOf: the paper's authors that are shown, the submitter first, the others in the order in which they were told
 abbrev pub authors_in_view : ℕ → View → List ℕ
 authors_in_view p V = flat_map (author_seen p) V
 
@@ -180,11 +204,24 @@ title_in_view p V = last (flat_map (title_seen p) V)
 abbrev pub abstract_in_view : ℕ → View → Option (List ℕ)
 abstract_in_view p V = last (flat_map (abstract_seen p) V)
 
+-- VersionsOf: what is shown of what was uploaded to the paper, in order; where the reader is no author of it, `uploads_told`
+-- leaves the last alone
+abbrev pub uploads_in_view : ℕ → View → List Upload
+uploads_in_view p V = flat_map (upload_seen p) V
+
+-- the paper was withdrawn
+abbrev pub is_withdrawn_in_view : ℕ → View → Bool
+is_withdrawn_in_view p V = last_or false (flat_map (withdrawal_seen p) V)
+
 -- ---- Quotas
 
 -- how many papers the reader has submitted
 abbrev pub own_papers_in_view : View → ℕ
 own_papers_in_view V = length (flat_map own_paper_seen V)
+
+-- how many bytes the reader has uploaded, in all versions of all papers
+abbrev pub own_bytes_in_view : View → ℕ
+own_bytes_in_view V = total (flat_map own_bytes_seen V)
 
 -- ---- what the rules and the answers read
 
@@ -194,6 +231,7 @@ facts_in_view u V = record {
   accounts = accounts_in_view V;
   papers = papers_in_view V;
   own_papers = own_papers_in_view V;
+  own_bytes = own_bytes_in_view V;
 }
 
 -- of the users who have registered, those of whom this holds, by number
@@ -207,5 +245,6 @@ shown_in_view u V = record {
   authors = λ p. authors_in_view p V;
   conflicts = λ p. users_where (λ v. is_conflict_on_in_view (Some v) p V) V;
   declared = λ p. users_where (λ v. list_any (λ w. w == v) (declared_in_view u p V)) V;
-  withdrawn = none_withdrawn;
+  uploads = λ p. uploads_in_view p V;
+  withdrawn = λ p. is_withdrawn_in_view p V;
 }

@@ -13,13 +13,15 @@ ghost use Rattle.cr_policy.specs.Laws.{StandingFromView, PublicFactsFromView, Vi
 ghost use Rattle.cr_policy.specs.Laws.{DigestsAreOwn, TwoRegistrations, DigestsHidden, OneSubmission, OneConflict};
 ghost use Rattle.cr_policy.specs.ViewBounds.{EntriesShown, MarksShown, PapersShown, UsersShown, NamesShown, DigestsShown};
 ghost use Rattle.cr_policy.specs.ViewBounds.{RolesShown, PhasesShown, ModesShown, MakersShown, TitlesShown, AbstractsShown};
-ghost use Rattle.cr_policy.specs.ViewBounds.{SwitchesShown, OneTitle, OneAbstract, OutsidersShown, StrangersShown, NobodyShown};
+ghost use Rattle.cr_policy.specs.ViewBounds.{VersionsShown, ContentsShown, SwitchesShown, OneTitle, OneAbstract, OneContent};
+ghost use Rattle.cr_policy.specs.ViewBounds.{OutsidersShown, StrangersShown, NobodyShown};
 
 /// How a user stands can be read off what she sees: phase, mode, role and her ties to any paper, of
 /// every history and for every user, nobody among them. An author sees all authors of her paper, and
 /// whoever is none is told so by what she sees; each entry on a conflict of hers is shown her, so she
 /// is told whether she is in conflict. What is public can be read off any view, the accounts,
-/// their names and roles, and the papers; and so can how many of the papers are the reader's own.
+/// their names and roles, and the papers; and so can how many of the papers are the reader's own, and how many
+/// bytes she has uploaded.
 pub fn law_standing()
     ensures standing { StandingFromView }
     ensures public { (u : Option ℕ) (H : History) → PublicFactsFromView u H }
@@ -27,9 +29,9 @@ pub fn law_standing()
 
 /// What checks of role on the tables of a legal history give is what the caller's view alone gives:
 /// of every command its broken rule or the entries that it adds and its receipt, of every query its
-/// answer, for every registered user, and for nobody where no login is wanted. A paper's page is among
-/// the answers: what the caller's standing lets her have, its texts, its authors, who is declared in
-/// conflict with it and whom its authors declared, is in her view, and no more is needed.
+/// answer, for every registered user, and for nobody where no login is wanted. A paper's page and its content are
+/// among the answers: what the caller's standing lets her have, its texts, its authors, its versions, whether it is
+/// withdrawn, who is declared in conflict with it and whom its authors declared, is in her view, and no more is needed.
 pub fn law_view_suffices()
     ensures { ViewSuffices }
 {}
@@ -78,7 +80,7 @@ pub fn law_views()
 /// nobody. The first clauses go part by part: a view has one sighting of each entry that the user is
 /// told of, and of each part exactly what she may know, by who wrote the paper, who is on the
 /// committee, who is declared in conflict, phase and mode. The last say what that leaves: of a paper's
-/// titles and abstracts the last one, for all but its authors; little of a paper for outsiders, who
+/// titles, abstracts and contents the last one, for all but its authors; little of a paper for outsiders, who
 /// neither wrote nor handle it, so in conflict, or on no committee, or before the bidding; for strangers
 /// what is public and their own entries; and for nobody what is public.
 pub fn law_bounds()
@@ -94,9 +96,12 @@ pub fn law_bounds()
     ensures makers { MakersShown }
     ensures titles { TitlesShown }
     ensures abstracts { AbstractsShown }
+    ensures versions { VersionsShown }
+    ensures contents { ContentsShown }
     ensures switches { SwitchesShown }
     ensures one_title { OneTitle }
     ensures one_abstract { OneAbstract }
+    ensures one_content { OneContent }
     ensures outsiders { OutsidersShown }
     ensures strangers { StrangersShown }
     ensures nobody { NobodyShown }
