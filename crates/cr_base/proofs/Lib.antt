@@ -1,9 +1,11 @@
 pub mod AccountLaws
 pub mod CheckLaws
+pub mod CoauthorLaws
 pub mod FitLaws
 pub mod LastLaws
 pub mod ListLaws
 pub mod PairLaws
+pub mod PaperLaws
 pub mod RisingLists
 pub mod RoleLaws
 pub mod RowLaws

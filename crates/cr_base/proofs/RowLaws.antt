@@ -1,10 +1,10 @@
 -- Rows and entries spell each other.
-use Rattle.std.proofs.Common.{ℕ, Bool, true, false, cond, ◌≡◌, ◌≤◌, ◌==◌, ◌-◌, List, [], ◌++◌, length, drop, replicate, refl, sym, ap, subst, ◌∙◌, arith}
+use Rattle.std.proofs.Common.{ℕ, Bool, true, false, cond, ◌≡◌, ◌≤◌, ◌==◌, ◌-◌, List, [], ◌++◌, length, drop, replicate, refl, sym, ap, subst, ◌∙◌, arith, Option, Some, None}
 use Rattle.std.proofs.lemmas.Bool.Decides.{nat_tests}
 use Rattle.std.proofs.lemmas.List.{drop-replicate}
 use Rattle.std.proofs.lemmas.Slice.{drop-append-drop}
 use Rattle.cr_base.specs.Words.{phase_number, phase_numbered, mode_number, mode_numbered, role_number, role_numbered}
-use Rattle.cr_base.specs.Shapes.{FitsShape, HasText, InRange, unused}
+use Rattle.cr_base.specs.Shapes.{FitsShape, HasText, InRange, IsAtMost, unused}
 use Rattle.cr_base.specs.Rows.{kind_number, shape_of, kind_of, row_of, built, stamped, IsBoundedEntry}
 use Rattle.cr_base.specs.declared.entry.EntryKind.{EntryKind}
 use Rattle.cr_base.specs.declared.entry.EntryKind.TheVariants as kind
@@ -86,14 +86,22 @@ same_row r k a b c x y hk f h4 h5 h1 h2 h3 hx hy =
     e
 
 -- what a field spells that holds a number as it is, a mark, or nothing
+abbrev plain_to : Option ℕ → ℕ → ℕ
+plain_to None n = n
+plain_to (Some high) n = cond (high == 0) 0 (cond (high == 1) (cond (n == 1) 1 0) n)
+
 abbrev plain : Range → ℕ → ℕ
-plain range n = cond (range.high == 0) 0 (cond (range.high == 1) (cond (n == 1) 1 0) n)
+plain range n = plain_to range.high n
 
 plain-is : (range : Range) (n : ℕ) → InRange range n → plain range n ≡ n
 plain-is range n h = by range.high h.1
   where
-    by : (high : ℕ) → n ≤ high → cond (high == 0) 0 (cond (high == 1) (cond (n == 1) 1 0) n) ≡ n
-    by high h = grind (arith, nat_tests)
+    by : (high : Option ℕ) → IsAtMost high n → plain_to high n ≡ n
+    by None h = refl
+    by (Some high) h = below high h
+      where
+        below : (high : ℕ) → n ≤ high → cond (high == 0) 0 (cond (high == 1) (cond (n == 1) 1 0) n) ≡ n
+        below high h = grind (arith, nat_tests)
 
 abbrev plain_text : TextKind → List ℕ → List ℕ
 plain_text Nothing bytes = []

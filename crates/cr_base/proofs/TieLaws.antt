@@ -6,15 +6,15 @@ use Rattle.std.specs.List.{list_all}
 use Rattle.std.proofs.lemmas.Bool.{and_parts}
 use Rattle.std.proofs.lemmas.Bool.Decides.{nat_tests}
 use Rattle.cr_base.specs.declared.entry.Entry.{Entry}
-use Rattle.cr_base.specs.declared.entry.Entry.TheVariants.{Submitted, Conflict}
+use Rattle.cr_base.specs.declared.entry.Entry.TheVariants.{Submitted, Coauthor, Revised, Withdrawn, Conflict}
 use Rattle.cr_base.specs.declared.pairs.Order.TheVariants.{ByPaper}
 use Rattle.cr_base.specs.declared.pairs.Pair.{Pair}
 use Rattle.cr_base.specs.declared.pairs.Tie.{Tie}
-use Rattle.cr_base.specs.declared.paper.Paper.{Paper}
 use Rattle.cr_base.specs.Lists.{given}
 use Rattle.cr_base.specs.Pairs.{same_pair, is_tied, has_pair, ties_of, users_tied_to}
-use Rattle.cr_base.specs.Papers.{PapersState, papers_after, paper_count, PapersFit}
+use Rattle.cr_base.specs.Papers.{PapersState, new_paper, with_texts, as_withdrawn, papers_after, paper_count, PapersFit}
 use Rattle.cr_base.specs.Ties.{BareTies, TiesState, pair_of, bare_tie, switched, ties_after, are_before, are_within, AreWithin}
+use Rattle.cr_base.proofs.PaperLaws.{length-with_paper}
 use Rattle.cr_base.proofs.PairLaws.{same_pair-is, list_all-with_tie, list_all-filter, has_pair-with_tie, has_pair-without_pair}
 
 -- ---- pairs
@@ -108,15 +108,22 @@ within-pair n q (t ∷ ts) all there =
 -- where each entry fits, the papers that have ties are there
 pub within-after : (state : PapersState) (ties : TiesState) (maker : ℕ) (e : Entry) → PapersFit state maker e → AreWithin (paper_count state) ties → AreWithin (paper_count (papers_after state maker e)) (ties_after ties maker e)
 within-after state ties maker (Submitted paper title abstract) fits within =
-    let made : Paper = record { title = title; abstract_ = abstract } in
     let before : ℕ = paper_count state in
     let now : ℕ = paper_count (papers_after state maker (Submitted paper title abstract)) in
-    let n = length-append state.papers (made ∷ []) in
+    let n = length-append state.papers (new_paper title abstract ∷ []) in
     let next = fits.0 in
     record {
       authors = within-push now paper maker ties.authors (omega (arith, next)) (omega (arith, n, next)) (within-more before now (omega (arith, n)) ties.authors within.authors);
       conflicts = within-more before now (omega (arith, n)) ties.conflicts within.conflicts;
     }
+within-after state ties maker (Coauthor paper user) fits within = record {
+  authors = let last = fits.1 in within-push (paper_count state) paper user ties.authors fits.0 (omega (arith, last)) within.authors;
+  conflicts = within.conflicts;
+}
+within-after state ties maker (Revised paper title abstract) fits within =
+    subst (λ (n : ℕ). AreWithin n ties) (sym (length-with_paper paper (with_texts title abstract) state.papers)) within
+within-after state ties maker (Withdrawn paper) fits within =
+    subst (λ (n : ℕ). AreWithin n ties) (sym (length-with_paper paper as_withdrawn state.papers)) within
 within-after state ties maker (Conflict paper user on) fits within = record {
   authors = within.authors;
   conflicts = within-switched (paper_count state) on paper user ties.conflicts fits.0 fits.1 within.conflicts;

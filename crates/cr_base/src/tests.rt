@@ -12,7 +12,7 @@ fn alone(entry: Entry) -> Stamped {
 }
 
 /// An entry of each kind, in the order of their numbers.
-fn entries(alloc: Global) -> Result<[Stamped; 6], Fail> {
+fn entries(alloc: Global) -> Result<[Stamped; 10], Fail> {
     let (user, paper) = (UserNo::new(1), PaperNo::new(12));
     Ok([
         Stamped {
@@ -43,6 +43,21 @@ fn entries(alloc: Global) -> Result<[Stamped; 6], Fail> {
                 abstract_: Text::from_str(alloc, "A cat.\n")?,
             },
         },
+        alone(Entry::Coauthor {
+            paper,
+            user: UserNo::new(9_999),
+        }),
+        alone(Entry::Revised {
+            paper,
+            title: Text::from_str(alloc, "Cats")?,
+            abstract_: Text::from_str(alloc, "")?,
+        }),
+        alone(Entry::Uploaded {
+            paper,
+            version: 70_000,
+            content: Blob::from_slice(alloc, b"\x00\xff")?,
+        }),
+        alone(Entry::Withdrawn { paper }),
         alone(Entry::Conflict {
             paper,
             user: UserNo::new(3),
@@ -55,62 +70,11 @@ fn row_of(alloc: Global, stamped: &Stamped) -> Result<Row, Fail> {
     Ok(stamped.entry.to_row(alloc, stamped.maker, stamped.more)?)
 }
 
-fn is_entry(read: &Entry, wanted: &Entry) -> bool {
-    match (read, wanted) {
-        (
-            Entry::Registered { user, name, digest },
-            Entry::Registered {
-                user: wanted_user,
-                name: wanted_name,
-                digest: wanted_digest,
-            },
-        ) => *user == *wanted_user && *name == *wanted_name && *digest == *wanted_digest,
-        (
-            Entry::Named { user, role },
-            Entry::Named {
-                user: wanted_user,
-                role: wanted_role,
-            },
-        ) => *user == *wanted_user && *role == *wanted_role,
-        (Entry::PhaseSet { phase }, Entry::PhaseSet { phase: wanted }) => *phase == *wanted,
-        (Entry::ModeSet { mode }, Entry::ModeSet { mode: wanted }) => *mode == *wanted,
-        (
-            Entry::Conflict { paper, user, on },
-            Entry::Conflict {
-                paper: wanted_paper,
-                user: wanted_user,
-                on: wanted_on,
-            },
-        ) => *paper == *wanted_paper && *user == *wanted_user && *on == *wanted_on,
-        (
-            Entry::Submitted {
-                paper,
-                title,
-                abstract_,
-            },
-            Entry::Submitted {
-                paper: wanted_paper,
-                title: wanted_title,
-                abstract_: wanted_abstract,
-            },
-        ) => {
-            *paper == *wanted_paper
-                && title.as_str() == wanted_title.as_str()
-                && abstract_.as_str() == wanted_abstract.as_str()
-        }
-        _ => false,
-    }
-}
-
-/// Whether an entry was read, and is the wanted one with its maker and mark.
-fn is_stamped(read: &Option<Stamped>, wanted: &Stamped) -> bool {
-    match read {
-        Some(read) => {
-            read.maker == wanted.maker
-                && read.more == wanted.more
-                && is_entry(&read.entry, &wanted.entry)
-        }
-        None => false,
+/// Whether the row is an entry's, and that entry's row is this one.
+fn is_read_back(alloc: Global, row: &Row) -> Result<bool, Fail> {
+    match Stamped::from_row(row)? {
+        Some(read) => Ok(row_of(alloc, &read)?.is_same(row)),
+        None => Ok(false),
     }
 }
 
@@ -118,7 +82,7 @@ fn is_stamped(read: &Option<Stamped>, wanted: &Stamped) -> bool {
 fn rows_of_entries(rt: HostRuntime) -> Result<(), Fail> {
     let alloc = rt.alloc();
     let digest = [7; 32];
-    let wanted: [([u64; 8], &[u8], &[u8]); 6] = [
+    let wanted: [([u64; 8], &[u8], &[u8]); 10] = [
         ([1, 1, 1, 1, 0, 0, 0, 0], b"alice", &digest),
         ([2, 1, 0, 1, 2, 0, 0, 0], b"", b""),
         ([3, 1, 0, 4, 0, 0, 0, 0], b"", b""),
@@ -128,10 +92,14 @@ fn rows_of_entries(rt: HostRuntime) -> Result<(), Fail> {
             b"Schr\xc3\xb6dinger",
             b"A cat.\n",
         ),
+        ([6, 1, 0, 12, 9_999, 0, 0, 0], b"", b""),
+        ([7, 1, 0, 12, 0, 0, 0, 0], b"Cats", b""),
+        ([8, 1, 0, 12, 70_000, 0, 0, 0], b"\x00\xff", b""),
+        ([9, 1, 0, 12, 0, 0, 0, 0], b"", b""),
         ([10, 1, 0, 12, 3, 1, 0, 0], b"", b""),
     ];
     let entries = entries(alloc)?;
-    for i in 0..6 {
+    for i in 0..10 {
         let copied = entries[i].copy()?;
         let row = row_of(alloc, &copied)?.copy()?;
         let numbers = [
@@ -140,8 +108,7 @@ fn rows_of_entries(rt: HostRuntime) -> Result<(), Fail> {
         assert_eq!(rt; numbers, wanted[i].0, "row {i}");
         let bytes_are_right = row.b1.as_slice() == wanted[i].1 && row.b2.as_slice() == wanted[i].2;
         assert!(rt; bytes_are_right, "bytes of row {i}");
-        let read = Stamped::from_row(&row)?;
-        assert!(rt; is_stamped(&read, &entries[i]), "row {i} is this entry's");
+        assert!(rt; is_read_back(alloc, &row)?, "row {i} is an entry's");
     }
     Ok(())
 }
@@ -168,7 +135,7 @@ fn rows_of_no_entry(rt: HostRuntime) -> Result<(), Fail> {
                 row.n1 = 7;
                 row.n2 = 0;
             }
-            _ => row.kind = 6,
+            _ => row.kind = 11,
         }
         assert!(rt; Stamped::from_row(&row)?.is_none(), "case {broken}");
     }
