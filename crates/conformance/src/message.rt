@@ -91,8 +91,9 @@ fn add_allow<'a>(into: &mut Vec<u8>, text: &'a str) -> Result<&'a str, LineError
     Ok(rest)
 }
 
-/// Adds the answer that `CODE [Allow: METHODS; ][HEAD ]CONTENT` tells. Behind `HEAD` stands the content
-/// that GET would be answered, of which an answer to HEAD has the length alone.
+/// Adds the answer that `CODE [Allow: METHODS; ][HEAD ][bytes: ]CONTENT` tells. Behind `HEAD` stands the content
+/// that GET would be answered, of which an answer to HEAD has the length alone. Behind `bytes:` stands a paper's
+/// content, which is sent as it is, and else an object of JSON.
 pub fn add_answer(
     alloc: Global,
     into: &mut Vec<u8>,
@@ -107,6 +108,17 @@ pub fn add_answer(
     add_content(alloc, into, rest, closes)
 }
 
+// What kind of content a text tells, and the text behind that.
+fn media_type(text: &str) -> (&'static str, &str) {
+    match text.strip_prefix("bytes:") {
+        Some(rest) => (
+            "application/octet-stream",
+            rest.strip_prefix(' ').unwrap_or(rest),
+        ),
+        None => ("application/json", text),
+    }
+}
+
 // Adds what stands behind the fields that an answer's code has.
 fn add_content(
     alloc: Global,
@@ -115,9 +127,10 @@ fn add_content(
     closes: bool,
 ) -> Result<(), LineError> {
     let without = text.strip_prefix("HEAD ");
+    let (media_type, text) = media_type(without.unwrap_or(text));
     let mut content = Vec::new(alloc);
-    add_text(&mut content, without.unwrap_or(text))?;
-    into.extend_from_slice(b"Content-Type: application/json\r\n")?;
+    add_text(&mut content, text)?;
+    add_parts(into, &["Content-Type: ", media_type, "\r\n"])?;
     add_length(alloc, into, content.len())?;
     let close = if closes { "Connection: close\r\n" } else { "" };
     add_parts(into, &[close, "\r\n"])?;
