@@ -228,11 +228,16 @@ def reads(name, port):
     return found
 
 
-def main():
-    program = os.path.abspath(sys.argv[1] if len(sys.argv) > 1 else os.path.join(HERE, "../crates/confd/out/confd"))
+def machine():
+    """The day, and what machine this is."""
     with open("/proc/cpuinfo", encoding="utf-8") as file:
         model = re.search(r"model name\s*: (.*)", file.read()).group(1)
-    print(f"{time.strftime('%Y-%m-%d')}, {os.cpu_count()} processors, {model}, Linux {platform.release()}")
+    return f"{time.strftime('%Y-%m-%d')}, {os.cpu_count()} processors, {model}, Linux {platform.release()}"
+
+
+def main():
+    program = os.path.abspath(sys.argv[1] if len(sys.argv) > 1 else os.path.join(HERE, "../crates/confd/out/confd"))
+    print(machine())
     for words in (["nginx", "-v"], ["wrk", "-v"], [sys.executable, "--version"]):
         told = subprocess.run(words, capture_output=True, text=True)
         print((told.stdout + told.stderr).splitlines()[0])

@@ -1,0 +1,190 @@
+#!/usr/bin/env python3
+"""What contents cost: uploads and downloads of 4 MiB over a socket, and memory with 400 of them.
+
+    python3 bench/content_cost.py [PROGRAM] [FOLDER]
+
+PROGRAM is `confd` as `rt run` builds it (crates/confd/out/confd where none is named), FOLDER where the files are made (the
+system's folder for such where none is named; it decides which disk is measured, and has to have 5 GB free). Debian's packages
+nginx-light and wrk are needed. The peer of downloads is nginx with one worker, which gives the same bytes from a file.
+
+The goals: downloads at least half as fast as the peer's; memory at most 1.25 times the bytes of 400 uploads without a store,
+1.5 times with one, and 2.25 times where that store is opened, in at most 15 seconds.
+"""
+
+import os
+import subprocess
+import sys
+import tempfile
+import threading
+import time
+
+from serve_speed import HERE, Client, confd, free_port, load, machine, request, running, secret_of
+
+SIZE = 4_194_304
+USERS = 25
+EACH = 16
+TIMES = 32
+
+NGINX = """
+worker_processes 1;
+pid {folder}/nginx.pid;
+error_log {folder}/nginx.log;
+events {{ worker_connections 512; }}
+http {{
+    access_log off;
+    sendfile on;
+    keepalive_requests 100000000;
+    server {{
+        listen 127.0.0.1:{port};
+        default_type application/octet-stream;
+        root {folder}/files;
+    }}
+}}
+"""
+
+
+def upload(who, paper, content):
+    """An upload as bytes, its head and its content."""
+    head = (f"PUT /papers/{paper}/content HTTP/1.1\r\nHost: c\r\nAuthorization: Bearer {who}.{secret_of(who)}\r\n"
+            f"Content-Length: {len(content)}\r\n\r\n")
+    return head.encode(), content
+
+
+def register(name):
+    return request("POST", "/register", body={"name": name, "secret": secret_of(name)})
+
+
+def submit(who):
+    return request("POST", "/papers", who, {"abstract": "We prove.", "title": "Proofs"})
+
+
+def accepted(answer, wanted):
+    if answer[0] != wanted:
+        sys.exit(f"answered {answer[0]}: {answer[1][:80]!r}")
+
+
+# ---- speed
+
+def uploads_a_second(port):
+    """Bytes a second of uploads, one after another on one connection, of two users with a paper each."""
+    client = Client(port)
+    accepted(client.ask(register("alice")), 201)
+    accepted(client.ask(request("POST", "/phase", "alice", {"phase": "submission"})), 200)
+    content = os.urandom(SIZE)
+    users = [f"u{number}" for number in range(TIMES // EACH)]
+    for name in users:
+        accepted(client.ask(register(name)), 201)
+        accepted(client.ask(submit(name)), 201)
+    began = time.perf_counter()
+    for number in range(TIMES):
+        head, body = upload(users[number // EACH], number // EACH + 1, content)
+        client.socket.sendall(head)
+        accepted(client.ask(body), 200)
+    return TIMES * SIZE / (time.perf_counter() - began)
+
+
+def speed(program, folder):
+    port = free_port()
+    with confd(program, os.path.join(folder, "speed.store"), port, 8):
+        up = uploads_a_second(port)
+        down = [load(port, "/papers/1/content", connections, 2, "u0") * SIZE for connections in (1, 8)]
+    port = free_port()
+    os.makedirs(os.path.join(folder, "files"))
+    with open(os.path.join(folder, "files", "content"), "wb") as file:
+        file.write(os.urandom(SIZE))
+    conf = os.path.join(folder, "nginx.conf")
+    with open(conf, "w", encoding="utf-8") as file:
+        file.write(NGINX.format(folder=folder, port=port))
+    os.chmod(folder, 0o755)
+    with running(["nginx", "-c", conf, "-g", "daemon off;"], port):
+        peer = [load(port, "/content", connections, 2) * SIZE for connections in (1, 8)]
+    print(f"uploads of 4 MiB, kept in a store, on one connection: {up / 1e6:,.0f} MB a second")
+    for connections, ours, theirs in zip((1, 8), down, peer):
+        print(f"downloads of 4 MiB on {connections}: {ours / 1e6:,.0f} MB a second; by nginx from a file {theirs / 1e6:,.0f}; "
+              f"ours are {ours / theirs:.2f} of it")
+
+
+# ---- memory
+
+def peak(pid):
+    """The most memory that a process has had, in bytes."""
+    with open(f"/proc/{pid}/status", encoding="ascii") as status:
+        for line in status:
+            if line.startswith("VmHWM:"):
+                return int(line.split()[1]) * 1024
+    return 0
+
+
+def drained(stream):
+    """Reads a stream to its end beside what goes on."""
+    thread = threading.Thread(target=lambda: [None for _ in iter(lambda: stream.read(65536), b"")], daemon=True)
+    thread.start()
+    return thread
+
+
+def pipe(words, pieces, count):
+    """The peak of memory of a program that is given these bytes, in times of the contents, and its seconds; it has to end well."""
+    began = time.perf_counter()
+    process = subprocess.Popen(words, stdin=subprocess.PIPE, stdout=subprocess.PIPE)
+    reading = drained(process.stdout)
+    for piece in pieces:
+        process.stdin.write(piece)
+    process.stdin.flush()
+    most, settled = 0, 0
+    while settled < 20:
+        now = peak(process.pid)
+        settled = settled + 1 if now == most else 0
+        most = max(most, now)
+        time.sleep(0.1)
+    process.stdin.close()
+    while process.poll() is None:
+        most = max(most, peak(process.pid))
+        time.sleep(0.01)
+    reading.join()
+    if process.returncode != 0:
+        sys.exit(f"{words} ended with {process.returncode}")
+    return most / (count * SIZE), time.perf_counter() - began
+
+
+def all_uploads():
+    """A chair, 25 authors with a paper each, and 16 uploads of each."""
+    yield register("alice")
+    yield request("POST", "/phase", "alice", {"phase": "submission"})
+    content = os.urandom(SIZE)
+    for number in range(USERS):
+        who = f"u{number}"
+        yield register(who)
+        yield submit(who)
+        for _ in range(EACH):
+            yield from upload(who, number + 1, content)
+
+
+def memory(program, folder):
+    store = os.path.join(folder, "memory.store")
+    count = USERS * EACH
+    without, _ = pipe([program, "pipe"], all_uploads(), count)
+    kept, _ = pipe([program, "pipe", "--store", store], all_uploads(), count)
+    began = time.perf_counter()
+    process = subprocess.Popen([program, "pipe", "--store", store], stdin=subprocess.DEVNULL, stdout=subprocess.DEVNULL)
+    most = 0
+    while process.poll() is None:
+        most = max(most, peak(process.pid))
+        time.sleep(0.005)
+    seconds = time.perf_counter() - began
+    if process.returncode != 0:
+        sys.exit(f"opening ended with {process.returncode}")
+    print(f"{count} uploads of 4 MiB: {without:.2f} times their bytes at most without a store, {kept:.2f} with one")
+    print(f"opening that store: {most / (count * SIZE):.2f} times their bytes at most, in {seconds:.1f} s")
+
+
+def main():
+    program = os.path.abspath(sys.argv[1] if len(sys.argv) > 1 else os.path.join(HERE, "../crates/confd/out/confd"))
+    place = sys.argv[2] if len(sys.argv) > 2 else None
+    print(machine())
+    with tempfile.TemporaryDirectory(dir=place) as folder:
+        speed(program, folder)
+        memory(program, folder)
+
+
+if __name__ == "__main__":
+    main()
