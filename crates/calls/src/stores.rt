@@ -197,10 +197,60 @@ fn rows_outlive_the_connection(rt: HostRuntime) -> Result<(), Fail> {
     Ok(())
 }
 
+/// A row of each kind that a store takes, the last one first.
+fn of_each_kind(alloc: Global) -> Result<Vec<Row>, AllocError> {
+    let mut rows = Vec::new(alloc);
+    for kind in (1..18).rev() {
+        rows.push(of_kind(kind))?;
+    }
+    Ok(rows)
+}
+
 #[test]
-fn rows_of_each_table_come_back(rt: HostRuntime) {
-    let rows = [of_kind(14), of_kind(10), of_kind(5), of_kind(1)];
+fn rows_of_each_kind_come_back(rt: HostRuntime) -> Result<(), Fail> {
+    let rows = of_each_kind(rt.alloc())?;
     assert!(rt; come_back(rt.alloc(), rows.as_slice()));
+    Ok(())
+}
+
+fn appends<S: Alter>(keeper: &mut SqliteKeeper<S>, rows: &[Row]) -> bool {
+    keeper.append_all(rows).is_ok()
+}
+
+/// What became of three appends, and how many rows there are behind each: of no row; of two rows, the second of a kind
+/// that no store takes; and of the first of them alone.
+fn appended<S: Alter>(keeper: &mut SqliteKeeper<S>) -> [(bool, Option<u64>); 3] {
+    let none = appends(keeper, &[]);
+    let none_len = keeper.len().ok();
+    let unknown = appends(keeper, [of_kind(1), of_kind(18)].as_slice());
+    let unknown_len = keeper.len().ok();
+    let one = appends(keeper, [of_kind(1)].as_slice());
+    [
+        (none, none_len),
+        (unknown, unknown_len),
+        (one, keeper.len().ok()),
+    ]
+}
+
+fn appended_in<S: Alter + Drop>(
+    alloc: Global,
+    conn: Connection<S>,
+) -> Option<[(bool, Option<u64>); 3]> {
+    let mut keeper = adopt(alloc, conn)?;
+    Some(appended(&mut keeper))
+}
+
+fn appended_to_memory(alloc: Global) -> Option<[(bool, Option<u64>); 3]> {
+    appended_in(
+        alloc,
+        open(alloc, Memory::new(alloc), Memory::new(alloc))?,
+    )
+}
+
+#[test]
+fn a_row_of_no_kind_keeps_nothing(rt: HostRuntime) {
+    let told = [(true, Some(0)), (false, Some(0)), (true, Some(1))];
+    assert!(rt; appended_to_memory(rt.alloc()) == Some(told));
 }
 
 fn is_told(alloc: Global, reason: Reason, text: &str) -> bool {

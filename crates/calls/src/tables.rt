@@ -2,8 +2,7 @@
 
 use cr_accounts::Accounts;
 use cr_base::{
-    Command, Entry, Mode, Order, Pair, PaperNo, Phase, Query, Reply, Role, Rule, Short, Stamped,
-    Standing, Tie, UserNo,
+    Command, Entry, Order, Pair, PaperNo, Query, Reply, Short, Stamped, Tie, UserNo,
 };
 use cr_conflicts::Ties;
 use cr_pairs::{IndexedPairs, PairMap};
@@ -70,66 +69,6 @@ fn values_of_pairs(rt: HostRuntime) -> Result<(), Fail> {
     let users = users_of_a_paper(rt.alloc())?;
     assert!(rt; users.as_slice() == [(2, 4), (9_999, -20)].as_slice());
     Ok(())
-}
-
-/// How somebody stands to a paper of another.
-fn standing(phase: Phase, role: Role, conflicted: bool) -> Standing {
-    Standing {
-        phase,
-        mode: Mode::Blind,
-        role,
-        author: false,
-        conflicted,
-    }
-}
-
-/// How an account stands to her own paper in submission.
-fn author() -> Standing {
-    Standing {
-        phase: Phase::Submission,
-        mode: Mode::Blind,
-        role: Role::Account,
-        author: true,
-        conflicted: true,
-    }
-}
-
-/// The first broken rule where alice turns the conflict of an account with a withdrawn paper on or off, as user 1
-/// her own.
-fn of_a_withdrawn_paper(ties: &Ties, by: &Standing, user: UserNo, on: bool) -> Option<Rule> {
-    let target = Some((user, Role::Account));
-    let paper = Some(PaperNo::new(1));
-    ties.judge_conflict(by, UserNo::new(1), &paper, &target, on, true)
-        .err()
-}
-
-// No entry withdraws a paper, so no run shows where the rule stands: behind those on the caller and the phase, ahead of
-// those on the user named.
-#[test]
-fn conflicts_with_a_withdrawn_paper(rt: HostRuntime) {
-    let ties = Ties::new(rt.alloc());
-    let (her, another) = (UserNo::new(1), UserNo::new(2));
-    let stranger = standing(Phase::Submission, Role::Account, false);
-    let account = standing(Phase::Bidding, Role::Account, false);
-    let member = standing(Phase::Bidding, Role::Member, true);
-    let chair = standing(Phase::Bidding, Role::Chair, false);
-    let tied = standing(Phase::Bidding, Role::Chair, true);
-    let late = standing(Phase::Notification, Role::Chair, false);
-    let rows = [
-        (&author(), another, true, Rule::Withdrawn),
-        (&stranger, another, true, Rule::NotAuthor),
-        (&member, her, true, Rule::Withdrawn),
-        (&account, her, true, Rule::NotMember),
-        (&chair, another, true, Rule::Withdrawn),
-        (&tied, another, true, Rule::Conflict),
-        (&late, another, true, Rule::WrongPhase),
-        (&chair, another, false, Rule::Withdrawn),
-        (&tied, another, false, Rule::Conflict),
-        (&late, another, false, Rule::WrongPhase),
-    ];
-    for (by, user, on, rule) in rows {
-        assert!(rt; of_a_withdrawn_paper(&ties, by, user, on) == Some(rule));
-    }
 }
 
 /// The tables where alice has registered.
