@@ -1,4 +1,5 @@
 pub mod AccountLaws
+pub mod ChangeLaws
 pub mod CheckLaws
 pub mod CoauthorLaws
 pub mod FitLaws

@@ -1,13 +1,14 @@
 -- What follows of an entry from fitting the tables: its number and its name are the next and a new one, whom and what it is
 -- about is there; and where the rules let a command add it, it is within its bounds, so that it has a row.
-use Rattle.std.proofs.Common.{ℕ, Bool, true, false, cond, ◌≡◌, ◌≤◌, ◌<◌, ◌+◌, ◌-◌, List, [], ◌∷◌, length, eqb, refl, sym, ap, ◌∙◌, arith, ◌||◌, ◌&&◌, Some}
+use Rattle.std.proofs.Common.{ℕ, Bool, true, false, cond, ◌≡◌, ◌≤◌, ◌<◌, ◌+◌, ◌-◌, List, [], ◌∷◌, ◌++◌, length, eqb, refl, sym, ap, ◌∙◌, arith, ◌||◌, ◌&&◌, Some}
 use Rattle.std.specs.Prelude.{nat_le, map}
-use Rattle.std.specs.List.{All, list_any}
+use Rattle.std.specs.List.{All, AllByRecursion, list_any}
 use Rattle.std.proofs.lemmas.Bool.Decides.{nat_tests}
 use Rattle.std.proofs.lemmas.List.Elements.{All-from_recursion}
 use Rattle.cr_base.specs.declared.entry.Account.{Account}
 use Rattle.cr_base.specs.declared.entry.Entry.{Entry}
-use Rattle.cr_base.specs.declared.entry.Entry.TheVariants.{Registered, Named, PhaseSet, ModeSet, Submitted, Conflict}
+use Rattle.cr_base.specs.declared.entry.Entry.TheVariants.{Registered, Named, PhaseSet, ModeSet, Submitted, Coauthor, Revised, Uploaded, Withdrawn, Conflict}
+use Rattle.cr_base.specs.declared.entry.Stamped.{Stamped}
 use Rattle.cr_base.specs.declared.reply.AccountLine.{AccountLine}
 use Rattle.cr_base.specs.declared.words.Phase.{Phase}
 use Rattle.cr_base.specs.declared.words.Phase.TheVariants.{Setup, Submission, Bidding, Reviewing, Discussion, Notification, Closed}
@@ -16,23 +17,25 @@ use Rattle.cr_base.specs.declared.words.Mode.TheVariants.{Overt, Blind, Anonymou
 use Rattle.cr_base.specs.declared.words.Role.{Role}
 use Rattle.cr_base.specs.declared.words.Role.TheVariants as role
 use Rattle.cr_base.specs.Accounts.{lines_from}
-use Rattle.cr_base.specs.Drawn.{grouped}
+use Rattle.cr_base.specs.Drawn.{grouped, submission}
 use Rattle.cr_base.specs.HistoryFacts.{role_of, accounts_of}
 use Rattle.cr_base.specs.History.{History, Registration, all_told, registration_told}
 use Rattle.cr_base.specs.Lists.{numbers_from}
+use Rattle.cr_base.specs.Papers.{IsPaper}
 use Rattle.cr_base.specs.Rows.{IsBoundedEntry}
-use Rattle.cr_base.specs.Shapes.{InRange, user_range, role_range, unused}
+use Rattle.cr_base.specs.Shapes.{InRange, user_range, paper_range, role_range, unused}
 use Rattle.cr_base.specs.Tables.{no_tables, tables_of, Fits, FitInTurn}
 use Rattle.cr_base.specs.Words.{phase_number, mode_number, role_number}
 use Rattle.cr_base.proofs.AccountLaws.{length-lines_of}
 use Rattle.cr_base.proofs.ListLaws.{length-numbers_from, list_any-numbers_from}
-use Rattle.cr_history.specs.Groups.{IsRuled, Adds, single, first_user}
-use Rattle.cr_history.specs.Invariants.{IsRegistered, IsMadeByUser, HasNextNumber, HasNewName, IsAboutThose, IsSubmitted}
+use Rattle.cr_history.specs.Groups.{IsRuled, Adds, single, submitted, first_user}
+use Rattle.cr_history.specs.Invariants.{IsRegistered, IsMadeByUser, HasNextNumber, HasNewName, IsAboutThose, IsSubmitted, InTurn}
 use Rattle.cr_history.proofs.CallerLaws.{registered-from}
 use Rattle.cr_history.proofs.SizeTies.{IsSized, sized-tables}
 use Rattle.cr_history.proofs.LineTies.{stamp, accounts_of-tables}
 use Rattle.cr_history.proofs.NumberTies.{number_of-tables}
-use Rattle.cr_history.proofs.PaperTies.{papers_of-tables}
+use Rattle.cr_history.proofs.PaperTies.{papers_of-tables, uploads_of-tables}
+use Rattle.cr_history.proofs.SubmissionLaws.{submission-in_turn}
 
 -- ---- numbers, names, and what is named
 
@@ -68,6 +71,7 @@ module _ (H : History) (fits : FitInTurn no_tables H) where
   pub fits-number : (maker : ℕ) (more : Bool) (e : Entry) → Fits (tables_of H) (record { maker = maker; more = more; entry = e }) → HasNextNumber H e
   fits-number maker more (Registered user name digest) fit = fit.accounts.0 ∙ ap (λ n. n + 1) accounts-counted
   fits-number maker more (Submitted paper title abstract) fit = fit.papers.0 ∙ ap (λ n. n + 1) (sym (ap length (papers_of-tables H fits) ∙ length-numbers_from 1 (tables_of H).papers.papers))
+  fits-number maker more (Uploaded paper version content) fit = fit.papers.1 ∙ ap (λ n. n + 1) (sym (ap length (uploads_of-tables paper H)))
   fits-number maker more e fit = tt
 
   pub fits-name : (maker : ℕ) (more : Bool) (e : Entry) → Fits (tables_of H) (record { maker = maker; more = more; entry = e }) → HasNewName H e
@@ -76,6 +80,10 @@ module _ (H : History) (fits : FitInTurn no_tables H) where
 
   pub fits-about : (maker : ℕ) (more : Bool) (e : Entry) → Fits (tables_of H) (record { maker = maker; more = more; entry = e }) → IsAboutThose H e
   fits-about maker more (Named user role) fit = registered-within user fit.accounts.0 fit.accounts.1
+  fits-about maker more (Coauthor paper user) fit = (submitted-within paper fit.papers.0 (let last = fit.papers.1 in omega (arith, last)), registered-within user fit.accounts.0 fit.accounts.1)
+  fits-about maker more (Revised paper title abstract) fit = submitted-within paper fit.papers.0 fit.papers.1
+  fits-about maker more (Uploaded paper version content) fit = submitted-within paper fit.papers.0.0 fit.papers.0.1
+  fits-about maker more (Withdrawn paper) fit = submitted-within paper fit.papers.0 fit.papers.1
   fits-about maker more (Conflict paper user on) fit = (submitted-within paper fit.papers.0 fit.papers.1, registered-within user fit.accounts.0 fit.accounts.1)
   fits-about maker more e fit = tt
 
@@ -119,6 +127,17 @@ module _ (H : History) (fits : FitInTurn no_tables H) where
   numbered : (user : ℕ) → IsRegistered H user → InRange user_range user
   numbered user registered = registered-from no_tables H user fits registered
 
+  -- and so has a paper that is there
+  paper_numbered : (paper : ℕ) → IsPaper (tables_of H).papers paper → InRange paper_range paper
+  paper_numbered paper there = let high = there.1 in let few = sized.papers in (there.0, omega (arith, high, few))
+
+  bounded-coauthor : (maker : ℕ) (more : Bool) (paper user : ℕ) → IsRegistered H maker → Fits (tables_of H) (stamp maker more (Coauthor paper user)) → IsBoundedEntry (stamp maker more (Coauthor paper user))
+  bounded-coauthor maker more paper user registered fit =
+      let last = fit.papers.1 in
+      let high = fit.accounts.1 in
+      let few = sized.accounts in
+      record { maker = numbered maker registered; more = bit_few more; n1 = paper_numbered paper (fit.papers.0, omega (arith, last)); n2 = (fit.accounts.0, omega (arith, high, few)); n3 = zero_in; n4 = zero_in; n5 = zero_in; b1 = refl; b2 = refl }
+
   bounded-entry : (maker : ℕ) (more : Bool) (e : Entry) → IsMadeByUser H maker e → IsRuled H maker e → Fits (tables_of H) (stamp maker more e) → IsBoundedEntry (stamp maker more e)
   bounded-entry maker more (Registered user name digest) made ruled fit =
       let next = fit.accounts.0 in
@@ -133,21 +152,34 @@ module _ (H : History) (fits : FitInTurn no_tables H) where
   bounded-entry maker more (Submitted paper title abstract) made ruled fit =
       let next = fit.papers.0 in
       record { maker = numbered maker made; more = bit_few more; n1 = (omega (arith, next), fit.papers.1); n2 = zero_in; n3 = zero_in; n4 = zero_in; n5 = zero_in; b1 = ruled.texts.0; b2 = ruled.texts.1 }
+  bounded-entry maker more (Coauthor paper user) made ruled fit = bounded-coauthor maker more paper user made fit
+  bounded-entry maker more (Revised paper title abstract) made ruled fit = record { maker = numbered maker made; more = bit_few more; n1 = paper_numbered paper fit.papers; n2 = zero_in; n3 = zero_in; n4 = zero_in; n5 = zero_in; b1 = ruled.texts.0; b2 = ruled.texts.1 }
+  bounded-entry maker more (Uploaded paper version content) made ruled fit =
+      let next = fit.papers.1 in
+      record { maker = numbered maker made; more = bit_few more; n1 = paper_numbered paper fit.papers.0; n2 = (omega (arith, next), tt); n3 = zero_in; n4 = zero_in; n5 = zero_in; b1 = ruled.texts; b2 = refl }
+  bounded-entry maker more (Withdrawn paper) made ruled fit = record { maker = numbered maker made; more = bit_few more; n1 = paper_numbered paper fit.papers; n2 = zero_in; n3 = zero_in; n4 = zero_in; n5 = zero_in; b1 = refl; b2 = refl }
   bounded-entry maker more (Conflict paper user on) made ruled fit =
-      let last = fit.papers.1 in
-      let short = sized.papers in
       let high = fit.accounts.1 in
       let few = sized.accounts in
-      record { maker = numbered maker made; more = bit_few more; n1 = (fit.papers.0, omega (arith, last, short)); n2 = (fit.accounts.0, omega (arith, high, few)); n3 = (omega arith, bit_few on); n4 = zero_in; n5 = zero_in; b1 = refl; b2 = refl }
+      record { maker = numbered maker made; more = bit_few more; n1 = paper_numbered paper fit.papers; n2 = (fit.accounts.0, omega (arith, high, few)); n3 = (omega arith, bit_few on); n4 = zero_in; n5 = zero_in; b1 = refl; b2 = refl }
 
   bounded_chair : (user : ℕ) → user ≡ 1 → IsBoundedEntry (stamp user false (Named user role.Chair))
   bounded_chair user is = record { maker = (omega (arith, is), omega (arith, is)); more = omega arith; n1 = (omega (arith, is), omega (arith, is)); n2 = (omega arith, omega arith); n3 = zero_in; n4 = zero_in; n5 = zero_in; b1 = refl; b2 = refl }
 
-  -- ---- groups
+-- ---- groups
 
-  pub added-bounded : (g : History) → Adds H g → FitInTurn (tables_of H) g → All IsBoundedEntry g
-  added-bounded g (single maker e made marked ruled) fit = All-from_recursion IsBoundedEntry (grouped maker (e ∷ [])) (bounded-entry maker false e made ruled fit.0, tt)
-  added-bounded g (first_user user name digest is texts) fit =
-      let ruled : IsRuled H user (Registered user name digest) = record { phase = tt; chair = tt; role = tt; member = tt; right = tt; texts = texts } in
-      All-from_recursion IsBoundedEntry (grouped user (Registered user name digest ∷ Named user role.Chair ∷ []))
-      (bounded-entry user true (Registered user name digest) refl ruled fit.0, (bounded_chair user is, tt))
+in_turn-all : (Q : Stamped → Type 0) (before g : History) → InTurn (λ _ e. Q e) before g → AllByRecursion Q g
+in_turn-all Q before [] all = tt
+in_turn-all Q before (e ∷ g) all = (all.0, in_turn-all Q (before ++ e ∷ []) g all.1)
+
+pub added-bounded : (H : History) → FitInTurn no_tables H → (g : History) → Adds H g → FitInTurn (tables_of H) g → All IsBoundedEntry g
+added-bounded H fits g (single maker e made alone ruled) fit = All-from_recursion IsBoundedEntry (grouped maker (e ∷ [])) (bounded-entry H fits maker false e made ruled fit.0, tt)
+added-bounded H fits g (submitted maker paper title abstract users made ruled registered) fit =
+    All-from_recursion IsBoundedEntry (grouped maker (submission maker paper title abstract users))
+    (in_turn-all IsBoundedEntry H _
+    (submission-in_turn maker paper (λ _ e. IsBoundedEntry e) (λ G more user before fit. bounded-coauthor G before.fits maker more paper user before.registered fit)
+    H title abstract users fits made ruled.phase (λ more fit. bounded-entry H fits maker more (Submitted paper title abstract) made ruled fit) fit))
+added-bounded H fits g (first_user user name digest is texts) fit =
+    let ruled : IsRuled H user (Registered user name digest) = record { phase = tt; chair = tt; role = tt; member = tt; right = tt; texts = texts } in
+    All-from_recursion IsBoundedEntry (grouped user (Registered user name digest ∷ Named user role.Chair ∷ []))
+    (bounded-entry H fits user true (Registered user name digest) refl ruled fit.0, (bounded_chair H fits user is, tt))

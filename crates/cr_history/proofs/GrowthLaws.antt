@@ -12,22 +12,25 @@ use Rattle.cr_history.proofs.InOrder.{in_order-append, whole-added}
 use Rattle.cr_history.proofs.InTime.{in_time-nil, in_time-append}
 use Rattle.cr_history.proofs.LineTies.{accounts_of-tables}
 use Rattle.cr_history.proofs.NumberTies.{number_of-tables, caller_of-tables}
-use Rattle.cr_history.proofs.PaperTies.{papers_of-tables, own_papers_of-tables, title_of-tables, abstract_of-tables, authors_of-tables}
+use Rattle.cr_history.proofs.PaperTies.{papers_of-tables, own_papers_of-tables, own_bytes_of-tables, title_of-tables, abstract_of-tables, uploads_of-tables, is_withdrawn-tables, authors_of-tables}
 use Rattle.cr_history.proofs.TableTies.{FitInTurn-append, standing_of-tables}
 
 pub tables_tell : TablesTell
-tables_tell H fits = record {
+tables_tell H fits first = record {
   standing = λ u paper. standing_of-tables u paper H fits;
   accounts = accounts_of-tables H fits;
   number = λ name. number_of-tables name H fits;
   caller = λ name digest. caller_of-tables name digest H fits;
   papers = papers_of-tables H fits;
   own_papers = λ u. own_papers_of-tables u H;
+  own_bytes = λ u. own_bytes_of-tables u H;
   title = λ p. title_of-tables p H fits;
   abstract_ = λ p. abstract_of-tables p H fits;
+  uploads = λ p. uploads_of-tables p H;
+  withdrawn = λ p. is_withdrawn-tables p H fits;
   authors = λ p. authors_of-tables p H;
   conflict = λ u p. is_conflict_on-tables u p H;
-  declared = λ p v. declared_by_authors-tables p v H fits;
+  declared = λ p v. declared_by_authors-tables p v H fits first;
 }
 
 pub growth_keeps : GrowthKeeps

@@ -2,16 +2,20 @@
 use Rattle.std.proofs.Common.{ℕ, Bool, false, ◌≡◌, List, [], ◌∷◌, ◌++◌, length, refl, sym, subst, ◌∙◌, arith, append_assoc, append-nil}
 use Rattle.std.proofs.lemmas.Bool.{false≢true}
 use Rattle.cr_base.specs.declared.entry.Entry.{Entry}
-use Rattle.cr_base.specs.declared.entry.Entry.TheVariants.{Registered, Named}
+use Rattle.cr_base.specs.declared.entry.Entry.TheVariants.{Registered, Named, Submitted, Coauthor}
 use Rattle.cr_base.specs.declared.entry.Stamped.{Stamped}
 use Rattle.cr_base.specs.declared.words.Role.TheVariants.{Chair}
 use Rattle.cr_base.specs.HistoryFacts.{accounts_of}
 use Rattle.cr_base.specs.History.{History}
-use Rattle.cr_base.specs.Drawn.{grouped}
-use Rattle.cr_base.specs.Tables.{no_tables, tables_of, FitInTurn}
-use Rattle.cr_history.specs.Invariants.{IsInOrder, InTurn, IsWhole}
+use Rattle.cr_base.specs.Drawn.{grouped, submission}
+use Rattle.cr_base.specs.Tables.{no_tables, tables_of, Fits, FitInTurn}
+use Rattle.cr_history.specs.Invariants.{IsMarked, ComesFirst, IsInOrder, InTurn, IsWhole}
 use Rattle.cr_history.proofs.GroupLaws.{accounts-counted, fits-number, fits-name, fits-about}
-use Rattle.cr_history.specs.Groups.{Adds, single, first_user}
+use Rattle.cr_history.specs.Groups.{StandsAlone, Adds, single, submitted, first_user}
+use Rattle.cr_history.proofs.ConflictTies.{TellFirst}
+use Rattle.cr_history.proofs.Grouped.{grouped-whole}
+use Rattle.cr_history.proofs.LineTies.{stamp}
+use Rattle.cr_history.proofs.SubmissionLaws.{IsSubmitting, submission-in_turn}
 
 -- ---- the first registration
 
@@ -30,18 +34,45 @@ first_group user name digest = grouped user (Registered user name digest ∷ Nam
 
 first-in_order : (name digest : List ℕ) → InTurn IsInOrder [] (first_group 1 name digest)
 first-in_order name digest = (
-  record { maker = refl; mark = refl; number = refl; name = refl; about = tt; phase = tt; chair = tt; role = tt; member = tt; right = tt },
-  (record { maker = refl; mark = refl; number = tt; name = tt; about = refl; phase = refl; chair = refl; role = omega arith; member = tt; right = tt }, tt),
+  record { maker = refl; mark = refl; number = refl; name = refl; about = tt; phase = tt; chair = tt; role = tt; member = tt; right = tt; first = tt },
+  (record { maker = refl; mark = refl; number = tt; name = tt; about = refl; phase = refl; chair = refl; role = omega arith; member = tt; right = tt; first = tt }, tt),
 )
 
 -- ---- a group
 
+-- an entry that may be all that a command adds has no mark, and is no co-author
+alone-marked : (e : Entry) → StandsAlone e → IsMarked false e
+alone-marked (Registered user name digest) alone = sym alone
+alone-marked (Submitted paper title abstract) alone = tt
+alone-marked (Coauthor paper user) alone = tt
+alone-marked e alone = refl
+
+alone-first : (H : History) (e : Entry) → StandsAlone e → ComesFirst H e
+alone-first H (Coauthor paper user) alone = absurd alone
+alone-first H e alone = tt
+
+-- a co-author behind her paper
+coauthor-in_order : (maker paper : ℕ) (H : History) (more : Bool) (user : ℕ) → IsSubmitting maker paper H → Fits (tables_of H) (stamp maker more (Coauthor paper user)) → IsInOrder H (stamp maker more (Coauthor paper user))
+coauthor-in_order maker paper H more user before fit = record {
+  maker = before.registered;
+  mark = tt;
+  number = tt;
+  name = tt;
+  about = fits-about H before.fits maker more (Coauthor paper user) fit;
+  phase = before.phase;
+  chair = tt;
+  role = tt;
+  member = tt;
+  right = before.author;
+  first = before.first;
+}
+
 -- what is added to a history in order is in order
 added-in_order : (H g : History) → FitInTurn no_tables H → InTurn IsInOrder [] H → Adds H g → FitInTurn (tables_of H) g → InTurn IsInOrder H g
-added-in_order H g fits kept (single maker e made marked ruled) fit = (
+added-in_order H g fits kept (single maker e made alone ruled) fit = (
   record {
     maker = made;
-    mark = marked;
+    mark = alone-marked e alone;
     number = fits-number H fits maker false e fit.0;
     name = fits-name H fits maker false e fit.0;
     about = fits-about H fits maker false e fit.0;
@@ -50,9 +81,25 @@ added-in_order H g fits kept (single maker e made marked ruled) fit = (
     role = ruled.role;
     member = ruled.member;
     right = ruled.right;
+    first = alone-first H e alone;
   },
   tt,
 )
+added-in_order H g fits kept (submitted maker paper title abstract users made ruled registered) fit =
+    submission-in_turn maker paper IsInOrder (coauthor-in_order maker paper) H title abstract users fits made ruled.phase
+    (λ more fit. record {
+      maker = made;
+      mark = tt;
+      number = fits-number H fits maker more (Submitted paper title abstract) fit;
+      name = tt;
+      about = tt;
+      phase = ruled.phase;
+      chair = tt;
+      role = tt;
+      member = tt;
+      right = tt;
+      first = tt;
+    }) fit
 added-in_order H g fits kept (first_user user name digest is texts) fit =
     let next = fit.0.accounts.0 in
     let count = accounts-counted H fits in
@@ -61,10 +108,19 @@ added-in_order H g fits kept (first_user user name digest is texts) fit =
     (subst (λ (n : ℕ). InTurn IsInOrder [] (first_group n name digest)) (sym is) (first-in_order name digest))
 
 added-whole : (H g : History) → Adds H g → IsWhole g
-added-whole H g (single maker e made marked ruled) = refl
+added-whole H g (single maker e made alone ruled) = refl
+added-whole H g (submitted maker paper title abstract users made ruled registered) = grouped-whole maker (submission maker paper title abstract users)
 added-whole H g (first_user user name digest is texts) = ((λ more. refl), refl)
 
 -- ---- one behind another
+
+in_turn-map : (P Q : History → Stamped → Type 0) → ((before : History) (e : Stamped) → P before e → Q before e) → (before H : History) → InTurn P before H → InTurn Q before H
+in_turn-map P Q f before [] all = tt
+in_turn-map P Q f before (e ∷ H) all = (f before e all.0, in_turn-map P Q f (before ++ e ∷ []) H all.1)
+
+-- in a history in order a paper's co-authors are told before any conflict with it
+pub tell_first : (before H : History) → InTurn IsInOrder before H → InTurn TellFirst before H
+tell_first before H kept = in_turn-map IsInOrder TellFirst (λ before e in_order. in_order.first) before H kept
 
 pub in_turn-append : (P : History → Stamped → Type 0) (before H g : History) → InTurn P before H → InTurn P (before ++ H) g → InTurn P before (H ++ g)
 in_turn-append P before [] g first then = subst (λ (G : History). InTurn P G g) (append-nil before) then

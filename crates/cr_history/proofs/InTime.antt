@@ -7,7 +7,7 @@ use Rattle.std.proofs.lemmas.Bool.Decides.{nat_tests}
 use Rattle.std.proofs.lemmas.List.Concat.{flat_map-append}
 use Rattle.std.proofs.lemmas.List.Folds.{list_any-append}
 use Rattle.cr_base.specs.declared.entry.Entry.{Entry}
-use Rattle.cr_base.specs.declared.entry.Entry.TheVariants.{PhaseSet, Submitted, Conflict}
+use Rattle.cr_base.specs.declared.entry.Entry.TheVariants.{PhaseSet, Submitted, Coauthor, Conflict}
 use Rattle.cr_base.specs.declared.entry.Stamped.{Stamped}
 use Rattle.cr_base.specs.declared.words.Phase.{Phase}
 use Rattle.cr_base.specs.declared.words.Phase.TheVariants.{Setup, Submission, Bidding, Reviewing, Discussion, Notification, Closed}
@@ -15,17 +15,19 @@ use Rattle.cr_base.specs.Lists.{last_or, is_number, until, since}
 use Rattle.cr_base.specs.History.{History, all_told, opens, phase_told, author_told}
 use Rattle.cr_base.specs.HistoryFacts.{phase_of, authors_of, is_author}
 use Rattle.cr_base.specs.Phases.{phase_place, is_from, is_phase}
-use Rattle.cr_base.specs.Drawn.{grouped}
+use Rattle.cr_base.specs.Drawn.{grouped, submission}
 use Rattle.cr_base.proofs.LastLaws.{last_or-cons}
 use Rattle.cr_history.specs.Invariants.{is_opening, ByAuthor, ByHerselfOrOther, Early, Late, DeclaresInTime, IsInPhase, IsByRight}
 use Rattle.cr_history.proofs.ListCuts.{AllByRecursion-append, AllByRecursion-map, AllByRecursion-until, until-none, since-none, until-append, since-append, until-before, since-before}
-use Rattle.cr_history.specs.Groups.{IsRuled, Adds, single, first_user}
+use Rattle.cr_history.specs.Groups.{IsRuled, Adds, single, submitted, first_user}
+use Rattle.cr_history.proofs.Grouped.{grouped-each, submission-each, all-silent}
 
 -- ---- what the rules say of one group
 
 -- what the rules say of an entry, on the history before its group
 abbrev EntryAllowed : History → ℕ → Entry → Type 0
 EntryAllowed H maker (Submitted paper title abstract) = IsInPhase H (Submitted paper title abstract)
+EntryAllowed H maker (Coauthor paper user) = IsInPhase H (Coauthor paper user)
 EntryAllowed H maker (Conflict paper user on) = IsByRight H maker (Conflict paper user on)
 EntryAllowed H maker e = Unit {0}
 
@@ -34,11 +36,15 @@ Allowed H e = EntryAllowed H e.maker e.entry
 
 ruled-allowed : (H : History) (maker : ℕ) (e : Entry) → IsRuled H maker e → EntryAllowed H maker e
 ruled-allowed H maker (Submitted paper title abstract) ruled = ruled.phase
+ruled-allowed H maker (Coauthor paper user) ruled = ruled.phase
 ruled-allowed H maker (Conflict paper user on) ruled = ruled.right
 ruled-allowed H maker e ruled = tt
 
 added-allowed : (H g : History) → Adds H g → AllByRecursion (Allowed H) g
 added-allowed H g (single maker e made marked ruled) = (ruled-allowed H maker e ruled, tt)
+added-allowed H g (submitted maker paper title abstract users made ruled registered) =
+    grouped-each maker (Allowed H) (submission maker paper title abstract users)
+    (submission-each (λ (e : Entry). (more : Bool) → EntryAllowed H maker e) maker paper title abstract users (λ more. ruled.phase) (λ user more. ruled.phase))
 added-allowed H g (first_user user name digest is texts) = (tt, (tt, tt))
 
 -- a group moves the phase on and does nothing else, or leaves the phase
@@ -52,11 +58,15 @@ ruled-moves H maker e ruled = stayed _ refl
 
 added-moves : (H g : History) → Adds H g → Moves H g
 added-moves H g (single maker e made marked ruled) = ruled-moves H maker e ruled
+added-moves H g (submitted maker paper title abstract users made ruled registered) =
+    stayed _ (all-silent (λ (e : Stamped). phase_told e.entry) _
+    (grouped-each maker (λ (e : Stamped). phase_told e.entry ≡ []) (submission maker paper title abstract users)
+    (submission-each (λ (e : Entry). (more : Bool) → phase_told e ≡ []) maker paper title abstract users (λ more. refl) (λ user more. refl))))
 added-moves H g (first_user user name digest is texts) = stayed _ refl
 
 -- ---- authors of more entries
 
-author-append : (u : Option ℕ) (p : ℕ) (H g : History) → is_author u p (H ++ g) ≡ (is_author u p H || is_author u p g)
+pub author-append : (u : Option ℕ) (p : ℕ) (H g : History) → is_author u p (H ++ g) ≡ (is_author u p H || is_author u p g)
 author-append u p H g =
     ap (list_any (is_number u)) (flat_map-append (λ (e : Stamped). author_told p e.maker e.entry) H g)
     ∙ list_any-append (is_number u) (authors_of p H) (authors_of p g)
@@ -88,7 +98,7 @@ late-new H begun maker (Conflict paper user on) h = by_other _ _ _ _ _ _ begun h
     by_other begun own on chair author declared is h other = grind arith
 late-new H begun maker e h = tt
 
--- papers are submitted before the bidding only
+-- papers are submitted, and co-authors told, before the bidding only
 not_both : (phase : Phase) → is_phase phase Submission ≡ true → is_from Bidding phase ≡ true → ⊥
 not_both Setup h k = false≢true h
 not_both Submission h k = false≢true k
@@ -100,11 +110,13 @@ not_both Closed h k = false≢true h
 
 no_author-entry : (H : History) → is_from Bidding (phase_of H) ≡ true → (p maker : ℕ) (e : Entry) → EntryAllowed H maker e → author_told p maker e ≡ []
 no_author-entry H begun p maker (Submitted paper title abstract) h = absurd (not_both (phase_of H) h begun)
+no_author-entry H begun p maker (Coauthor paper user) h = absurd (not_both (phase_of H) h begun)
 no_author-entry H begun p maker e h = refl
 
 no_authors : (H : History) → is_from Bidding (phase_of H) ≡ true → (p : ℕ) (g : History) → AllByRecursion (Allowed H) g → authors_of p g ≡ []
-no_authors H begun p [] h = refl
-no_authors H begun p (e ∷ g) h = ap (λ xs. xs ++ authors_of p g) (no_author-entry H begun p e.maker e.entry h.0) ∙ no_authors H begun p g h.1
+no_authors H begun p g h =
+    all-silent (λ (e : Stamped). author_told p e.maker e.entry) g
+    (AllByRecursion-map (Allowed H) (λ (e : Stamped). author_told p e.maker e.entry ≡ []) (λ e k. no_author-entry H begun p e.maker e.entry k) g h)
 
 -- ---- the phase after a group
 
@@ -147,7 +159,7 @@ phase-append H g =
     last_or-append a [] ys = refl
     last_or-append a (x ∷ xs) ys = last_or-cons a x (xs ++ ys) ∙ last_or-append x xs ys ∙ ap (λ b. last_or b ys) (sym (last_or-cons a x xs))
 
-phase_stays : (H g : History) → all_told phase_told g ≡ [] → phase_of (H ++ g) ≡ phase_of H
+pub phase_stays : (H g : History) → all_told phase_told g ≡ [] → phase_of (H ++ g) ≡ phase_of H
 phase_stays H g h = phase-append H g ∙ ap (last_or (phase_of H)) h
 
 phase_moves : (H : History) (maker : ℕ) (to : Phase) → phase_of (H ++ grouped maker (PhaseSet to ∷ [])) ≡ to

@@ -2,6 +2,7 @@ pub mod CallerLaws
 pub mod ConflictTies
 pub mod Folds
 pub mod GroupLaws
+pub mod Grouped
 pub mod GrowthLaws
 pub mod InOrder
 pub mod InTime
@@ -14,4 +15,5 @@ pub mod RoleTies
 pub mod RuleLaws
 pub mod SizeTies
 pub mod StageTies
+pub mod SubmissionLaws
 pub mod TableTies

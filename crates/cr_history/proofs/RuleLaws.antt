@@ -1,12 +1,13 @@
 -- What an accepted command adds, by the rules on the history before it.
-use Rattle.std.proofs.Common.{ℕ, Bool, true, false, cond, ◌≡◌, ◌<◌, ◌+◌, List, [], ◌∷◌, length, eqb, refl, sym, ap, subst, ◌∙◌, ◌||◌, ◌&&◌, Option, Some, None, Ok}
+use Rattle.std.proofs.Common.{ℕ, Bool, true, false, cond, ◌≡◌, ◌<◌, ◌+◌, List, [], ◌∷◌, ◌++◌, length, eqb, refl, sym, ap, subst, ◌∙◌, ◌||◌, ◌&&◌, Option, Some, None, Ok}
 use Rattle.std.specs.Prelude.{not, is_some, is_none, unwrap_or, map}
-use Rattle.std.specs.List.{list_any, find}
+use Rattle.std.specs.List.{AllByRecursion, list_any, find, flat_map}
 use Rattle.std.specs.Option.{option_map}
-use Rattle.std.proofs.lemmas.Bool.{eqb-true, leb-false, true≢false, and_parts, not-true, not-false, or_left}
+use Rattle.std.specs.Str.{bytes_eq}
+use Rattle.std.proofs.lemmas.Bool.{eqb-true, eq-eqb, leb-false, true≢false, and_parts, not-true, not-false, or_left, or_right}
 use Rattle.cr_base.specs.declared.command.Command.{Command}
-use Rattle.cr_base.specs.declared.command.Command.TheVariants.{Register, SetPhase, Submit, Name, SetMode, SetConflict}
-use Rattle.cr_base.specs.declared.entry.Entry.TheVariants.{Registered, Named, PhaseSet, ModeSet, Submitted, Conflict}
+use Rattle.cr_base.specs.declared.command.Command.TheVariants.{Register, SetPhase, Submit, Revise, Upload, Withdraw, Name, SetMode, SetConflict}
+use Rattle.cr_base.specs.declared.entry.Entry.TheVariants.{Registered, Named, PhaseSet, ModeSet, Revised, Uploaded, Withdrawn, Conflict}
 use Rattle.cr_base.specs.declared.reply.AccountLine.{AccountLine}
 use Rattle.cr_base.specs.declared.standing.Standing.{Standing}
 use Rattle.cr_base.specs.declared.target.Target.{Target}
@@ -14,26 +15,26 @@ use Rattle.cr_base.specs.declared.words.Phase.{Phase}
 use Rattle.cr_base.specs.declared.words.Phase.TheVariants.{Setup, Submission, Bidding, Reviewing, Discussion, Notification, Closed}
 use Rattle.cr_base.specs.declared.words.Role.{Role}
 use Rattle.cr_base.specs.declared.words.Role.TheVariants.{Account, Chair}
-use Rattle.cr_base.specs.Lists.{is_number}
+use Rattle.cr_base.specs.Lists.{at_some, is_number, listed}
 use Rattle.cr_base.specs.History.{History, Registration, all_told, registration_told}
-use Rattle.cr_base.specs.HistoryFacts.{phase_of, role_of, accounts_of, papers_of, own_papers_of, standing_of}
+use Rattle.cr_base.specs.HistoryFacts.{phase_of, role_of, accounts_of, papers_of, own_papers_of, own_bytes_of, is_author, standing_of}
 use Rattle.cr_base.specs.Phases.{is_from, is_phase, is_next}
 use Rattle.cr_base.specs.Words.{role_number, is_member, is_chair}
 use Rattle.cr_base.specs.Bounds.{IsBoundedCommand}
 use Rattle.cr_base.specs.Texts.{IsName}
-use Rattle.cr_base.specs.Checks.{Check, of_role, target_role, register_checks, phase_checks, submit_checks, name_checks, mode_checks, conflict_case, conflict_checks}
-use Rattle.cr_base.specs.Drawn.{Drawn, grouped, registration_drawn, phase_drawn, submission_drawn, naming_drawn, mode_drawn, conflict_drawn}
+use Rattle.cr_base.specs.Checks.{Check, of_role, target_role, register_checks, phase_checks, submit_checks, revise_checks, upload_checks, name_checks, mode_checks, conflict_case, conflict_checks}
+use Rattle.cr_base.specs.Drawn.{Drawn, grouped, registration_drawn, phase_drawn, submission_drawn, revision_drawn, upload_drawn, withdrawal_drawn, naming_drawn, mode_drawn, conflict_drawn}
 use Rattle.cr_base.specs.Judging.{judge_by}
-use Rattle.cr_base.specs.Sources.{Facts, Shown, number_in, user_among, role_among, paper_named, target_named}
+use Rattle.cr_base.specs.Sources.{Facts, Shown, number_in, user_among, users_among, role_among, paper_named, target_named}
 use Rattle.cr_base.proofs.CheckLaws.{NoneBroken, judged-Ok}
 use Rattle.cr_base.proofs.TargetLaws.{is_none-asked, target_role-of}
 use Rattle.cr_history.specs.Invariants.{IsRegistered, IsByRight}
-use Rattle.cr_history.specs.Groups.{IsRuled, Adds, single, first_user}
+use Rattle.cr_history.specs.Groups.{IsRuled, Adds, single, submitted, first_user}
 
 -- ---- the facts of a history
 
 abbrev pub facts_of : Option ℕ → History → Facts
-facts_of u H = record { standing = λ paper. standing_of u paper H; accounts = accounts_of H; papers = papers_of H; own_papers = own_papers_of u H }
+facts_of u H = record { standing = λ paper. standing_of u paper H; accounts = accounts_of H; papers = papers_of H; own_papers = own_papers_of u H; own_bytes = own_bytes_of u H }
 
 -- the role of a user named, if there is one, is the one that the history tells
 module _ (H : History) where
@@ -57,6 +58,43 @@ module _ (H : History) where
   role-among : (target : Option ℕ) → is_none (role_among (accounts_of H) target) ≡ false → unwrap_or (role_among (accounts_of H) target) Account ≡ role_of (Some (unwrap_or target 0)) H
   role-among None h = absurd (true≢false h)
   role-among (Some v) h = role-found v (all_told registration_told H) h
+
+-- ---- users of names
+
+number-found : (H : History) (name : List ℕ) (v : ℕ) (rs : List Registration) → option_map (λ (a : AccountLine). a.user) (find (λ (a : AccountLine). bytes_eq a.name name) (map (line H) rs)) ≡ Some v
+    → list_any (λ (r : Registration). eqb r.user v) rs ≡ true
+number-found H name v [] found = cc
+number-found H name v (r ∷ rs) found = by (bytes_eq r.name name) found (number-found H name v rs)
+  where
+    rest : Option AccountLine
+    rest = find (λ (a : AccountLine). bytes_eq a.name name) (map (line H) rs)
+
+    by : (b : Bool) → option_map (λ (a : AccountLine). a.user) (cond b (Some (line H r)) rest) ≡ Some v
+        → (option_map (λ (a : AccountLine). a.user) rest ≡ Some v → list_any (λ (r : Registration). eqb r.user v) rs ≡ true) → (eqb r.user v || list_any (λ (r : Registration). eqb r.user v) rs) ≡ true
+    by true is later = let e : r.user ≡ v = cc in or_left (eqb r.user v) (list_any (λ (r : Registration). eqb r.user v) rs) (eq-eqb r.user v e)
+    by false is later = or_right (eqb r.user v) (list_any (λ (r : Registration). eqb r.user v) rs) (later is)
+
+-- the users of names have registered, as many of them as are there
+users-registered : (H : History) (names : List (Option (List ℕ))) → AllByRecursion (IsRegistered H) (flat_map listed (users_among (accounts_of H) names))
+users-registered H [] = tt
+users-registered H (None ∷ names) = users-registered H names
+users-registered H (Some name ∷ names) = by (number_in (accounts_of H) name) refl (users-registered H names)
+  where
+    by : (found : Option ℕ) → number_in (accounts_of H) name ≡ found → AllByRecursion (IsRegistered H) (flat_map listed (users_among (accounts_of H) names))
+        → AllByRecursion (IsRegistered H) (listed found ++ flat_map listed (users_among (accounts_of H) names))
+    by None at rest = rest
+    by (Some v) at rest = (number-found H name v (all_told registration_told H) at, rest)
+
+-- ---- papers of the maker
+
+-- an entry that only an author of a paper makes, in the submission
+module _ (H : History) (maker : ℕ) where
+  author-named : (paper : Option ℕ) → not (at_some (λ p. is_author (Some maker) p H) paper) ≡ false → is_author (Some maker) (unwrap_or paper 0) H ≡ true
+  author-named None h = absurd (true≢false h)
+  author-named (Some p) h = not-false (is_author (Some maker) p H) h
+
+  submitting : not (is_phase (phase_of H) Submission) ≡ false → is_phase (phase_of H) Submission ≡ true
+  submitting h = not-false (is_phase (phase_of H) Submission) h
 
 -- ---- conflicts
 
@@ -135,7 +173,7 @@ registration-adds H caller facts shown name digest drawn bounded accepted =
   where
     by : (user : ℕ) (b : Bool) → eqb user 1 ≡ b → Adds H (grouped user (cond b (Registered user name digest ∷ Named user Chair ∷ []) (Registered user name digest ∷ [])))
     by user true is = first_user user name digest (eqb-true user 1 is) bounded
-    by user false is = single user (Registered user name digest) refl (sym is) (record { phase = tt; chair = tt; role = tt; member = tt; right = tt; texts = bounded })
+    by user false is = single user (Registered user name digest) refl is (record { phase = tt; chair = tt; role = tt; member = tt; right = tt; texts = bounded })
 
 module _ (H : History) (maker : ℕ) (shown : Shown) (registered : IsRegistered H maker) where
   abbrev facts : Facts
@@ -169,12 +207,27 @@ module _ (H : History) (maker : ℕ) (shown : Shown) (registered : IsRegistered 
   command-adds (SetPhase to) drawn bounded accepted =
       let k = judged-Ok (phase_checks standing (phase_of H) to) (phase_drawn maker to) drawn accepted in
       subst (λ (d : Drawn). Adds H d.group) k.1
-      (single maker (PhaseSet to) registered refl (record { phase = not-false (is_next (phase_of H) to) k.0.1.0; chair = not-false (is_chair standing.role) k.0.0; role = tt; member = tt; right = tt; texts = tt }))
-  command-adds (Submit title abstract) drawn bounded accepted =
+      (single maker (PhaseSet to) registered tt (record { phase = not-false (is_next (phase_of H) to) k.0.1.0; chair = not-false (is_chair standing.role) k.0.0; role = tt; member = tt; right = tt; texts = tt }))
+  command-adds (Submit title abstract names) drawn bounded accepted =
       let n : ℕ = length facts.papers in
-      let k = judged-Ok (submit_checks standing n facts.own_papers) (submission_drawn maker (n + 1) title abstract) drawn accepted in
+      let users : List (Option ℕ) = users_among facts.accounts names in
+      let told : List ℕ = flat_map listed users in
+      let k = judged-Ok (submit_checks (list_any is_none users) standing n facts.own_papers) (submission_drawn maker (n + 1) title abstract told) drawn accepted in
       subst (λ (d : Drawn). Adds H d.group) k.1
-      (single maker (Submitted (n + 1) title abstract) registered refl (record { phase = not-false (is_phase (phase_of H) Submission) k.0.0; chair = tt; role = tt; member = tt; right = tt; texts = bounded }))
+      (submitted maker (n + 1) title abstract told registered (record { phase = submitting H maker k.0.1.0; chair = tt; role = tt; member = tt; right = tt; texts = (bounded.0, bounded.1) }) (users-registered H names))
+  command-adds (Revise paper title abstract) drawn bounded accepted =
+      let k = judged-Ok (revise_checks (standing_of (Some maker) paper H) (paper_named facts shown paper)) (revision_drawn maker (unwrap_or paper 0) title abstract) drawn accepted in
+      subst (λ (d : Drawn). Adds H d.group) k.1
+      (single maker (Revised (unwrap_or paper 0) title abstract) registered tt (record { phase = submitting H maker k.0.1.1.0; chair = tt; role = tt; member = tt; right = author-named H maker paper k.0.1.0; texts = bounded }))
+  command-adds (Upload paper content) drawn bounded accepted =
+      let version : ℕ = length (shown.uploads (unwrap_or paper 0)) + 1 in
+      let k = judged-Ok (upload_checks (standing_of (Some maker) paper H) (paper_named facts shown paper) facts.own_bytes (length content)) (upload_drawn maker (unwrap_or paper 0) version content) drawn accepted in
+      subst (λ (d : Drawn). Adds H d.group) k.1
+      (single maker (Uploaded (unwrap_or paper 0) version content) registered tt (record { phase = submitting H maker k.0.1.1.0; chair = tt; role = tt; member = tt; right = author-named H maker paper k.0.1.0; texts = bounded }))
+  command-adds (Withdraw paper) drawn bounded accepted =
+      let k = judged-Ok (revise_checks (standing_of (Some maker) paper H) (paper_named facts shown paper)) (withdrawal_drawn maker (unwrap_or paper 0)) drawn accepted in
+      subst (λ (d : Drawn). Adds H d.group) k.1
+      (single maker (Withdrawn (unwrap_or paper 0)) registered tt (record { phase = submitting H maker k.0.1.1.0; chair = tt; role = tt; member = tt; right = author-named H maker paper k.0.1.0; texts = tt }))
   command-adds (Name name role) drawn bounded accepted =
       let target : Option ℕ = user_among facts.accounts name in
       let before : Option Role = role_among facts.accounts target in
@@ -183,7 +236,7 @@ module _ (H : History) (maker : ℕ) (shown : Shown) (registered : IsRegistered 
       let rises : role_number (target_role asked) < role_number role = leb-false (role_number role) (role_number (target_role asked)) k.0.1.1.1.0 in
       let there : is_none before ≡ false = sym (is_none-asked of_role before) ∙ k.0.0 in
       subst (λ (d : Drawn). Adds H d.group) k.1
-      (single maker (Named (unwrap_or target 0) role) registered refl (record {
+      (single maker (Named (unwrap_or target 0) role) registered tt (record {
         phase = k.0.1.1.0;
         chair = or_left (is_chair standing.role) (eqb (length H) 1) (not-false (is_chair standing.role) k.0.1.0);
         role = subst (λ (r : Role). role_number r < role_number role) (target_role-of before ∙ role-among H target there) rises;
@@ -194,8 +247,8 @@ module _ (H : History) (maker : ℕ) (shown : Shown) (registered : IsRegistered 
   command-adds (SetMode to) drawn bounded accepted =
       let k = judged-Ok (mode_checks standing (phase_of H)) (mode_drawn maker to) drawn accepted in
       subst (λ (d : Drawn). Adds H d.group) k.1
-      (single maker (ModeSet to) registered refl (record { phase = not-false (is_phase (phase_of H) Setup) k.0.1.0; chair = not-false (is_chair standing.role) k.0.0; role = tt; member = tt; right = tt; texts = tt }))
+      (single maker (ModeSet to) registered tt (record { phase = not-false (is_phase (phase_of H) Setup) k.0.1.0; chair = not-false (is_chair standing.role) k.0.0; role = tt; member = tt; right = tt; texts = tt }))
   command-adds (SetConflict paper name on) drawn bounded accepted =
       let target : Option ℕ = user_among facts.accounts name in
       let k = judged-Ok (checks paper target on) (conflict_drawn maker (unwrap_or paper 0) (unwrap_or target 0) on) drawn accepted in
-      subst (λ (d : Drawn). Adds H d.group) k.1 (single maker (Conflict (unwrap_or paper 0) (unwrap_or target 0) on) registered refl (conflict-ruled_for paper target on k.0))
+      subst (λ (d : Drawn). Adds H d.group) k.1 (single maker (Conflict (unwrap_or paper 0) (unwrap_or target 0) on) registered tt (conflict-ruled_for paper target on k.0))

@@ -3,15 +3,15 @@
 use Rattle.std.proofs.Common.{ℕ, ◌≤◌, ◌-◌, List, [], ◌∷◌, length, refl, arith, length-append}
 use Rattle.cr_base.specs.declared.entry.Account.{Account}
 use Rattle.cr_base.specs.declared.entry.Entry.{Entry}
-use Rattle.cr_base.specs.declared.entry.Entry.TheVariants.{Registered, Named, Submitted}
-use Rattle.cr_base.specs.declared.paper.Paper.{Paper}
+use Rattle.cr_base.specs.declared.entry.Entry.TheVariants.{Registered, Named, Submitted, Revised, Withdrawn}
 use Rattle.cr_base.specs.declared.words.Role.TheVariants as role
 use Rattle.cr_base.specs.Accounts.{accounts_after, AccountsFit}
-use Rattle.cr_base.specs.Papers.{PapersState, papers_after, paper_count, PapersFit}
+use Rattle.cr_base.specs.Papers.{PapersState, new_paper, with_texts, as_withdrawn, papers_after, paper_count, PapersFit}
 use Rattle.cr_base.specs.Ties.{AreWithin}
 use Rattle.cr_base.specs.History.{History}
 use Rattle.cr_base.specs.Tables.{Tables, no_tables, tables_after, tables_from, tables_of, FitInTurn}
 use Rattle.cr_base.proofs.AccountLaws.{length-with_role}
+use Rattle.cr_base.proofs.PaperLaws.{length-with_paper}
 use Rattle.cr_base.proofs.TieLaws.{within-after}
 
 -- accounts and papers are few, and what users are tied to is one of the papers
@@ -32,11 +32,12 @@ accounts-few accounts e fits h = h
 
 papers-few : (state : PapersState) (maker : ℕ) (e : Entry) → PapersFit state maker e → paper_count state ≤ 9999 → paper_count (papers_after state maker e) ≤ 9999
 papers-few state maker (Submitted paper title abstract) fits h =
-    let made : Paper = record { title = title; abstract_ = abstract } in
-    let n = length-append state.papers (made ∷ []) in
+    let n = length-append state.papers (new_paper title abstract ∷ []) in
     let next = fits.0 in
     let few = fits.1 in
     omega (arith, n, next, few)
+papers-few state maker (Revised paper title abstract) fits h = let n = length-with_paper paper (with_texts title abstract) state.papers in omega (arith, n, h)
+papers-few state maker (Withdrawn paper) fits h = let n = length-with_paper paper as_withdrawn state.papers in omega (arith, n, h)
 papers-few state maker e fits h = h
 
 sized-from : (t : Tables) (H : History) → FitInTurn t H → IsSized t → IsSized (tables_from t H)

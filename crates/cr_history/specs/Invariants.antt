@@ -1,5 +1,5 @@
 -- Invariants: what is so of each entry of a legal history, on the history before it, and of the history as a whole.
-use Rattle.std.specs.Prelude.{ℕ, Bool, ◌≡◌, ◌==◌, ◌<◌, ◌+◌, ◌&&◌, ◌||◌, not, [], ◌∷◌, ◌++◌, length, Some, None, IsTrue, IsFalse, if◌then◌else◌}
+use Rattle.std.specs.Prelude.{ℕ, Bool, false, ◌≡◌, ◌==◌, ◌<◌, ◌+◌, ◌&&◌, ◌||◌, not, [], ◌∷◌, ◌++◌, length, Some, None, IsTrue, IsFalse, if◌then◌else◌}
 use Rattle.std.specs.List.{All, AllByRecursion, list_any}
 use Rattle.cr_base.specs.declared.entry.Entry.{Entry}
 use Rattle.cr_base.specs.declared.entry.Entry.TheVariants.{Registered, Named, PhaseSet, ModeSet, Submitted}

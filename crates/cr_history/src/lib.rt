@@ -7,9 +7,11 @@
 
 ghost use Rattle.cr_history.specs.Laws.{TablesTell, GrowthKeeps};
 
-/// The tables tell what the history tells, where each entry fits in its turn and co-authors are told before any conflict with their paper: how any user stands to the conference and to
-/// any paper, the accounts with their roles, who has a name, and who has it with a digest, the papers with their titles,
-/// abstracts, authors and uploads, and whether they are withdrawn, how many of them, and how many uploaded bytes, are a user's own, whose conflict with a paper is on, and whom its authors declared.
+/// The tables tell what the history tells, where each entry fits in its turn and a paper's co-authors are told before any
+/// conflict with it: how any user stands to the conference and to any paper; the accounts with their roles, who has a name,
+/// and who has it with a digest; the papers with their titles, abstracts, authors and uploads, and which are withdrawn;
+/// how many of the papers, and how many uploaded bytes, are a user's own; whose conflict with a paper is on, and whom its
+/// authors declared.
 pub fn law_tables()
     ensures { TablesTell }
 {}

@@ -1,0 +1,36 @@
+-- The entries of one command: what is so of each of them.
+use Rattle.std.proofs.Common.{ℕ, Bool, true, false, ◌≡◌, List, [], ◌∷◌, ◌++◌, refl, ap, ◌∙◌}
+use Rattle.std.specs.Prelude.{map}
+use Rattle.std.specs.List.{AllByRecursion, flat_map}
+use Rattle.cr_base.specs.declared.entry.Entry.{Entry}
+use Rattle.cr_base.specs.declared.entry.Entry.TheVariants.{Submitted, Coauthor}
+use Rattle.cr_base.specs.declared.entry.Stamped.{Stamped}
+use Rattle.cr_base.specs.Drawn.{grouped, besides, submission}
+use Rattle.cr_history.specs.Invariants.{IsWhole}
+use Rattle.cr_history.proofs.LineTies.{stamp}
+
+-- what is so of each entry, with its maker and whatever mark, is so of each in the group
+pub grouped-each : (maker : ℕ) (P : Stamped → Type 0) → (es : List Entry) → AllByRecursion (λ (e : Entry). (more : Bool) → P (stamp maker more e)) es → AllByRecursion P (grouped maker es)
+grouped-each maker P [] all = tt
+grouped-each maker P (e ∷ []) all = (all.0 false, tt)
+grouped-each maker P (e ∷ next ∷ es) all = (all.0 true, grouped-each maker P (next ∷ es) all.1)
+
+-- none of them is cut off
+pub grouped-whole : (maker : ℕ) (es : List Entry) → IsWhole (grouped maker es)
+grouped-whole maker [] = tt
+grouped-whole maker (e ∷ []) = refl
+grouped-whole maker (e ∷ next ∷ []) = ((λ more. refl), refl)
+grouped-whole maker (e ∷ next ∷ last ∷ es) = ((λ more. refl), grouped-whole maker (next ∷ last ∷ es))
+
+-- what is so of a submission and of each co-author is so of each of its entries
+pub submission-each : (Q : Entry → Type 0) (maker paper : ℕ) (title abstract users : List ℕ) → Q (Submitted paper title abstract) → ((user : ℕ) → Q (Coauthor paper user)) → AllByRecursion Q (submission maker paper title abstract users)
+submission-each Q maker paper title abstract users first each = (first, coauthors (besides (maker ∷ []) users))
+  where
+    coauthors : (us : List ℕ) → AllByRecursion Q (map (λ (user : ℕ). Coauthor paper user) us)
+    coauthors [] = tt
+    coauthors (u ∷ us) = (each u, coauthors us)
+
+-- where each tells nothing, all tell nothing
+pub all-silent : {A B : Type 0} (told : A → List B) (xs : List A) → AllByRecursion (λ x. told x ≡ []) xs → flat_map told xs ≡ []
+all-silent told [] all = refl
+all-silent told (x ∷ xs) all = ap (λ ys. ys ++ flat_map told xs) all.0 ∙ all-silent told xs all.1
