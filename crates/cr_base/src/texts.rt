@@ -1,12 +1,12 @@
 //! Bytes that contracts see as lists.
-ghost use Rattle.std.specs.Prelude.{◌≡◌, ℕ, ◌≤◌, ◌+◌, List, [], length, take, drop, replicate, IfOk, IsTrue, ◌↔◌};
+ghost use Rattle.std.specs.Prelude.{◌≡◌, ℕ, ◌≤◌, ◌+◌, List, [], length, take, drop, replicate, IfOk, IfErr, IsTrue, ◌↔◌};
 ghost use Rattle.std.specs.List.{list_all};
 ghost use Rattle.std.specs.Str.{is_utf8};
 ghost use Rattle.cr_base.specs.Texts.{IsName, IsTitle, IsAbstract, IsContent, is_name as is_name_text, is_name_byte};
 ghost use Rattle.cr_base.specs.Texts.{is_title as is_title_text, is_title_byte, is_abstract as is_abstract_text};
 
 use bytes::{ByteStr, Bytes};
-use std::alloc::{AllocError, Global};
+use std::alloc::{AllocError, AllocFailed, Global};
 use std::hash::{Hash, Hasher};
 use std::marker::Model;
 
@@ -39,6 +39,26 @@ impl Blob {
         Ok(Blob {
             bytes: Bytes::copy_from_slice(alloc, bytes)?,
         })
+    }
+
+    /// The bytes of a vector, whose block it takes: none is copied. Only the count of those who share them takes
+    /// memory, a few bytes; where these can't be had, the vector is handed back.
+    pub fn from_vec(bytes: Vec<u8>) -> Result<Blob, AllocFailed<Vec<u8>>>
+        ensures ok { IfOk result (λ b. b ≡ bytes.items) }
+        ensures back { IfErr result (λ e. e.value.items ≡ bytes.items) }
+    {
+        match Bytes::from_vec(bytes) {
+            Ok(bytes) => Ok(Blob { bytes }),
+            Err(error) => Err(error),
+        }
+    }
+
+    /// Leaves out the first `n` bytes; none is moved.
+    pub fn discard(&mut self, n: usize)
+        requires { n ≤ length self.old }
+        ensures { self.new ≡ drop n self.old }
+    {
+        self.bytes.advance(n);
     }
 
     /// The bytes.

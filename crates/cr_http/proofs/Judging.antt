@@ -1,5 +1,5 @@
 -- From what one call knows to what it says of the text.
-use Rattle.std.proofs.Common.{◌≡◌, ℕ, ◌+◌, ◌-◌, ◌<◌, ◌≤◌, List, ◌++◌, length, take, drop, Option, Some, Bool, true, false, refl, sym, ◌∙◌, ap, subst, arith, inl, inr, length-drop}
+use Rattle.std.proofs.Common.{◌≡◌, ℕ, ◌+◌, ◌-◌, ◌<◌, ◌≤◌, List, ◌++◌, length, take, drop, Option, Some, Bool, true, false, refl, sym, ◌∙◌, ap, subst, arith, inl, inr, length-drop, length-take}
 use Rattle.std.specs.Prelude.{nat_lt, nat_le, slice_range, MatchBool, if◌then◌else◌, ◌==◌}
 use Rattle.httparse.specs.declared.spans.HeaderSpan.{HeaderSpan}
 use Rattle.httparse.specs.declared.spans.RequestSpans.{RequestSpans}
@@ -81,12 +81,16 @@ pub framed_moved : (left left' : Option (List ℕ)) (text moved : List ℕ) (sta
 framed_moved left left' text moved start end head len m f =
     subst (λ (t : List ℕ). IsFramed t start end head len) (sym m.kept) (IsFramed-append text m.got start end head len f)
 
+-- a body is as long as it is told to be, at most
+short_body : (most e len : ℕ) (text : List ℕ) → len ≤ most → length (slice_range text e (e + len)) ≤ most
+short_body most e len text few = let l = length-take (e + len - e) (drop e text) in omega (arith, l, few)
+
 -- the request that lies in the text once its body has come
 pub request_lies : (left left' : Option (List ℕ)) (old text : List ℕ) (headers : List HeaderSpan) (range : HeadRange) (spans : RequestSpans) (len : ℕ)
     → Moves left left' old text → IsFramed old range.start range.end (spans_head (slice_range old range.start range.end) headers spans) len
-    → IsRequestWithin (slice_range old range.start range.end) headers spans → range.end + len ≤ length text
+    → IsRequestWithin (slice_range old range.start range.end) headers spans → len ≤ 4194304 → range.end + len ≤ length text
     → Lies reads.Whole text headers (Some (record { range = range; spans = spans; end = range.end + len }))
-request_lies left left' old text headers range spans len m f within full =
+request_lies left left' old text headers range spans len m f within few full =
     let s = range.start in
     let e = range.end in
     let b = head_at_bounds old (s, e) f.range in
@@ -96,7 +100,7 @@ request_lies left left' old text headers range spans len m f within full =
     let body : take len (drop e text) ≡ slice_range text e (e + len) = ap (λ k. take k (drop e text)) n in
     let rest : drop len (drop e text) ≡ drop (e + len) text = drop-drop len e text in
     let stands = framed_whole text s e _ len (framed_moved left left' old text s e _ len m f) full in (
-      record { head = omega (arith, b); body = omega arith; within = full; spans = rw same within },
+      record { head = omega (arith, b); body = omega arith; short = short_body 4194304 e len text few; within = full; spans = rw same within },
       subst (StandsAt text) (λ i. whole (head i) (body i) (rest i)) stands,
     )
 

@@ -4,6 +4,7 @@ use Rattle.std.specs.Option.{option_map}
 use Rattle.httparse.specs.declared.spans.HeaderSpan.{HeaderSpan}
 use Rattle.httparse.specs.declared.spans.RequestSpans.{RequestSpans}
 use Rattle.httparse.specs.Spans.{IsRequestWithin, span_bytes, header_bytes}
+use Rattle.cr_http.specs.Body.{IsBody}
 use Rattle.cr_http.specs.Head.{HeadText, version_of}
 use Rattle.cr_http.specs.Requests.{RequestText}
 use Rattle.cr_http.specs.declared.inbox.Extent.{Extent}
@@ -33,6 +34,7 @@ used (Some e) = e.end
 pub record IsExtent (text : List ℕ) (headers : List HeaderSpan) (e : Extent) : Type 0 where
   pub head : e.range.start ≤ e.range.end
   pub body : e.range.end ≤ e.end
+  pub short : IsBody (slice_range text e.range.end e.end)
   pub within : e.end ≤ length text
   pub spans : IsRequestWithin (slice_range text e.range.start e.range.end) headers e.spans
 

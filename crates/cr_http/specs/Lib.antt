@@ -1,6 +1,7 @@
 pub mod HeadRange
 pub mod Search
 pub mod Buffer
+pub mod Body
 pub mod Filling
 pub mod Head
 pub mod Values

@@ -1,8 +1,10 @@
 //! What a connection has read: the request at hand, lent, and the bytes behind it.
 ghost use Rattle.std.specs.Prelude.{◌≡◌, [], IsSome, IfSome, length};
+ghost use Rattle.cr_http.specs.Body.{IsBody};
 ghost use Rattle.cr_http.specs.Buffer.{text_of};
 ghost use Rattle.cr_http.specs.Extent.{InboxText, IsExtent, inbox_text};
 
+use crate::body::Body;
 use crate::buffer::Buffer;
 use crate::head::{Head, MAX_FIELDS};
 use crate::head_range::HeadRange;
@@ -27,7 +29,7 @@ pub struct Request<'b> {
     /// Its head.
     pub head: Head<'b>,
     /// Its body, of as many bytes as the head says; 4,194,304 at most.
-    pub body: &'b [u8],
+    pub body: Body<'b>,
 }
 
 /// What a connection has read. It is made once a connection, and keeps one block of bytes, which
@@ -67,7 +69,8 @@ impl Inbox {
     /// next one is read.
     pub fn request(&self) -> Request<'_>
         requires { IsSome self.now.request }
-        ensures { self.now.request ≡ Some (record { head = result.head; body = result.body.now }) }
+        ensures is { self.now.request ≡ Some (record { head = result.head; body = result.body }) }
+        ensures short { IsBody result.body }
     {
         let Some(extent) = self.request else {
             unreachable!()
@@ -76,7 +79,7 @@ impl Inbox {
         let head = &text[extent.range.start..extent.range.end];
         Request {
             head: Head::new(head, extent.spans, &self.headers),
-            body: &text[extent.range.end..extent.end],
+            body: Body::lent(&text[extent.range.end..extent.end]),
         }
     }
 }

@@ -8,6 +8,7 @@
 //! [`Inbox`], whose one block of bytes is all that is ever allocated.
 #![tactic(auto)]
 
+mod body;
 mod buffer;
 mod digits;
 mod fill;
@@ -21,6 +22,7 @@ mod read;
 mod refusal;
 mod values;
 
+pub use body::Body;
 pub use digits::{all_digits, decimal_value};
 pub use framing::MAX_BODY;
 pub use head::{Head, MAX_FIELDS, Version};

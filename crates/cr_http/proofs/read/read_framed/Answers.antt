@@ -14,7 +14,7 @@ overflow_add-end g c =
 pub returns-in-Grew-clause-lies : goal.returns-in-Grew-clause-lies
 returns-in-Grew-clause-lies g c =
     let judged = rw c.as_slice.ensures at c.in-Framed.ensures in
-    request_lies _ _ (text_of c.args.buffer.now) _ c.judge_head.new.headers c.args.range c.in-Framed.spans c.in-Framed.len c.in-Grew.ensures.moves judged.0 judged.2 (c.in-Grew.ensures.full refl)
+    request_lies _ _ (text_of c.args.buffer.now) _ c.judge_head.new.headers c.args.range c.in-Framed.spans c.in-Framed.len c.in-Grew.ensures.moves judged.0 judged.2 judged.1 (c.in-Grew.ensures.full refl)
 
 pub returns-in-Ended-clause-lies : goal.returns-in-Ended-clause-lies
 returns-in-Ended-clause-lies g c =

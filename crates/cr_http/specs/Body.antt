@@ -1,0 +1,12 @@
+-- The bytes of a body, wherever they lie.
+use Rattle.std.specs.Prelude.{ℕ, ◌≤◌, List, length}
+use Rattle.cr_http.specs.declared.body.Place.{Place}
+use Rattle.cr_http.specs.declared.body.Place.TheVariants.{Buffer, Block}
+
+abbrev pub place_bytes : Place → List ℕ
+place_bytes (Buffer bytes) = bytes.now
+place_bytes (Block blob) = blob.now
+
+-- a body is not longer than is read
+abbrev pub IsBody : List ℕ → Type 0
+IsBody bytes = length bytes ≤ 4194304

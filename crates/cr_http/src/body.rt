@@ -1,0 +1,78 @@
+//! The body of a request, lent.
+ghost use Rattle.std.specs.Prelude.{◌≡◌, ◌≤◌, length, IfOk};
+ghost use Rattle.cr_http.specs.Body.{IsBody, place_bytes};
+
+use cr_base::Blob;
+use std::alloc::{AllocError, Global};
+use std::marker::Model;
+
+/// Where the bytes of a body are.
+#[derive(Drop)]
+pub(crate) enum Place<'b> {
+    /// Among those that were read.
+    Buffer(&'b [u8]),
+    /// In a block of their own.
+    Block(&'b Blob),
+}
+
+/// The body of a request, lent: at most 4,194,304 bytes. Contracts see the list of its bytes.
+#[derive(Drop)]
+pub struct Body<'b> {
+    place: Place<'b>,
+}
+
+impl<'b> Model for Body<'b> {
+    ghost use Rattle.std.specs.Prelude.{List, ℕ};
+    ghost use Rattle.cr_http.specs.Body.{IsBody, place_bytes};
+
+    ghost Value = { List ℕ };
+
+    ghost view = { λ b. place_bytes b.place };
+
+    ghost invariant = { λ b. IsBody (place_bytes b.place) };
+}
+
+impl<'b> Body<'b> {
+    /// The body that these bytes are, at most 4,194,304.
+    pub fn lent(bytes: &'b [u8]) -> Body<'b>
+        requires { IsBody bytes.now }
+        ensures { result ≡ bytes.now }
+    {
+        Body {
+            place: Place::Buffer(bytes),
+        }
+    }
+
+    /// The body that lies in this block: at most 4,194,304 bytes.
+    pub fn block(bytes: &'b Blob) -> Body<'b>
+        requires { IsBody bytes.now }
+        ensures { result ≡ bytes.now }
+    {
+        Body {
+            place: Place::Block(bytes),
+        }
+    }
+
+    /// The bytes, at most 4,194,304.
+    pub fn as_slice(&self) -> &[u8]
+        ensures value { result.now ≡ self.now }
+        ensures short { IsBody self.now }
+    {
+        match &self.place {
+            Place::Buffer(bytes) => bytes,
+            Place::Block(blob) => blob.as_slice(),
+        }
+    }
+
+    /// The bytes to be kept, at most 4,194,304. A body that lies in a block of its own shares it, at a cost that
+    /// is the same whatever its length; another is copied into one. An error only for lack of memory.
+    pub fn to_blob(&self, alloc: Global) -> Result<Blob, AllocError>
+        ensures value { IfOk result (λ blob. blob ≡ self.now) }
+        ensures short { IsBody self.now }
+    {
+        match &self.place {
+            Place::Buffer(bytes) => Blob::from_slice(alloc, bytes),
+            Place::Block(blob) => blob.copy(),
+        }
+    }
+}
