@@ -11,7 +11,7 @@ use Rattle.cr_http.specs.declared.refusal.Refusal.{Refusal}
 use Rattle.cr_print.specs.declared.head.Extra.{Extra}
 use Rattle.cr_print.specs.declared.head.Extra.TheVariants.{Nothing}
 use Rattle.cr_print.specs.declared.head.Head.{Head}
-use Rattle.cr_print.specs.declared.head.MediaType.TheVariants.{Json}
+use Rattle.cr_print.specs.declared.head.MediaType.TheVariants.{Json, OctetStream}
 use Rattle.cr_print.specs.declared.status.Status.{Status}
 use Rattle.cr_print.specs.declared.status.Status.TheVariants.{Okay}
 use Rattle.cr_print.specs.declared.form.Form.{Form}
@@ -69,20 +69,38 @@ page_text page form = served_text (page_content page) form
 unfoldable pub me_text : Me → Form → List ℕ
 me_text me form = served_text (me_content me) form
 
+-- the head of an answer whose content is bytes as they are
+abbrev pub bytes_head : Head
+bytes_head = record { status = Okay; media_type = OctetStream; extra = Nothing }
+
+-- what stands in front of a content of so many bytes that is served as it is
+unfoldable pub content_front : ℕ → Form → List ℕ
+content_front n form = head_text bytes_head n form.closes
+
+-- what is printed of a reply: of a content its head, and else the whole answer
+abbrev pub front_text : Form → Reply → List ℕ
+front_text form (replies.Accepted receipt) = receipt_text receipt form
+front_text form (replies.Refused rule) = refusal_text (Rule rule) form
+front_text form (replies.Accounts accounts) = accounts_text accounts form
+front_text form (replies.Conference conference) = conference_text conference form
+front_text form (replies.Page page) = page_text page form
+front_text form (replies.Me me) = me_text me form
+front_text form (replies.Content content) = content_front (length content) form
+
+-- what is written behind that, as it is kept: a content's bytes
+abbrev pub block_text : Form → Reply → List ℕ
+block_text form (replies.Content content) = unless_head form.is_head content
+block_text form _ = []
+
 -- a reply
 abbrev pub reply_text : Reply → Form → List ℕ
-reply_text (replies.Accepted receipt) form = receipt_text receipt form
-reply_text (replies.Refused rule) form = refusal_text (Rule rule) form
-reply_text (replies.Accounts accounts) form = accounts_text accounts form
-reply_text (replies.Conference conference) form = conference_text conference form
-reply_text (replies.Page page) form = page_text page form
-reply_text (replies.Me me) form = me_text me form
+reply_text reply form = front_text form reply ++ block_text form reply
 
 -- out of memory, which ends the connection
 abbrev pub no_memory_text : Bool → List ℕ
 no_memory_text is_head = refusal_text NoMemory (record { is_head = is_head; closes = true })
 
--- a reply of bounded length, so that any answer room takes its answer
+-- a reply of which so little is printed that any answer room takes it
 abbrev pub IsBrief : Reply → Type 0
 IsBrief (replies.Accepted receipt) = Unit {0}
 IsBrief (replies.Refused rule) = Unit {0}
@@ -90,3 +108,4 @@ IsBrief (replies.Accounts accounts) = ⊥
 IsBrief (replies.Conference conference) = Unit {0}
 IsBrief (replies.Page page) = ⊥
 IsBrief (replies.Me me) = ⊥
+IsBrief (replies.Content content) = Unit {0}

@@ -9,7 +9,7 @@ use Rattle.cr_print.specs.Json.{Member, member_of, numbers_text, object_text}
 unfoldable pub me_members : Me → List Member
 me_members me =
     member_of (codes "assigned") (Some (codes "[]"))
-    ++ member_of (codes "bytes") (Some (codes "0"))
+    ++ member_of (codes "bytes") (Some (decimal me.bytes))
     ++ member_of (codes "comments") (Some (codes "0"))
     ++ member_of (codes "conflicts") (Some (numbers_text me.conflicts))
     ++ member_of (codes "name") (Some (quoted me.name))

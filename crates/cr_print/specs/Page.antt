@@ -4,7 +4,7 @@ use Rattle.std.specs.Option.{option_map}
 use Rattle.json.specs.Print.{quoted}
 use Rattle.cr_base.specs.declared.page.Page.{Page}
 use Rattle.cr_base.specs.Page.{where_told}
-use Rattle.cr_print.specs.Json.{Member, member_of, truth_text, names_text, object_text}
+use Rattle.cr_print.specs.Json.{Member, member_of, truth_text, names_text, numbers_text, object_text}
 
 -- the keys of a page in the order of their bytes, each where it is told
 unfoldable pub page_members : Page → List Member
@@ -21,8 +21,8 @@ page_members page =
     ++ member_of (codes "reviewers") (where_told page.bare.reviewers (Some (codes "[]")))
     ++ member_of (codes "tags") (where_told page.bare.tags (Some (codes "[]")))
     ++ member_of (codes "title") (option_map quoted page.title)
-    ++ member_of (codes "versions") (where_told page.bare.versions (Some (codes "[]")))
-    ++ member_of (codes "withdrawn") (where_told page.bare.withdrawn (Some (codes "false")))
+    ++ member_of (codes "versions") (option_map numbers_text page.versions)
+    ++ member_of (codes "withdrawn") (option_map truth_text page.withdrawn)
 
 unfoldable pub page_content : Page → List ℕ
 page_content page = object_text (page_members page)

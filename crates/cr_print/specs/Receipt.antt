@@ -3,7 +3,7 @@ use Rattle.std.specs.Prelude.{ℕ, List, ◌++◌, Some, codes, decimal}
 use Rattle.json.specs.Print.{quoted}
 use Rattle.cr_base.specs.Words.{phase_name, mode_name, role_name}
 use Rattle.cr_base.specs.declared.reply.Receipt.{Receipt}
-use Rattle.cr_base.specs.declared.reply.Receipt.TheVariants.{User, Phase, Paper, Named, Mode, Conflict}
+use Rattle.cr_base.specs.declared.reply.Receipt.TheVariants.{User, Phase, Paper, Named, Mode, Changed, Version}
 use Rattle.cr_print.specs.declared.status.Status.{Status}
 use Rattle.cr_print.specs.declared.status.Status.TheVariants.{Okay, Created}
 use Rattle.cr_print.specs.Json.{Member, member_of, object_text}
@@ -14,7 +14,8 @@ receipt_status (Phase phase) = Okay
 receipt_status (Paper paper) = Created
 receipt_status (Named name role) = Okay
 receipt_status (Mode mode) = Okay
-receipt_status (Conflict paper) = Okay
+receipt_status (Changed paper) = Okay
+receipt_status (Version version) = Okay
 
 -- the keys in the order of their bytes
 unfoldable pub receipt_members : Receipt → List Member
@@ -23,7 +24,8 @@ receipt_members (Phase phase) = member_of (codes "phase") (Some (quoted (phase_n
 receipt_members (Paper paper) = member_of (codes "paper") (Some (decimal paper))
 receipt_members (Named name role) = member_of (codes "name") (Some (quoted name)) ++ member_of (codes "role") (Some (quoted (role_name role)))
 receipt_members (Mode mode) = member_of (codes "mode") (Some (quoted (mode_name mode)))
-receipt_members (Conflict paper) = member_of (codes "paper") (Some (decimal paper))
+receipt_members (Changed paper) = member_of (codes "paper") (Some (decimal paper))
+receipt_members (Version version) = member_of (codes "version") (Some (decimal version))
 
 abbrev pub receipt_content : Receipt → List ℕ
 receipt_content receipt = object_text (receipt_members receipt)

@@ -2,7 +2,7 @@
 use Rattle.std.specs.Prelude.{ℕ, List, Some, codes}
 use Rattle.json.specs.Print.{quoted}
 use Rattle.cr_base.specs.declared.reply.Rule.{Rule as BaseRule}
-use Rattle.cr_base.specs.declared.reply.Rule.TheVariants.{NameTaken, FullAccounts, NotChair, WrongPhase, FullPapers, QuotaPapers, NoPaper, NotMember, NoUser, AlreadyNamed, NotAuthor, NotAMember, Conflict, Withdrawn, AuthorConflict}
+use Rattle.cr_base.specs.declared.reply.Rule.TheVariants.{NameTaken, FullAccounts, NotChair, WrongPhase, FullPapers, QuotaPapers, NoPaper, NotMember, NoUser, AlreadyNamed, NotAuthor, NotAMember, Conflict, Withdrawn, QuotaBytes, NoContent, AuthorConflict}
 use Rattle.cr_http.specs.declared.refusal.Refusal.{Refusal}
 use Rattle.cr_http.specs.declared.refusal.Refusal.TheVariants.{HeadTooLarge, BadHttp, NoHost, LengthRequired, BadLength, TooLarge}
 use Rattle.cr_print.specs.declared.refused.Refused.{Refused}
@@ -36,6 +36,8 @@ rule_name NotAuthor = codes "not_author"
 rule_name NotAMember = codes "not_a_member"
 rule_name Conflict = codes "conflict"
 rule_name Withdrawn = codes "withdrawn"
+rule_name QuotaBytes = codes "quota_bytes"
+rule_name NoContent = codes "no_content"
 rule_name AuthorConflict = codes "author_conflict"
 
 unfoldable pub refused_name : Refused → List ℕ
@@ -71,6 +73,8 @@ rule_status NotAuthor = statuses.Forbidden
 rule_status NotAMember = statuses.Conflict
 rule_status Conflict = statuses.Forbidden
 rule_status Withdrawn = statuses.Conflict
+rule_status QuotaBytes = statuses.Conflict
+rule_status NoContent = statuses.NotFound
 rule_status AuthorConflict = statuses.Conflict
 
 unfoldable pub refused_status : Refused → Status

@@ -1,7 +1,8 @@
 //! The bytes of every answer.
 //!
-//! An answer is appended to a buffer whole or not at all. Refusals and receipts are written into room
-//! that was made before, so that writing them can't fail; `print_reply` makes its own room.
+//! An answer is appended to a buffer whole or not at all; of a paper's content the head alone is, and the bytes are lent
+//! behind it. Refusals and receipts are written into room that was made before, so that writing them can't fail;
+//! `print_reply` makes its own room.
 //!
 //! One writer of JSON serves all contents, objects and lists of any kind: each of its calls says what
 //! it appends, and for what is brief, how much room suffices for it to take no memory.
@@ -31,4 +32,4 @@ pub use no_memory::no_memory_text;
 pub use object::Object;
 pub use receipt::print_receipt;
 pub use refused::{Refused, print_refusal};
-pub use reply::print_reply;
+pub use reply::{block, print_reply};

@@ -37,6 +37,15 @@ impl Item for PaperNo {
     }
 }
 
+/// A version's number.
+impl Item for u64 {
+    ghost text = { decimal };
+
+    fn append_to(&self, into: &mut Vec<u8>) -> Result<(), AllocError> {
+        append_number(into, *self)
+    }
+}
+
 /// Appends the comma before a value, or nothing before the first of its list.
 #[tactic(auto, unfolding(crate::specs::Json::comma))]
 pub(crate) fn append_comma(into: &mut Vec<u8>, is_first: bool) -> Result<(), AllocError>

@@ -12,7 +12,7 @@ pub(crate) fn append_me(into: &mut Vec<u8>, me: &Me) -> Result<(), AllocError>
 {
     let mut object = Object::open(into)?;
     object.fixed(into, "assigned", true, "[]")?;
-    object.fixed(into, "bytes", true, "0")?;
+    object.number(into, "bytes", me.bytes)?;
     object.fixed(into, "comments", true, "0")?;
     object.list(into, "conflicts", me.conflicts.as_slice())?;
     object.string(into, "name", me.name.as_slice())?;

@@ -3,12 +3,12 @@ ghost use Rattle.std.specs.Prelude.{◌≡◌, ◌+◌, ◌*◌, ◌++◌, true,
 ghost use Rattle.json.specs.Print.{quoted};
 ghost use Rattle.cr_base.specs.Page.{where_told};
 ghost use Rattle.cr_print.specs.Put.{Appends, Takes};
-ghost use Rattle.cr_print.specs.Json.{AddsMembers, comma, key_text, member_of, truth_text, names_text, array_text};
+ghost use Rattle.cr_print.specs.Json.{AddsMembers, comma, key_text, member_of, truth_text, names_text, numbers_text, array_text};
 
 use crate::list::{Item, append_comma, append_list};
 use crate::put::{append, append_number};
 use crate::quoted::append_quoted;
-use cr_base::{Names, Text};
+use cr_base::{Names, Text, Versions};
 use std::alloc::AllocError;
 
 /// An object that is being written. Its keys need no escape; members are written in the order of the
@@ -141,6 +141,21 @@ impl Object {
     {
         match names {
             Some(names) => self.list(into, key, names.as_slice()),
+            None => Ok(()),
+        }
+    }
+
+    /// Writes a member that is a list of versions, where that is told.
+    pub fn versions(
+        &mut self,
+        into: &mut Vec<u8>,
+        key: &str,
+        versions: &Option<Versions>,
+    ) -> Result<(), AllocError>
+        ensures { AddsMembers result into.old into.new self.old.is_first self.new.is_first (member_of key.now (option_map numbers_text versions.now)) }
+    {
+        match versions {
+            Some(versions) => self.list(into, key, versions.as_slice()),
             None => Ok(()),
         }
     }

@@ -37,7 +37,7 @@ pub(crate) fn append_page(into: &mut Vec<u8>, page: &Page) -> Result<(), AllocEr
     object.fixed(into, "reviewers", bare.reviewers, "[]")?;
     object.fixed(into, "tags", bare.tags, "[]")?;
     object.text(into, "title", &page.title)?;
-    object.fixed(into, "versions", bare.versions, "[]")?;
-    object.fixed(into, "withdrawn", bare.withdrawn, "false")?;
+    object.versions(into, "versions", &page.versions)?;
+    object.truth(into, "withdrawn", page.withdrawn)?;
     object.close(into)
 }

@@ -24,7 +24,8 @@ fn receipt_status(receipt: &Receipt) -> Status
         Receipt::Phase { .. }
         | Receipt::Named { .. }
         | Receipt::Mode { .. }
-        | Receipt::Conflict { .. } => Status::Okay,
+        | Receipt::Changed { .. }
+        | Receipt::Version { .. } => Status::Okay,
     }
 }
 
@@ -72,7 +73,8 @@ fn append_receipt(into: &mut Vec<u8>, receipt: &Receipt) -> Result<(), AllocErro
         Receipt::Paper { paper } => append_number_alone(into, "paper", paper.number())?,
         Receipt::Named { name, role } => append_named(into, name, *role)?,
         Receipt::Mode { mode } => append_word_alone(into, "mode", mode.name())?,
-        Receipt::Conflict { paper } => append_number_alone(into, "paper", paper.number())?,
+        Receipt::Changed { paper } => append_number_alone(into, "paper", paper.number())?,
+        Receipt::Version { version } => append_number_alone(into, "version", *version)?,
     }
     Ok(())
 }

@@ -56,6 +56,8 @@ fn rule_name(rule: Rule) -> &'static str
         Rule::NotAMember => "not_a_member",
         Rule::Conflict => "conflict",
         Rule::Withdrawn => "withdrawn",
+        Rule::QuotaBytes => "quota_bytes",
+        Rule::NoContent => "no_content",
         Rule::AuthorConflict => "author_conflict",
     }
 }
@@ -98,7 +100,7 @@ fn rule_status(rule: Rule) -> Status
 {
     match rule {
         Rule::NotChair | Rule::NotMember | Rule::NotAuthor | Rule::Conflict => { Status::Forbidden }
-        Rule::NoPaper | Rule::NoUser => Status::NotFound,
+        Rule::NoPaper | Rule::NoUser | Rule::NoContent => Status::NotFound,
         Rule::NameTaken
         | Rule::FullAccounts
         | Rule::WrongPhase
@@ -107,6 +109,7 @@ fn rule_status(rule: Rule) -> Status
         | Rule::AlreadyNamed
         | Rule::NotAMember
         | Rule::Withdrawn
+        | Rule::QuotaBytes
         | Rule::AuthorConflict => Status::Conflict,
     }
 }

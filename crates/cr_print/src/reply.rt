@@ -1,13 +1,13 @@
 //! Replies.
-ghost use Rattle.std.specs.Prelude.{OnErr};
-ghost use Rattle.cr_print.specs.Put.{HasRoom, Prints};
-ghost use Rattle.cr_print.specs.Answers.{served_text, accounts_text, page_text, me_text, reply_text, IsBrief};
+ghost use Rattle.std.specs.Prelude.{◌≡◌, OnErr};
+ghost use Rattle.cr_print.specs.Put.{HasRoom, Prints, Puts};
+ghost use Rattle.cr_print.specs.Answers.{bytes_head, content_front, served_text, accounts_text, page_text, me_text, front_text, block_text, IsBrief};
 
 use crate::accounts::append_accounts;
 use crate::brief::ANSWER_ROOM;
 use crate::conference::print_conference;
 use crate::form::Form;
-use crate::head::{Extra, HEAD_ROOM, json, print_head};
+use crate::head::{Extra, HEAD_ROOM, Head, MediaType, json, print_head};
 use crate::me::append_me;
 use crate::page::{append_page, page_room};
 use crate::put::put;
@@ -68,14 +68,35 @@ fn print_me(into: &mut Vec<u8>, me: &Me, form: Form) -> Result<(), AllocError>
     print_content(into, content.as_slice(), form)
 }
 
-/// Appends the answer of a reply.
+/// The head of an answer whose content is bytes as they are.
+fn head_of_bytes() -> Head
+    ensures { result ≡ bytes_head }
+{
+    Head {
+        status: Status::Okay,
+        media_type: MediaType::OctetStream,
+        extra: Extra::Nothing,
+    }
+}
+
+/// Appends what stands in front of a content of so many bytes. It can't fail.
+#[tactic(auto, unfolding(crate::specs::Answers::content_front))]
+fn print_front(into: &mut Vec<u8>, length: usize, form: Form)
+    requires { HasRoom into.old 224 }
+    ensures { Puts into.old into.new (content_front length form) 224 }
+{
+    print_head(into, head_of_bytes(), length, form.closes);
+}
+
+/// Appends the answer of a reply, all but what `block` lends: so a paper's content is never copied here, and its head alone
+/// is appended. Every other answer is appended whole.
 ///
 /// An error comes only for lack of memory, and `into` then has the bytes that it had; its room may
-/// have grown. It never comes for a receipt, a refusal or the conference where room for 512 bytes is
+/// have grown. It never comes for a receipt, a refusal, the conference or a content where room for 512 bytes is
 /// there. The content of a list, a page or what one is told of oneself is made in a vector of its
 /// own, to HEAD too, and copied once.
 pub fn print_reply(into: &mut Vec<u8>, reply: &Reply, form: Form) -> Result<(), AllocError>
-    ensures prints { Prints result into.old into.new (reply_text reply.now form) }
+    ensures prints { Prints result into.old into.new (front_text form reply.now) }
     ensures sure { OnErr result (IsBrief reply.now → HasRoom into.old 512 → ⊥) }
 {
     match reply {
@@ -97,5 +118,21 @@ pub fn print_reply(into: &mut Vec<u8>, reply: &Reply, form: Form) -> Result<(), 
             print_conference(into, *conference, form);
             Ok(())
         }
+        Reply::Content(content) => {
+            into.reserve(HEAD_ROOM)?;
+            print_front(into, content.as_slice().len(), form);
+            Ok(())
+        }
+    }
+}
+
+/// What is to be written behind what `print_reply` appended: a paper's content as it is kept, unless the answer is to HEAD,
+/// and nothing of any other reply. It is lent, so this takes no memory and no time.
+pub fn block(reply: &Reply, form: Form) -> &[u8]
+    ensures { result.now ≡ block_text form reply.now }
+{
+    match reply {
+        Reply::Content(content) if !form.is_head => content.as_slice(),
+        _ => &[],
     }
 }

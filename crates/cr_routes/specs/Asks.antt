@@ -4,7 +4,7 @@ use Rattle.cr_routes.specs.Methods.{method_name, methods}
 use Rattle.cr_routes.specs.declared.place.Place.{Place}
 use Rattle.cr_routes.specs.declared.place.Place.TheVariants as at
 use Rattle.cr_routes.specs.declared.method.Method.{Method}
-use Rattle.cr_routes.specs.declared.method.Method.TheVariants.{Get, Head, Post}
+use Rattle.cr_routes.specs.declared.method.Method.TheVariants.{Get, Head, Post, Put, Delete}
 use Rattle.cr_base.specs.declared.ask.Ask.{Ask}
 use Rattle.cr_base.specs.declared.ask.Ask.TheVariants as asks
 
@@ -18,6 +18,11 @@ route_at at.Phase Get = Some asks.Phase
 route_at at.Phase Post = Some asks.SetPhase
 route_at at.Papers Post = Some asks.Submit
 route_at at.Paper Get = Some asks.Page
+route_at at.Paper Put = Some asks.Revise
+route_at at.Paper Delete = Some asks.Withdraw
+route_at at.Content Get = Some asks.Content
+route_at at.Content Put = Some asks.Upload
+route_at at.Version Get = Some asks.Version
 route_at at.Conflicts Post = Some asks.SetConflict
 route_at at.Me Get = Some asks.Me
 route_at _ _ = None

@@ -2,17 +2,19 @@
 use Rattle.std.specs.Prelude.{ℕ, List, [], ◌∷◌, Option, Some, None, codes, if◌then◌else◌}
 use Rattle.std.specs.Str.{bytes_eq}
 use Rattle.cr_routes.specs.declared.method.Method.{Method}
-use Rattle.cr_routes.specs.declared.method.Method.TheVariants.{Get, Head, Post}
+use Rattle.cr_routes.specs.declared.method.Method.TheVariants.{Get, Head, Post, Put, Delete}
 
 -- a method's name
 abbrev pub method_name : Method → List ℕ
 method_name Get = codes "GET"
 method_name Head = codes "HEAD"
 method_name Post = codes "POST"
+method_name Put = codes "PUT"
+method_name Delete = codes "DELETE"
 
 -- the methods, in alphabetical order
 abbrev pub methods : List Method
-methods = Get ∷ Head ∷ Post ∷ []
+methods = Delete ∷ Get ∷ Head ∷ Post ∷ Put ∷ []
 
 -- the method of these with this name
 abbrev pub method_named : List ℕ → List Method → Option Method

@@ -10,6 +10,10 @@ pub enum Method {
     Head,
     /// Sends a command.
     Post,
+    /// Sends what is to stand at the path.
+    Put,
+    /// Asks that what stands at the path be taken away.
+    Delete,
 }
 
 impl Method {
@@ -28,6 +32,12 @@ impl Method {
         }
         if name == b"POST".as_slice() {
             return Some(Method::Post);
+        }
+        if name == b"PUT".as_slice() {
+            return Some(Method::Put);
+        }
+        if name == b"DELETE".as_slice() {
+            return Some(Method::Delete);
         }
         None
     }

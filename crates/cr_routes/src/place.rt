@@ -21,6 +21,10 @@ pub enum Place {
     Papers,
     /// `/papers/{p}`: one part of any bytes, at least one, follows `/papers/`.
     Paper,
+    /// `/papers/{p}/content`: one such part stands between the slashes.
+    Content,
+    /// `/papers/{p}/content/{v}`: one such part stands between the slashes, and one at the end.
+    Version,
     /// `/papers/{p}/conflicts`: one such part stands between the slashes.
     Conflicts,
     /// `/me`
@@ -43,6 +47,11 @@ impl Place {
             (Place::Phase, Method::Post) => Some(Ask::SetPhase),
             (Place::Papers, Method::Post) => Some(Ask::Submit),
             (Place::Paper, Method::Get | Method::Head) => Some(Ask::Page),
+            (Place::Paper, Method::Put) => Some(Ask::Revise),
+            (Place::Paper, Method::Delete) => Some(Ask::Withdraw),
+            (Place::Content, Method::Get | Method::Head) => Some(Ask::Content),
+            (Place::Content, Method::Put) => Some(Ask::Upload),
+            (Place::Version, Method::Get | Method::Head) => Some(Ask::Version),
             (Place::Conflicts, Method::Post) => Some(Ask::SetConflict),
             (Place::Me, Method::Get | Method::Head) => Some(Ask::Me),
             _ => None,
@@ -58,7 +67,9 @@ impl Place {
         match self {
             Place::Register | Place::Members | Place::Mode | Place::Papers | Place::Conflicts =>
                 "POST",
-            Place::Accounts | Place::Paper | Place::Me => "GET, HEAD",
+            Place::Accounts | Place::Version | Place::Me => "GET, HEAD",
+            Place::Paper => "DELETE, GET, HEAD, PUT",
+            Place::Content => "GET, HEAD, PUT",
             Place::Phase => "GET, HEAD, POST",
         }
     }

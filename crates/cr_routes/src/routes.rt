@@ -9,12 +9,14 @@ use matchit::{InsertError, Router};
 use std::alloc::{AllocError, Global};
 
 /// As `paths` lists them.
-static PATHS: [(&str, Place); 9] = [
+static PATHS: [(&str, Place); 11] = [
     ("/accounts", Place::Accounts),
     ("/members", Place::Members),
     ("/me", Place::Me),
     ("/mode", Place::Mode),
     ("/papers/{p}/conflicts", Place::Conflicts),
+    ("/papers/{p}/content/{v}", Place::Version),
+    ("/papers/{p}/content", Place::Content),
     ("/papers/{p}", Place::Paper),
     ("/papers", Place::Papers),
     ("/phase", Place::Phase),

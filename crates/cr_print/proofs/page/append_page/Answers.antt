@@ -19,7 +19,7 @@ returns c =
     then c.in_ok-fixed-4.ensures
     then c.in_ok-fixed-5.ensures
     then c.in_ok-text-2.ensures
-    then c.in_ok-fixed-6.ensures
-    then c.in_ok-fixed-7.ensures in
-    let members : Added c.open.new.into c.fixed-7.new.into c.in_ok-object.object.is_first c.fixed-7.new.self.is_first (page_members c.args.page.now) = rw c.number.ensures.value at all in
-    closed c.close.result c.args.into.now c.open.new.into c.fixed-7.new.into c.close.new.into _ _ _ c.in_ok-object.ensures.text c.in_ok-object.ensures.first members c.close.ensures.text
+    then c.in_ok-versions.ensures
+    then c.in_ok-truth-2.ensures in
+    let members : Added c.open.new.into c.truth-2.new.into c.in_ok-object.object.is_first c.truth-2.new.self.is_first (page_members c.args.page.now) = rw c.number.ensures.value at all in
+    closed c.close.result c.args.into.now c.open.new.into c.truth-2.new.into c.close.new.into _ _ _ c.in_ok-object.ensures.text c.in_ok-object.ensures.first members c.close.ensures.text
