@@ -37,6 +37,8 @@ CLIENTS = 62
 # No answer that is due at once may take so many seconds.
 SOON = 20
 DEADLINE = 60
+# A body's most bytes.
+LARGEST = 4_194_304
 # As many descriptors as serve a store and some of the workers.
 FEW = 40
 USAGE = re.compile(rb"usage: confd pipe\|serve\|view(\|drill)?\n")
@@ -222,6 +224,44 @@ def too_large(program, folder):
             answer = client.getresponse()
             expect((answer.status, answer.read()) == (413, b'{"error":"too_large"}'), f"turn {turn}: {answer.status}")
             client.close()
+
+
+def upload(who, paper, content):
+    """An upload as bytes."""
+    head = (
+        f"PUT /papers/{paper}/content HTTP/1.1\r\nHost: c\r\nAuthorization: Bearer {who}.{who}-secret-0123456789\r\n"
+        f"Content-Length: {len(content)}\r\n\r\n"
+    )
+    return head.encode() + content
+
+
+def contents(program, folder):
+    """Contents of 4 MiB: sixteen are taken and not a byte more, and they come back as they were, after a restart too."""
+    store = os.path.join(folder, "store")
+    first, last = os.urandom(LARGEST), os.urandom(LARGEST)
+
+    def read(server):
+        with Client(server) as client:
+            for path, content in (("", last), ("/16", last), ("/1", first)):
+                code, fields, came = client.ask(request("GET", f"/papers/1/content{path}", "erin"))
+                expect((code, fields[b"Content-Type"]) == (200, b"application/octet-stream"), f"{path}: {code} {fields}")
+                expect(came == content, f"{path}: other bytes came")
+            code, fields, _ = client.ask(request("HEAD", "/papers/1/content", "erin"), is_head=True)
+            expect((code, fields[b"Content-Length"]) == (200, str(LARGEST).encode()), f"HEAD: {code} {fields}")
+
+    with serving(program, store) as server:
+        with Client(server) as client:
+            client.send(opening() + register("erin") + register("bob") + submit("erin", "Large") + submit("bob", "Small"))
+            expect([client.answer()[0] for _ in range(6)] == [201, 200, 201, 201, 201, 201], "opening")
+            for number in range(16):
+                code, _, content = client.ask(upload("erin", 1, first if number == 0 else last))
+                expect((code, content) == (200, b'{"version":%d}' % (number + 1)), f"upload {number}: {code} {content}")
+            for who, paper, due in (("erin", 1, (409, b'{"error":"quota_bytes"}')), ("bob", 2, (200, b'{"version":1}'))):
+                code, _, content = client.ask(upload(who, paper, b"x"))
+                expect((code, content) == due, f"{who}: {code} {content}")
+        read(server)
+    with serving(program, store) as server:
+        read(server)
 
 
 def many_at_once(program, folder):
@@ -468,7 +508,7 @@ def deadlines(program, folder):
 
 
 CHECKS = [
-    one_client, library, closing, drips, too_large, many_at_once, ends_by_itself, few_descriptors,
+    one_client, library, closing, drips, too_large, contents, many_at_once, ends_by_itself, few_descriptors,
     refused_addresses, refused_words, held, killed,
 ]  # fmt: skip
 
