@@ -35,15 +35,19 @@ judged-Err {A} {B} (check ∷ checks) x y rule h = by check.broken h (judged-Err
     by true h rest = let e : check.rule ≡ rule = cc in ap (λ (r : Rule). Err r) e
     by false h rest = rest h
 
--- a check is asked only where none of those before it is broken: so where it stands alike then, the answer is the same
-pub asked-behind : {A : Type 0} (before : List Check) (v w : Bool) (rule : Rule) (rest : List Check) (drawn : A) → (NoneBroken before → v ≡ w)
-    → judged (before ++ (v breaks rule ∷ rest)) drawn ≡ judged (before ++ (w breaks rule ∷ rest)) drawn
-asked-behind [] v w rule rest drawn same = ap (λ (b : Bool). judged (b breaks rule ∷ rest) drawn) (same tt)
-asked-behind {A} (check ∷ before) v w rule rest drawn same = by check.broken (λ is. asked-behind before v w rule rest drawn (λ none. same (is, none)))
+-- what stands behind some checks is asked only where none of them is broken: so where that gives the same answer then, all of it does
+pub judged-behind : {A : Type 0} (before rest rest' : List Check) (x y : A) → (NoneBroken before → ◌≡◌ {A = Result A Rule} (judged rest x) (judged rest' y))
+    → ◌≡◌ {A = Result A Rule} (judged (before ++ rest) x) (judged (before ++ rest') y)
+judged-behind [] rest rest' x y same = same tt
+judged-behind {A} (check ∷ before) rest rest' x y same = by check.broken (λ is. judged-behind before rest rest' x y (λ none. same (is, none)))
   where
-    after : Bool → Result A Rule
-    after b = judged (before ++ (b breaks rule ∷ rest)) drawn
-
-    by : (b : Bool) → (b ≡ false → after v ≡ after w) → ◌≡◌ {A = Result A Rule} (cond b (Err check.rule) (after v)) (cond b (Err check.rule) (after w))
+    by : (b : Bool) → (b ≡ false → ◌≡◌ {A = Result A Rule} (judged (before ++ rest) x) (judged (before ++ rest') y))
+        → ◌≡◌ {A = Result A Rule} (cond b (Err check.rule) (judged (before ++ rest) x)) (cond b (Err check.rule) (judged (before ++ rest') y))
     by true deeper = refl
     by false deeper = deeper refl
+
+-- and so it is with one check that stands alike then
+pub asked-behind : {A : Type 0} (before : List Check) (v w : Bool) (rule : Rule) (rest : List Check) (drawn : A) → (NoneBroken before → v ≡ w)
+    → judged (before ++ (v breaks rule ∷ rest)) drawn ≡ judged (before ++ (w breaks rule ∷ rest)) drawn
+asked-behind before v w rule rest drawn same =
+    judged-behind before (v breaks rule ∷ rest) (w breaks rule ∷ rest) drawn drawn (λ none. ap (λ (b : Bool). judged (b breaks rule ∷ rest) drawn) (same none))

@@ -10,6 +10,7 @@ use Rattle.cr_base.specs.Sources.{Facts, Shown}
 use Rattle.cr_base.specs.Tables.{Tables, no_tables, tables_of, FitInTurn}
 use Rattle.cr_base.proofs.FitLaws.{judged-fits}
 use Rattle.cr_history.specs.Groups.{Adds}
+use Rattle.cr_history.specs.Laws.{AreTold}
 use Rattle.cr_history.specs.Invariants.{IsRegistered}
 use Rattle.cr_history.proofs.RuleLaws.{facts_of, registration-adds, command-adds}
 use Rattle.cr_history.proofs.SizeTies.{sized-tables}
@@ -18,11 +19,17 @@ use Rattle.cr_policy.specs.Legal.{IsCaller}
 use Rattle.cr_policy.specs.View.{view}
 use Rattle.cr_policy.specs.ViewFacts.{facts_in_view, shown_in_view}
 use Rattle.cr_policy.proofs.JudgeTies.{judge-tables}
-use Rattle.cr_policy.proofs.StandingLaws.{standing_from_view, accounts-seen, papers-seen, own_papers-seen}
+use Rattle.cr_policy.proofs.StandingLaws.{standing_from_view, accounts-seen, papers-seen, own_papers-seen, own_bytes-seen}
 
 -- any user's view tells the facts of a history
 facts-seen : (u : Option ℕ) (H : History) → facts_in_view u (view u H) ≡ facts_of u H
-facts-seen u H = λ i. record { standing = λ paper. standing_from_view u paper H i; accounts = accounts-seen u H i; papers = papers-seen u H i; own_papers = own_papers-seen u H i }
+facts-seen u H = λ i. record {
+  standing = λ paper. standing_from_view u paper H i;
+  accounts = accounts-seen u H i;
+  papers = papers-seen u H i;
+  own_papers = own_papers-seen u H i;
+  own_bytes = own_bytes-seen u H i;
+}
 
 -- a registered user's command
 user-adds : (H : History) (user : ℕ) (command : Command) (drawn : Drawn) → IsBoundedCommand command → IsRegistered H user → judge (Some user) (view (Some user) H) command ≡ Ok drawn → Adds H drawn.group
@@ -37,8 +44,9 @@ accepted-adds H None command drawn bounded is accepted = absurd is
 accepted-adds H (Some user) command drawn bounded is accepted = user-adds H user command drawn bounded is accepted
 
 -- and the tables take it. Nobody's is a registration, which doesn't ask who gives it
-pub accepted-fits : (H : History) (caller : Option ℕ) (command : Command) (drawn : Drawn) → FitInTurn no_tables H → IsCaller H caller command → judge caller (view caller H) command ≡ Ok drawn → FitInTurn (tables_of H) drawn.group
-accepted-fits H caller command drawn fits is accepted = by caller command is (sym (judge-tables caller H command fits) ∙ accepted)
+pub accepted-fits : (H : History) (caller : Option ℕ) (command : Command) (drawn : Drawn) → FitInTurn no_tables H → AreTold H → IsCaller H caller command
+    → judge caller (view caller H) command ≡ Ok drawn → FitInTurn (tables_of H) drawn.group
+accepted-fits H caller command drawn fits told is accepted = by caller command is (sym (judge-tables caller H command told) ∙ accepted)
   where
     t : Tables
     t = tables_of H

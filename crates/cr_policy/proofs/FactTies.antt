@@ -1,27 +1,57 @@
--- Where each entry fits in its turn, what rules and answers read in a view is what they read in the tables.
-use Rattle.std.proofs.Common.{ℕ, true, false, ◌≡◌, ap, ◌∙◌, Option, Some}
+-- Where the tables tell what a history tells, what rules and answers read in a view is what they read in the tables.
+use Rattle.std.proofs.Common.{ℕ, Bool, true, false, ◌≡◌, sym, ap, ◌∙◌, Option, Some}
 use Rattle.cr_base.specs.declared.standing.Standing.{Standing}
+use Rattle.cr_base.specs.Answering.{uploads_told}
 use Rattle.cr_base.specs.History.{History}
-use Rattle.cr_base.specs.Page.{shows_author}
+use Rattle.cr_base.specs.HistoryFacts.{is_author, uploads_of}
+use Rattle.cr_base.specs.Page.{shows_author, gets_versions, gets_withdrawn}
+use Rattle.cr_base.specs.Papers.{uploads_at, is_withdrawn_at}
 use Rattle.cr_base.specs.Ties.{authors_in}
-use Rattle.cr_base.specs.Tables.{no_tables, tables_of, FitInTurn}
+use Rattle.cr_base.specs.Tables.{tables_of}
 use Rattle.cr_base.specs.Sources.{standing_at, facts_of_tables}
-use Rattle.cr_history.proofs.LineTies.{accounts_of-tables}
-use Rattle.cr_history.proofs.PaperTies.{papers_of-tables, own_papers_of-tables, authors_of-tables}
-use Rattle.cr_history.proofs.TableTies.{standing_of-tables}
+use Rattle.cr_history.specs.Laws.{AreTold}
 use Rattle.cr_policy.specs.View.{view}
-use Rattle.cr_policy.specs.ViewFacts.{authors_in_view, facts_in_view}
-use Rattle.cr_policy.proofs.StandingLaws.{standing_from_view, accounts-seen, papers-seen, own_papers-seen}
-use Rattle.cr_policy.proofs.PageTells.{authors-seen}
+use Rattle.cr_policy.specs.ViewFacts.{authors_in_view, uploads_in_view, is_withdrawn_in_view, facts_in_view}
+use Rattle.cr_policy.proofs.StandingLaws.{standing_from_view, accounts-seen, papers-seen, own_papers-seen, own_bytes-seen}
+use Rattle.cr_policy.proofs.PageTells.{authors-seen, uploads-seen_by_author, uploads-seen, withdrawn-seen}
 
 -- the facts of any user's view are those of the tables
-pub facts_in_view-tables : (u : Option ℕ) (H : History) → FitInTurn no_tables H → facts_in_view u (view u H) ≡ facts_of_tables (tables_of H) u
-facts_in_view-tables u H fits =
-    let accounts = accounts-seen u H ∙ accounts_of-tables H fits in
-    let papers = papers-seen u H ∙ papers_of-tables H fits in
-    let own = own_papers-seen u H ∙ own_papers_of-tables u H in
-    λ i. record { standing = λ paper. (standing_from_view u paper H ∙ standing_of-tables u paper H fits) i; accounts = accounts i; papers = papers i; own_papers = own i }
+pub facts_in_view-tables : (u : Option ℕ) (H : History) → AreTold H → facts_in_view u (view u H) ≡ facts_of_tables (tables_of H) u
+facts_in_view-tables u H told =
+    let accounts = accounts-seen u H ∙ told.accounts in
+    let papers = papers-seen u H ∙ told.papers in
+    let own = own_papers-seen u H ∙ told.own_papers u in
+    let bytes = own_bytes-seen u H ∙ told.own_bytes u in
+    λ i. record {
+      standing = λ paper. (standing_from_view u paper H ∙ told.standing u paper) i;
+      accounts = accounts i;
+      papers = papers i;
+      own_papers = own i;
+      own_bytes = bytes i;
+    }
 
--- who wrote a paper, as the view of one who is told shows it
-pub authors-tables : (u : Option ℕ) (H : History) (p : ℕ) → FitInTurn no_tables H → shows_author (standing_at (tables_of H) u (Some p)) false ≡ true → authors_in_view p (view u H) ≡ authors_in (tables_of H).ties p
-authors-tables u H p fits told = authors-seen u p H (ap (λ (by : Standing). shows_author by false) (standing_of-tables u (Some p) H fits) ∙ told) ∙ authors_of-tables p H
+module _ (u : Option ℕ) (H : History) (told : AreTold H) (p : ℕ) where
+  -- how she stands to the paper, by the tables
+  abbrev by : Standing
+  by = standing_at (tables_of H) u (Some p)
+
+  -- who wrote a paper, as the view of one who is told shows it
+  pub authors-tables : shows_author by false ≡ true → authors_in_view p (view u H) ≡ authors_in (tables_of H).ties p
+  authors-tables may = authors-seen u p H (ap (λ (s : Standing). shows_author s false) (told.standing u (Some p)) ∙ may) ∙ told.authors p
+
+  -- whether it is withdrawn
+  pub withdrawn-tables : gets_withdrawn by ≡ true → is_withdrawn_in_view p (view u H) ≡ is_withdrawn_at (tables_of H).papers p
+  withdrawn-tables may = withdrawn-seen u p H (ap gets_withdrawn (told.standing u (Some p)) ∙ may) ∙ told.withdrawn p
+
+  -- what was uploaded to it, as the view of an author shows it
+  pub own_uploads-tables : by.author ≡ true → uploads_in_view p (view u H) ≡ uploads_at (tables_of H).papers p
+  own_uploads-tables author = uploads-seen_by_author u p H (ap (λ (s : Standing). s.author) (told.standing u (Some p)) ∙ author) ∙ told.uploads p
+
+  -- and as far as any reader is told of it
+  pub uploads-tables : gets_versions by ≡ true → uploads_told by.author (uploads_in_view p (view u H)) ≡ uploads_told by.author (uploads_at (tables_of H).papers p)
+  uploads-tables may =
+      let author : is_author u p H ≡ by.author = ap (λ (s : Standing). s.author) (told.standing u (Some p)) in
+      ap (λ (b : Bool). uploads_told b (uploads_in_view p (view u H))) (sym author)
+      ∙ uploads-seen u p H (ap gets_versions (told.standing u (Some p)) ∙ may)
+      ∙ ap (λ (b : Bool). uploads_told b (uploads_of p H)) author
+      ∙ ap (uploads_told by.author) (told.uploads p)

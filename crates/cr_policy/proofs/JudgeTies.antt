@@ -1,33 +1,34 @@
--- Where each entry fits in its turn, judgement by a view is that by the tables.
-use Rattle.std.proofs.Common.{ℕ, Bool, true, false, cond, ◌≡◌, List, [], ◌∷◌, refl, ap, ◌∙◌, ◌||◌, ◌&&◌, arith, Option, Some, None, Result, Err}
-use Rattle.std.specs.Prelude.{unwrap_or, not}
+-- Where the tables tell what a history tells, judgement by a view is that by the tables.
+use Rattle.std.proofs.Common.{ℕ, Bool, true, false, cond, ◌≡◌, List, [], ◌∷◌, ◌+◌, ◌++◌, length, refl, ap, ◌∙◌, ◌||◌, ◌&&◌, arith, Option, Some, None, Result, Err}
+use Rattle.std.specs.Prelude.{unwrap_or, not, nat_lt}
 use Rattle.std.specs.List.{list_any}
 use Rattle.std.specs.Option.{option_map}
 use Rattle.std.proofs.lemmas.Bool.{and_parts, not-false, or_left, or_right}
 use Rattle.cr_base.specs.declared.command.Command.{Command}
-use Rattle.cr_base.specs.declared.command.Command.TheVariants.{SetConflict}
+use Rattle.cr_base.specs.declared.command.Command.TheVariants as commands
 use Rattle.cr_base.specs.declared.reply.Rule.{Rule}
 use Rattle.cr_base.specs.declared.reply.Rule.TheVariants as rules
 use Rattle.cr_base.specs.declared.standing.Standing.{Standing}
 use Rattle.cr_base.specs.declared.target.Target.{Target}
-use Rattle.cr_base.specs.declared.words.Phase.TheVariants.{Bidding, Notification}
+use Rattle.cr_base.specs.declared.words.Phase.TheVariants.{Submission, Bidding, Notification}
 use Rattle.cr_base.specs.declared.words.Role.{Role}
 use Rattle.cr_base.specs.declared.words.Role.TheVariants.{Account, Member, Chair}
 use Rattle.cr_base.specs.Checks.{Check, ◌breaks◌, judged, is_in_committee, declare_checks, own_checks, other_checks, off_checks, conflict_case, conflict_checks}
 use Rattle.cr_base.specs.Lists.{is_number}
-use Rattle.cr_base.specs.History.{History}
-use Rattle.cr_base.specs.Page.{bare_keys, shows_author}
-use Rattle.cr_base.specs.Phases.{is_from}
-use Rattle.cr_base.specs.Tables.{no_tables, tables_of, FitInTurn}
+use Rattle.cr_base.specs.History.{History, Upload}
+use Rattle.cr_base.specs.Page.{shows_author, gets_withdrawn}
+use Rattle.cr_base.specs.Phases.{is_from, is_phase}
+use Rattle.cr_base.specs.Tables.{tables_of}
 use Rattle.cr_base.specs.Words.{is_anonymous, is_member, is_chair}
-use Rattle.cr_base.specs.Drawn.{Drawn, conflict_drawn}
+use Rattle.cr_base.specs.Drawn.{Drawn, revision_drawn, upload_drawn, withdrawal_drawn, conflict_drawn}
 use Rattle.cr_base.specs.Judging.{conflict_judged, judge_by, judge_by_role}
 use Rattle.cr_base.specs.Sources.{Facts, Shown, maker_of, user_among, role_among, has_paper, paper_named, facts_of_tables, shown_in_tables}
-use Rattle.cr_base.proofs.CheckLaws.{asked-behind}
+use Rattle.cr_base.proofs.CheckLaws.{judged-behind, asked-behind}
+use Rattle.cr_history.specs.Laws.{AreTold}
 use Rattle.cr_policy.specs.View.{view}
 use Rattle.cr_policy.specs.ViewFacts.{shown_in_view}
 use Rattle.cr_policy.specs.Judge.{judge}
-use Rattle.cr_policy.proofs.FactTies.{facts_in_view-tables, authors-tables}
+use Rattle.cr_policy.proofs.FactTies.{facts_in_view-tables, authors-tables, withdrawn-tables, own_uploads-tables}
 
 -- ---- judgement
 
@@ -49,20 +50,17 @@ module _ (by : Standing) (drawn : Drawn) where
   -- ---- whether the paper is withdrawn
 
   -- the page of a paper tells her if it is withdrawn
-  abbrev gets_withdrawn : Bool
-  gets_withdrawn = (bare_keys by).withdrawn
-
-  told-author : not by.author ≡ false → gets_withdrawn ≡ true
+  told-author : not by.author ≡ false → gets_withdrawn by ≡ true
   told-author h = or_left by.author (is_member by.role && begun) (not-false by.author h)
 
-  told-member : not (is_member by.role) ≡ false → begun ≡ true → gets_withdrawn ≡ true
+  told-member : not (is_member by.role) ≡ false → begun ≡ true → gets_withdrawn by ≡ true
   told-member h b = or_right by.author (is_member by.role && begun) (both (is_member by.role) begun (not-false (is_member by.role) h) b)
     where
       both : (x y : Bool) → x ≡ true → y ≡ true → (x && y) ≡ true
       both true y hx hy = hy
       both false y hx hy = hx
 
-  told-chair : not (is_chair by.role) ≡ false → begun ≡ true → gets_withdrawn ≡ true
+  told-chair : not (is_chair by.role) ≡ false → begun ≡ true → gets_withdrawn by ≡ true
   told-chair h b = told-member (serves by.role h) b
     where
       serves : (role : Role) → not (is_chair role) ≡ false → not (is_member role) ≡ false
@@ -74,7 +72,7 @@ module _ (by : Standing) (drawn : Drawn) where
   in_committee h = (and_parts begun still (not-false (begun && still) h)).0
 
   -- Of each list it is asked only behind rules that have let through one whom the page tells it.
-  declare-withdrawn : (v w : Bool) (user : Target) → (gets_withdrawn ≡ true → v ≡ w) → Alike (declare_checks by v user) (declare_checks by w user)
+  declare-withdrawn : (v w : Bool) (user : Target) → (gets_withdrawn by ≡ true → v ≡ w) → Alike (declare_checks by v user) (declare_checks by w user)
   declare-withdrawn v w user same =
       asked-behind
       (not by.author breaks rules.NotAuthor ∷ [])
@@ -82,14 +80,14 @@ module _ (by : Standing) (drawn : Drawn) where
       (not (is_member user.role) breaks rules.NotAMember ∷ []) drawn
       (λ none. same (told-author none.0))
 
-  own-withdrawn : (v w : Bool) → begun ≡ true → (gets_withdrawn ≡ true → v ≡ w) → Alike (own_checks by v) (own_checks by w)
+  own-withdrawn : (v w : Bool) → begun ≡ true → (gets_withdrawn by ≡ true → v ≡ w) → Alike (own_checks by v) (own_checks by w)
   own-withdrawn v w b same =
       asked-behind
       (not (is_member by.role) breaks rules.NotMember ∷ [])
       v w rules.Withdrawn [] drawn
       (λ none. same (told-member none.0 b))
 
-  other-withdrawn : (v w : Bool) (user : Target) → begun ≡ true → (gets_withdrawn ≡ true → v ≡ w) → Alike (other_checks by v user) (other_checks by w user)
+  other-withdrawn : (v w : Bool) (user : Target) → begun ≡ true → (gets_withdrawn by ≡ true → v ≡ w) → Alike (other_checks by v user) (other_checks by w user)
   other-withdrawn v w user b same =
       asked-behind
       (not (is_chair by.role) breaks rules.NotChair ∷ by.conflicted breaks rules.Conflict ∷ [])
@@ -97,7 +95,7 @@ module _ (by : Standing) (drawn : Drawn) where
       (not (is_member user.role) breaks rules.NotAMember ∷ []) drawn
       (λ none. same (told-chair none.0 b))
 
-  off-withdrawn : (v w : Bool) (user : Target) → (gets_withdrawn ≡ true → v ≡ w) → Alike (off_checks by v user) (off_checks by w user)
+  off-withdrawn : (v w : Bool) (user : Target) → (gets_withdrawn by ≡ true → v ≡ w) → Alike (off_checks by v user) (off_checks by w user)
   off-withdrawn v w user same =
       asked-behind
       (not (is_chair by.role) breaks rules.NotChair ∷ by.conflicted breaks rules.Conflict
@@ -106,7 +104,7 @@ module _ (by : Standing) (drawn : Drawn) where
       (not (is_member user.role) breaks rules.NotAMember ∷ user.author breaks rules.AuthorConflict ∷ []) drawn
       (λ none. same (told-chair none.0 (in_committee none.1.1.0)))
 
-  case-withdrawn : (on bidding late herself : Bool) (role : Role) (author v w : Bool) → begun ≡ bidding → (gets_withdrawn ≡ true → v ≡ w)
+  case-withdrawn : (on bidding late herself : Bool) (role : Role) (author v w : Bool) → begun ≡ bidding → (gets_withdrawn by ≡ true → v ≡ w)
       → Alike (conflict_case on bidding late by v (named role herself author)) (conflict_case on bidding late by w (named role herself author))
   case-withdrawn false bidding late herself role author v w b same = off-withdrawn v w (named role herself author) same
   case-withdrawn true false late herself role author v w b same = declare-withdrawn v w (named role herself author) same
@@ -144,8 +142,29 @@ module _ (by : Standing) (drawn : Drawn) where
 
 -- what two sources show of papers is the same as far as a caller is told it
 record Agree (facts : Facts) (shown tabled : Shown) : Type 0 where
-  withdrawn : (p : ℕ) → (bare_keys (facts.standing (Some p))).withdrawn ≡ true → shown.withdrawn p ≡ tabled.withdrawn p
+  withdrawn : (p : ℕ) → gets_withdrawn (facts.standing (Some p)) ≡ true → shown.withdrawn p ≡ tabled.withdrawn p
   authors : (p : ℕ) → shows_author (facts.standing (Some p)) false ≡ true → shown.authors p ≡ tabled.authors p
+  uploads : (p : ℕ) → (facts.standing (Some p)).author ≡ true → shown.uploads p ≡ tabled.uploads p
+
+-- a paper's authors are judged alike: whether it is withdrawn is asked, and what was uploaded is counted, only behind the
+-- rule that lets authors alone through
+module _ (facts : Facts) (shown tabled : Shown) (same : Agree facts shown tabled) (p : ℕ) where
+  abbrev by_author : Standing
+  by_author = facts.standing (Some p)
+
+  abbrev before : List Check
+  before = not (has_paper facts (Some p)) breaks rules.NoPaper ∷ not by_author.author breaks rules.NotAuthor ∷ []
+
+  abbrev behind : Bool → List Check → List Check
+  behind withdrawn more = not (is_phase by_author.phase Submission) breaks rules.WrongPhase ∷ withdrawn breaks rules.Withdrawn ∷ more
+
+  author-same : (more : List Check) (drawn : List Upload → Drawn)
+      → judged (before ++ behind (shown.withdrawn p) more) (drawn (shown.uploads p)) ≡ judged (before ++ behind (tabled.withdrawn p) more) (drawn (tabled.uploads p))
+  author-same more drawn =
+      judged-behind before (behind (shown.withdrawn p) more) (behind (tabled.withdrawn p) more) (drawn (shown.uploads p)) (drawn (tabled.uploads p))
+      (λ none.
+      ap (λ (withdrawn : Bool). judged (behind withdrawn more) (drawn (shown.uploads p))) (same.withdrawn p (told-author by_author (drawn []) none.1.0))
+      ∙ ap (λ (uploads : List Upload). judged (behind (tabled.withdrawn p) more) (drawn uploads)) (same.uploads p (not-false by_author.author none.1.0)))
 
 -- and matters to a conflict's judgement no further
 conflict-same : (facts : Facts) (shown tabled : Shown) (u paper target : Option ℕ) (on : Bool) → Agree facts shown tabled
@@ -183,14 +202,22 @@ conflict-same facts shown tabled u (Some p) target on same = by (role_among fact
         ∙ case-author standing drawn on bidding late (tabled.withdrawn p) herself role (wrote shown) (wrote tabled)
         (λ told. ap (list_any (is_number target)) (same.authors p told)))
 
--- by the same facts, what a view shows makes no other judgement than what the tables hold
-judge-shown : (u : Option ℕ) (H : History) (command : Command) → FitInTurn no_tables H → judge_by (facts_of_tables (tables_of H) u) (shown_in_view u (view u H)) u command ≡ judge_by_role (tables_of H) u command
-judge-shown u H (SetConflict paper name on) fits =
-    let facts : Facts = facts_of_tables (tables_of H) u in
-    conflict-same facts (shown_in_view u (view u H)) (shown_in_tables (tables_of H)) u paper (user_among facts.accounts name) on
-    (record { withdrawn = λ p told. refl; authors = λ p told. authors-tables u H p fits told })
-judge-shown u H command fits = refl
+-- so what is shown makes no other judgement than what the tables hold
+command-same : (facts : Facts) (shown tabled : Shown) (u : Option ℕ) (command : Command) → Agree facts shown tabled → judge_by facts shown u command ≡ judge_by facts tabled u command
+command-same facts shown tabled u (commands.Revise (Some p) title abstract) same = author-same facts shown tabled same p [] (λ _. revision_drawn (maker_of u) p title abstract)
+command-same facts shown tabled u (commands.Upload (Some p) content) same =
+    author-same facts shown tabled same p (nat_lt 67108864 (facts.own_bytes + length content) breaks rules.QuotaBytes ∷ [])
+    (λ uploads. upload_drawn (maker_of u) p (length uploads + 1) content)
+command-same facts shown tabled u (commands.Withdraw (Some p)) same = author-same facts shown tabled same p [] (λ _. withdrawal_drawn (maker_of u) p)
+command-same facts shown tabled u (commands.SetConflict paper name on) same = conflict-same facts shown tabled u paper (user_among facts.accounts name) on same
+command-same facts shown tabled u command same = refl
 
--- so the judgement by any user's view is the one by the tables
-pub judge-tables : (u : Option ℕ) (H : History) (command : Command) → FitInTurn no_tables H → judge u (view u H) command ≡ judge_by_role (tables_of H) u command
-judge-tables u H command fits = ap (λ (facts : Facts). judge_by facts (shown_in_view u (view u H)) u command) (facts_in_view-tables u H fits) ∙ judge-shown u H command fits
+-- the judgement by any user's view is the one by the tables
+pub judge-tables : (u : Option ℕ) (H : History) (command : Command) → AreTold H → judge u (view u H) command ≡ judge_by_role (tables_of H) u command
+judge-tables u H command told =
+    ap (λ (facts : Facts). judge_by facts (shown_in_view u (view u H)) u command) (facts_in_view-tables u H told)
+    ∙ command-same (facts_of_tables (tables_of H) u) (shown_in_view u (view u H)) (shown_in_tables (tables_of H)) u command (record {
+      withdrawn = λ p may. withdrawn-tables u H told p may;
+      authors = λ p may. authors-tables u H told p may;
+      uploads = λ p may. own_uploads-tables u H told p may;
+    })

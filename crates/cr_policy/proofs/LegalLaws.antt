@@ -7,13 +7,14 @@ use Rattle.cr_base.specs.Accounts.{number_at, caller_at}
 use Rattle.cr_base.specs.HistoryFacts.{number_of, caller_of}
 use Rattle.cr_base.specs.History.{History}
 use Rattle.cr_base.specs.Answering.{answer_by_role}
+use Rattle.cr_base.specs.declared.entry.Stamped.{Stamped}
 use Rattle.cr_base.specs.Drawn.{Drawn}
 use Rattle.cr_base.specs.Judging.{judge_by_role}
 use Rattle.cr_base.specs.Tables.{no_tables, tables_of, FitInTurn}
-use Rattle.cr_history.specs.Invariants.{Invariants, DeclaresInTime}
+use Rattle.cr_history.specs.Invariants.{Invariants, InTurn, IsInOrder, ComesFirst, DeclaresInTime}
+use Rattle.cr_history.specs.Laws.{AreTold}
 use Rattle.cr_history.proofs.CallerLaws.{caller-registered}
-use Rattle.cr_history.proofs.NumberTies.{number_of-tables, caller_of-tables}
-use Rattle.cr_history.proofs.GrowthLaws.{growth_keeps}
+use Rattle.cr_history.proofs.GrowthLaws.{growth_keeps, tables_tell}
 use Rattle.cr_policy.specs.View.{view}
 use Rattle.cr_policy.specs.Judge.{judge, answer}
 use Rattle.cr_policy.specs.Legal.{Call, IsUser, IsAllowed, followed_by, step, LeadsTo, Legal}
@@ -48,11 +49,20 @@ Legal-accepted H caller command drawn legal allowed accepted =
 
 -- ---- what a legal history keeps
 
+-- a paper's co-authors come before any conflict with it, where each entry is in order
+comes-first : (before H : History) → InTurn IsInOrder before H → InTurn (λ (before : History) (e : Stamped). ComesFirst before e.entry) before H
+comes-first before [] kept = tt
+comes-first before (e ∷ after) kept = (kept.0.first, comes-first (before ++ e ∷ []) after kept.1)
+
+-- so the tables tell what it tells
+pub Kept-told : (H : History) → Invariants H → AreTold H
+Kept-told H kept = tables_tell H kept.fits (comes-first [] H kept.in_order)
+
 -- what the invariants say of a history stays so as it is followed by what a command adds
 followed-keeps : (H : History) (call : Call) → Invariants H → IsAllowed H call → (r : Result Drawn Rule) → judge call.caller (view call.caller H) call.command ≡ r → Invariants (followed_by H r)
 followed-keeps H call kept allowed (Err rule) is = kept
 followed-keeps H call kept allowed (Ok drawn) is =
-    let fits = accepted-fits H call.caller call.command drawn kept.fits allowed.caller is in
+    let fits = accepted-fits H call.caller call.command drawn kept.fits (Kept-told H kept) allowed.caller is in
     growth_keeps.more H drawn.group kept (accepted-adds H call.caller call.command drawn allowed.bounded allowed.caller is) fits
 
 leads-keeps : (from to : History) (calls : List Call) → Invariants from → LeadsTo from calls to → Invariants to
@@ -67,6 +77,10 @@ legal_invariants H legal = leads-keeps [] H legal.0 growth_keeps.first legal.1
 pub Legal-fits : (H : History) → Legal H → FitInTurn no_tables H
 Legal-fits H legal = (legal_invariants H legal).fits
 
+-- and its tables tell what it tells
+pub Legal-told : (H : History) → Legal H → AreTold H
+Legal-told H legal = Kept-told H (legal_invariants H legal)
+
 -- before the bidding of a legal history authors alone declare conflicts, and from it on no author declares another user
 pub Legal-in_time : (H : History) → Legal H → DeclaresInTime H
 Legal-in_time H legal = (legal_invariants H legal).in_time
@@ -79,10 +93,10 @@ digests-own u H legal = own_digests (reader u H) [] H (legal_invariants H legal)
 
 -- the users of names, and of names with digests, are those of the tables
 pub Legal-number_of : (name : List ℕ) (H : History) → Legal H → number_of name H ≡ number_at (tables_of H).accounts name
-Legal-number_of name H legal = number_of-tables name H (Legal-fits H legal)
+Legal-number_of name H legal = (Legal-told H legal).number name
 
 pub Legal-caller_of : (name digest : List ℕ) (H : History) → Legal H → caller_of name digest H ≡ caller_at (tables_of H).accounts name digest
-Legal-caller_of name digest H legal = caller_of-tables name digest H (Legal-fits H legal)
+Legal-caller_of name digest H legal = (Legal-told H legal).caller name digest
 
 -- who calls has registered, whatever the history
 pub Legal-caller_registered : (name digest : List ℕ) (H : History) (u : ℕ) → caller_of name digest H ≡ Some u → IsUser H (Some u)
@@ -90,10 +104,10 @@ Legal-caller_registered name digest H u is = caller-registered name digest H u i
 
 -- judgement and answer by any user's view are those by the tables
 pub Legal-judge : (u : Option ℕ) (H : History) (command : Command) → Legal H → judge u (view u H) command ≡ judge_by_role (tables_of H) u command
-Legal-judge u H command legal = judge-tables u H command (Legal-fits H legal)
+Legal-judge u H command legal = judge-tables u H command (Legal-told H legal)
 
 pub Legal-answer : (u : Option ℕ) (H : History) (query : Query) → Legal H → answer u (view u H) query ≡ answer_by_role (tables_of H) u query
-Legal-answer u H query legal = answer-tables u H query (Legal-fits H legal) (Legal-in_time H legal)
+Legal-answer u H query legal = answer-tables u H (Legal-fits H legal) (Legal-told H legal) (Legal-in_time H legal) query
 
 -- an author's view tells whom the paper's authors declared
 pub Legal-declared : DeclaredFromView

@@ -2,21 +2,24 @@
 use Rattle.std.proofs.Common.{◌≡◌, ℕ, Bool, true, false, List, [], ◌∷◌, ◌++◌, refl, sym, ap, ◌∙◌, ◌||◌, ◌&&◌, Option, Some, eqb, arith}
 use Rattle.std.specs.List.{flat_map}
 use Rattle.cr_base.specs.declared.entry.Entry.{Entry}
-use Rattle.cr_base.specs.declared.entry.Entry.TheVariants.{Submitted}
+use Rattle.cr_base.specs.declared.entry.Entry.TheVariants.{Submitted, Revised}
 use Rattle.cr_base.specs.declared.entry.Stamped.{Stamped}
 use Rattle.cr_base.specs.declared.words.Phase.TheVariants.{Bidding}
-use Rattle.cr_base.specs.Lists.{given, is_nothing}
-use Rattle.cr_base.specs.History.{History, author_told, title_told, abstract_told}
-use Rattle.cr_base.specs.HistoryFacts.{phase_of, standing_of, is_author, is_conflict_on, title_of, abstract_of, authors_of}
-use Rattle.cr_base.specs.Page.{is_clear_member, is_clear_chair, gets_title, gets_abstract, shows_author, gets_conflicts}
+use Rattle.cr_base.specs.Lists.{given, listed, last, last_or, is_nothing}
+use Rattle.cr_base.specs.History.{History, author_told, title_told, abstract_told, upload_told, withdrawal_told}
+use Rattle.cr_base.specs.Answering.{uploads_told}
+use Rattle.cr_base.specs.HistoryFacts.{phase_of, standing_of, is_author, is_conflict_on, title_of, abstract_of, authors_of, uploads_of, is_withdrawn}
+use Rattle.cr_base.specs.Page.{is_clear_member, is_clear_chair, gets_title, gets_abstract, shows_author, gets_conflicts, gets_versions, gets_withdrawn}
 use Rattle.cr_base.specs.Phases.{is_from}
 use Rattle.cr_policy.specs.Part as part
 use Rattle.cr_policy.specs.Triggers.{reader, user_named, members, standing_to, unless_anonymous, none_in}
-use Rattle.cr_policy.specs.View.{view}
-use Rattle.cr_policy.specs.ViewFacts.{author_seen, title_seen, abstract_seen, title_in_view, abstract_in_view, authors_in_view, is_conflict_on_in_view}
-use Rattle.cr_policy.proofs.StandingLaws.{declared-seen_where}
+use Rattle.cr_policy.specs.View.{view, is_seen}
+use Rattle.cr_policy.specs.ViewFacts.{author_seen, title_seen, abstract_seen, upload_seen, withdrawal_seen}
+use Rattle.cr_policy.specs.ViewFacts.{title_in_view, abstract_in_view, authors_in_view, is_conflict_on_in_view, uploads_in_view, is_withdrawn_in_view}
+use Rattle.cr_policy.proofs.StandingLaws.{first_of, declared-seen_where}
 use Rattle.cr_policy.proofs.Walk.{fold_last, fold_all}
-use Rattle.cr_policy.proofs.Tells.{passes, author_tells, title_tells, abstract_tells, author_value, title_value, abstract_value}
+use Rattle.cr_policy.proofs.Tells.{passes, names_author, author_tells, title_tells, abstract_tells, upload_tells, withdrawal_tells}
+use Rattle.cr_policy.proofs.Tells.{author_value, title_value, abstract_value, upload_value, withdrawal_value}
 
 -- an author sees it, and so do others who may at the last entry that tells it; `own` is the maker's own row
 text_shown : (a n m f own : Bool) → n ≡ true → (a || (m && f)) ≡ true → (a || ((n && m && f) || (own || false))) ≡ true
@@ -27,7 +30,13 @@ text_shown a n m f own last told = grind arith
 pub title-seen : (u : Option ℕ) (p : ℕ) (H : History) → gets_title (standing_of u (Some p) H) ≡ true → title_in_view p (view u H) ≡ title_of p H
 title-seen u p H told =
     fold_last (reader u H) (title_seen p) (λ (e : Stamped). title_told p e.entry) (passes part.title (reader u H)) (title_tells (reader u H) p)
-    (λ at e last. title_value (reader u H) at p (λ maker more title abstract. text_shown (is_author u p H) (none_in (title_told p) at.after) (members (reader u H)) (is_from Bidding (phase_of H)) (user_named (reader u H) maker) last told) e) [] H
+    (λ at e last.
+    let shown : (own : Bool) → (is_author u p H || ((none_in (title_told p) at.after && members (reader u H) && is_from Bidding (phase_of H)) || (own || false))) ≡ true =
+    λ own. text_shown (is_author u p H) (none_in (title_told p) at.after) (members (reader u H)) (is_from Bidding (phase_of H)) own last told in
+    title_value (reader u H) at p (record {
+      submitted = λ maker more title abstract. shown (user_named (reader u H) maker);
+      revised = λ maker more title abstract. shown (user_named (reader u H) maker);
+    }) e) [] H
 
 -- ---- abstracts
 
@@ -42,6 +51,7 @@ same_given false x y = refl
 -- an entry tells a title exactly where it tells an abstract
 same_texts : (p : ℕ) (e : Entry) → is_nothing (title_told p e) ≡ is_nothing (abstract_told p e)
 same_texts p (Submitted paper title abstract) = same_given (eqb paper p) title abstract
+same_texts p (Revised paper title abstract) = same_given (eqb paper p) title abstract
 same_texts p e = refl
 
 same_nothing : (p : ℕ) (H : History) → is_nothing (flat_map (λ (e : Stamped). title_told p e.entry) H) ≡ is_nothing (flat_map (λ (e : Stamped). abstract_told p e.entry) H)
@@ -56,17 +66,77 @@ same_nothing p (e ∷ H) =
 pub abstract-seen : (u : Option ℕ) (p : ℕ) (H : History) → gets_abstract (standing_of u (Some p) H) ≡ true → abstract_in_view p (view u H) ≡ abstract_of p H
 abstract-seen u p H told =
     fold_last (reader u H) (abstract_seen p) (λ (e : Stamped). abstract_told p e.entry) (passes part.abstract (reader u H)) (abstract_tells (reader u H) p)
-    (λ at e last. abstract_value (reader u H) at p (λ maker more title abstract. text_shown (is_author u p H) (none_in (title_told p) at.after) (is_clear_member (standing_to (reader u H) p)) (is_from Bidding (phase_of H)) (user_named (reader u H) maker) (same_nothing p at.after ∙ last) told) e) [] H
+    (λ at e last.
+    let clear : Bool = is_clear_member (standing_to (reader u H) p) in
+    let shown : (own : Bool) → (is_author u p H || ((none_in (title_told p) at.after && clear && is_from Bidding (phase_of H)) || (own || false))) ≡ true =
+    λ own. text_shown (is_author u p H) (none_in (title_told p) at.after) clear (is_from Bidding (phase_of H)) own (same_nothing p at.after ∙ last) told in
+    abstract_value (reader u H) at p (record {
+      submitted = λ maker more title abstract. shown (user_named (reader u H) maker);
+      revised = λ maker more title abstract. shown (user_named (reader u H) maker);
+    }) e) [] H
+
+-- ---- uploads
+
+-- an author sees all that was uploaded to her paper
+pub uploads-seen_by_author : (u : Option ℕ) (p : ℕ) (H : History) → is_author u p H ≡ true → uploads_in_view p (view u H) ≡ uploads_of p H
+uploads-seen_by_author u p H h =
+    fold_all (reader u H) (upload_seen p) (λ (e : Stamped). upload_told p e.entry) (passes part.content (reader u H)) (upload_tells (reader u H) p)
+    (λ at e. upload_value (reader u H) at p (λ maker more version content. first_of (is_author u p H) _ h) e) [] H
+
+-- of what others who are told see of it, the last is the last
+last_upload-seen : (u : Option ℕ) (p : ℕ) (H : History) → gets_versions (standing_of u (Some p) H) ≡ true → last (uploads_in_view p (view u H)) ≡ last (uploads_of p H)
+last_upload-seen u p H told =
+    fold_last (reader u H) (upload_seen p) (λ (e : Stamped). upload_told p e.entry) (passes part.content (reader u H)) (upload_tells (reader u H) p)
+    (λ at e last.
+    let clear : Bool = is_clear_member (standing_to (reader u H) p) in
+    upload_value (reader u H) at p (λ maker more version content.
+    text_shown (is_author u p H) (none_in (upload_told p) at.after) clear (is_from Bidding (phase_of H)) (user_named (reader u H) maker) last told) e) [] H
+
+-- so what she is told of it is what the history tells her
+pub uploads-seen : (u : Option ℕ) (p : ℕ) (H : History) → gets_versions (standing_of u (Some p) H) ≡ true
+    → uploads_told (is_author u p H) (uploads_in_view p (view u H)) ≡ uploads_told (is_author u p H) (uploads_of p H)
+uploads-seen u p H told = by (is_author u p H) refl
+  where
+    by : (b : Bool) → is_author u p H ≡ b → uploads_told b (uploads_in_view p (view u H)) ≡ uploads_told b (uploads_of p H)
+    by true h = uploads-seen_by_author u p H h
+    by false h = ap listed (last_upload-seen u p H told)
+
+-- ---- withdrawals
+
+withdrawal_shown : (a m f own : Bool) → (a || (m && f)) ≡ true → (a || ((m && f) || (own || false))) ≡ true
+withdrawal_shown a m f own told = grind arith
+
+pub withdrawn-seen : (u : Option ℕ) (p : ℕ) (H : History) → gets_withdrawn (standing_of u (Some p) H) ≡ true → is_withdrawn_in_view p (view u H) ≡ is_withdrawn p H
+withdrawn-seen u p H told =
+    ap (last_or false) (fold_all (reader u H) (withdrawal_seen p) (λ (e : Stamped). withdrawal_told p e.entry) (is_seen (reader u H)) (withdrawal_tells (reader u H) p)
+    (λ at e. withdrawal_value (reader u H) at p (λ maker more.
+    withdrawal_shown (is_author u p H) (members (reader u H)) (is_from Bidding (phase_of H)) (user_named (reader u H) maker) told) e) [] H)
 
 -- ---- authors
 
-authors_shown : (a c m f n : Bool) → (a || (c && f) || (m && n && f) || false) ≡ true → (a || ((c && f) || ((m && n && f) || false))) ≡ true
-authors_shown a c m f n told = grind arith
+-- `rest` is the maker's own row, where it names the author
+authors_shown : (a c m f n rest : Bool) → (a || (c && f) || (m && n && f) || false) ≡ true → (a || ((c && f) || ((m && n && f) || rest))) ≡ true
+authors_shown a c m f n rest told = grind arith
 
 pub authors-seen : (u : Option ℕ) (p : ℕ) (H : History) → shows_author (standing_of u (Some p) H) false ≡ true → authors_in_view p (view u H) ≡ authors_of p H
 authors-seen u p H told =
-    fold_all (reader u H) (author_seen p) (λ (e : Stamped). author_told p e.maker e.entry) (passes part.by (reader u H)) (author_tells (reader u H) p)
-    (λ at e. author_value (reader u H) at p (λ maker more title abstract. authors_shown (is_author u p H) (is_clear_chair (standing_to (reader u H) p)) (is_clear_member (standing_to (reader u H) p)) (is_from Bidding (phase_of H)) (unless_anonymous (reader u H)) told) e) [] H
+    fold_all (reader u H) (author_seen p) (λ (e : Stamped). author_told p e.maker e.entry) (names_author (reader u H)) (author_tells (reader u H) p)
+    (λ at e. author_value (reader u H) at p (record {
+      submitted = λ maker more title abstract. shown false;
+      coauthor = λ maker more user. shown (user_named (reader u H) maker || false);
+    }) e) [] H
+  where
+    chair : Bool
+    chair = is_clear_chair (standing_to (reader u H) p)
+
+    member : Bool
+    member = is_clear_member (standing_to (reader u H) p)
+
+    begun : Bool
+    begun = is_from Bidding (phase_of H)
+
+    shown : (rest : Bool) → (is_author u p H || ((chair && begun) || ((member && unless_anonymous (reader u H) && begun) || rest))) ≡ true
+    shown rest = authors_shown (is_author u p H) chair member begun (unless_anonymous (reader u H)) rest told
 
 -- ---- declared conflicts
 

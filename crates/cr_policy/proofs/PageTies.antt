@@ -1,56 +1,65 @@
--- Where each entry fits in its turn and conflicts are declared in time, answers by a view are those by the tables.
-use Rattle.std.proofs.Common.{ℕ, Bool, true, false, ◌≡◌, List, refl, ap, ◌∙◌, Option, Some}
-use Rattle.std.specs.Prelude.{unwrap_or, map}
-use Rattle.std.specs.List.{filter}
+-- Where the tables tell what a history tells and conflicts are declared in time, answers by a view are those by the tables.
+use Rattle.std.proofs.Common.{ℕ, Bool, true, false, ◌≡◌, List, [], ◌∷◌, ◌||◌, ◌&&◌, refl, ap, ◌∙◌, arith, Option, Some, None, Result}
+use Rattle.std.specs.Prelude.{◌==◌, unwrap_or, not, is_some, map}
+use Rattle.std.specs.List.{list_any, filter}
+use Rattle.std.specs.Option.{option_map}
 use Rattle.cr_base.specs.declared.command.Query.{Query}
 use Rattle.cr_base.specs.declared.command.Query.TheVariants as queries
 use Rattle.cr_base.specs.declared.page.Page.{Page}
 use Rattle.cr_base.specs.declared.reply.AccountLine.{AccountLine}
+use Rattle.cr_base.specs.declared.reply.Reply.{Reply}
 use Rattle.cr_base.specs.declared.reply.Reply.TheVariants as replies
+use Rattle.cr_base.specs.declared.reply.Rule.{Rule}
+use Rattle.cr_base.specs.declared.reply.Rule.TheVariants as rules
 use Rattle.cr_base.specs.declared.standing.Standing.{Standing}
+use Rattle.cr_base.specs.declared.words.Phase.TheVariants.{Bidding}
 use Rattle.cr_base.specs.Accounts.{lines_of}
-use Rattle.cr_base.specs.Checks.{judged}
-use Rattle.cr_base.specs.History.{History}
+use Rattle.cr_base.specs.Checks.{Check, ◌breaks◌, judged}
+use Rattle.cr_base.specs.History.{History, Upload}
 use Rattle.cr_base.specs.HistoryFacts.{standing_of}
-use Rattle.cr_base.specs.Page.{PaperTexts, page_of, where_told, gets_title, gets_abstract, shows_author, gets_conflict, gets_conflicts, gets_declared, bare_keys}
+use Rattle.cr_base.specs.Page.{PaperTexts, page_of, where_told, gets_title, gets_abstract, shows_author, gets_conflict, gets_conflicts, gets_declared, gets_versions, gets_withdrawn, bare_keys}
+use Rattle.cr_base.specs.Phases.{is_from}
 use Rattle.cr_base.specs.Tables.{Tables, no_tables, tables_of, FitInTurn}
-use Rattle.cr_base.specs.Answering.{query_checks, page_by, reply_or_rule, answer_by, answer_by_role}
-use Rattle.cr_base.specs.Sources.{Facts, Shown, standing_at, facts_of_tables, shown_in_tables, names_in}
+use Rattle.cr_base.specs.Answering.{uploads_told, upload_of, content_by, content_asked, query_checks, page_by, reply_or_rule, answer_by, answer_by_role}
+use Rattle.cr_base.specs.Sources.{Facts, Shown, has_paper, facts_of_tables, shown_in_tables, names_in}
+use Rattle.cr_base.specs.Words.{is_member}
+use Rattle.cr_base.proofs.CheckLaws.{judged-behind}
+use Rattle.cr_history.specs.Laws.{AreTold}
 use Rattle.cr_policy.specs.View.{view}
 use Rattle.cr_policy.specs.ViewFacts.{is_conflict_on_in_view, declared_in_view, users_where, shown_in_view}
 use Rattle.cr_policy.specs.Judge.{answer}
-use Rattle.cr_history.proofs.ConflictTies.{is_among, is_conflict_on-tables, declared_by_authors-tables}
 use Rattle.cr_policy.proofs.DeclaredLaws.{declared-seen_by_author}
 use Rattle.cr_history.specs.Invariants.{DeclaresInTime}
 use Rattle.cr_history.proofs.OrderTies.{has_order-tables, users-tied_to}
 use Rattle.cr_policy.proofs.StandingLaws.{accounts-seen}
 use Rattle.cr_policy.proofs.PageTells.{title-seen, abstract-seen, conflicts-seen}
-use Rattle.cr_history.proofs.LineTies.{accounts_of-tables}
-use Rattle.cr_history.proofs.PaperTies.{title_of-tables, abstract_of-tables}
-use Rattle.cr_history.proofs.TableTies.{standing_of-tables}
-use Rattle.cr_policy.proofs.FactTies.{facts_in_view-tables, authors-tables}
+use Rattle.cr_policy.proofs.FactTies.{facts_in_view-tables, authors-tables, withdrawn-tables, uploads-tables}
 
 -- ---- users by number
 
 -- of the accounts that a view shows, those of whom something holds are those of the tables
-users-tables : (u : Option ℕ) (H : History) (test : ℕ → Bool) → FitInTurn no_tables H → users_where test (view u H) ≡ filter test (map (λ (a : AccountLine). a.user) (lines_of (tables_of H).accounts))
-users-tables u H test fits = ap (λ (lines : List AccountLine). filter test (map (λ (a : AccountLine). a.user) lines)) (accounts-seen u H ∙ accounts_of-tables H fits)
+users-tables : (u : Option ℕ) (H : History) (test : ℕ → Bool) → AreTold H
+    → users_where test (view u H) ≡ filter test (map (λ (a : AccountLine). a.user) (lines_of (tables_of H).accounts))
+users-tables u H test told = ap (λ (lines : List AccountLine). filter test (map (λ (a : AccountLine). a.user) lines)) (accounts-seen u H ∙ told.accounts)
 
 -- who is declared in conflict with a paper, as the view of one who is told shows it
-conflicts-tables : (u : Option ℕ) (H : History) (p : ℕ) → FitInTurn no_tables H → gets_conflicts (standing_of u (Some p) H) ≡ true → (shown_in_view u (view u H)).conflicts p ≡ (shown_in_tables (tables_of H)).conflicts p
-conflicts-tables u H p fits told =
+conflicts-tables : (u : Option ℕ) (H : History) (p : ℕ) → FitInTurn no_tables H → AreTold H → gets_conflicts (standing_of u (Some p) H) ≡ true
+    → (shown_in_view u (view u H)).conflicts p ≡ (shown_in_tables (tables_of H)).conflicts p
+conflicts-tables u H p fits told may =
     let t : Tables = tables_of H in
     let test : ℕ → Bool = λ v. is_conflict_on_in_view (Some v) p (view u H) in
-    users-tables u H test fits
-    ∙ users-tied_to test p t.accounts t.ties.conflicts (has_order-tables H fits).conflicts (λ v. conflicts-seen u p H told (Some v) ∙ is_conflict_on-tables (Some v) p H)
+    users-tables u H test told
+    ∙ users-tied_to test p t.accounts t.ties.conflicts (has_order-tables H fits).conflicts (λ v. conflicts-seen u p H may (Some v) ∙ told.conflict (Some v) p)
 
 -- whom the paper's authors declared, as the view of one of them shows it
-declared-tables : (u : Option ℕ) (H : History) (p : ℕ) → FitInTurn no_tables H → DeclaresInTime H → gets_declared (standing_of u (Some p) H) ≡ true → (shown_in_view u (view u H)).declared p ≡ (shown_in_tables (tables_of H)).declared p
-declared-tables u H p fits in_time told =
+declared-tables : (u : Option ℕ) (H : History) (p : ℕ) → FitInTurn no_tables H → AreTold H → DeclaresInTime H → gets_declared (standing_of u (Some p) H) ≡ true
+    → (shown_in_view u (view u H)).declared p ≡ (shown_in_tables (tables_of H)).declared p
+declared-tables u H p fits told in_time may =
     let t : Tables = tables_of H in
-    let test : ℕ → Bool = λ v. is_among v (declared_in_view u p (view u H)) in
-    users-tables u H test fits
-    ∙ users-tied_to test p t.accounts t.ties.declared (has_order-tables H fits).declared (λ v. ap (is_among v) (declared-seen_by_author u p H in_time told) ∙ declared_by_authors-tables p v H fits)
+    let among : ℕ → List ℕ → Bool = λ v users. list_any (λ w. w == v) users in
+    let test : ℕ → Bool = λ v. among v (declared_in_view u p (view u H)) in
+    users-tables u H test told
+    ∙ users-tied_to test p t.accounts t.ties.declared (has_order-tables H fits).declared (λ v. ap (among v) (declared-seen_by_author u p H in_time may) ∙ told.declared p v)
 
 -- ---- pages
 
@@ -66,6 +75,8 @@ record AgreeWhereTold (by : Standing) (x y : PaperTexts) : Type 0 where
   authors : shows_author by false ≡ true → x.authors ≡ y.authors
   conflicts : gets_conflicts by ≡ true → x.conflicts ≡ y.conflicts
   declared : gets_declared by ≡ true → x.declared ≡ y.declared
+  versions : gets_versions by ≡ true → x.versions ≡ y.versions
+  withdrawn : gets_withdrawn by ≡ true → x.withdrawn ≡ y.withdrawn
 
 -- they make the same page
 page_of-same : (by : Standing) (p : ℕ) (x y : PaperTexts) → AgreeWhereTold by x y → page_of by p x ≡ page_of by p y
@@ -77,33 +88,94 @@ page_of-same by p x y agree = λ i. record {
   conflicts = same_key (gets_conflicts by) (Some x.conflicts) (Some y.conflicts) (λ told. ap Some (agree.conflicts told)) i;
   declared = same_key (gets_declared by) (Some x.declared) (Some y.declared) (λ told. ap Some (agree.declared told)) i;
   title = same_key (gets_title by) x.title y.title agree.title i;
+  versions = same_key (gets_versions by) (Some x.versions) (Some y.versions) (λ told. ap Some (agree.versions told)) i;
+  withdrawn = same_key (gets_withdrawn by) (Some x.withdrawn) (Some y.withdrawn) (λ told. ap Some (agree.withdrawn told)) i;
   bare = bare_keys by;
 }
 
--- the page of any paper by any user's view is the one by the tables
-page-tables : (u : Option ℕ) (H : History) (p : ℕ) → FitInTurn no_tables H → DeclaresInTime H → page_by (facts_of_tables (tables_of H) u) (shown_in_view u (view u H)) p ≡ page_by (facts_of_tables (tables_of H) u) (shown_in_tables (tables_of H)) p
-page-tables u H p fits in_time =
-    let t : Tables = tables_of H in
-    let names : List ℕ → List (List ℕ) = names_in (facts_of_tables t u).accounts in
-    let texts : Shown → PaperTexts = λ shown. record { title = shown.title p; abstract_ = shown.abstract_ p; authors = names (shown.authors p); conflicts = names (shown.conflicts p); declared = names (shown.declared p) } in
-    let stands = standing_of-tables u (Some p) H fits in
-    page_of-same (standing_at t u (Some p)) p (texts (shown_in_view u (view u H))) (texts (shown_in_tables t)) (record {
-      title = λ told. title-seen u p H (ap gets_title stands ∙ told) ∙ title_of-tables p H fits;
-      abstract_ = λ told. abstract-seen u p H (ap gets_abstract stands ∙ told) ∙ abstract_of-tables p H fits;
-      authors = λ told. ap names (authors-tables u H p fits told);
-      conflicts = λ told. ap names (conflicts-tables u H p fits (ap gets_conflicts stands ∙ told));
-      declared = λ told. ap names (declared-tables u H p fits in_time (ap gets_declared stands ∙ told));
-    })
+module _ (u : Option ℕ) (H : History) (fits : FitInTurn no_tables H) (told : AreTold H) (in_time : DeclaresInTime H) where
+  abbrev facts : Facts
+  facts = facts_of_tables (tables_of H) u
 
--- ---- answers
+  abbrev shown : Shown
+  shown = shown_in_view u (view u H)
 
-answer-shown : (u : Option ℕ) (H : History) (query : Query) → FitInTurn no_tables H → DeclaresInTime H → answer_by (facts_of_tables (tables_of H) u) (shown_in_view u (view u H)) u query ≡ answer_by_role (tables_of H) u query
-answer-shown u H queries.Me fits in_time = refl
-answer-shown u H queries.Accounts fits in_time = refl
-answer-shown u H queries.Phase fits in_time = refl
-answer-shown u H (queries.Page paper) fits in_time =
-    ap (λ (page : Page). reply_or_rule (judged (query_checks (facts_of_tables (tables_of H) u) (queries.Page paper)) (replies.Page page))) (page-tables u H (unwrap_or paper 0) fits in_time)
+  abbrev tabled : Shown
+  tabled = shown_in_tables (tables_of H)
 
--- and so is the answer
-pub answer-tables : (u : Option ℕ) (H : History) (query : Query) → FitInTurn no_tables H → DeclaresInTime H → answer u (view u H) query ≡ answer_by_role (tables_of H) u query
-answer-tables u H query fits in_time = ap (λ (facts : Facts). answer_by facts (shown_in_view u (view u H)) u query) (facts_in_view-tables u H fits) ∙ answer-shown u H query fits in_time
+  -- the page of any paper by any user's view is the one by the tables
+  page-tables : (p : ℕ) → page_by facts shown p ≡ page_by facts tabled p
+  page-tables p =
+      let by : Standing = facts.standing (Some p) in
+      let names : List ℕ → List (List ℕ) = names_in facts.accounts in
+      let numbers : List Upload → List ℕ = map (λ (upload : Upload). upload.version) in
+      let texts : Shown → PaperTexts = λ from. record {
+        title = from.title p;
+        abstract_ = from.abstract_ p;
+        authors = names (from.authors p);
+        conflicts = names (from.conflicts p);
+        declared = names (from.declared p);
+        versions = numbers (uploads_told by.author (from.uploads p));
+        withdrawn = from.withdrawn p;
+      } in
+      let stands = told.standing u (Some p) in
+      page_of-same by p (texts shown) (texts tabled) (record {
+        title = λ may. title-seen u p H (ap gets_title stands ∙ may) ∙ told.title p;
+        abstract_ = λ may. abstract-seen u p H (ap gets_abstract stands ∙ may) ∙ told.abstract_ p;
+        authors = λ may. ap names (authors-tables u H told p may);
+        conflicts = λ may. ap names (conflicts-tables u H p fits told (ap gets_conflicts stands ∙ may));
+        declared = λ may. ap names (declared-tables u H p fits told in_time (ap gets_declared stands ∙ may));
+        versions = λ may. ap numbers (uploads-tables u H told p may);
+        withdrawn = λ may. withdrawn-tables u H told p may;
+      })
+
+  -- ---- contents
+
+  -- a paper's content by any user's view is the one by the tables: whether there is any is asked only behind the rules
+  -- that have let through one who is told of it
+  content-tables : (paper version : Option ℕ) → judged (content_asked facts shown paper version) (replies.Content (unwrap_or (content_by facts shown paper version) []))
+      ≡ judged (content_asked facts tabled paper version) (replies.Content (unwrap_or (content_by facts tabled paper version) []))
+  content-tables None version = refl
+  content-tables (Some p) version =
+      judged-behind before (behind (content_by facts shown (Some p) version)) (behind (content_by facts tabled (Some p) version))
+      (reply (content_by facts shown (Some p) version)) (reply (content_by facts tabled (Some p) version))
+      (λ none. ap (λ (uploads : List Upload). answered (option_map (λ (upload : Upload). upload.content) (upload_of version uploads)))
+      (uploads-tables u H told p (reads by.author (is_member by.role) by.conflicted (is_from Bidding by.phase) none.1.0 none.1.1.0 none.1.1.1.0)))
+    where
+      by : Standing
+      by = facts.standing (Some p)
+
+      before : List Check
+      before =
+          not (has_paper facts (Some p)) breaks rules.NoPaper
+          ∷ not (by.author || is_member by.role) breaks rules.NotMember
+          ∷ (not by.author && by.conflicted) breaks rules.Conflict
+          ∷ not (by.author || is_from Bidding by.phase) breaks rules.WrongPhase
+          ∷ []
+
+      behind : Option (List ℕ) → List Check
+      behind content = not (is_some content) breaks rules.NoContent ∷ []
+
+      reply : Option (List ℕ) → Reply
+      reply content = replies.Content (unwrap_or content [])
+
+      answered : Option (List ℕ) → Result Reply Rule
+      answered content = judged (behind content) (reply content)
+
+      reads : (author member clash begun : Bool) → not (author || member) ≡ false → (not author && clash) ≡ false → not (author || begun) ≡ false
+          → (author || ((member && not clash) && begun)) ≡ true
+      reads author member clash begun h1 h2 h3 = grind arith
+
+  -- ---- answers
+
+  answer-shown : (query : Query) → answer_by facts shown u query ≡ answer_by_role (tables_of H) u query
+  answer-shown queries.Me = refl
+  answer-shown queries.Accounts = refl
+  answer-shown queries.Phase = refl
+  answer-shown (queries.Page paper) = ap (λ (page : Page). reply_or_rule (judged (query_checks facts shown (queries.Page paper)) (replies.Page page))) (page-tables (unwrap_or paper 0))
+  answer-shown (queries.Content paper) = ap reply_or_rule (content-tables paper None)
+  answer-shown (queries.Version paper version) = ap reply_or_rule (content-tables paper (Some version))
+
+  -- and so is the answer
+  pub answer-tables : (query : Query) → answer u (view u H) query ≡ answer_by_role (tables_of H) u query
+  answer-tables query = ap (λ (facts : Facts). answer_by facts shown u query) (facts_in_view-tables u H told) ∙ answer-shown query

@@ -9,17 +9,17 @@ use Rattle.cr_base.specs.declared.words.Mode.TheVariants.{Blind}
 use Rattle.cr_base.specs.declared.words.Role.{Role}
 use Rattle.cr_base.specs.declared.words.Role.TheVariants.{Account}
 use Rattle.cr_base.specs.declared.reply.AccountLine.{AccountLine}
-use Rattle.cr_base.specs.Lists.{last, last_or, is_number, at_some}
-use Rattle.cr_base.specs.History.{History, Registration, all_told, phase_told, mode_told, paper_told, own_paper_told, author_told, conflict_told, registration_told, role_told, number_told}
-use Rattle.cr_base.specs.HistoryFacts.{phase_of, mode_of, role_of, papers_of, own_papers_of, accounts_of, number_of, authors_of, is_author, is_conflict_on, is_conflicted}
+use Rattle.cr_base.specs.Lists.{last, last_or, total, is_number, at_some}
+use Rattle.cr_base.specs.History.{History, Registration, all_told, phase_told, mode_told, paper_told, own_paper_told, own_bytes_told, author_told, conflict_told, registration_told, role_told, number_told}
+use Rattle.cr_base.specs.HistoryFacts.{phase_of, mode_of, role_of, papers_of, own_papers_of, own_bytes_of, accounts_of, number_of, authors_of, is_author, is_conflict_on, is_conflicted}
 use Rattle.cr_policy.specs.Part as part
 use Rattle.cr_policy.specs.Triggers.{reader, Around}
 use Rattle.cr_policy.specs.View.{view}
-use Rattle.cr_policy.specs.ViewFacts.{phase_seen, mode_seen, paper_seen, own_paper_seen, author_seen, conflict_seen, registration_seen, role_seen, number_seen, phase_in_view, mode_in_view, role_in_view, papers_in_view, own_papers_in_view, accounts_in_view, number_in_view, authors_in_view, is_author_in_view, is_conflict_on_in_view, is_conflicted_in_view}
+use Rattle.cr_policy.specs.ViewFacts.{phase_seen, mode_seen, paper_seen, own_paper_seen, own_bytes_seen, author_seen, conflict_seen, registration_seen, role_seen, number_seen, phase_in_view, mode_in_view, role_in_view, papers_in_view, own_papers_in_view, own_bytes_in_view, accounts_in_view, number_in_view, authors_in_view, is_author_in_view, is_conflict_on_in_view, is_conflicted_in_view}
 use Rattle.cr_policy.specs.Laws.{StandingFromView, PublicFactsFromView}
 use Rattle.cr_policy.proofs.Walk.{sights-all, sights-kept, fold_all, list_any-kept}
 use Rattle.cr_history.proofs.LineTies.{stamp}
-use Rattle.cr_policy.proofs.Tells.{passes, phase_tells, mode_tells, paper_tells, own_paper_tells, author_tells, author_value, conflict_tells, conflict_value, registration_tells, role_tells, number_tells}
+use Rattle.cr_policy.proofs.Tells.{passes, names_author, phase_tells, mode_tells, paper_tells, own_paper_tells, own_bytes_tells, author_tells, author_value, conflict_tells, conflict_value, registration_tells, role_tells, number_tells}
 
 -- ---- the conference
 
@@ -53,14 +53,20 @@ accounts-seen u H =
 pub own_papers-seen : (u : Option ℕ) (H : History) → own_papers_in_view (view u H) ≡ own_papers_of u H
 own_papers-seen u H = ap length (sights-all (reader u H) own_paper_seen (λ (e : Stamped). own_paper_told u e.maker e.entry) (own_paper_tells (reader u H)) [] H)
 
-first_of : (a rest : Bool) → a ≡ true → (a || rest) ≡ true
+pub own_bytes-seen : (u : Option ℕ) (H : History) → own_bytes_in_view (view u H) ≡ own_bytes_of u H
+own_bytes-seen u H = ap total (sights-all (reader u H) own_bytes_seen (λ (e : Stamped). own_bytes_told u e.maker e.entry) (own_bytes_tells (reader u H)) [] H)
+
+pub first_of : (a rest : Bool) → a ≡ true → (a || rest) ≡ true
 first_of a rest h = ap (λ b. b || rest) h
 
 -- an author sees all authors of her paper
 authors-seen_by_author : (u : Option ℕ) (p : ℕ) (H : History) → is_author u p H ≡ true → authors_in_view p (view u H) ≡ authors_of p H
 authors-seen_by_author u p H h =
-    fold_all (reader u H) (author_seen p) (λ (e : Stamped). author_told p e.maker e.entry) (passes part.by (reader u H)) (author_tells (reader u H) p)
-    (λ at e. author_value (reader u H) at p (λ maker more title abstract. first_of (is_author u p H) _ h) e) [] H
+    fold_all (reader u H) (author_seen p) (λ (e : Stamped). author_told p e.maker e.entry) (names_author (reader u H)) (author_tells (reader u H) p)
+    (λ at e. author_value (reader u H) at p (record {
+      submitted = λ maker more title abstract. first_of (is_author u p H) _ h;
+      coauthor = λ maker more user. first_of (is_author u p H) _ h;
+    }) e) [] H
 
 -- the reader is told exactly where she is an author
 author-seen : (u : Option ℕ) (p : ℕ) (H : History) → is_author_in_view u p (view u H) ≡ is_author u p H
@@ -69,8 +75,8 @@ author-seen u p H = by (is_author u p H) refl
     by : (b : Bool) → is_author u p H ≡ b → is_author_in_view u p (view u H) ≡ b
     by true h = ap (list_any (is_number u)) (authors-seen_by_author u p H h) ∙ h
     by false h =
-        ap (list_any (is_number u)) (sights-kept (reader u H) (author_seen p) (λ (e : Stamped). author_told p e.maker e.entry) (passes part.by (reader u H)) (author_tells (reader u H) p) [] H)
-        ∙ list_any-kept (is_number u) (passes part.by (reader u H)) (λ (e : Stamped). author_told p e.maker e.entry) [] H h
+        ap (list_any (is_number u)) (sights-kept (reader u H) (author_seen p) (λ (e : Stamped). author_told p e.maker e.entry) (names_author (reader u H)) (author_tells (reader u H) p) [] H)
+        ∙ list_any-kept (is_number u) (names_author (reader u H)) (λ (e : Stamped). author_told p e.maker e.entry) [] H h
 
 -- a user's conflicts are told the reader, where she is shown each entry on them
 pub declared-seen_where : (u v : Option ℕ) (p : ℕ) (H : History) → ((at : Around) (maker : ℕ) (more : Bool) (user : ℕ) (on : Bool) → is_number v user ≡ true → passes part.on (reader u H) at (stamp maker more (Conflict p user on)) ≡ true) → is_conflict_on_in_view v p (view u H) ≡ is_conflict_on v p H
@@ -106,5 +112,6 @@ public_from_view u H = record {
   accounts = accounts-seen u H;
   papers = papers-seen u H;
   own_papers = own_papers-seen u H;
+  own_bytes = own_bytes-seen u H;
   number = λ name. number-seen u name H;
 }

@@ -1,25 +1,37 @@
 -- What each entry shows of one fact: one lemma a fact, one line a kind of entry that tells of it.
-use Rattle.std.proofs.Common.{◌≡◌, ℕ, Bool, true, false, List, [], ◌∷◌, refl, sym, ap, ◌∙◌, ◌||◌, ◌&&◌, Option, Some, append-nil, eqb, arith}
+use Rattle.std.proofs.Common.{◌≡◌, ℕ, Bool, true, false, List, [], ◌∷◌, length, refl, sym, ap, ◌∙◌, ◌||◌, ◌&&◌, Option, Some, append-nil, eqb, arith}
+use Rattle.std.specs.Prelude.{map}
 use Rattle.std.specs.List.{flat_map}
 use Rattle.std.specs.Str.{bytes_eq}
 use Rattle.std.proofs.lemmas.Bool.{eqb-true, or_parts, and_parts}
 use Rattle.cr_base.specs.declared.entry.Entry.{Entry}
-use Rattle.cr_base.specs.declared.entry.Entry.TheVariants.{Registered, Named, PhaseSet, ModeSet, Submitted, Conflict}
+use Rattle.cr_base.specs.declared.entry.Entry.TheVariants.{Registered, Named, PhaseSet, ModeSet, Submitted}
+use Rattle.cr_base.specs.declared.entry.Entry.TheVariants.{Coauthor, Revised, Uploaded, Withdrawn, Conflict}
 use Rattle.cr_base.specs.declared.entry.Stamped.{Stamped}
 use Rattle.cr_base.specs.Lists.{given, listed, is_number}
-use Rattle.cr_base.specs.History.{phase_told, mode_told, paper_told, own_paper_told, author_told, conflict_told, title_told, abstract_told, registration_told, role_told, number_told}
+use Rattle.cr_base.specs.History.{phase_told, mode_told, paper_told, own_paper_told, own_bytes_told, author_told, conflict_told}
+use Rattle.cr_base.specs.History.{title_told, abstract_told, upload_told, withdrawal_told, registration_told, role_told, number_told}
 use Rattle.cr_history.proofs.LineTies.{stamp}
 use Rattle.cr_policy.specs.Part as part
 use Rattle.cr_policy.specs.Part.{Part}
 use Rattle.cr_policy.specs.Sighting.{Sighting, where_shown}
 use Rattle.cr_policy.specs.Triggers.{Reader, Around, TriggerRow, applies_any, shows}
 use Rattle.cr_policy.specs.View.{sight, is_seen, joined, rows_at}
-use Rattle.cr_policy.specs.ViewFacts.{only, is_user, phase_seen, mode_seen, paper_seen, own_paper_seen, author_seen, conflict_seen, title_seen, abstract_seen, registration_seen, role_seen, number_seen}
+use Rattle.cr_policy.specs.ViewFacts.{only, is_user, phase_seen, mode_seen, paper_seen, own_paper_seen, author_seen, conflict_seen, title_seen, abstract_seen, upload_shown, upload_seen, own_bytes_seen, withdrawal_seen, registration_seen, role_seen, number_seen}
 use Rattle.cr_policy.proofs.Walk.{only-true, only-false, flat_map-given, Tells, TellsAll}
 
 -- whether a part of an entry is shown
 abbrev pub passes : Part → Reader → Around → Stamped → Bool
 passes p r at e = shows (rows_at r at e) p
+
+-- the part that names the author whom an entry gives a paper: who made a submission, or else the user
+abbrev pub author_part : Entry → Part
+author_part (Coauthor paper user) = part.user
+author_part _ = part.by
+
+-- whether it is shown
+abbrev pub names_author : Reader → Around → Stamped → Bool
+names_author r at e = passes (author_part e.entry) r at e
 
 -- what is told of a paper, where it is shown
 pub paper_value : {A : Type 0} (a c : Bool) (x : A) → only a (listed (where_shown c (Some x))) ≡ only c (given a x)
@@ -27,6 +39,22 @@ paper_value true true x = refl
 paper_value true false x = refl
 paper_value false true x = refl
 paper_value false false x = refl
+
+-- what is uploaded to a paper, where it is shown: its number and its content are shown together
+upload_pair : (a c : Bool) (version : ℕ) (content : List ℕ) → only a (upload_shown (where_shown c (Some version)) (where_shown c (Some content))) ≡ only c (given a (record { version = version; content = content }))
+upload_pair true true version content = refl
+upload_pair true false version content = refl
+upload_pair false true version content = refl
+upload_pair false false version content = refl
+
+-- how many bytes the reader uploaded: her own upload is shown her whole, whether the rows for authors (a) and members (m) apply or not
+own_value : (a m own : Bool) (content : List ℕ) → only (a || (m || (own || false))) (only own (map length (listed (where_shown (a || (m || (own || false))) (Some content))))) ≡ given own (length content)
+own_value true m true content = refl
+own_value true m false content = refl
+own_value false true true content = refl
+own_value false true false content = refl
+own_value false false true content = refl
+own_value false false false content = refl
 
 -- what is told of a user and a paper, where both are shown
 user_value : {A : Type 0} (a c : Bool) (u : Option ℕ) (v : ℕ) (x : A) → only (a && is_user u (where_shown c (Some v))) (listed (where_shown c (Some x))) ≡ only c (given (a && is_number u v) x)
@@ -97,19 +125,45 @@ module _ (r : Reader) (at : Around) (maker : ℕ) (more : Bool) where
   own_paper_at (Submitted paper title abstract) = append-nil (given (is_number r.number maker) paper)
   own_paper_at e = silent own_paper_seen e refl
 
+  own_bytes_at : (e : Entry) → flat_map own_bytes_seen (sight r at (stamp maker more e)) ≡ own_bytes_told r.number maker e
+  own_bytes_at (Uploaded paper version content) =
+      flat_map-given own_bytes_seen (is_seen r at (stamp maker more (Uploaded paper version content))) (joined r at (stamp maker more (Uploaded paper version content)))
+      ∙ own_value (r.author paper) _ (is_number r.number maker) content
+  own_bytes_at e = silent own_bytes_seen e refl
+
   -- ---- what is shown to some
 
-  author_at : (p : ℕ) (e : Entry) → flat_map (author_seen p) (sight r at (stamp maker more e)) ≡ only (passes part.by r at (stamp maker more e)) (author_told p maker e)
+  author_at : (p : ℕ) (e : Entry) → flat_map (author_seen p) (sight r at (stamp maker more e)) ≡ only (names_author r at (stamp maker more e)) (author_told p maker e)
   author_at p (Submitted paper title abstract) = append-nil _ ∙ paper_value (eqb paper p) _ maker
+  author_at p (Coauthor paper user) = told_where (author_seen p) part.user (Coauthor paper user) (author_told p maker (Coauthor paper user)) (paper_value (eqb paper p) _ user)
   author_at p e = silent (author_seen p) e refl
 
   title_at : (p : ℕ) (e : Entry) → flat_map (title_seen p) (sight r at (stamp maker more e)) ≡ only (passes part.title r at (stamp maker more e)) (title_told p e)
   title_at p (Submitted paper title abstract) = append-nil _ ∙ paper_value (eqb paper p) _ title
+  title_at p (Revised paper title abstract) = told_where (title_seen p) part.title (Revised paper title abstract) (title_told p (Revised paper title abstract)) (paper_value (eqb paper p) _ title)
   title_at p e = silent (title_seen p) e refl
 
   abstract_at : (p : ℕ) (e : Entry) → flat_map (abstract_seen p) (sight r at (stamp maker more e)) ≡ only (passes part.abstract r at (stamp maker more e)) (abstract_told p e)
   abstract_at p (Submitted paper title abstract) = append-nil _ ∙ paper_value (eqb paper p) _ abstract
+  abstract_at p (Revised paper title abstract) =
+      told_where (abstract_seen p) part.abstract (Revised paper title abstract) (abstract_told p (Revised paper title abstract)) (paper_value (eqb paper p) _ abstract)
   abstract_at p e = silent (abstract_seen p) e refl
+
+  upload_at : (p : ℕ) (e : Entry) → flat_map (upload_seen p) (sight r at (stamp maker more e)) ≡ only (passes part.content r at (stamp maker more e)) (upload_told p e)
+  upload_at p (Uploaded paper version content) =
+      told_where (upload_seen p) part.content (Uploaded paper version content) (upload_told p (Uploaded paper version content)) (upload_pair (eqb paper p) _ version content)
+  upload_at p e = silent (upload_seen p) e refl
+
+  -- a withdrawal has no part beside its paper
+  withdrawal_at : (p : ℕ) (e : Entry) → flat_map (withdrawal_seen p) (sight r at (stamp maker more e)) ≡ only (is_seen r at (stamp maker more e)) (withdrawal_told p e)
+  withdrawal_at p (Withdrawn paper) =
+      flat_map-given (withdrawal_seen p) (is_seen r at (stamp maker more (Withdrawn paper))) (joined r at (stamp maker more (Withdrawn paper)))
+      ∙ ap (only (is_seen r at (stamp maker more (Withdrawn paper)))) (by (eqb paper p))
+    where
+      by : (b : Bool) → only b (true ∷ []) ≡ given b true
+      by true = refl
+      by false = refl
+  withdrawal_at p e = silent (withdrawal_seen p) e refl
 
   conflict_at : (u : Option ℕ) (p : ℕ) (e : Entry) → flat_map (conflict_seen u p) (sight r at (stamp maker more e)) ≡ only (passes part.on r at (stamp maker more e)) (conflict_told u p e)
   conflict_at u p (Conflict paper user on) = told_where (conflict_seen u p) part.on (Conflict paper user on) (conflict_told u p (Conflict paper user on)) (user_value (eqb paper p) _ u user on)
@@ -136,7 +190,10 @@ number_tells r name at e = number_at r at e.maker e.more name e.entry
 pub own_paper_tells : (r : Reader) → TellsAll r own_paper_seen (λ (e : Stamped). own_paper_told r.number e.maker e.entry)
 own_paper_tells r at e = own_paper_at r at e.maker e.more e.entry
 
-pub author_tells : (r : Reader) (p : ℕ) → Tells r (author_seen p) (λ (e : Stamped). author_told p e.maker e.entry) (passes part.by r)
+pub own_bytes_tells : (r : Reader) → TellsAll r own_bytes_seen (λ (e : Stamped). own_bytes_told r.number e.maker e.entry)
+own_bytes_tells r at e = own_bytes_at r at e.maker e.more e.entry
+
+pub author_tells : (r : Reader) (p : ℕ) → Tells r (author_seen p) (λ (e : Stamped). author_told p e.maker e.entry) (names_author r)
 author_tells r p at e = author_at r at e.maker e.more p e.entry
 
 pub title_tells : (r : Reader) (p : ℕ) → Tells r (title_seen p) (λ (e : Stamped). title_told p e.entry) (passes part.title r)
@@ -144,6 +201,12 @@ title_tells r p at e = title_at r at e.maker e.more p e.entry
 
 pub abstract_tells : (r : Reader) (p : ℕ) → Tells r (abstract_seen p) (λ (e : Stamped). abstract_told p e.entry) (passes part.abstract r)
 abstract_tells r p at e = abstract_at r at e.maker e.more p e.entry
+
+pub upload_tells : (r : Reader) (p : ℕ) → Tells r (upload_seen p) (λ (e : Stamped). upload_told p e.entry) (passes part.content r)
+upload_tells r p at e = upload_at r at e.maker e.more p e.entry
+
+pub withdrawal_tells : (r : Reader) (p : ℕ) → Tells r (withdrawal_seen p) (λ (e : Stamped). withdrawal_told p e.entry) (is_seen r)
+withdrawal_tells r p at e = withdrawal_at r at e.maker e.more p e.entry
 
 pub conflict_tells : (r : Reader) (u : Option ℕ) (p : ℕ) → Tells r (conflict_seen u p) (λ (e : Stamped). conflict_told u p e.entry) (passes part.on r)
 conflict_tells r u p at e = conflict_at r at e.maker e.more u p e.entry
@@ -155,37 +218,68 @@ shown_value : {A : Type 0} (c same : Bool) (x : A) → (same ≡ true → c ≡ 
 shown_value c true x h = ap (λ b. only b (x ∷ [])) (h refl)
 shown_value c false x h = refl
 
--- a submission of paper p shows this part, whoever made it
-abbrev pub Shows : Part → Reader → Around → ℕ → Type 0
-Shows which r at p = (maker : ℕ) (more : Bool) (title abstract : List ℕ) → passes which r at (stamp maker more (Submitted p title abstract)) ≡ true
+-- a value that is told of paper p is kept, where such an entry on p passes
+of_paper : {A : Type 0} (passing : ℕ → Bool) (paper p : ℕ) (x : A) → passing p ≡ true → only (passing paper) (given (eqb paper p) x) ≡ given (eqb paper p) x
+of_paper passing paper p x h = shown_value (passing paper) (eqb paper p) x (λ same. ap passing (eqb-true paper p same) ∙ h)
 
--- so what it tells of the paper is kept
-submission_value : {A : Type 0} (which : Part) (r : Reader) (at : Around) (p : ℕ) → Shows which r at p → (maker : ℕ) (more : Bool) (paper : ℕ) (title abstract : List ℕ) (x : A) → only (passes which r at (stamp maker more (Submitted paper title abstract))) (given (eqb paper p) x) ≡ given (eqb paper p) x
-submission_value which r at p shown maker more paper title abstract x =
-    shown_value _ (eqb paper p) x (λ same. ap (λ n. passes which r at (stamp maker more (Submitted n title abstract))) (eqb-true paper p same) ∙ shown maker more title abstract)
+-- whoever made them, the entries that give paper p authors name them
+pub record NamesAuthors (r : Reader) (at : Around) (p : ℕ) : Type 0 where
+  pub submitted : (maker : ℕ) (more : Bool) (title abstract : List ℕ) → passes part.by r at (stamp maker more (Submitted p title abstract)) ≡ true
+  pub coauthor : (maker : ℕ) (more : Bool) (user : ℕ) → passes part.user r at (stamp maker more (Coauthor p user)) ≡ true
+
+-- and those that give it texts show this one
+pub record ShowsText (which : Part) (r : Reader) (at : Around) (p : ℕ) : Type 0 where
+  pub submitted : (maker : ℕ) (more : Bool) (title abstract : List ℕ) → passes which r at (stamp maker more (Submitted p title abstract)) ≡ true
+  pub revised : (maker : ℕ) (more : Bool) (title abstract : List ℕ) → passes which r at (stamp maker more (Revised p title abstract)) ≡ true
+
+-- those that give it content show that
+abbrev pub ShowsUpload : Reader → Around → ℕ → Type 0
+ShowsUpload r at p = (maker : ℕ) (more : Bool) (version : ℕ) (content : List ℕ) → passes part.content r at (stamp maker more (Uploaded p version content)) ≡ true
+
+-- those that withdraw it are seen
+abbrev pub ShowsWithdrawal : Reader → Around → ℕ → Type 0
+ShowsWithdrawal r at p = (maker : ℕ) (more : Bool) → is_seen r at (stamp maker more (Withdrawn p)) ≡ true
 
 module _ (r : Reader) (at : Around) (p : ℕ) where
-  author_kept : Shows part.by r at p → (maker : ℕ) (more : Bool) (e : Entry) → only (passes part.by r at (stamp maker more e)) (author_told p maker e) ≡ author_told p maker e
-  author_kept shown maker more (Submitted paper title abstract) = submission_value part.by r at p shown maker more paper title abstract maker
+  author_kept : NamesAuthors r at p → (maker : ℕ) (more : Bool) (e : Entry) → only (names_author r at (stamp maker more e)) (author_told p maker e) ≡ author_told p maker e
+  author_kept shown maker more (Submitted paper title abstract) = of_paper (λ n. passes part.by r at (stamp maker more (Submitted n title abstract))) paper p maker (shown.submitted maker more title abstract)
+  author_kept shown maker more (Coauthor paper user) = of_paper (λ n. passes part.user r at (stamp maker more (Coauthor n user))) paper p user (shown.coauthor maker more user)
   author_kept shown maker more e = refl
 
-  title_kept : Shows part.title r at p → (maker : ℕ) (more : Bool) (e : Entry) → only (passes part.title r at (stamp maker more e)) (title_told p e) ≡ title_told p e
-  title_kept shown maker more (Submitted paper title abstract) = submission_value part.title r at p shown maker more paper title abstract title
+  title_kept : ShowsText part.title r at p → (maker : ℕ) (more : Bool) (e : Entry) → only (passes part.title r at (stamp maker more e)) (title_told p e) ≡ title_told p e
+  title_kept shown maker more (Submitted paper title abstract) = of_paper (λ n. passes part.title r at (stamp maker more (Submitted n title abstract))) paper p title (shown.submitted maker more title abstract)
+  title_kept shown maker more (Revised paper title abstract) = of_paper (λ n. passes part.title r at (stamp maker more (Revised n title abstract))) paper p title (shown.revised maker more title abstract)
   title_kept shown maker more e = refl
 
-  abstract_kept : Shows part.abstract r at p → (maker : ℕ) (more : Bool) (e : Entry) → only (passes part.abstract r at (stamp maker more e)) (abstract_told p e) ≡ abstract_told p e
-  abstract_kept shown maker more (Submitted paper title abstract) = submission_value part.abstract r at p shown maker more paper title abstract abstract
+  abstract_kept : ShowsText part.abstract r at p → (maker : ℕ) (more : Bool) (e : Entry) → only (passes part.abstract r at (stamp maker more e)) (abstract_told p e) ≡ abstract_told p e
+  abstract_kept shown maker more (Submitted paper title abstract) = of_paper (λ n. passes part.abstract r at (stamp maker more (Submitted n title abstract))) paper p abstract (shown.submitted maker more title abstract)
+  abstract_kept shown maker more (Revised paper title abstract) = of_paper (λ n. passes part.abstract r at (stamp maker more (Revised n title abstract))) paper p abstract (shown.revised maker more title abstract)
   abstract_kept shown maker more e = refl
 
-  -- where the submissions of paper p show a part, what is told of it is kept
-  pub author_value : Shows part.by r at p → (e : Stamped) → only (passes part.by r at e) (author_told p e.maker e.entry) ≡ author_told p e.maker e.entry
+  upload_kept : ShowsUpload r at p → (maker : ℕ) (more : Bool) (e : Entry) → only (passes part.content r at (stamp maker more e)) (upload_told p e) ≡ upload_told p e
+  upload_kept shown maker more (Uploaded paper version content) =
+      of_paper (λ n. passes part.content r at (stamp maker more (Uploaded n version content))) paper p (record { version = version; content = content }) (shown maker more version content)
+  upload_kept shown maker more e = refl
+
+  withdrawal_kept : ShowsWithdrawal r at p → (maker : ℕ) (more : Bool) (e : Entry) → only (is_seen r at (stamp maker more e)) (withdrawal_told p e) ≡ withdrawal_told p e
+  withdrawal_kept shown maker more (Withdrawn paper) = of_paper (λ n. is_seen r at (stamp maker more (Withdrawn n))) paper p true (shown maker more)
+  withdrawal_kept shown maker more e = refl
+
+  -- so what is told of paper p is kept
+  pub author_value : NamesAuthors r at p → (e : Stamped) → only (names_author r at e) (author_told p e.maker e.entry) ≡ author_told p e.maker e.entry
   author_value shown e = author_kept shown e.maker e.more e.entry
 
-  pub title_value : Shows part.title r at p → (e : Stamped) → only (passes part.title r at e) (title_told p e.entry) ≡ title_told p e.entry
+  pub title_value : ShowsText part.title r at p → (e : Stamped) → only (passes part.title r at e) (title_told p e.entry) ≡ title_told p e.entry
   title_value shown e = title_kept shown e.maker e.more e.entry
 
-  pub abstract_value : Shows part.abstract r at p → (e : Stamped) → only (passes part.abstract r at e) (abstract_told p e.entry) ≡ abstract_told p e.entry
+  pub abstract_value : ShowsText part.abstract r at p → (e : Stamped) → only (passes part.abstract r at e) (abstract_told p e.entry) ≡ abstract_told p e.entry
   abstract_value shown e = abstract_kept shown e.maker e.more e.entry
+
+  pub upload_value : ShowsUpload r at p → (e : Stamped) → only (passes part.content r at e) (upload_told p e.entry) ≡ upload_told p e.entry
+  upload_value shown e = upload_kept shown e.maker e.more e.entry
+
+  pub withdrawal_value : ShowsWithdrawal r at p → (e : Stamped) → only (is_seen r at e) (withdrawal_told p e.entry) ≡ withdrawal_told p e.entry
+  withdrawal_value shown e = withdrawal_kept shown e.maker e.more e.entry
 
 -- ---- who is shown a conflict
 
