@@ -1,8 +1,11 @@
 -- What an entry shows, part by part, is what the bounds give: one lemma a part.
 use Rattle.std.proofs.Common.{◌≡◌, ℕ, Bool, true, false, List, [], ◌∷◌, ◌++◌, eqb, refl, sym, ap, ◌∙◌, arith, ◌||◌, ◌&&◌, Option, Some}
 use Rattle.std.specs.Prelude.{not}
+use Rattle.std.specs.List.{list_any}
+use Rattle.std.proofs.lemmas.Bool.{true≢false, false≢true}
 use Rattle.cr_base.specs.declared.entry.Entry.{Entry}
 use Rattle.cr_base.specs.declared.entry.Entry.TheVariants.{Registered, Submitted, Coauthor, Revised, Uploaded, Conflict}
+use Rattle.cr_base.specs.declared.entry.Stamped.{Stamped}
 use Rattle.cr_base.specs.declared.words.Phase.{Phase}
 use Rattle.cr_base.specs.declared.words.Phase.TheVariants.{Setup, Submission, Bidding, Reviewing, Discussion, Notification, Closed}
 use Rattle.cr_base.specs.declared.words.Mode.{Mode}
@@ -10,7 +13,7 @@ use Rattle.cr_base.specs.declared.words.Mode.TheVariants.{Overt, Blind, Anonymou
 use Rattle.cr_base.specs.declared.words.Role.{Role}
 use Rattle.cr_base.specs.declared.words.Role.TheVariants.{Account, Member, Chair}
 use Rattle.cr_base.specs.Lists.{given, is_nothing, is_number}
-use Rattle.cr_base.specs.History.{History, Upload, all_told, title_told, upload_told}
+use Rattle.cr_base.specs.History.{History, all_told, title_told, upload_told}
 use Rattle.cr_base.specs.HistoryFacts.{phase_of, mode_of, role_of, is_author, is_conflicted}
 use Rattle.cr_base.specs.Phases.{is_from}
 use Rattle.cr_base.specs.Words.{is_anonymous, is_member, is_chair}
@@ -52,27 +55,36 @@ anonymous-hides Overt = refl
 anonymous-hides Blind = refl
 anonymous-hides Anonymous = refl
 
--- what gives a paper nothing later leaves what was told of it the last
-none-step : {A : Type 0} (same : Bool) (x : A) (rest : List A) (later : Bool) → is_nothing rest ≡ not later → is_nothing (given same x ++ rest) ≡ not (same || later)
-none-step true x rest later h = refl
-none-step false x rest later h = h
+-- entries that tell nothing of a matter are those of which none gives a paper anything of it
+append-nothing : {A : Type 0} (xs ys : List A) (gives later : Bool) → is_nothing xs ≡ not gives → is_nothing ys ≡ not later → is_nothing (xs ++ ys) ≡ not (gives || later)
+append-nothing [] ys true later h rest = absurd (true≢false h)
+append-nothing [] ys false later h rest = rest
+append-nothing (x ∷ xs) ys true later h rest = refl
+append-nothing (x ∷ xs) ys false later h rest = absurd (false≢true h)
+
+none-told : {A : Type 0} (told : Entry → List A) (gives : Entry → Bool) → ((e : Entry) → is_nothing (told e) ≡ not (gives e)) → (H : History) → none_in told H ≡ not (list_any (λ (e : Stamped). gives e.entry) H)
+none-told told gives one [] = refl
+none-told told gives one (e ∷ H) =
+    append-nothing (told e.entry) (all_told told H) (gives e.entry) (list_any (λ (e : Stamped). gives e.entry) H) (one e.entry) (none-told told gives one H)
+
+given-nothing : {A : Type 0} (b : Bool) (x : A) → is_nothing (given b x) ≡ not b
+given-nothing true x = refl
+given-nothing false x = refl
 
 none_in-replaced : (p : ℕ) (H : History) → none_in (title_told p) H ≡ not (is_replaced p H)
-none_in-replaced p [] = refl
-none_in-replaced p (e ∷ H) = by e.entry (all_told (title_told p) H) (is_replaced p H) (none_in-replaced p H)
+none_in-replaced p H = none-told (title_told p) (gives_texts p) one H
   where
-    by : (e : Entry) (rest : List (List ℕ)) (later : Bool) → is_nothing rest ≡ not later → is_nothing (title_told p e ++ rest) ≡ not (gives_texts p e || later)
-    by (Submitted paper title abstract) rest later h = none-step (eqb paper p) title rest later h
-    by (Revised paper title abstract) rest later h = none-step (eqb paper p) title rest later h
-    by e rest later h = h
+    one : (e : Entry) → is_nothing (title_told p e) ≡ not (gives_texts p e)
+    one (Submitted paper title abstract) = given-nothing (eqb paper p) title
+    one (Revised paper title abstract) = given-nothing (eqb paper p) title
+    one e = refl
 
 none_in-superseded : (p : ℕ) (H : History) → none_in (upload_told p) H ≡ not (is_superseded p H)
-none_in-superseded p [] = refl
-none_in-superseded p (e ∷ H) = by e.entry (all_told (upload_told p) H) (is_superseded p H) (none_in-superseded p H)
+none_in-superseded p H = none-told (upload_told p) (gives_content p) one H
   where
-    by : (e : Entry) (rest : List Upload) (later : Bool) → is_nothing rest ≡ not later → is_nothing (upload_told p e ++ rest) ≡ not (gives_content p e || later)
-    by (Uploaded paper version content) rest later h = none-step (eqb paper p) (record { version = version; content = content }) rest later h
-    by e rest later h = h
+    one : (e : Entry) → is_nothing (upload_told p e) ≡ not (gives_content p e)
+    one (Uploaded paper version content) = given-nothing (eqb paper p) (record { version = version; content = content })
+    one e = refl
 
 -- ---- one entry
 
@@ -174,32 +186,26 @@ module _ (u : Option ℕ) (H : History) (at : Around) (maker : ℕ) (more : Bool
       grind (arith, chair, on_it, member, from, hides))
   maker-one e = refl
 
-  -- a text that a submission shows, and one that a revision shows
-  submission-text : (paper : ℕ) (m s : Bool) (text : List ℕ) → (m && is_from Bidding (phase_of H)) ≡ s → (is_number u maker ≡ true → is_author u paper H ≡ true)
-      → where_shown (is_author u paper H || ((none_in (title_told paper) at.after && m && is_from Bidding (phase_of H)) || (is_number u maker || false))) (Some text)
-      ≡ where_known (is_author u paper H || (not (is_replaced paper at.after) && s)) text
-  submission-text paper m s text may writes =
-      known-same _ _ text
-      (text-known (is_author u paper H) _ m (is_from Bidding (phase_of H)) (is_number u maker) _ s (none_in-replaced paper at.after) may
-      ∙ own-author (is_author u paper H) (is_number u maker) _ writes)
-
-  revision-text : (paper : ℕ) (m s : Bool) (text : List ℕ) → (m && is_from Bidding (phase_of H)) ≡ s
-      → where_shown (is_author u paper H || ((none_in (title_told paper) at.after && m && is_from Bidding (phase_of H)) || (is_number u maker || false))) (Some text)
-      ≡ where_known (owns u H maker paper || (not (is_replaced paper at.after) && s)) text
-  revision-text paper m s text may =
-      known-same _ _ text (text-known (is_author u paper H) _ m (is_from Bidding (phase_of H)) (is_number u maker) _ s (none_in-replaced paper at.after) may)
+  -- a title or an abstract: who owns the entry, and the last one who may read it from the bidding on; of a submission the
+  -- bounds name its authors alone, since its maker is one
+  text-one : (paper : ℕ) (m s known : Bool) (text : List ℕ) → (m && is_from Bidding (phase_of H)) ≡ s → (owns u H maker paper || (not (is_replaced paper at.after) && s)) ≡ known
+      → where_shown (is_author u paper H || ((none_in (title_told paper) at.after && m && is_from Bidding (phase_of H)) || (is_number u maker || false))) (Some text) ≡ where_known known text
+  text-one paper m s known text may same =
+      known-same _ _ text (text-known (is_author u paper H) _ m (is_from Bidding (phase_of H)) (is_number u maker) _ s (none_in-replaced paper at.after) may ∙ same)
 
   pub title-one : (e : Entry) → IsWriters u H maker e → (seen e).title ≡ title_for u H at.after maker e
-  title-one (Submitted paper title abstract) writes = submission-text paper (is_member (role_of u H)) (serves u H) title serves-same writes
-  title-one (Revised paper title abstract) writes = revision-text paper (is_member (role_of u H)) (serves u H) title serves-same
+  title-one (Submitted paper title abstract) writes =
+      text-one paper (is_member (role_of u H)) (serves u H) _ title serves-same (own-author (is_author u paper H) (is_number u maker) _ writes)
+  title-one (Revised paper title abstract) writes = text-one paper (is_member (role_of u H)) (serves u H) _ title serves-same refl
   title-one (Registered user name digest) writes = refl
   title-one e writes = refl
 
   pub abstract-one : (e : Entry) → IsWriters u H maker e → (seen e).abstract ≡ abstract_for u H at.after maker e
   abstract-one (Submitted paper title abstract) writes =
-      submission-text paper (is_member (role_of u H) && not (is_conflicted u paper H)) (handles u paper H) abstract (handles-same paper) writes
+      text-one paper (is_member (role_of u H) && not (is_conflicted u paper H)) (handles u paper H) _ abstract (handles-same paper)
+      (own-author (is_author u paper H) (is_number u maker) _ writes)
   abstract-one (Revised paper title abstract) writes =
-      revision-text paper (is_member (role_of u H) && not (is_conflicted u paper H)) (handles u paper H) abstract (handles-same paper)
+      text-one paper (is_member (role_of u H) && not (is_conflicted u paper H)) (handles u paper H) _ abstract (handles-same paper) refl
   abstract-one (Registered user name digest) writes = refl
   abstract-one e writes = refl
 
