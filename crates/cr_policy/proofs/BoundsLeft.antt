@@ -1,11 +1,11 @@
 -- What the bounds leave for outsiders, for strangers and for nobody.
-use Rattle.std.proofs.Common.{◌≡◌, ℕ, Bool, true, false, cond, [], ◌∷◌, ◌++◌, refl, sym, ap, ◌∙◌, arith, ◌||◌, ◌&&◌, Option, Some, None}
+use Rattle.std.proofs.Common.{◌≡◌, ℕ, Bool, true, false, cond, [], ◌∷◌, ◌++◌, eqb, refl, sym, ap, ◌∙◌, arith, ◌||◌, ◌&&◌, Option, Some, None}
 use Rattle.std.specs.Prelude.{not, All}
 use Rattle.std.specs.List.{list_any, AllByRecursion}
-use Rattle.std.proofs.lemmas.Bool.{eqb-true, or_parts, false≢true}
+use Rattle.std.proofs.lemmas.Bool.{eqb-true, or_parts, false≢true, true≢false}
 use Rattle.std.proofs.lemmas.List.Elements.{All-nil, All-cons, All-append, All-same}
 use Rattle.cr_base.specs.declared.entry.Entry.{Entry}
-use Rattle.cr_base.specs.declared.entry.Entry.TheVariants.{Registered, Named, Submitted, Conflict}
+use Rattle.cr_base.specs.declared.entry.Entry.TheVariants.{Registered, Named, Submitted, Coauthor, Revised, Uploaded, Withdrawn, Conflict}
 use Rattle.cr_base.specs.declared.entry.EntryKind.TheVariants as kinds
 use Rattle.cr_base.specs.declared.entry.Stamped.{Stamped}
 use Rattle.cr_base.specs.declared.words.Role.{Role}
@@ -16,7 +16,7 @@ use Rattle.cr_base.specs.HistoryFacts.{mode_of, phase_of, role_of, authors_of, i
 use Rattle.cr_history.proofs.LineTies.{stamp}
 use Rattle.cr_policy.specs.Sighting.{Sighting, blank}
 use Rattle.cr_policy.specs.View.{view}
-use Rattle.cr_policy.specs.ShownTo.{is_on_committee, leads_committee, is_past_submission, hides_authors, serves, handles, oversees, has_conflict, is_told, where_known, is_replaced, each_told, kind_for, paper_for}
+use Rattle.cr_policy.specs.ShownTo.{is_on_committee, leads_committee, is_past_submission, hides_authors, serves, handles, oversees, has_conflict, is_told, where_known, is_replaced, is_superseded, each_told, kind_for, paper_for}
 use Rattle.cr_policy.specs.ViewBounds.{IsLeft, OutsidersShown, IsPublic, names_her, IsStranger, StrangersShown, NobodyShown}
 use Rattle.cr_policy.proofs.BoundsParts.{IsWriters}
 use Rattle.cr_policy.proofs.BoundsWalk.{shown_to, writers-all, view-told}
@@ -25,12 +25,12 @@ use Rattle.cr_policy.proofs.Walk.{list_any-nobody}
 -- ---- each sighting
 
 -- what is so of each entry that the user is told of, as she is shown it, is so of each sighting
-module _ (u : Option ℕ) (H : History) (P : Sighting → Type 0) (Q : Stamped → Type 0) (each : (later : History) (maker : ℕ) (more : Bool) (e : Entry) → Q (stamp maker more e) → is_told u H maker e ≡ true → P (shown_to u H later maker e)) where
+module _ (u : Option ℕ) (H : History) (P : Sighting → Type 0) (Q : Stamped → Type 0) (each : (later : History) (maker : ℕ) (more : Bool) (e : Entry) → Q (stamp maker more e) → is_told u H later maker e ≡ true → P (shown_to u H later maker e)) where
   all-told : (G : History) → AllByRecursion Q G → All P (each_told u H (shown_to u H) G)
   all-told [] h = All-nil P
   all-told (e ∷ G) h =
-      All-append P (given (is_told u H e.maker e.entry) (shown_to u H G e.maker e.entry)) (each_told u H (shown_to u H) G)
-      (by (is_told u H e.maker e.entry) (each G e.maker e.more e.entry h.0))
+      All-append P (given (is_told u H G e.maker e.entry) (shown_to u H G e.maker e.entry)) (each_told u H (shown_to u H) G)
+      (by (is_told u H G e.maker e.entry) (each G e.maker e.more e.entry h.0))
       (all-told G h.1)
     where
       by : (told : Bool) → (told ≡ true → P (shown_to u H G e.maker e.entry)) → All P (given told (shown_to u H G e.maker e.entry))
@@ -51,58 +51,72 @@ text-hidden a n s ha hs = grind (arith, ha, hs)
 maker-hidden : (a h leads hides : Bool) → a ≡ false → h ≡ false → (a || (h && leads) || (h && not hides)) ≡ false
 maker-hidden a h leads hides ha hh = grind (arith, ha, hh)
 
+-- of co-authors and uploads none is told but their maker; of revisions and withdrawals who serves besides
+coauthor-own : (own a h leads hides : Bool) → a ≡ false → h ≡ false → ((own || a) || (h && leads) || (h && not hides)) ≡ true → own ≡ true
+coauthor-own own a h leads hides ha hh told = grind (arith, ha, hh, told)
+
+upload-own : (own a n h : Bool) → a ≡ false → h ≡ false → ((own || a) || (n && h)) ≡ true → own ≡ true
+upload-own own a n h ha hh told = grind (arith, ha, hh, told)
+
+revision-served : (own a n s : Bool) → a ≡ false → ((own || a) || (n && s)) ≡ true → (own || s) ≡ true
+revision-served own a n s ha told = grind (arith, ha, told)
+
+unserved : (own a n s : Bool) → a ≡ false → own ≡ false → s ≡ false → ((own || a) || (n && s)) ≡ true → ⊥
+unserved own a n s ha ho hs told = grind (arith, ha, ho, hs, told)
+
 -- ---- who neither wrote a paper nor handles it
 
 module _ (u : Option ℕ) (p : ℕ) (H : History) (out : (is_author u p H || handles u p H) ≡ false) where
-  left-one : (later : History) (maker : ℕ) (more : Bool) (e : Entry) → IsWriters u H maker e → is_told u H maker e ≡ true → is_number (paper_for u H later maker e) p ≡ true → IsLeft u (serves u H) (kind_for u H later maker e) (shown_to u H later maker e)
-  left-one later maker more (Conflict paper user on) writes told on_it = (named, refl)
+  wrote : (paper : ℕ) → eqb paper p ≡ true → is_author u paper H ≡ false
+  wrote paper on_it = ap (λ n. is_author u n H) (eqb-true paper p on_it) ∙ (or_parts (is_author u p H) (handles u p H) out).0
+
+  handled : (paper : ℕ) → eqb paper p ≡ true → handles u paper H ≡ false
+  handled paper on_it = ap (λ n. handles u n H) (eqb-true paper p on_it) ∙ (or_parts (is_author u p H) (handles u p H) out).1
+
+  left-one : (later : History) (maker : ℕ) (more : Bool) (e : Entry) → IsWriters u H maker e → is_told u H later maker e ≡ true → is_number (paper_for u H later maker e) p ≡ true → IsLeft u (serves u H) (kind_for u H later maker e) (shown_to u H later maker e)
+  left-one later maker more (Conflict paper user on) writes told on_it = (
+    hers (is_number u user) (is_number u maker) (is_author u paper H) (is_author (Some maker) paper H) (oversees u paper H) (wrote paper on_it)
+        (ap (λ b. b && leads_committee (role_of u H)) (handled paper on_it)) told,
+    refl,
+  )
     where
       hers : (named own a w o : Bool) → a ≡ false → o ≡ false → (named || own || (a && w) || o) ≡ true → (own || named) ≡ true
       hers named own a w o ha ho h = grind arith
-
-      named : (is_number u maker || is_number u user) ≡ true
-      named =
-          let e : paper ≡ p = eqb-true paper p on_it in
-          let parts = or_parts (is_author u p H) (handles u p H) out in
-          hers (is_number u user) (is_number u maker) (is_author u paper H) (is_author (Some maker) paper H) (oversees u paper H)
-          (ap (λ n. is_author u n H) e ∙ parts.0)
-          (ap (λ n. handles u n H && leads_committee (role_of u H)) e ∙ ap (λ b. b && leads_committee (role_of u H)) parts.1)
-          told
-  left-one later maker more (Submitted paper title abstract) writes told on_it = λ i. record {
-    kind = kinds.Submitted;
+  left-one later maker more (Coauthor paper user) writes told on_it = (
+    coauthor-own (is_number u maker) (is_author u paper H) (handles u paper H) (leads_committee (role_of u H)) (hides_authors (mode_of H)) (wrote paper on_it) (handled paper on_it) told,
+    refl,
+  )
+  left-one later maker more (Uploaded paper version content) writes told on_it =
+      (upload-own (is_number u maker) (is_author u paper H) (not (is_superseded paper later)) (handles u paper H) (wrote paper on_it) (handled paper on_it) told, refl)
+  left-one later maker more (Withdrawn paper) writes told on_it = (revision-served (is_number u maker) (is_author u paper H) true (serves u H) (wrote paper on_it) told, refl)
+  left-one later maker more (Revised paper title abstract) writes told on_it = (
+    revision-served (is_number u maker) (is_author u paper H) (not (is_replaced paper later)) (serves u H) (wrote paper on_it) told,
+    λ i. record (shown_to u H later maker (Revised paper title abstract)) { abstract = own-alone (is_number u maker) i },
+  )
+    where
+      own-alone : (own : Bool)
+          → where_known ((own || is_author u paper H) || (not (is_replaced paper later) && handles u paper H)) abstract
+          ≡ cond own (where_known ((own || is_author u paper H) || (not (is_replaced paper later) && handles u paper H)) abstract) None
+      own-alone true = refl
+      own-alone false = known-not _ abstract (text-hidden (is_author u paper H) (not (is_replaced paper later)) (handles u paper H) (wrote paper on_it) (handled paper on_it))
+  left-one later maker more (Submitted paper title abstract) writes told on_it = λ i. record (blank kinds.Submitted) {
     mine = other i;
     paper = Some paper;
-    user = None;
-    name = None;
-    digest = None;
-    role = None;
-    phase = None;
-    mode = None;
-    by = known-not _ maker (maker-hidden (is_author u paper H) (handles u paper H) (leads_committee (role_of u H)) (hides_authors (mode_of H)) wrote handled) i;
+    by = known-not _ maker (maker-hidden (is_author u paper H) (handles u paper H) (leads_committee (role_of u H)) (hides_authors (mode_of H)) (wrote paper on_it) (handled paper on_it)) i;
     title = titled (serves u H) i;
-    abstract = known-not _ abstract (text-hidden (is_author u paper H) (not (is_replaced paper later)) (handles u paper H) wrote handled) i;
-    on = None;
+    abstract = known-not _ abstract (text-hidden (is_author u paper H) (not (is_replaced paper later)) (handles u paper H) (wrote paper on_it) (handled paper on_it)) i;
   }
     where
-      same : paper ≡ p
-      same = eqb-true paper p on_it
-
-      wrote : is_author u paper H ≡ false
-      wrote = ap (λ n. is_author u n H) same ∙ (or_parts (is_author u p H) (handles u p H) out).0
-
-      handled : handles u paper H ≡ false
-      handled = ap (λ n. handles u n H) same ∙ (or_parts (is_author u p H) (handles u p H) out).1
-
       other : is_number u maker ≡ false
       other = by (is_number u maker) writes
         where
           by : (own : Bool) → (own ≡ true → is_author u paper H ≡ true) → own ≡ false
-          by true h = absurd (false≢true (sym wrote ∙ h refl))
+          by true h = absurd (false≢true (sym (wrote paper on_it) ∙ h refl))
           by false h = refl
 
       titled : (served : Bool) → where_known (is_author u paper H || (not (is_replaced paper later) && served)) title ≡ cond served (where_known (is_author u paper H || (not (is_replaced paper later) && served)) title) None
       titled true = refl
-      titled false = known-not _ title (text-hidden (is_author u paper H) (not (is_replaced paper later)) false wrote refl)
+      titled false = known-not _ title (text-hidden (is_author u paper H) (not (is_replaced paper later)) false (wrote paper on_it) refl)
   left-one later maker more e writes told on_it = absurd (false≢true on_it)
 
 pub outsiders-shown : OutsidersShown
@@ -116,7 +130,7 @@ module _ (u : Option ℕ) (H : History) (stranger : IsStranger u H) where
   unhandled : (p : ℕ) → handles u p H ≡ false
   unhandled p = ap (λ b. b && not (has_conflict u p H)) stranger.serving
 
-  public-one : (later : History) (maker : ℕ) (more : Bool) (e : Entry) → names_her u e ≡ false → is_told u H maker e ≡ true → is_number u maker ≡ false → IsPublic (kind_for u H later maker e) (shown_to u H later maker e)
+  public-one : (later : History) (maker : ℕ) (more : Bool) (e : Entry) → names_her u e ≡ false → is_told u H later maker e ≡ true → is_number u maker ≡ false → IsPublic (kind_for u H later maker e) (shown_to u H later maker e)
   public-one later maker more (Registered user name digest) unnamed told other = λ i. record (blank kinds.Registered) { mine = other i; user = Some user; name = Some name; digest = where_known (other i) digest }
   public-one later maker more (Submitted paper title abstract) unnamed told other = λ i. record (blank kinds.Submitted) {
     mine = other i;
@@ -125,6 +139,14 @@ module _ (u : Option ℕ) (H : History) (stranger : IsStranger u H) where
     title = known-not _ title (text-hidden (is_author u paper H) (not (is_replaced paper later)) (serves u H) (stranger.author paper) stranger.serving) i;
     abstract = known-not _ abstract (text-hidden (is_author u paper H) (not (is_replaced paper later)) (handles u paper H) (stranger.author paper) (unhandled paper)) i;
   }
+  public-one later maker more (Coauthor paper user) unnamed told other =
+      absurd (true≢false (sym (coauthor-own (is_number u maker) (is_author u paper H) (handles u paper H) (leads_committee (role_of u H)) (hides_authors (mode_of H)) (stranger.author paper) (unhandled paper) told) ∙ other))
+  public-one later maker more (Revised paper title abstract) unnamed told other =
+      absurd (unserved (is_number u maker) (is_author u paper H) (not (is_replaced paper later)) (serves u H) (stranger.author paper) other stranger.serving told)
+  public-one later maker more (Uploaded paper version content) unnamed told other =
+      absurd (true≢false (sym (upload-own (is_number u maker) (is_author u paper H) (not (is_superseded paper later)) (handles u paper H) (stranger.author paper) (unhandled paper) told) ∙ other))
+  public-one later maker more (Withdrawn paper) unnamed told other =
+      absurd (unserved (is_number u maker) (is_author u paper H) true (serves u H) (stranger.author paper) other stranger.serving told)
   public-one later maker more (Conflict paper user on) unnamed told other = absurd (untold unnamed other (stranger.author paper) stranger.serving)
     where
       untold : is_number u user ≡ false → is_number u maker ≡ false → is_author u paper H ≡ false → serves u H ≡ false → ⊥
@@ -159,6 +181,7 @@ nobody-stranger H = record {
     no-role (e ∷ H) = ap (λ xs. xs ++ all_told (role_told None) H) (role-entry e.entry) ∙ no-role H
 
     name-entry : (e : Entry) → names_her None e ≡ false
+    name-entry (Coauthor paper user) = refl
     name-entry (Conflict paper user on) = refl
     name-entry e = refl
 

@@ -16,9 +16,9 @@ use Rattle.cr_history.proofs.LineTies.{stamp}
 use Rattle.cr_policy.specs.Sighting.{Sighting}
 use Rattle.cr_policy.specs.Triggers.{reader, Around}
 use Rattle.cr_policy.specs.View.{sight, sights, view, is_seen, joined}
-use Rattle.cr_policy.specs.ShownTo.{PartFor, is_told, each_told, kind_for, mark_for, paper_for, user_for, name_for, digest_for, role_for, phase_for, mode_for, maker_for, title_for, abstract_for, switch_for}
-use Rattle.cr_policy.specs.ViewBounds.{EntriesShown, MarksShown, PapersShown, UsersShown, NamesShown, DigestsShown, RolesShown, PhasesShown, ModesShown, MakersShown, TitlesShown, AbstractsShown, SwitchesShown}
-use Rattle.cr_policy.proofs.BoundsParts.{IsWriters, seen-told, shown-one, mark-one, user-one, digest-one, maker-one, title-one, abstract-one, switch-one}
+use Rattle.cr_policy.specs.ShownTo.{PartFor, is_told, each_told, kind_for, mark_for, paper_for, user_for, name_for, digest_for, role_for, phase_for, mode_for, maker_for, title_for, abstract_for, version_for, content_for, switch_for}
+use Rattle.cr_policy.specs.ViewBounds.{EntriesShown, MarksShown, PapersShown, UsersShown, NamesShown, DigestsShown, RolesShown, PhasesShown, ModesShown, MakersShown, TitlesShown, AbstractsShown, VersionsShown, ContentsShown, SwitchesShown}
+use Rattle.cr_policy.proofs.BoundsParts.{IsWriters, seen-told, shown-one, mark-one, user-one, digest-one, maker-one, title-one, abstract-one, version-one, content-one, switch-one}
 
 -- ---- one entry
 
@@ -37,6 +37,8 @@ shown_to u H later maker e = record {
   by = maker_for u H later maker e;
   title = title_for u H later maker e;
   abstract = abstract_for u H later maker e;
+  version = version_for u H later maker e;
+  content = content_for u H later maker e;
   on = switch_for u H later maker e;
 }
 
@@ -48,7 +50,7 @@ module _ (u : Option ℕ) (H : History) where
       by true h = ap (λ (x : A). x ∷ []) (h refl)
       by false h = refl
 
-  joined-one : (at : Around) (maker : ℕ) (more : Bool) (e : Entry) → IsWriters u H maker e → is_told u H maker e ≡ true → joined (reader u H) at (stamp maker more e) ≡ shown_to u H at.after maker e
+  joined-one : (at : Around) (maker : ℕ) (more : Bool) (e : Entry) → IsWriters u H maker e → is_told u H at.after maker e ≡ true → joined (reader u H) at (stamp maker more e) ≡ shown_to u H at.after maker e
   joined-one at maker more e writes told = λ i. record {
     kind = (shown-one u H at maker more e).kind i;
     mine = mark-one u H at maker more e i;
@@ -62,12 +64,14 @@ module _ (u : Option ℕ) (H : History) where
     by = maker-one u H at maker more e i;
     title = title-one u H at maker more e writes i;
     abstract = abstract-one u H at maker more e writes i;
+    version = version-one u H at maker more e i;
+    content = content-one u H at maker more e i;
     on = switch-one u H at maker more e told i;
   }
 
-  sight-one : (at : Around) (maker : ℕ) (more : Bool) (e : Entry) → IsWriters u H maker e → sight (reader u H) at (stamp maker more e) ≡ given (is_told u H maker e) (shown_to u H at.after maker e)
+  sight-one : (at : Around) (maker : ℕ) (more : Bool) (e : Entry) → IsWriters u H maker e → sight (reader u H) at (stamp maker more e) ≡ given (is_told u H at.after maker e) (shown_to u H at.after maker e)
   sight-one at maker more e writes =
-      given-same (is_seen (reader u H) at (stamp maker more e)) (is_told u H maker e) (joined (reader u H) at (stamp maker more e)) (shown_to u H at.after maker e)
+      given-same (is_seen (reader u H) at (stamp maker more e)) (is_told u H at.after maker e) (joined (reader u H) at (stamp maker more e)) (shown_to u H at.after maker e)
       (seen-told u H at maker more e) (joined-one at maker more e writes)
 
   -- ---- the entries of a history
@@ -101,7 +105,7 @@ module _ (u : Option ℕ) (H : History) where
   sights-told before [] writes = refl
   sights-told before (e ∷ after) writes =
       ap (λ xs. xs ++ sights (reader u H) (before ++ e ∷ []) after) (sight-one (record { before = before; after = after }) e.maker e.more e.entry writes.0)
-      ∙ ap (λ ys. given (is_told u H e.maker e.entry) (shown_to u H after e.maker e.entry) ++ ys) (sights-told (before ++ e ∷ []) after writes.1)
+      ∙ ap (λ ys. given (is_told u H after e.maker e.entry) (shown_to u H after e.maker e.entry) ++ ys) (sights-told (before ++ e ∷ []) after writes.1)
 
   pub view-told : view u H ≡ each_told u H (shown_to u H) H
   view-told = sights-told [] H writers-all
@@ -116,9 +120,9 @@ module _ (u : Option ℕ) (H : History) where
   map-told f [] = refl
   map-told f (e ∷ G) =
       let s : Sighting = shown_to u H G e.maker e.entry in
-      map-append f (given (is_told u H e.maker e.entry) s) (each_told u H (shown_to u H) G)
-      ∙ ap (λ xs. xs ++ map f (each_told u H (shown_to u H) G)) (map-given f (is_told u H e.maker e.entry) s)
-      ∙ ap (λ ys. given (is_told u H e.maker e.entry) (f s) ++ ys) (map-told f G)
+      map-append f (given (is_told u H G e.maker e.entry) s) (each_told u H (shown_to u H) G)
+      ∙ ap (λ xs. xs ++ map f (each_told u H (shown_to u H) G)) (map-given f (is_told u H G e.maker e.entry) s)
+      ∙ ap (λ ys. given (is_told u H G e.maker e.entry) (f s) ++ ys) (map-told f G)
 
   map-view : {A : Type 0} (f : Sighting → A) → map f (view u H) ≡ each_told u H (λ later maker e. f (shown_to u H later maker e)) H
   map-view f = ap (map f) view-told ∙ map-told f H
@@ -160,6 +164,12 @@ titles-shown u H = map-view u H (λ (s : Sighting). s.title)
 
 pub abstracts-shown : AbstractsShown
 abstracts-shown u H = map-view u H (λ (s : Sighting). s.abstract)
+
+pub versions-shown : VersionsShown
+versions-shown u H = map-view u H (λ (s : Sighting). s.version)
+
+pub contents-shown : ContentsShown
+contents-shown u H = map-view u H (λ (s : Sighting). s.content)
 
 pub switches-shown : SwitchesShown
 switches-shown u H = map-view u H (λ (s : Sighting). s.on)

@@ -4,14 +4,14 @@ use Rattle.std.specs.Prelude.{codes, nat_le}
 use Rattle.std.specs.List.{list_all}
 use Rattle.std.proofs.lemmas.Bool.{and_parts, leb-true}
 use Rattle.cr_base.specs.declared.command.Command.{Command}
-use Rattle.cr_base.specs.declared.command.Command.TheVariants.{SetPhase, Submit, Name, SetMode, SetConflict}
+use Rattle.cr_base.specs.declared.command.Command.TheVariants.{SetPhase, Submit, Revise, Upload, Withdraw, Name, SetMode, SetConflict}
 use Rattle.cr_base.specs.declared.words.Mode.{Mode}
 use Rattle.cr_base.specs.declared.words.Mode.TheVariants.{Overt, Blind, Anonymous}
 use Rattle.cr_base.specs.declared.words.Phase.TheVariants.{Submission, Bidding}
 use Rattle.cr_base.specs.declared.words.Role.TheVariants.{Member, Chair}
 use Rattle.cr_base.specs.History.{History}
-use Rattle.cr_base.specs.Texts.{IsName, IsTitle, IsAbstract, is_name_byte, is_name}
-use Rattle.cr_policy.specs.Conference.{alice, bob, dave, fay, gus, Digests, AreDigests, proofs, we_prove, types, we_type, registered, opened, before_bidding, in_bidding}
+use Rattle.cr_base.specs.Texts.{IsName, IsTitle, IsAbstract, is_name_byte, is_name, is_title_byte}
+use Rattle.cr_policy.specs.Conference.{alice, bob, dave, fay, gus, Digests, AreDigests, proofs, we_prove, types, we_type, drafts, we_draft, more_proofs, we_prove_more, first_version, second_version, only_version, registered, opened, submitted, before_bidding, in_bidding}
 use Rattle.cr_policy.specs.ConferenceLaws.{AreCast, ConferenceLegal, ViewsBeforeBidding, ViewsInBidding}
 use Rattle.cr_policy.specs.Legal.{Call, IsAllowed, LeadsTo, Legal}
 use Rattle.cr_policy.proofs.LegalLaws.{LeadsTo-append}
@@ -53,63 +53,94 @@ opened-legal d mode legal =
       (record { caller = refl; bounded = refl }, (record { caller = refl; bounded = refl }, (record { caller = refl; bounded = tt }, (record { caller = refl; bounded = tt }, refl)))),
     )
 
--- the four texts are within their bounds
-title-1 : IsTitle proofs
-title-1 = record { some = omega arith; few = omega arith; bytes = refl; utf8 = ascii-utf8 proofs refl }
+-- texts are within their bounds by computing, where their bytes are below 128
+ascii-title : (text : List ℕ) → (nat_le 1 (length text) && nat_le (length text) 200 && list_all is_title_byte text && list_all (λ b. nat_le b 127) text) ≡ true → IsTitle text
+ascii-title text h =
+    let p = and_parts (nat_le 1 (length text) && nat_le (length text) 200 && list_all is_title_byte text) (list_all (λ b. nat_le b 127) text) h in
+    let q = and_parts (nat_le 1 (length text) && nat_le (length text) 200) (list_all is_title_byte text) p.0 in
+    let sized = and_parts (nat_le 1 (length text)) (nat_le (length text) 200) q.0 in
+    record { some = leb-true 1 (length text) sized.0; few = leb-true (length text) 200 sized.1; bytes = q.1; utf8 = ascii-utf8 text p.1 }
 
-abstract-1 : IsAbstract we_prove
-abstract-1 = record { few = omega arith; utf8 = ascii-utf8 we_prove refl }
+ascii-abstract : (text : List ℕ) → (nat_le (length text) 5000 && list_all (λ b. nat_le b 127) text) ≡ true → IsAbstract text
+ascii-abstract text h =
+    let p = and_parts (nat_le (length text) 5000) (list_all (λ b. nat_le b 127) text) h in
+    record { few = leb-true (length text) 5000 p.0; utf8 = ascii-utf8 text p.1 }
 
-title-2 : IsTitle types
-title-2 = record { some = omega arith; few = omega arith; bytes = refl; utf8 = ascii-utf8 types refl }
-
-abstract-2 : IsAbstract we_type
-abstract-2 = record { few = omega arith; utf8 = ascii-utf8 we_type refl }
-
-before-legal : (d : Digests) (mode : Mode) → Legal (opened d mode) → Legal (before_bidding d mode)
-before-legal d mode legal =
-    goes_on (opened d mode) (before_bidding d mode)
-    (by bob (Submit proofs we_prove) ∷ by gus (Submit types we_type) ∷ by bob (SetConflict (Some 1) (Some (codes "carol")) true) ∷ by bob (SetConflict (Some 1) (Some (codes "fay")) true) ∷ [])
+submitted-legal : (d : Digests) (mode : Mode) → Legal (opened d mode) → Legal (submitted d mode)
+submitted-legal d mode legal =
+    goes_on (opened d mode) (submitted d mode)
+    (by bob (Submit proofs we_prove (Some (codes "gus") ∷ [])) ∷ by gus (Submit types we_type []) ∷ by gus (Submit drafts we_draft []) ∷ [])
     legal (
-      record { caller = refl; bounded = (title-1, abstract-1) },
-      (record { caller = refl; bounded = (title-2, abstract-2) }, (record { caller = refl; bounded = tt }, (record { caller = refl; bounded = tt }, refl))),
+      record { caller = refl; bounded = (ascii-title proofs refl, ascii-abstract we_prove refl, omega arith) },
+      (record { caller = refl; bounded = (ascii-title types refl, ascii-abstract we_type refl, omega arith) }, (record { caller = refl; bounded = (ascii-title drafts refl, ascii-abstract we_draft refl, omega arith) }, refl)),
     )
 
-bidding-legal : (d : Digests) (mode : Mode) → Legal (before_bidding d mode) → Legal (in_bidding d mode)
-bidding-legal d mode legal =
-    goes_on (before_bidding d mode) (in_bidding d mode)
+before-legal : (d : Digests) (mode : Mode) → Legal (submitted d mode) → Legal (before_bidding d mode)
+before-legal d mode legal =
+    goes_on (submitted d mode) (before_bidding d mode)
     (
+    by bob (Upload (Some 1) first_version)
+    ∷ by gus (Upload (Some 2) only_version)
+    ∷ by bob (Upload (Some 1) second_version)
+    ∷ by gus (Revise (Some 1) more_proofs we_prove_more)
+    ∷ by gus (Withdraw (Some 3))
+    ∷ by bob (SetConflict (Some 1) (Some (codes "carol")) true)
+    ∷ by gus (SetConflict (Some 1) (Some (codes "fay")) true)
+    ∷ []
+    )
+    legal (
+      record { caller = refl; bounded = omega arith },
+      (
+        record { caller = refl; bounded = omega arith },
+        (
+          record { caller = refl; bounded = omega arith },
+          (record { caller = refl; bounded = (ascii-title more_proofs refl, ascii-abstract we_prove_more refl) }, (record { caller = refl; bounded = tt }, (record { caller = refl; bounded = tt }, (record { caller = refl; bounded = tt }, refl)))),
+        ),
+      ),
+    )
+
+-- what happens in the bidding; that each call is allowed is computed in each mode, since it tells who sees the co-author
+abbrev bidding_calls : List Call
+bidding_calls =
     by alice (SetPhase Bidding)
     ∷ by alice (SetConflict (Some 1) (Some (codes "fay")) false)
     ∷ by fay (SetConflict (Some 1) (Some (codes "fay")) true)
     ∷ by dave (SetConflict (Some 2) (Some (codes "dave")) true)
     ∷ by alice (SetConflict (Some 2) (Some (codes "dave")) false)
     ∷ []
-    )
-    legal (
-      record { caller = refl; bounded = tt },
-      (record { caller = refl; bounded = tt }, (record { caller = refl; bounded = tt }, (record { caller = refl; bounded = tt }, (record { caller = refl; bounded = tt }, refl)))),
-    )
+
+bidding-leads : (d : Digests) (mode : Mode) → LeadsTo (before_bidding d mode) bidding_calls (in_bidding d mode)
+bidding-leads d Anonymous = (
+  record { caller = refl; bounded = tt },
+  (record { caller = refl; bounded = tt }, (record { caller = refl; bounded = tt }, (record { caller = refl; bounded = tt }, (record { caller = refl; bounded = tt }, refl)))),
+)
+bidding-leads d mode = (
+  record { caller = refl; bounded = tt },
+  (record { caller = refl; bounded = tt }, (record { caller = refl; bounded = tt }, (record { caller = refl; bounded = tt }, (record { caller = refl; bounded = tt }, refl)))),
+)
+
+bidding-legal : (d : Digests) (mode : Mode) → Legal (before_bidding d mode) → Legal (in_bidding d mode)
+bidding-legal d mode legal = goes_on (before_bidding d mode) (in_bidding d mode) bidding_calls legal (bidding-leads d mode)
 
 before-cast : (d : Digests) (mode : Mode) → AreCast (before_bidding d mode)
-before-cast d mode = record { roles = refl; conflicts = refl; others = refl }
+before-cast d mode = record { roles = refl; authors = refl; conflicts = refl; others = refl; withdrawn = refl }
 
 bidding-cast : (d : Digests) (mode : Mode) → AreCast (in_bidding d mode)
-bidding-cast d mode = record { roles = refl; conflicts = refl; others = refl }
+bidding-cast d mode = record { roles = refl; authors = refl; conflicts = refl; others = refl; withdrawn = refl }
 
 pub conference-legal : ConferenceLegal
 conference-legal d mode are =
-    let before = before-legal d mode (opened-legal d mode (registered-legal d are)) in
+    let before = before-legal d mode (submitted-legal d mode (opened-legal d mode (registered-legal d are))) in
     (record { legal = before; cast = before-cast d mode }, record { legal = bidding-legal d mode before; cast = bidding-cast d mode })
 
 -- ---- views: each is computed, in each mode
 
 pub views-before : ViewsBeforeBidding
-views-before d Overt = record { nobody = refl; account = refl; author = refl; member = refl; conflicted_member = refl; chair = refl; conflicted_chair = refl }
-views-before d Blind = record { nobody = refl; account = refl; author = refl; member = refl; conflicted_member = refl; chair = refl; conflicted_chair = refl }
-views-before d Anonymous = record { nobody = refl; account = refl; author = refl; member = refl; conflicted_member = refl; chair = refl; conflicted_chair = refl }
+views-before d Overt = record { nobody = refl; account = refl; author = refl; coauthor = refl; member = refl; conflicted_member = refl; chair = refl; conflicted_chair = refl }
+views-before d Blind = record { nobody = refl; account = refl; author = refl; coauthor = refl; member = refl; conflicted_member = refl; chair = refl; conflicted_chair = refl }
+views-before d Anonymous = record { nobody = refl; account = refl; author = refl; coauthor = refl; member = refl; conflicted_member = refl; chair = refl; conflicted_chair = refl }
 
 pub views-bidding : ViewsInBidding
-views-bidding d Overt = record { nobody = refl; account = refl; author = refl; member = refl; conflicted_member = refl; chair = refl; conflicted_chair = refl }
-views-bidding d Blind = record { nobody = refl; account = refl; author = refl; member = refl; conflicted_member = refl; chair = refl; conflicted_chair = refl }
-views-bidding d Anonymous = record { nobody = refl; account = refl; author = refl; member = refl; conflicted_member = refl; chair = refl; conflicted_chair = refl }
+views-bidding d Overt = record { nobody = refl; account = refl; author = refl; coauthor = refl; member = refl; conflicted_member = refl; chair = refl; conflicted_chair = refl }
+views-bidding d Blind = record { nobody = refl; account = refl; author = refl; coauthor = refl; member = refl; conflicted_member = refl; chair = refl; conflicted_chair = refl }
+views-bidding d Anonymous = record { nobody = refl; account = refl; author = refl; coauthor = refl; member = refl; conflicted_member = refl; chair = refl; conflicted_chair = refl }

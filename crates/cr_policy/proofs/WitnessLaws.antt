@@ -68,8 +68,8 @@ opens alice bob legal =
 
 submits : (alice bob : List ℕ) → Legal (submission_opened alice bob) → Legal (one_submission alice bob)
 submits alice bob legal =
-    called (submission_opened alice bob) (one_submission alice bob) (record { caller = Some 2; command = Submit (codes "Proofs") (codes "We prove.") }) legal
-    (record { caller = refl; bounded = (record { some = omega arith; few = omega arith; bytes = refl; utf8 = ascii-utf8 (codes "Proofs") refl }, record { few = omega arith; utf8 = ascii-utf8 (codes "We prove.") refl }) }) refl
+    called (submission_opened alice bob) (one_submission alice bob) (record { caller = Some 2; command = Submit (codes "Proofs") (codes "We prove.") [] }) legal
+    (record { caller = refl; bounded = (record { some = omega arith; few = omega arith; bytes = refl; utf8 = ascii-utf8 (codes "Proofs") refl }, record { few = omega arith; utf8 = ascii-utf8 (codes "We prove.") refl }, omega arith) }) refl
 
 one_submission-follows : (alice bob : List ℕ) → length alice ≡ 32 → length bob ≡ 32 → Legal (one_submission alice bob)
 one_submission-follows alice bob ha hb = submits alice bob (opens alice bob (hides alice bob (two_calls alice bob ha hb)))

@@ -1,7 +1,8 @@
--- A small conference, up to the bidding and in it: seven users, two papers, and every kind of entry.
+-- A small conference, up to the bidding and in it: seven users, three papers, and every kind of entry.
 use Rattle.std.specs.Prelude.{ℕ, ◌≡◌, true, false, List, [], ◌∷◌, ◌++◌, length, codes}
 use Rattle.cr_base.specs.declared.entry.Entry.{Entry}
-use Rattle.cr_base.specs.declared.entry.Entry.TheVariants.{Registered, Named, PhaseSet, ModeSet, Submitted, Conflict}
+use Rattle.cr_base.specs.declared.entry.Entry.TheVariants.{Registered, Named, PhaseSet, ModeSet, Submitted}
+use Rattle.cr_base.specs.declared.entry.Entry.TheVariants.{Coauthor, Revised, Uploaded, Withdrawn, Conflict}
 use Rattle.cr_base.specs.declared.entry.Stamped.{Stamped}
 use Rattle.cr_base.specs.declared.words.Mode.{Mode}
 use Rattle.cr_base.specs.declared.words.Phase.TheVariants.{Submission, Bidding}
@@ -14,7 +15,7 @@ use Rattle.cr_base.specs.History.{History}
 abbrev pub alice : ℕ
 alice = 1
 
--- the author of paper 1
+-- the submitter of paper 1
 abbrev pub bob : ℕ
 bob = 2
 
@@ -34,7 +35,7 @@ erin = 5
 abbrev pub fay : ℕ
 fay = 6
 
--- the author of paper 2
+-- a co-author of paper 1, and the author of papers 2 and 3
 abbrev pub gus : ℕ
 gus = 7
 
@@ -60,7 +61,7 @@ pub record AreDigests (d : Digests) : Type 0 where
   pub fay : length d.fay ≡ 32
   pub gus : length d.gus ≡ 32
 
--- the texts of the two papers
+-- the texts of the three papers, and those that paper 1 is given later
 abbrev pub proofs : List ℕ
 proofs = codes "Proofs"
 
@@ -72,6 +73,28 @@ types = codes "Types"
 
 abbrev pub we_type : List ℕ
 we_type = codes "We type."
+
+abbrev pub drafts : List ℕ
+drafts = codes "Drafts"
+
+abbrev pub we_draft : List ℕ
+we_draft = codes "We draft."
+
+abbrev pub more_proofs : List ℕ
+more_proofs = codes "More proofs"
+
+abbrev pub we_prove_more : List ℕ
+we_prove_more = codes "We prove more."
+
+-- the two versions of paper 1, and the one of paper 2
+abbrev pub first_version : List ℕ
+first_version = codes "Let x be."
+
+abbrev pub second_version : List ℕ
+second_version = codes "Let x be, and y."
+
+abbrev pub only_version : List ℕ
+only_version = codes "x : A"
 
 -- ---- what they do
 
@@ -104,14 +127,28 @@ opened d mode =
     ∷ alice adds PhaseSet Submission
     ∷ []
 
--- two papers are submitted, and bob declares carol and fay in conflict with his
+-- bob submits paper 1 with gus, who submits two of his own
+abbrev pub submitted : Digests → Mode → History
+submitted d mode =
+    opened d mode
+    ++ record { maker = bob; more = true; entry = Submitted 1 proofs we_prove }
+    ∷ bob adds Coauthor 1 gus
+    ∷ gus adds Submitted 2 types we_type
+    ∷ gus adds Submitted 3 drafts we_draft
+    ∷ []
+
+-- bob uploads two versions of paper 1, and gus one of paper 2 between them; gus revises the texts of paper 1 and withdraws
+-- paper 3; bob declares carol in conflict with paper 1, and gus declares fay
 abbrev pub before_bidding : Digests → Mode → History
 before_bidding d mode =
-    opened d mode
-    ++ bob adds Submitted 1 proofs we_prove
-    ∷ gus adds Submitted 2 types we_type
+    submitted d mode
+    ++ bob adds Uploaded 1 1 first_version
+    ∷ gus adds Uploaded 2 1 only_version
+    ∷ bob adds Uploaded 1 2 second_version
+    ∷ gus adds Revised 1 more_proofs we_prove_more
+    ∷ gus adds Withdrawn 3
     ∷ bob adds Conflict 1 carol true
-    ∷ bob adds Conflict 1 fay true
+    ∷ gus adds Conflict 1 fay true
     ∷ []
 
 -- alice opens the bidding, and turns fay's conflict off; fay declares it herself; dave declares one of his with paper 2,

@@ -8,6 +8,7 @@ use Rattle.cr_base.specs.declared.words.Phase.TheVariants.{Submission, Bidding}
 use Rattle.cr_base.specs.declared.words.Role.{Role}
 use Rattle.cr_base.specs.declared.words.Role.TheVariants.{Member, Chair}
 use Rattle.cr_policy.specs.Conference.{alice, bob, carol, dave, erin, fay, gus, Digests, proofs, we_prove, types, we_type}
+use Rattle.cr_policy.specs.Conference.{drafts, we_draft, more_proofs, we_prove_more, first_version, second_version, only_version}
 use Rattle.cr_policy.specs.Sighting.{Sighting, blank}
 use Rattle.cr_policy.specs.View.{View}
 
@@ -34,17 +35,36 @@ phase_set phase = record (blank kinds.PhaseSet) { phase = Some phase }
 abbrev pub bare_paper : ℕ → Sighting
 bare_paper paper = record (blank kinds.Submitted) { paper = Some paper }
 
--- its title
-abbrev pub title_alone : ℕ → List ℕ → Sighting
-title_alone paper title = record (bare_paper paper) { title = Some title }
+-- who submitted it, and none of its texts
+abbrev pub bare_paper_by : ℕ → ℕ → Sighting
+bare_paper_by user paper = record (bare_paper paper) { by = Some user }
 
 -- its title and its abstract
 abbrev pub both_texts : ℕ → List ℕ → List ℕ → Sighting
-both_texts paper title abstract = record (title_alone paper title) { abstract = Some abstract }
+both_texts paper title abstract = record (bare_paper paper) { title = Some title; abstract = Some abstract }
 
--- both, and who wrote it
+-- both, and who submitted it
 abbrev pub both_texts_by : ℕ → ℕ → List ℕ → List ℕ → Sighting
 both_texts_by user paper title abstract = record (both_texts paper title abstract) { by = Some user }
+
+-- that somebody is a co-author
+abbrev pub coauthor : ℕ → ℕ → Sighting
+coauthor paper user = record (blank kinds.Coauthor) { paper = Some paper; user = Some user }
+
+-- the title that a paper is given later, and the abstract with it
+abbrev pub new_title : ℕ → List ℕ → Sighting
+new_title paper title = record (blank kinds.Revised) { paper = Some paper; title = Some title }
+
+abbrev pub new_texts : ℕ → List ℕ → List ℕ → Sighting
+new_texts paper title abstract = record (new_title paper title) { abstract = Some abstract }
+
+-- a version of its content
+abbrev pub upload : ℕ → ℕ → List ℕ → Sighting
+upload paper version content = record (blank kinds.Uploaded) { paper = Some paper; version = Some version; content = Some content }
+
+-- that it is withdrawn
+abbrev pub withdrawal : ℕ → Sighting
+withdrawal paper = record (blank kinds.Withdrawn) { paper = Some paper }
 
 -- that somebody's conflict with the paper is turned on or off
 abbrev pub conflict : ℕ → ℕ → Bool → Sighting
@@ -100,100 +120,148 @@ opening_to reader d mode =
 
 -- ---- before the bidding
 
--- nobody in particular, and a user who is only that: that there are two papers
+-- that there are three papers
+abbrev pub bare_papers : View
+bare_papers = bare_paper 1 ∷ bare_paper 2 ∷ bare_paper 3 ∷ []
+
+-- nobody in particular, and a user who is only that: no more
 abbrev pub nobody_before : Mode → View
-nobody_before mode = opening_to_nobody mode ++ bare_paper 1 ∷ bare_paper 2 ∷ []
+nobody_before mode = opening_to_nobody mode ++ bare_papers
 
 abbrev pub erin_before : Digests → Mode → View
-erin_before d mode = opening_to erin d mode ++ bare_paper 1 ∷ bare_paper 2 ∷ []
+erin_before d mode = opening_to erin d mode ++ bare_papers
 
--- an author: her own paper whole, and whom she declared; of the other paper that it is there
+-- an author: all of her own paper, with what the co-author did, and whom they declared; of the others that they are there
 abbrev pub bob_before : Digests → Mode → View
 bob_before d mode =
     opening_to bob d mode
     ++ mine (both_texts_by bob 1 proofs we_prove)
+    ∷ mine (coauthor 1 gus)
     ∷ bare_paper 2
+    ∷ bare_paper 3
+    ∷ mine (upload 1 1 first_version)
+    ∷ mine (upload 1 2 second_version)
+    ∷ new_texts 1 more_proofs we_prove_more
     ∷ mine (conflict 1 carol true)
+    ∷ conflict 1 fay true
+    ∷ []
+
+-- a co-author: the same of that paper; and all of his own, that one is withdrawn too
+abbrev pub gus_before : Digests → Mode → View
+gus_before d mode =
+    opening_to gus d mode
+    ++ both_texts_by bob 1 proofs we_prove
+    ∷ coauthor 1 gus
+    ∷ mine (both_texts_by gus 2 types we_type)
+    ∷ mine (both_texts_by gus 3 drafts we_draft)
+    ∷ upload 1 1 first_version
+    ∷ mine (upload 2 1 only_version)
+    ∷ upload 1 2 second_version
+    ∷ mine (new_texts 1 more_proofs we_prove_more)
+    ∷ mine (withdrawal 3)
+    ∷ conflict 1 carol true
     ∷ mine (conflict 1 fay true)
     ∷ []
 
 -- a member: no more than anybody
 abbrev pub dave_before : Digests → Mode → View
-dave_before d mode = opening_to dave d mode ++ bare_paper 1 ∷ bare_paper 2 ∷ []
+dave_before d mode = opening_to dave d mode ++ bare_papers
 
 -- a member who is declared in conflict: that she is
 abbrev pub carol_before : Digests → Mode → View
-carol_before d mode = opening_to carol d mode ++ bare_paper 1 ∷ bare_paper 2 ∷ conflict 1 carol true ∷ []
+carol_before d mode = opening_to carol d mode ++ bare_papers ++ conflict 1 carol true ∷ []
 
 -- a chair: no more than anybody; and one who is declared in conflict: that she is
 abbrev pub alice_before : Digests → Mode → View
-alice_before d mode = opening_to alice d mode ++ bare_paper 1 ∷ bare_paper 2 ∷ []
+alice_before d mode = opening_to alice d mode ++ bare_papers
 
 abbrev pub fay_before : Digests → Mode → View
-fay_before d mode = opening_to fay d mode ++ bare_paper 1 ∷ bare_paper 2 ∷ conflict 1 fay true ∷ []
+fay_before d mode = opening_to fay d mode ++ bare_papers ++ conflict 1 fay true ∷ []
 
 -- ---- in the bidding
 
 -- nobody in particular, and a user who is only that: the phase, and no more of the papers than before
 abbrev pub nobody_in_bidding : Mode → View
-nobody_in_bidding mode = opening_to_nobody mode ++ bare_paper 1 ∷ bare_paper 2 ∷ phase_set Bidding ∷ []
+nobody_in_bidding mode = nobody_before mode ++ phase_set Bidding ∷ []
 
 abbrev pub erin_in_bidding : Digests → Mode → View
-erin_in_bidding d mode = opening_to erin d mode ++ bare_paper 1 ∷ bare_paper 2 ∷ phase_set Bidding ∷ []
+erin_in_bidding d mode = erin_before d mode ++ phase_set Bidding ∷ []
 
--- an author: as before, and not what the committee declares
+-- an author and a co-author: as before, and not what the committee declares
 abbrev pub bob_in_bidding : Digests → Mode → View
-bob_in_bidding d mode =
-    opening_to bob d mode
-    ++ mine (both_texts_by bob 1 proofs we_prove)
-    ∷ bare_paper 2
-    ∷ mine (conflict 1 carol true)
-    ∷ mine (conflict 1 fay true)
-    ∷ phase_set Bidding
-    ∷ []
+bob_in_bidding d mode = bob_before d mode ++ phase_set Bidding ∷ []
 
--- a member in no conflict: both papers, and unless the mode is anonymous who wrote them; of the conflicts her own
+abbrev pub gus_in_bidding : Digests → Mode → View
+gus_in_bidding d mode = gus_before d mode ++ phase_set Bidding ∷ []
+
+-- a member in no conflict: of each paper the last texts, the last version and whether it is withdrawn, and unless the mode
+-- is anonymous all who wrote it; of the conflicts her own
 abbrev pub dave_in_bidding : Digests → Mode → View
 dave_in_bidding d Anonymous =
     opening_to dave d Anonymous
-    ++ both_texts 1 proofs we_prove
+    ++ bare_paper 1
     ∷ both_texts 2 types we_type
+    ∷ both_texts 3 drafts we_draft
+    ∷ upload 2 1 only_version
+    ∷ upload 1 2 second_version
+    ∷ new_texts 1 more_proofs we_prove_more
+    ∷ withdrawal 3
     ∷ phase_set Bidding
     ∷ mine (conflict 2 dave true)
     ∷ conflict 2 dave false
     ∷ []
 dave_in_bidding d mode =
     opening_to dave d mode
-    ++ both_texts_by bob 1 proofs we_prove
+    ++ bare_paper_by bob 1
+    ∷ coauthor 1 gus
     ∷ both_texts_by gus 2 types we_type
+    ∷ both_texts_by gus 3 drafts we_draft
+    ∷ upload 2 1 only_version
+    ∷ upload 1 2 second_version
+    ∷ new_texts 1 more_proofs we_prove_more
+    ∷ withdrawal 3
     ∷ phase_set Bidding
     ∷ mine (conflict 2 dave true)
     ∷ conflict 2 dave false
     ∷ []
 
--- a member in conflict with paper 1: its title alone; of the other paper what any member sees
+-- a member in conflict with paper 1: its last title alone; of the other papers what any member sees
 abbrev pub carol_in_bidding : Digests → Mode → View
 carol_in_bidding d Anonymous =
     opening_to carol d Anonymous
-    ++ title_alone 1 proofs
+    ++ bare_paper 1
     ∷ both_texts 2 types we_type
+    ∷ both_texts 3 drafts we_draft
+    ∷ upload 2 1 only_version
+    ∷ new_title 1 more_proofs
+    ∷ withdrawal 3
     ∷ conflict 1 carol true
     ∷ phase_set Bidding
     ∷ []
 carol_in_bidding d mode =
     opening_to carol d mode
-    ++ title_alone 1 proofs
+    ++ bare_paper 1
     ∷ both_texts_by gus 2 types we_type
+    ∷ both_texts_by gus 3 drafts we_draft
+    ∷ upload 2 1 only_version
+    ∷ new_title 1 more_proofs
+    ∷ withdrawal 3
     ∷ conflict 1 carol true
     ∷ phase_set Bidding
     ∷ []
 
--- a chair in no conflict: both papers, who wrote them whatever the mode, and every conflict, but not who declared it
+-- a chair in no conflict: what a member sees, whatever the mode, and every conflict, but not who declared it
 abbrev pub alice_in_bidding : Digests → Mode → View
 alice_in_bidding d mode =
     opening_to alice d mode
-    ++ both_texts_by bob 1 proofs we_prove
+    ++ bare_paper_by bob 1
+    ∷ coauthor 1 gus
     ∷ both_texts_by gus 2 types we_type
+    ∷ both_texts_by gus 3 drafts we_draft
+    ∷ upload 2 1 only_version
+    ∷ upload 1 2 second_version
+    ∷ new_texts 1 more_proofs we_prove_more
+    ∷ withdrawal 3
     ∷ conflict 1 carol true
     ∷ conflict 1 fay true
     ∷ mine (phase_set Bidding)
@@ -203,12 +271,16 @@ alice_in_bidding d mode =
     ∷ mine (conflict 2 dave false)
     ∷ []
 
--- a chair in conflict with paper 1: its title alone, and of its conflicts her own; of the other paper what any chair sees
+-- a chair in conflict with paper 1: its last title alone, and of its conflicts her own; of the other papers what any chair sees
 abbrev pub fay_in_bidding : Digests → Mode → View
 fay_in_bidding d mode =
     opening_to fay d mode
-    ++ title_alone 1 proofs
+    ++ bare_paper 1
     ∷ both_texts_by gus 2 types we_type
+    ∷ both_texts_by gus 3 drafts we_draft
+    ∷ upload 2 1 only_version
+    ∷ new_title 1 more_proofs
+    ∷ withdrawal 3
     ∷ conflict 1 fay true
     ∷ phase_set Bidding
     ∷ conflict 1 fay false

@@ -68,8 +68,8 @@ pub fn law_witness()
 {}
 
 /// What each kind of reader sees of a small conference, entry by entry and all of it: nobody, an
-/// account, an author, a member and a chair in no conflict, and a member and a chair in conflict, of
-/// two papers with every kind of entry, in each mode, before the bidding and in it.
+/// account, an author, a co-author, a member and a chair in no conflict, and a member and a chair in
+/// conflict, of three papers with every kind of entry, in each mode, before the bidding and in it.
 pub fn law_views()
     ensures legal { ConferenceLegal }
     ensures before { ViewsBeforeBidding }

@@ -1,5 +1,5 @@
-use Rattle.cr_policy.proofs.BoundsWalk.{entries-shown, marks-shown, papers-shown, users-shown, names-shown, digests-shown, roles-shown, phases-shown, modes-shown, makers-shown, titles-shown, abstracts-shown, switches-shown}
-use Rattle.cr_policy.proofs.BoundsTexts.{one-title, one-abstract}
+use Rattle.cr_policy.proofs.BoundsWalk.{entries-shown, marks-shown, papers-shown, users-shown, names-shown, digests-shown, roles-shown, phases-shown, modes-shown, makers-shown, titles-shown, abstracts-shown, versions-shown, contents-shown, switches-shown}
+use Rattle.cr_policy.proofs.BoundsTexts.{one-title, one-abstract, one-content}
 use Rattle.cr_policy.proofs.BoundsLeft.{outsiders-shown, strangers-shown, nobody-shown}
 use Rattle.cr_policy.proofs.law_bounds.Goals as goal
 
@@ -17,9 +17,12 @@ returns c = record {
   makers = makers-shown;
   titles = titles-shown;
   abstracts = abstracts-shown;
+  versions = versions-shown;
+  contents = contents-shown;
   switches = switches-shown;
   one_title = one-title;
   one_abstract = one-abstract;
+  one_content = one-content;
   outsiders = outsiders-shown;
   strangers = strangers-shown;
   nobody = nobody-shown;
