@@ -14,6 +14,7 @@ use Rattle.cr_base.specs.Drawn.{Drawn, registration_drawn}
 use Rattle.cr_base.specs.Judging.{judge_by_role}
 use Rattle.cr_base.specs.Sources.{number_in}
 use Rattle.cr_base.specs.Tables.{Tables}
+use Rattle.cr_base.proofs.ChangeLaws.{changed_at-suc}
 use Rattle.cr_base.specs.declared.command.Command.TheVariants.{Register}
 use Rattle.cr_base.specs.declared.entry.Account.{Account}
 use Rattle.cr_base.specs.declared.entry.Entry.TheVariants.{Registered}
@@ -87,11 +88,7 @@ number_at-push accounts a user e new name =
 
 -- a role changes behind the first account
 pub with_role-suc : (a : Account) (rest : List Account) (k : ℕ) (role : Role) → with_role (a ∷ rest) (suc k) role ≡ a ∷ with_role rest k role
-with_role-suc a rest k role = by (slice_get rest k)
-  where
-    by : (o : Option Account) → option_map_or (λ x. a ∷ slice_set rest k (record x { role = role })) o (a ∷ rest) ≡ a ∷ option_map_or (λ x. slice_set rest k (record x { role = role })) o rest
-    by None = refl
-    by (Some x) = refl
+with_role-suc a rest k role = changed_at-suc (λ (x : Account). record x { role = role }) a rest k
 
 position_from-with_role : (name : List ℕ) (i : ℕ) (accounts : List Account) (k : ℕ) (role : Role) → position_from (λ a. bytes_eq a.name name) i (with_role accounts k role) ≡ position_from (λ a. bytes_eq a.name name) i accounts
 position_from-with_role name i [] k role = refl

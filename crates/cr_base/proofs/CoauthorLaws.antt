@@ -12,6 +12,7 @@ use Rattle.cr_base.specs.declared.entry.Entry.{Entry}
 use Rattle.cr_base.specs.declared.entry.Entry.TheVariants.{Submitted, Coauthor}
 use Rattle.cr_base.specs.declared.pairs.Pair.{Pair}
 use Rattle.cr_base.specs.declared.pairs.Tie.{Tie}
+use Rattle.cr_base.specs.declared.reply.AccountLine.{AccountLine}
 use Rattle.cr_base.specs.Accounts.{number_at, lines_of}
 use Rattle.cr_base.specs.Drawn.{grouped, besides, submission}
 use Rattle.cr_base.specs.Lists.{listed}
@@ -21,6 +22,7 @@ use Rattle.cr_base.specs.Sources.{number_in, users_among}
 use Rattle.cr_base.specs.Tables.{Tables, tables_after, Fits, FitInTurn}
 use Rattle.cr_base.specs.Ties.{BareTies, pair_of, bare_tie, are_before, are_up_to}
 use Rattle.cr_base.proofs.AccountLaws.{number_at-from, number_in-lines_of}
+use Rattle.cr_base.proofs.ListLaws.{turned}
 use Rattle.cr_base.proofs.TieLaws.{has_pair-push, all-push}
 
 -- ---- the users of names
@@ -37,7 +39,7 @@ position-within test n (a ∷ accounts) k found = by (test a) found (position-wi
     by true is rest = let e : n ≡ k = cc in omega (arith, e)
     by false is rest = let low = rest is in omega (arith, low)
 
-number-within : (accounts : List Account) (name : List ℕ) (user : ℕ) → number_at accounts name ≡ Some user → HasAccount accounts user
+pub number-within : (accounts : List Account) (name : List ℕ) (user : ℕ) → number_at accounts name ≡ Some user → HasAccount accounts user
 number-within accounts name user is = by (position_from test 0 accounts) refl (sym (number_at-from accounts name) ∙ is)
   where
     test : Account → Bool
@@ -50,16 +52,19 @@ number-within accounts name user is = by (position_from test 0 accounts) refl (s
         let high = position-within test 0 accounts k at in
         (omega (arith, n), omega (arith, n, high))
 
--- the users of names that somebody registered have accounts
-pub users-within : (accounts : List Account) (names : List (Option (List ℕ))) → AllByRecursion (HasAccount accounts) (flat_map listed (users_among (lines_of accounts) names))
-users-within accounts [] = tt
-users-within accounts (None ∷ names) = users-within accounts names
-users-within accounts (Some name ∷ names) = by (number_in (lines_of accounts) name) refl (users-within accounts names)
+-- what is so of the user of each name that somebody has is so of all the users of these names
+pub users-each : (P : ℕ → Type 0) (lines : List AccountLine) → ((name : List ℕ) (user : ℕ) → number_in lines name ≡ Some user → P user) → (names : List (Option (List ℕ))) → AllByRecursion P (flat_map listed (users_among lines names))
+users-each P lines each [] = tt
+users-each P lines each (None ∷ names) = users-each P lines each names
+users-each P lines each (Some name ∷ names) = by (number_in lines name) refl (users-each P lines each names)
   where
-    by : (found : Option ℕ) → number_in (lines_of accounts) name ≡ found → AllByRecursion (HasAccount accounts) (flat_map listed (users_among (lines_of accounts) names))
-        → AllByRecursion (HasAccount accounts) (listed found ++ flat_map listed (users_among (lines_of accounts) names))
+    by : (found : Option ℕ) → number_in lines name ≡ found → AllByRecursion P (flat_map listed (users_among lines names)) → AllByRecursion P (listed found ++ flat_map listed (users_among lines names))
     by None at rest = rest
-    by (Some user) at rest = (number-within accounts name user (sym (number_in-lines_of accounts name) ∙ at), rest)
+    by (Some user) at rest = (each name user at, rest)
+
+-- so they have accounts
+pub users-within : (accounts : List Account) (names : List (Option (List ℕ))) → AllByRecursion (HasAccount accounts) (flat_map listed (users_among (lines_of accounts) names))
+users-within accounts names = users-each (HasAccount accounts) (lines_of accounts) (λ name user at. number-within accounts name user (sym (number_in-lines_of accounts name) ∙ at)) names
 
 -- ---- entries by one maker, each in its turn
 
@@ -74,9 +79,6 @@ AreAuthors authors paper these = (v : ℕ) → has_pair (pair_of paper v) author
 
 self_equal : (n : ℕ) → eqb n n ≡ true
 self_equal n = grind (arith, nat_tests)
-
-turned : (n m : ℕ) → eqb n m ≡ eqb m n
-turned n m = grind (arith, nat_tests)
 
 -- with one more behind them
 authors-push : (authors : BareTies) (paper user : ℕ) (these : List ℕ) → AreAuthors authors paper these → AreAuthors (authors ++ bare_tie paper user ∷ []) paper (these ++ user ∷ [])

@@ -10,6 +10,10 @@ use Rattle.cr_base.specs.Accounts.{lines_from, lines_of, account_at, role_at}
 use Rattle.cr_base.specs.Sources.{name_in, role_among}
 use Rattle.cr_base.specs.Lists.{numbered, numbers_from}
 
+-- two numbers are compared either way
+pub turned : (n m : ℕ) → eqb n m ≡ eqb m n
+turned n m = grind (arith, nat_tests)
+
 -- ---- elements by number
 
 -- there is none

@@ -18,10 +18,11 @@ use Rattle.cr_base.specs.Ties.{BareTies, TiesState, pair_of, bare_tie, switched,
 use Rattle.cr_base.specs.Tables.{Tables, no_tables, tables_after, tables_from, tables_of, FitInTurn}
 use Rattle.cr_base.proofs.PaperLaws.{length-with_paper}
 use Rattle.cr_base.proofs.LastLaws.{last_or-given}
+use Rattle.cr_base.proofs.ListLaws.{turned}
 use Rattle.cr_base.proofs.PairLaws.{has_pair-with_tie}
 use Rattle.cr_base.proofs.TieLaws.{has_pair-switched, users_tied_to-push}
 use Rattle.cr_history.specs.Invariants.{InTurn, ComesFirst, is_conflict_with}
-use Rattle.cr_history.proofs.PaperTies.{turned, is_author-tables}
+use Rattle.cr_history.proofs.PaperTies.{is_author-tables}
 use Rattle.cr_history.proofs.Folds.{told-always}
 
 -- ---- declared conflicts

@@ -1,7 +1,6 @@
 -- Where each entry fits in its turn, the users of names, and of names with digests, are those of the accounts.
-use Rattle.std.proofs.Common.{ℕ, Bool, true, false, cond, ◌≡◌, ◌≤◌, ◌<◌, ◌+◌, ◌-◌, ◌&&◌, List, [], ◌∷◌, ◌++◌, length, refl, sym, ap, subst, ◌∙◌, arith, suc, Option, Some, None}
-use Rattle.std.specs.List.{position_from}
-use Rattle.std.specs.Option.{option_map, option_and_then}
+use Rattle.std.proofs.Common.{ℕ, Bool, true, false, cond, ◌≡◌, ◌≤◌, ◌+◌, ◌-◌, ◌&&◌, List, [], ◌∷◌, ◌++◌, length, refl, sym, ap, subst, ◌∙◌, arith, Option, Some, None}
+use Rattle.std.specs.Option.{option_and_then}
 use Rattle.std.specs.Str.{bytes_eq}
 use Rattle.std.proofs.lemmas.Bool.{eq-eqb, ne_eqb}
 use Rattle.std.proofs.lemmas.Slice.Eq.{bytes_eq-Decides}
@@ -15,7 +14,8 @@ use Rattle.cr_base.specs.History.{History, number_told, caller_told}
 use Rattle.cr_base.specs.HistoryFacts.{number_of, caller_of}
 use Rattle.cr_base.specs.Accounts.{with_role, accounts_after, number_at, has_digest, caller_at, AccountsFit}
 use Rattle.cr_base.specs.Tables.{Tables, no_tables, tables_of, FitInTurn}
-use Rattle.cr_base.proofs.AccountLaws.{number_at-from, number_at-push, number_at-with_role}
+use Rattle.cr_base.proofs.AccountLaws.{number_at-push, number_at-with_role}
+use Rattle.cr_base.proofs.CoauthorLaws.{number-within}
 use Rattle.cr_base.proofs.LastLaws.{last_from-given}
 use Rattle.cr_base.proofs.RoleLaws.{has_digest-push, has_digest-with_role}
 use Rattle.cr_history.proofs.Folds.{told-fitting}
@@ -36,25 +36,6 @@ pub number_of-tables : (name : List ℕ) (H : History) → FitInTurn no_tables H
 number_of-tables name H fits = told-fitting last_from (λ _. refl) (λ (t : Tables). number_at t.accounts name) (λ (s : Stamped). number_told name s.entry) (λ t s fit. number-entry name t.accounts s.entry fit.accounts) no_tables H fits
 
 -- ---- digests
-
-position_from-within : (test : Account → Bool) (i : ℕ) (accounts : List Account) (k : ℕ) → position_from test i accounts ≡ Some k → k < i + length accounts
-position_from-within test i [] k h = cc
-position_from-within test i (a ∷ accounts) k h = by (test a) h (position_from-within test (i + 1) accounts k)
-  where
-    by : (b : Bool) → cond b (Some i) (position_from test (i + 1) accounts) ≡ Some k → (position_from test (i + 1) accounts ≡ Some k → k < (i + 1) + length accounts) → k < i + suc (length accounts)
-    by true e rest = let here : i ≡ k = cc in omega (arith, here)
-    by false e rest = let later = rest e in omega (arith, later)
-
--- a user found by her name has an account
-number_at-within : (accounts : List Account) (name : List ℕ) (user : ℕ) → number_at accounts name ≡ Some user → user ≤ length accounts
-number_at-within accounts name user h = by (position_from test 0 accounts) refl (sym (number_at-from accounts name) ∙ h)
-  where
-    test : Account → Bool
-    test a = bytes_eq a.name name
-
-    by : (p : Option ℕ) → position_from test 0 accounts ≡ p → option_map (λ i. i + 1) p ≡ Some user → user ≤ length accounts
-    by None is e = cc
-    by (Some k) is e = let next : k + 1 ≡ user = cc in let within = position_from-within test 0 accounts k is in omega (arith, next, within)
 
 has_digest-front : (accounts : List Account) (a : Account) (digest : List ℕ) (user : ℕ) → user ≤ length accounts → has_digest (accounts ++ a ∷ []) digest user ≡ has_digest accounts digest user
 has_digest-front accounts a digest user h =
@@ -90,7 +71,7 @@ caller-entry name digest accounts (Registered user name' digest') fits rest =
     let new : bytes_eq name' name ≡ true → number_at accounts name ≡ None = λ h. subst (λ n. number_at accounts n ≡ None) ((bytes_eq-Decides name' name).0 h) fits.2 in
     last_from-given (bytes_eq name' name && bytes_eq digest' digest) user (caller_at accounts name digest) rest
     ∙ ap (λ o. last_from o rest)
-    (caller-push accounts a digest user (number_at accounts name) (bytes_eq name' name) fits.0 new (number_at-within accounts name)
+    (caller-push accounts a digest user (number_at accounts name) (bytes_eq name' name) fits.0 new (λ v found. (number-within accounts name v found).1)
     ∙ ap (passed (has_digest (accounts ++ a ∷ []) digest)) (sym (number_at-push accounts a user fits.0 fits.2 name)))
 caller-entry name digest accounts (Named user role') fits rest =
     let now : List Account = with_role accounts (user - 1) role' in

@@ -16,15 +16,11 @@ use Rattle.cr_base.specs.HistoryFacts.{papers_of, own_papers_of, own_bytes_of, a
 use Rattle.cr_base.specs.Papers.{PapersState, PaperUpload, no_papers, with_more, new_paper, with_texts, as_withdrawn, papers_after, paper_numbers, text_at, title_at, abstract_at, is_withdrawn_at, uploads_at, own_count, own_bytes, PapersFit}
 use Rattle.cr_base.specs.Ties.{TiesState, ties_after, authors_in, is_author_in}
 use Rattle.cr_base.specs.Tables.{Tables, no_tables, tables_of, FitInTurn}
-use Rattle.cr_base.proofs.ChangeLaws.{read-changed, read-kept, numbers_from-with_paper}
+use Rattle.cr_base.proofs.PaperLaws.{read-changed, read-kept, numbers_from-with_paper}
 use Rattle.cr_base.proofs.LastLaws.{last_from-given, last_or-given}
-use Rattle.cr_base.proofs.ListLaws.{numbered-nil, numbered-none, numbered-push, numbers_from-push}
+use Rattle.cr_base.proofs.ListLaws.{turned, numbered-nil, numbered-none, numbered-push, numbers_from-push}
 use Rattle.cr_base.proofs.TieLaws.{users_tied_to-push}
 use Rattle.cr_history.proofs.Folds.{told-always, told-fitting}
-
--- two numbers are compared either way
-pub turned : (n m : ℕ) → eqb n m ≡ eqb m n
-turned n m = grind (arith, nat_tests)
 
 -- ---- the numbers of the papers
 
@@ -184,7 +180,7 @@ module _ (part : Paper → List ℕ) (anew : (title abstract : List ℕ) (y : Pa
       last_from-given (eqb paper p) x (text_at part state p) rest
       ∙ ap (λ o. last_from o rest) (sym (read-changed (option_map part) (with_texts title abstract) state.papers paper p (Some x) fits.0 fits.1 (λ y. ap Some (anew title abstract y))))
   text-entry state maker (Withdrawn paper) fits rest =
-      ap (λ o. last_from o rest) (sym (read-kept (option_map part) as_withdrawn state.papers paper p (λ y. ap Some (left y))))
+      ap (λ o. last_from o rest) (sym (read-kept (option_map part) as_withdrawn state.papers paper p fits.0 (λ y. ap Some (left y))))
   text-entry state maker e fits rest = refl
 
   -- the last text that is told of the paper is the one that the table has
@@ -216,7 +212,7 @@ withdrawn-entry p state maker (Submitted paper title abstract) fits rest =
     let none : eqb p last ≡ true → numbered state.papers p ≡ None = λ same. let e : p ≡ last = eqb-true p last same in numbered-none state.papers p (omega (arith, e)) in
     ap (λ b. last_or b rest) (sym (ap is_withdrawn_in (numbered-push state.papers (new_paper title abstract) p) ∙ withdrawn-push (numbered state.papers p) (eqb p last) title abstract none))
 withdrawn-entry p state maker (Revised paper title abstract) fits rest =
-    ap (λ b. last_or b rest) (sym (read-kept is_withdrawn_in (with_texts title abstract) state.papers paper p (λ y. refl)))
+    ap (λ b. last_or b rest) (sym (read-kept is_withdrawn_in (with_texts title abstract) state.papers paper p fits.0 (λ y. refl)))
 withdrawn-entry p state maker (Withdrawn paper) fits rest =
     last_or-given (eqb paper p) (is_withdrawn_at state p) true rest
     ∙ ap (λ b. last_or b rest) (sym (read-changed is_withdrawn_in as_withdrawn state.papers paper p true fits.0 fits.1 (λ y. refl)))

@@ -1,5 +1,5 @@
 -- What an accepted command adds, by the rules on the history before it.
-use Rattle.std.proofs.Common.{ℕ, Bool, true, false, cond, ◌≡◌, ◌<◌, ◌+◌, List, [], ◌∷◌, ◌++◌, length, eqb, refl, sym, ap, subst, ◌∙◌, ◌||◌, ◌&&◌, Option, Some, None, Ok}
+use Rattle.std.proofs.Common.{ℕ, Bool, true, false, cond, ◌≡◌, ◌<◌, ◌+◌, List, [], ◌∷◌, length, eqb, refl, sym, ap, subst, ◌∙◌, ◌||◌, ◌&&◌, Option, Some, None, Ok}
 use Rattle.std.specs.Prelude.{not, is_some, is_none, unwrap_or, map}
 use Rattle.std.specs.List.{AllByRecursion, list_any, find, flat_map}
 use Rattle.std.specs.Option.{option_map}
@@ -27,6 +27,7 @@ use Rattle.cr_base.specs.Drawn.{Drawn, grouped, registration_drawn, phase_drawn,
 use Rattle.cr_base.specs.Judging.{judge_by}
 use Rattle.cr_base.specs.Sources.{Facts, Shown, number_in, user_among, users_among, role_among, paper_named, target_named}
 use Rattle.cr_base.proofs.CheckLaws.{NoneBroken, judged-Ok}
+use Rattle.cr_base.proofs.CoauthorLaws.{users-each}
 use Rattle.cr_base.proofs.TargetLaws.{is_none-asked, target_role-of}
 use Rattle.cr_history.specs.Invariants.{IsRegistered, IsByRight}
 use Rattle.cr_history.specs.Groups.{IsRuled, Adds, single, submitted, first_user}
@@ -76,14 +77,7 @@ number-found H name v (r ∷ rs) found = by (bytes_eq r.name name) found (number
 
 -- the users of names have registered, as many of them as are there
 users-registered : (H : History) (names : List (Option (List ℕ))) → AllByRecursion (IsRegistered H) (flat_map listed (users_among (accounts_of H) names))
-users-registered H [] = tt
-users-registered H (None ∷ names) = users-registered H names
-users-registered H (Some name ∷ names) = by (number_in (accounts_of H) name) refl (users-registered H names)
-  where
-    by : (found : Option ℕ) → number_in (accounts_of H) name ≡ found → AllByRecursion (IsRegistered H) (flat_map listed (users_among (accounts_of H) names))
-        → AllByRecursion (IsRegistered H) (listed found ++ flat_map listed (users_among (accounts_of H) names))
-    by None at rest = rest
-    by (Some v) at rest = (number-found H name v (all_told registration_told H) at, rest)
+users-registered H names = users-each (IsRegistered H) (accounts_of H) (λ name v at. number-found H name v (all_told registration_told H) at) names
 
 -- ---- papers of the maker
 
