@@ -1,7 +1,7 @@
 -- A submission's entries fit the tables, each in its turn: the paper, and behind it those of the users who become co-authors.
 use Rattle.std.proofs.Common.{ℕ, Bool, true, false, cond, ◌≡◌, ◌≤◌, ◌+◌, List, [], ◌∷◌, ◌++◌, length, length-append, eqb, refl, sym, ap, ◌∙◌, arith, suc, ◌||◌, ◌&&◌, Option, Some, None}
 use Rattle.std.specs.Prelude.{map, nat_le, nat_lt}
-use Rattle.std.specs.List.{flat_map, list_any, list_all, position_from, AllByRecursion}
+use Rattle.std.specs.List.{flat_map, list_any, position_from, AllByRecursion}
 use Rattle.std.specs.Option.{option_map}
 use Rattle.std.specs.Str.{bytes_eq}
 use Rattle.std.proofs.lemmas.Bool.{and_parts}
@@ -10,8 +10,6 @@ use Rattle.std.proofs.lemmas.List.Folds.{list_any-append}
 use Rattle.cr_base.specs.declared.entry.Account.{Account}
 use Rattle.cr_base.specs.declared.entry.Entry.{Entry}
 use Rattle.cr_base.specs.declared.entry.Entry.TheVariants.{Submitted, Coauthor}
-use Rattle.cr_base.specs.declared.pairs.Pair.{Pair}
-use Rattle.cr_base.specs.declared.pairs.Tie.{Tie}
 use Rattle.cr_base.specs.declared.reply.AccountLine.{AccountLine}
 use Rattle.cr_base.specs.Accounts.{number_at, lines_of}
 use Rattle.cr_base.specs.Drawn.{grouped, besides, submission}

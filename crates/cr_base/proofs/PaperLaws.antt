@@ -1,10 +1,9 @@
 -- The papers where one of them is changed.
-use Rattle.std.proofs.Common.{ℕ, Bool, true, false, cond, ◌≡◌, ◌≤◌, ◌-◌, List, length, eqb, refl, sym, ap, ◌∙◌, arith, zero, suc, Option, Some, None}
+use Rattle.std.proofs.Common.{ℕ, Bool, true, false, cond, ◌≡◌, ◌≤◌, ◌-◌, List, length, eqb, refl, ap, ◌∙◌, arith, zero, suc, Option, Some, None}
 use Rattle.std.specs.Prelude.{slice_set}
 use Rattle.std.specs.List.{slice_get}
 use Rattle.std.specs.Option.{option_map, option_map_or}
 use Rattle.std.proofs.lemmas.Bool.{eqb-true}
-use Rattle.std.proofs.lemmas.Bool.Decides.{nat_tests}
 use Rattle.std.proofs.lemmas.List.{length-set}
 use Rattle.cr_base.specs.declared.paper.Paper.{Paper}
 use Rattle.cr_base.specs.Lists.{numbered, numbers_from}
