@@ -11,10 +11,23 @@ fn alone(entry: Entry) -> Stamped {
     }
 }
 
-/// An entry of each kind, in the order of their numbers.
-fn entries(alloc: Global) -> Result<[Stamped; 10], Fail> {
-    let (user, paper) = (UserNo::new(1), PaperNo::new(12));
-    Ok([
+/// A submission of paper 12 by user 9,999.
+fn submitted(alloc: Global) -> Result<Stamped, Fail> {
+    Ok(Stamped {
+        maker: UserNo::new(9_999),
+        more: false,
+        entry: Entry::Submitted {
+            paper: PaperNo::new(12),
+            title: Text::from_str(alloc, "Schr\u{f6}dinger")?,
+            abstract_: Text::from_str(alloc, "A cat.\n")?,
+        },
+    })
+}
+
+/// An entry of each kind that is about users and the conference, in the order of their numbers.
+fn of_the_conference() -> [Stamped; 4] {
+    let user = UserNo::new(1);
+    [
         Stamped {
             maker: user,
             more: true,
@@ -34,19 +47,13 @@ fn entries(alloc: Global) -> Result<[Stamped; 10], Fail> {
         alone(Entry::ModeSet {
             mode: Mode::Anonymous,
         }),
-        Stamped {
-            maker: UserNo::new(9_999),
-            more: false,
-            entry: Entry::Submitted {
-                paper,
-                title: Text::from_str(alloc, "Schr\u{f6}dinger")?,
-                abstract_: Text::from_str(alloc, "A cat.\n")?,
-            },
-        },
-        alone(Entry::Coauthor {
-            paper,
-            user: UserNo::new(9_999),
-        }),
+    ]
+}
+
+/// A revision of paper 12, and an upload to it.
+fn with_texts(alloc: Global) -> Result<[Stamped; 2], Fail> {
+    let paper = PaperNo::new(12);
+    Ok([
         alone(Entry::Revised {
             paper,
             title: Text::from_str(alloc, "Cats")?,
@@ -57,13 +64,24 @@ fn entries(alloc: Global) -> Result<[Stamped; 10], Fail> {
             version: 70_000,
             content: Blob::from_slice(alloc, b"\x00\xff")?,
         }),
+    ])
+}
+
+/// Entries about paper 12 that have no texts.
+fn without_texts() -> [Stamped; 3] {
+    let paper = PaperNo::new(12);
+    [
+        alone(Entry::Coauthor {
+            paper,
+            user: UserNo::new(9_999),
+        }),
         alone(Entry::Withdrawn { paper }),
         alone(Entry::Conflict {
             paper,
             user: UserNo::new(3),
             on: true,
         }),
-    ])
+    ]
 }
 
 fn row_of(alloc: Global, stamped: &Stamped) -> Result<Row, Fail> {
@@ -78,37 +96,70 @@ fn is_read_back(alloc: Global, row: &Row) -> Result<bool, Fail> {
     }
 }
 
+/// What a row has of an entry: its numbers and its two texts.
+type Told<'a> = ([u64; 8], &'a [u8], &'a [u8]);
+
+/// Whether the entry's row is this one, is the same when it is copied, and is read back.
+fn has_row(alloc: Global, stamped: &Stamped, wanted: Told<'_>) -> Result<bool, Fail> {
+    let row = row_of(alloc, &stamped.copy()?)?.copy()?;
+    let numbers = [
+        row.kind, row.maker, row.more, row.n1, row.n2, row.n3, row.n4, row.n5,
+    ];
+    if numbers != wanted.0 || row.b1.as_slice() != wanted.1 || row.b2.as_slice() != wanted.2 {
+        return Ok(false);
+    }
+    is_read_back(alloc, &row)
+}
+
 #[test]
-fn rows_of_entries(rt: HostRuntime) -> Result<(), Fail> {
-    let alloc = rt.alloc();
+fn rows_of_the_conference(rt: HostRuntime) -> Result<(), Fail> {
     let digest = [7; 32];
-    let wanted: [([u64; 8], &[u8], &[u8]); 10] = [
+    let wanted: [Told<'_>; 4] = [
         ([1, 1, 1, 1, 0, 0, 0, 0], b"alice", &digest),
         ([2, 1, 0, 1, 2, 0, 0, 0], b"", b""),
         ([3, 1, 0, 4, 0, 0, 0, 0], b"", b""),
         ([4, 1, 0, 2, 0, 0, 0, 0], b"", b""),
-        (
-            [5, 9_999, 0, 12, 0, 0, 0, 0],
-            b"Schr\xc3\xb6dinger",
-            b"A cat.\n",
-        ),
-        ([6, 1, 0, 12, 9_999, 0, 0, 0], b"", b""),
+    ];
+    let entries = of_the_conference();
+    for i in 0..4 {
+        assert!(rt; has_row(rt.alloc(), &entries[i], wanted[i])?, "row {i}");
+    }
+    Ok(())
+}
+
+#[test]
+fn rows_of_papers(rt: HostRuntime) -> Result<(), Fail> {
+    let alloc = rt.alloc();
+    let submitted_row: Told<'_> = (
+        [5, 9_999, 0, 12, 0, 0, 0, 0],
+        b"Schr\xc3\xb6dinger",
+        b"A cat.\n",
+    );
+    assert!(rt; has_row(alloc, &submitted(alloc)?, submitted_row)?);
+    let wanted: [Told<'_>; 2] = [
         ([7, 1, 0, 12, 0, 0, 0, 0], b"Cats", b""),
         ([8, 1, 0, 12, 70_000, 0, 0, 0], b"\x00\xff", b""),
-        ([9, 1, 0, 12, 0, 0, 0, 0], b"", b""),
-        ([10, 1, 0, 12, 3, 1, 0, 0], b"", b""),
     ];
-    let entries = entries(alloc)?;
-    for i in 0..10 {
-        let copied = entries[i].copy()?;
-        let row = row_of(alloc, &copied)?.copy()?;
-        let numbers = [
-            row.kind, row.maker, row.more, row.n1, row.n2, row.n3, row.n4, row.n5,
-        ];
-        assert_eq!(rt; numbers, wanted[i].0, "row {i}");
-        let bytes_are_right = row.b1.as_slice() == wanted[i].1 && row.b2.as_slice() == wanted[i].2;
-        assert!(rt; bytes_are_right, "bytes of row {i}");
-        assert!(rt; is_read_back(alloc, &row)?, "row {i} is an entry's");
+    let entries = with_texts(alloc)?;
+    for i in 0..2 {
+        assert!(rt; has_row(alloc, &entries[i], wanted[i])?, "row {i}");
+    }
+    Ok(())
+}
+
+#[test]
+fn rows_of_ties(rt: HostRuntime) -> Result<(), Fail> {
+    let wanted: [[u64; 8]; 3] = [
+        [6, 1, 0, 12, 9_999, 0, 0, 0],
+        [9, 1, 0, 12, 0, 0, 0, 0],
+        [10, 1, 0, 12, 3, 1, 0, 0],
+    ];
+    let entries = without_texts();
+    for i in 0..3 {
+        assert!(rt;
+            has_row(rt.alloc(), &entries[i], (wanted[i], b"", b""))?,
+            "row {i}"
+        );
     }
     Ok(())
 }
@@ -116,9 +167,9 @@ fn rows_of_entries(rt: HostRuntime) -> Result<(), Fail> {
 #[test]
 fn rows_of_no_entry(rt: HostRuntime) -> Result<(), Fail> {
     let alloc = rt.alloc();
-    let entries = entries(alloc)?;
+    let named = &of_the_conference()[1];
     for broken in 0..11 {
-        let mut row = row_of(alloc, &entries[1])?;
+        let mut row = row_of(alloc, named)?;
         match broken {
             0 => row.kind = 0,
             1 => row.kind = 99,
@@ -144,7 +195,7 @@ fn rows_of_no_entry(rt: HostRuntime) -> Result<(), Fail> {
 
 /// Whether a row of a submission with this title and this abstract is an entry's.
 fn is_submission(alloc: Global, title: &[u8], abstract_: &[u8]) -> Result<bool, Fail> {
-    let mut row = row_of(alloc, &entries(alloc)?[4])?;
+    let mut row = row_of(alloc, &submitted(alloc)?)?;
     row.b1 = Blob::from_slice(alloc, title)?;
     row.b2 = Blob::from_slice(alloc, abstract_)?;
     Ok(Stamped::from_row(&row)?.is_some())
