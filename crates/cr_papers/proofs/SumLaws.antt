@@ -1,5 +1,5 @@
 -- Sums that are filled up with zeros, and the papers that are there.
-use Rattle.std.proofs.Common.{ℕ, Bool, true, ◌≡◌, ◌≤◌, ◌+◌, ◌-◌, ◌&&◌, List, [], ◌∷◌, ◌++◌, length, eqb, get_or, set, replicate, append-nil, refl, sym, ap, ◌∙◌, arith, zero, suc}
+use Rattle.std.proofs.Common.{ℕ, true, ◌≡◌, ◌≤◌, ◌+◌, ◌-◌, ◌&&◌, List, [], ◌∷◌, ◌++◌, length, eqb, get_or, set, replicate, append-nil, refl, sym, ap, ◌∙◌, arith, zero, suc}
 use Rattle.std.specs.Prelude.{nat_le}
 use Rattle.std.specs.List.{list_any}
 use Rattle.std.proofs.lemmas.Bool.Decides.{nat_tests}

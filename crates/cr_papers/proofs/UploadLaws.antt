@@ -1,6 +1,6 @@
 -- A paper's uploads: their numbers, and where each is found.
-use Rattle.std.proofs.Common.{ℕ, Bool, true, false, cond, ◌≡◌, ◌≢◌, ◌≤◌, ◌<◌, ◌+◌, ◌-◌, ◌&&◌, List, [], ◌∷◌, ◌++◌, length, length-append, append-nil, eqb, set, refl, sym, ap, subst, ◌∙◌, arith, zero, suc, Option, Some, None, map, option_map}
-use Rattle.std.specs.Prelude.{find, option_and_then, unwrap_or, slice_set}
+use Rattle.std.proofs.Common.{ℕ, Bool, true, false, cond, ◌≡◌, ◌≢◌, ◌≤◌, ◌<◌, ◌+◌, ◌&&◌, List, [], ◌∷◌, ◌++◌, length, length-append, append-nil, eqb, refl, sym, ap, subst, ◌∙◌, arith, zero, suc, Option, Some, None, map, option_map}
+use Rattle.std.specs.Prelude.{find, unwrap_or, slice_set}
 use Rattle.std.specs.List.{slice_get}
 use Rattle.std.specs.Option.{option_or}
 use Rattle.std.proofs.lemmas.Bool.{and_parts}
@@ -12,9 +12,9 @@ use Rattle.std.specs.declared.hash.FoldHasher.{FoldHasher}
 use Rattle.std.specs.declared.hash.BuildHasherDefault.{BuildHasherDefault}
 use Rattle.indexmap.specs.IndexMap.{IndexMap, get}
 use Rattle.cr_base.specs.History.{Upload}
-use Rattle.cr_base.specs.Lists.{given, numbered, numbers_from, last, last_from}
+use Rattle.cr_base.specs.Lists.{given, listed, numbered, numbers_from, last, last_from}
 use Rattle.cr_base.specs.Papers.{PaperUpload}
-use Rattle.cr_base.proofs.ListLaws.{numbered-push, numbered-none, numbers_from-push}
+use Rattle.cr_base.proofs.ListLaws.{numbered-push, numbers_from-push}
 use Rattle.cr_papers.specs.declared.uploads.VersionOf.{VersionOf}
 use Rattle.cr_papers.specs.Index.{uploads_to, numbers_to, version_of, is_same, upload_at, IsVersionIndex}
 
@@ -32,8 +32,8 @@ apart n m is = grind (arith, nat_tests)
 abbrev numbers_of : List Upload → List ℕ
 numbers_of us = map (λ (u : Upload). u.version) us
 
-abbrev of_number : ℕ → List Upload → Option Upload
-of_number n us = find (λ (u : Upload). eqb u.version n) us
+abbrev find_number : ℕ → List Upload → Option Upload
+find_number n us = find (λ (u : Upload). eqb u.version n) us
 
 first_of : (x y : ℕ) (xs ys : List ℕ) → ◌≡◌ {A = List ℕ} (x ∷ xs) (y ∷ ys) → x ≡ y
 first_of x y xs ys h = cc
@@ -42,16 +42,16 @@ rest_of : (x y : ℕ) (xs ys : List ℕ) → ◌≡◌ {A = List ℕ} (x ∷ xs)
 rest_of x y xs ys h = cc
 
 -- no upload has a number behind them
-fresh_number : (n m : ℕ) (us : List Upload) → numbers_of us ≡ numbers_from n us → n + length us ≤ m → of_number m us ≡ None
+fresh_number : (n m : ℕ) (us : List Upload) → numbers_of us ≡ numbers_from n us → n + length us ≤ m → find_number m us ≡ None
 fresh_number n m [] h low = refl
 fresh_number n m (u ∷ us) h low =
     let is = first_of u.version n (numbers_of us) (numbers_from (n + 1) us) h in
-    ap (λ b. cond b (Some u) (of_number m us)) (apart u.version m (omega (arith, is, low)))
+    ap (λ b. cond b (Some u) (find_number m us)) (apart u.version m (omega (arith, is, low)))
     ∙ fresh_number (n + 1) m us (rest_of u.version n (numbers_of us) (numbers_from (n + 1) us) h) (omega (arith, low))
 
 -- the last has the last number
 last_number : (n m : ℕ) (u : Upload) (us : List Upload) → numbers_of (u ∷ us) ≡ numbers_from n (u ∷ us) → m ≡ n + length us
-    → (of_number m (u ∷ us) ≡ last_from (Some u) us) × (option_map (λ (v : Upload). v.version) (last_from (Some u) us) ≡ Some m)
+    → (find_number m (u ∷ us) ≡ last_from (Some u) us) × (option_map (λ (v : Upload). v.version) (last_from (Some u) us) ≡ Some m)
 last_number n m u [] h at =
     let is = first_of u.version n [] [] h in
     let m_is : u.version ≡ m = omega (arith, is, at) in
@@ -59,10 +59,10 @@ last_number n m u [] h at =
 last_number n m u (v ∷ us) h at =
     let is = first_of u.version n (numbers_of (v ∷ us)) (numbers_from (n + 1) (v ∷ us)) h in
     let deeper = last_number (n + 1) m v us (rest_of u.version n (numbers_of (v ∷ us)) (numbers_from (n + 1) (v ∷ us)) h) (omega (arith, at)) in
-    (ap (λ b. cond b (Some u) (of_number m (v ∷ us))) (apart u.version m (omega (arith, is, at))) ∙ deeper.0, deeper.1)
+    (ap (λ b. cond b (Some u) (find_number m (v ∷ us))) (apart u.version m (omega (arith, is, at))) ∙ deeper.0, deeper.1)
 
 -- so the last version is found by the count
-pub found_last : (us : List Upload) (count : ℕ) → count ≡ length us → numbers_of us ≡ numbers_from 1 us → of_number count us ≡ last us
+pub found_last : (us : List Upload) (count : ℕ) → count ≡ length us → numbers_of us ≡ numbers_from 1 us → find_number count us ≡ last us
 found_last [] count is h = refl
 found_last (u ∷ us) count is h = (last_number 1 count u us h (omega (arith, is))).0
 
@@ -70,6 +70,28 @@ found_last (u ∷ us) count is h = (last_number 1 count u us h (omega (arith, is
 pub number_last : (us : List Upload) (count : ℕ) → count ≡ length us → count ≢ 0 → numbers_of us ≡ numbers_from 1 us → Some count ≡ option_map (λ (u : Upload). u.version) (last us)
 number_last [] count is some h = absurd (some is)
 number_last (u ∷ us) count is some h = sym (last_number 1 count u us h (omega (arith, is))).1
+
+-- where the last alone is told, it is the version of the count
+pub number_told : (us : List Upload) (count n : ℕ) → count ≡ length us → numbers_of us ≡ numbers_from 1 us → find_number n (listed (last us)) ≡ cond (eqb n count) (find_number n us) None
+number_told us count n is h = by (last us) (eqb n count) refl (found_last us count is h) (number_at us count is h)
+  where
+    number_at : (us : List Upload) (count : ℕ) → count ≡ length us → numbers_of us ≡ numbers_from 1 us → (v : Upload) → last us ≡ Some v → v.version ≡ count
+    number_at [] count is h v at = absurd (cc)
+    number_at (u ∷ us) count is h v at =
+        let e : Some v.version ≡ Some count = sym (ap (option_map (λ (v : Upload). v.version)) at) ∙ (last_number 1 count u us h (omega (arith, is))).1 in
+        cc
+
+    unequal : (k n count : ℕ) → k ≡ count → eqb n count ≡ false → eqb k n ≡ false
+    unequal k n count is e = grind (arith, nat_tests)
+
+    by : (o : Option Upload) (b : Bool) → eqb n count ≡ b → find_number count us ≡ o → ((v : Upload) → o ≡ Some v → v.version ≡ count)
+        → find_number n (listed o) ≡ cond b (find_number n us) None
+    by None true e found at = sym (ap (λ (k : ℕ). find_number k us) (same n count e) ∙ found)
+    by None false e found at = refl
+    by (Some v) true e found at =
+        ap (λ b. cond b (Some v) None) (equal v.version n (at v refl ∙ sym (same n count e)))
+        ∙ sym (ap (λ (k : ℕ). find_number k us) (same n count e) ∙ found)
+    by (Some v) false e found at = ap (λ b. cond b (Some v) None) (unequal v.version n count (at v refl) e)
 
 -- the numbers from 1 are those of as many elements
 abbrev counted_from : ℕ → ℕ → List ℕ
@@ -98,20 +120,20 @@ uploads_to-push p uploads u = flat_map-append (λ (u : PaperUpload). given (eqb 
 
 -- an upload is found among all where its number is found among the paper's
 found-to : (k : VersionOf) (uploads : List PaperUpload)
-    → option_map (λ (u : PaperUpload). u.upload) (find (λ (u : PaperUpload). is_same (version_of u) k) uploads) ≡ of_number k.version (uploads_to k.paper uploads)
+    → option_map (λ (u : PaperUpload). u.upload) (find (λ (u : PaperUpload). is_same (version_of u) k) uploads) ≡ find_number k.version (uploads_to k.paper uploads)
 found-to k [] = refl
 found-to k (u ∷ uploads) = by (eqb u.paper k.paper) (found-to k uploads)
   where
     all : Option PaperUpload
     all = find (λ (u : PaperUpload). is_same (version_of u) k) uploads
 
-    one : (b : Bool) → option_map (λ (u : PaperUpload). u.upload) all ≡ of_number k.version (uploads_to k.paper uploads)
-        → option_map (λ (u : PaperUpload). u.upload) (cond b (Some u) all) ≡ cond b (Some u.upload) (of_number k.version (uploads_to k.paper uploads))
+    one : (b : Bool) → option_map (λ (u : PaperUpload). u.upload) all ≡ find_number k.version (uploads_to k.paper uploads)
+        → option_map (λ (u : PaperUpload). u.upload) (cond b (Some u) all) ≡ cond b (Some u.upload) (find_number k.version (uploads_to k.paper uploads))
     one true rest = refl
     one false rest = rest
 
-    by : (b : Bool) → option_map (λ (u : PaperUpload). u.upload) all ≡ of_number k.version (uploads_to k.paper uploads)
-        → option_map (λ (u : PaperUpload). u.upload) (cond (b && eqb u.upload.version k.version) (Some u) all) ≡ of_number k.version (given b u.upload ++ uploads_to k.paper uploads)
+    by : (b : Bool) → option_map (λ (u : PaperUpload). u.upload) all ≡ find_number k.version (uploads_to k.paper uploads)
+        → option_map (λ (u : PaperUpload). u.upload) (cond (b && eqb u.upload.version k.version) (Some u) all) ≡ find_number k.version (given b u.upload ++ uploads_to k.paper uploads)
     by true rest = one (eqb u.upload.version k.version) rest
     by false rest = rest
 
@@ -157,7 +179,6 @@ module _ (uploads : List PaperUpload) (counts : List ℕ) (old new : Places) (u 
     (at : u.paper ≡ i + 1) (there : u.paper ≤ length counts)
     (next : u.upload.version ≡ length (uploads_to u.paper uploads) + 1)
     (puts : (k : VersionOf) → get is_same new k ≡ cond (is_same (version_of u) k) (Some (length uploads)) (get is_same old k)) where
-
   abbrev pushed : List PaperUpload
   pushed = uploads ++ u ∷ []
 
@@ -198,7 +219,7 @@ module _ (uploads : List PaperUpload) (counts : List ℕ) (old new : Places) (u 
       let version : u.upload.version ≡ k.version = same u.upload.version k.version parts.1 in
       let before : u.upload.version ≡ length (uploads_to k.paper uploads) + 1 = next ∙ ap (λ q. length (uploads_to q uploads) + 1) paper in
       none_behind (λ (v : PaperUpload). v.upload) _
-        (found-to k uploads ∙ fresh_number 1 k.version (uploads_to k.paper uploads) (index.versions k.paper) (omega (arith, version, before)))
+      (found-to k uploads ∙ fresh_number 1 k.version (uploads_to k.paper uploads) (index.versions k.paper) (omega (arith, version, before)))
 
   -- a place that was told before has the same upload
   kept : (k : VersionOf) (o : Option ℕ) → get is_same old k ≡ o → upload_at pushed o ≡ upload_at uploads o
@@ -234,9 +255,9 @@ pub indexed-push : (uploads all : List PaperUpload) (counts : List ℕ) (old new
     → all ≡ uploads ++ u ∷ [] → IsVersionIndex all (slice_set counts i u.upload.version) new
 indexed-push uploads all counts old new u i paper place index key at there next behind puts is =
     let put : (k : VersionOf) → get is_same new k ≡ cond (is_same (version_of u) k) (Some (length uploads)) (get is_same old k) = λ k.
-        puts k
-        ∙ ap (λ (p : ℕ). cond (is_same (record { paper = p; version = u.upload.version }) k) (Some place) (get is_same old k)) key
-        ∙ ap (λ (n : ℕ). cond (is_same (version_of u) k) (Some n) (get is_same old k)) behind in
+    puts k
+    ∙ ap (λ (p : ℕ). cond (is_same (record { paper = p; version = u.upload.version }) k) (Some place) (get is_same old k)) key
+    ∙ ap (λ (n : ℕ). cond (is_same (version_of u) k) (Some n) (get is_same old k)) behind in
     subst (λ (us : List PaperUpload). IsVersionIndex us (slice_set counts i u.upload.version) new) (sym is) (indexed uploads counts old new u i index at there next put)
 
 -- ---- what is read

@@ -53,8 +53,7 @@ impl Sums {
         ensures same { self.new.sums ≡ self.old.sums }
         ensures keeps { self.old.capacity ≤ self.new.capacity }
     {
-        self.sums
-            .reserve(MOST_SUMS.saturating_sub(self.sums.len()))
+        self.sums.reserve(MOST_SUMS.saturating_sub(self.sums.len()))
     }
 
     /// This much more for a user, where there is room for all; takes no memory.

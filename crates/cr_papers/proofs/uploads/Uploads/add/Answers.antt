@@ -1,4 +1,4 @@
-use Rattle.std.proofs.Common.{◌≡◌, ◌<◌, ◌+◌, ◌≤◌, ◌∙◌, ap, subst, sym, arith, length}
+use Rattle.std.proofs.Common.{◌≡◌, ◌+◌, ◌≤◌, subst, sym, arith, length}
 use Rattle.cr_base.specs.Papers.{PaperUpload}
 use Rattle.cr_papers.specs.Index.{uploads_to}
 use Rattle.cr_papers.specs.Seen.{SeenUploads}

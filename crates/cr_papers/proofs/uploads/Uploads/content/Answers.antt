@@ -1,9 +1,8 @@
-use Rattle.std.proofs.Common.{◌≡◌, ◌∙◌, ◌==◌, ap, List, ℕ, Option, option_map}
+use Rattle.std.proofs.Common.{◌∙◌, ◌==◌, ap, List, ℕ, Option, option_map}
 use Rattle.std.specs.Prelude.{find}
-use Rattle.indexmap.specs.IndexMap.{get}
 use Rattle.cr_base.specs.History.{Upload}
 use Rattle.cr_base.specs.Papers.{PaperUpload}
-use Rattle.cr_papers.specs.Index.{uploads_to, upload_at, is_same}
+use Rattle.cr_papers.specs.Index.{uploads_to, upload_at}
 use Rattle.cr_papers.specs.Seen.{SeenUploads}
 use Rattle.cr_papers.proofs.UploadLaws.{content_at}
 use Rattle.cr_papers.proofs.uploads.Uploads.content.Goals as goal
