@@ -1,5 +1,5 @@
--- What the authors by paper and by user are after one more submission, and how they are read.
-use Rattle.std.proofs.Common.{ℕ, Bool, true, ◌≡◌, ◌≤◌, ◌∙◌, ◌||◌, ◌&&◌, [], ◌∷◌, ◌++◌, eqb, arith, refl, sym, ap, subst, Some}
+-- What the authors by paper and by user are with one more, and how they are read.
+use Rattle.std.proofs.Common.{ℕ, Bool, true, false, ◌≡◌, ◌≤◌, ◌∙◌, ◌||◌, ◌&&◌, [], ◌∷◌, ◌++◌, eqb, arith, refl, sym, ap, subst, Some}
 use Rattle.std.specs.Prelude.{nat_le, nat_lt, not}
 use Rattle.std.specs.Cmp.Derive.{both_true}
 use Rattle.std.specs.List.{list_any, list_all}
@@ -10,14 +10,14 @@ use Rattle.cr_base.specs.declared.pairs.Order.TheVariants.{ByPaper, ByUser}
 use Rattle.cr_base.specs.declared.pairs.Pair.{Pair}
 use Rattle.cr_base.specs.declared.pairs.Tie.{Tie}
 use Rattle.cr_base.specs.Lists.{IsRising, is_number}
-use Rattle.cr_base.specs.Pairs.{same_pair, leads, follows, stands, IsSortedBy, IsAscending, has_pair, with_tie, users_tied_to, papers_tied_to}
-use Rattle.cr_base.specs.Ties.{BareTies, pair_of, bare_tie, are_before}
+use Rattle.cr_base.specs.Pairs.{same_pair, is_tied, leads, follows, stands, IsSortedBy, IsAscending, has_pair, with_tie, users_tied_to, papers_tied_to}
+use Rattle.cr_base.specs.Ties.{BareTies, pair_of, bare_tie, are_before, are_up_to}
 use Rattle.cr_base.proofs.PairLaws.{IsAscending-with_tie, has_pair-with_tie, list_any-others_of}
 use Rattle.cr_base.proofs.RisingLists.{rising-sorted, rising-others_of, others_of-same}
 use Rattle.cr_base.proofs.TieLaws.{has_pair-push, all-push}
 use Rattle.cr_pairs.specs.Places.{RisesBy}
 use Rattle.cr_pairs.proofs.Searches.{leads-rise}
-use Rattle.cr_conflicts.specs.Index.{is_told_before, AuthorsIndexed}
+use Rattle.cr_conflicts.specs.Index.{is_told_before, all_before, AuthorsIndexed}
 
 -- ---- what is read
 
@@ -42,7 +42,7 @@ module _ (authors : BareTies) (users : Order) (authored : BareTies) (declared : 
       let rising = rising-sorted is_told_before ByUser u rises authors index.told in
       (others_of-same ByUser u authored authors (rising-others_of ByUser ByUser u authored index.ascending) rising index.same, rising)
 
--- ---- one more submission
+-- ---- one more author
 
 sorted-push : (before : Pair → Pair → Bool) (ts : BareTies) (s : Tie (Unit {0})) → IsSortedBy before ts → list_all (λ (t : Tie (Unit {0})). before t.pair s.pair) ts ≡ true → IsSortedBy before (ts ++ s ∷ [])
 sorted-push before [] s sorted all = (refl, tt)
@@ -51,7 +51,7 @@ sorted-push before (t ∷ ts) s sorted all =
     (all-push (stands before t.pair) ts s sorted.0 parts.0, sorted-push before ts s sorted.1 parts.1)
 
 -- what is told of earlier papers is told before
-told-before : (paper maker : ℕ) (authors : BareTies) → are_before paper authors ≡ true → list_all (λ (t : Tie (Unit {0})). is_told_before t.pair (pair_of paper maker)) authors ≡ true
+pub told-before : (paper maker : ℕ) (authors : BareTies) → are_before paper authors ≡ true → all_before (pair_of paper maker) authors ≡ true
 told-before paper maker [] all = refl
 told-before paper maker (t ∷ ts) all =
     let parts = and_parts (nat_lt t.pair.paper paper) (are_before paper ts) all in
@@ -60,18 +60,33 @@ told-before paper maker (t ∷ ts) all =
     earlier : (n m : ℕ) (same : Bool) → nat_lt n m ≡ true → (nat_le n m && not (eqb n m && same)) ≡ true
     earlier n m same h = grind (arith, nat_tests)
 
-pub indexed-push : (authors : BareTies) (users : Order) (authored : BareTies) (declared : Order) (paper maker : ℕ) (users' : Order) (authors' authored' : BareTies) → users' ≡ users → authors' ≡ authors ++ bare_tie paper maker ∷ [] → authored' ≡ with_tie users (bare_tie paper maker) authored → are_before paper authors ≡ true → AuthorsIndexed authors users authored declared → AuthorsIndexed authors' users' authored' declared
-indexed-push authors users authored declared paper maker users' authors' authored' same pushed put before index =
-    let put_so : authored' ≡ with_tie ByUser (bare_tie paper maker) authored = put ∙ ap (λ (o : Order). with_tie o (bare_tie paper maker) authored) index.by_user in
+-- and so is what is told of no later ones, where it is another pair
+pub told-besides : (paper user : ℕ) (authors : BareTies) → are_up_to paper authors ≡ true → has_pair (pair_of paper user) authors ≡ false → all_before (pair_of paper user) authors ≡ true
+told-besides paper user [] all none = refl
+told-besides paper user (t ∷ ts) all none =
+    let parts = and_parts (nat_le t.pair.paper paper) (are_up_to paper ts) all in
+    by (is_tied (pair_of paper user) t) refl none parts.0 (told-besides paper user ts parts.1)
+  where
+    another : (p u q v : ℕ) → nat_le p q ≡ true → (eqb q p && eqb v u) ≡ false → (nat_le p q && not (eqb p q && eqb u v)) ≡ true
+    another p u q v low differ = grind (arith, nat_tests)
+
+    by : (b : Bool) → is_tied (pair_of paper user) t ≡ b → (b || has_pair (pair_of paper user) ts) ≡ false → nat_le t.pair.paper paper ≡ true
+        → (has_pair (pair_of paper user) ts ≡ false → all_before (pair_of paper user) ts ≡ true) → all_before (pair_of paper user) (t ∷ ts) ≡ true
+    by true is h low rest = absurd (cc)
+    by false is h low rest = both_true (another t.pair.paper t.pair.user paper user low is) (rest h)
+
+pub indexed-push : (authors : BareTies) (users : Order) (authored : BareTies) (declared : Order) (paper user : ℕ) (users' : Order) (authors' authored' : BareTies) → users' ≡ users → authors' ≡ authors ++ bare_tie paper user ∷ [] → authored' ≡ with_tie users (bare_tie paper user) authored → all_before (pair_of paper user) authors ≡ true → AuthorsIndexed authors users authored declared → AuthorsIndexed authors' users' authored' declared
+indexed-push authors users authored declared paper user users' authors' authored' same pushed put before index =
+    let put_so : authored' ≡ with_tie ByUser (bare_tie paper user) authored = put ∙ ap (λ (o : Order). with_tie o (bare_tie paper user) authored) index.by_user in
     record {
-      told = subst (λ (ts : BareTies). IsSortedBy is_told_before ts) (sym pushed) (sorted-push is_told_before authors (bare_tie paper maker) index.told (told-before paper maker authors before));
+      told = subst (λ (ts : BareTies). IsSortedBy is_told_before ts) (sym pushed) (sorted-push is_told_before authors (bare_tie paper user) index.told before);
       by_user = same ∙ index.by_user;
-      ascending = subst (λ (ts : BareTies). IsAscending ByUser ts) (sym put_so) (IsAscending-with_tie ByUser (bare_tie paper maker) authored index.ascending);
+      ascending = subst (λ (ts : BareTies). IsAscending ByUser ts) (sym put_so) (IsAscending-with_tie ByUser (bare_tie paper user) authored index.ascending);
       same = λ q.
           ap (has_pair q) put_so
-          ∙ has_pair-with_tie ByUser q (bare_tie paper maker) authored
-          ∙ ap (λ b. same_pair q (pair_of paper maker) || b) (index.same q)
-          ∙ sym (has_pair-push q authors (bare_tie paper maker))
+          ∙ has_pair-with_tie ByUser q (bare_tie paper user) authored
+          ∙ ap (λ b. same_pair q (pair_of paper user) || b) (index.same q)
+          ∙ sym (has_pair-push q authors (bare_tie paper user))
           ∙ sym (ap (has_pair q) pushed);
       by_paper = index.by_paper;
     }

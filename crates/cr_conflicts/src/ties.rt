@@ -1,9 +1,10 @@
 //! The ties of users to papers, by paper and by user.
-ghost use Rattle.std.specs.Prelude.{◌≡◌, ◌≤◌, ◌<◌, ◌+◌, OnOk, Some, length, map, is_some, if◌then◌else◌};
+ghost use Rattle.std.specs.Prelude.{◌≡◌, ◌≤◌, ◌<◌, ◌+◌, IsTrue, OnOk, Some, length, map, is_some, if◌then◌else◌};
 ghost use Rattle.cr_base.specs.Checks.{judged, conflict_checks};
 ghost use Rattle.cr_base.specs.Lists.{IsRising};
 ghost use Rattle.cr_base.specs.Pairs.{with_tie, users_tied_to, papers_tied_to};
-ghost use Rattle.cr_base.specs.Ties.{no_ties, ties_after, switched, bare_tie, authors_in, is_author_in, is_conflicted_in, TiesFit};
+ghost use Rattle.cr_base.specs.Ties.{no_ties, ties_after, switched, pair_of, bare_tie, authors_in, is_author_in, is_conflicted_in, TiesFit};
+ghost use Rattle.cr_conflicts.specs.Index.{all_before, with_author};
 ghost use Rattle.cr_conflicts.specs.Targets.{target_of};
 
 use crate::judging;
@@ -207,9 +208,22 @@ impl Ties {
         self.declared.room(group.len())
     }
 
+    /// One more author, who comes behind all that were told before; takes no memory. One binary
+    /// search.
+    fn add_author(&mut self, paper: PaperNo, user: UserNo)
+        requires room { 0 < self.old.room }
+        requires behind { IsTrue (all_before (pair_of paper user) self.old.ties.authors) }
+        ensures after { self.new.ties ≡ with_author paper user self.old.ties }
+        ensures room { self.old.room ≤ self.new.room + 1 }
+    {
+        self.authors.push_reserved(bare(paper, user));
+        self.authored.insert(bare(paper, user));
+    }
+
     /// One more entry, for which there is room; takes no memory. The paper that it adds comes behind
-    /// all that have authors. A submission costs one binary search, a conflict four at most, and each
-    /// a move of the ties behind the place, of 4 bytes.
+    /// all that have authors, and a co-author's is the last of these, of which she is no author yet. A
+    /// submission or a co-author costs one binary search, a conflict four at most, and each a move of
+    /// the ties behind the place, of 4 bytes.
     pub fn apply(&mut self, stamped: &Stamped)
         requires room { 0 < self.old.room }
         requires fits { TiesFit self.old.ties stamped.now.entry }
@@ -217,10 +231,8 @@ impl Ties {
         ensures room { self.old.room ≤ self.new.room + 1 }
     {
         match &stamped.entry {
-            Entry::Submitted { paper, .. } => {
-                self.authors.push_reserved(bare(*paper, stamped.maker));
-                self.authored.insert(bare(*paper, stamped.maker));
-            }
+            Entry::Submitted { paper, .. } => self.add_author(*paper, stamped.maker),
+            Entry::Coauthor { paper, user } => self.add_author(*paper, *user),
             Entry::Conflict { paper, user, on } => {
                 let wrote = self.is_author(stamped.maker, *paper);
                 insert_where(&mut self.declared, wrote, bare(*paper, *user));

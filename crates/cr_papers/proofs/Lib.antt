@@ -1,1 +1,2 @@
-pub mod CountLaws
+pub mod SumLaws
+pub mod UploadLaws

@@ -1,8 +1,10 @@
-//! The table of papers: what was submitted, and how many papers each user submitted. Papers and
-//! counts are found by number in constant time.
+//! The table of papers: what was submitted, revised and withdrawn, what was uploaded, and how much of
+//! it is each user's. Papers and sums are found by number in constant time, and a version of a paper
+//! in expected constant time.
 #![tactic(auto)]
 
-mod counts;
 mod papers;
+mod sums;
+mod uploads;
 
-pub use papers::{MOST_OWN_PAPERS, Papers};
+pub use papers::{MOST_OWN_BYTES, MOST_OWN_PAPERS, Papers};

@@ -1,40 +1,63 @@
 //! The papers of a history, by number.
-ghost use Rattle.std.specs.Prelude.{◌≡◌, ◌≤◌, ◌<◌, ◌+◌, ◌==◌, OnOk, Some, length};
+ghost use Rattle.std.specs.Prelude.{◌≡◌, ◌≤◌, ◌<◌, ◌+◌, ◌^◌, ◌==◌, not, OnOk, IfOk, Some, None, if◌then◌else◌, length, map, find, unwrap_or};
 ghost use Rattle.std.specs.List.{list_any};
-ghost use Rattle.std.specs.Option.{option_copied};
-ghost use Rattle.cr_base.specs.Checks.{judged, submit_checks};
-ghost use Rattle.cr_base.specs.Papers.{no_papers, papers_after, paper_count, paper_numbers, title_at, abstract_at, own_count, PapersFit};
+ghost use Rattle.std.specs.Option.{option_map, option_copied};
+ghost use Rattle.cr_base.specs.Answering.{upload_of, uploads_told};
+ghost use Rattle.cr_base.specs.Checks.{judged, submit_checks, revise_checks, upload_checks};
+ghost use Rattle.cr_base.specs.Lists.{last, numbers_from};
+ghost use Rattle.cr_base.specs.Papers.{no_papers, papers_after, paper_count, paper_numbers, title_at, abstract_at, PapersFit};
+ghost use Rattle.cr_base.specs.Papers.{is_withdrawn_at, uploads_at, own_count, own_bytes};
+ghost use Rattle.cr_papers.specs.Named.{named_in};
 
-use crate::counts::Counts;
-use cr_base::{Entry, LAST_NUMBER, Paper, PaperNo, Phase, Rule, Stamped, Standing, Text, UserNo};
+use crate::sums::Sums;
+use crate::uploads::Uploads;
+use cr_base::{
+    Blob, Entry, LAST_NUMBER, Paper, PaperNo, Phase, Rule, Stamped, Standing, Text, UserNo,
+    Versions,
+};
 use std::alloc::{AllocError, Global};
 use std::marker::Model;
 
 /// The most papers that one user may submit.
 pub const MOST_OWN_PAPERS: u64 = 20;
 
-/// What was submitted: at most 9,999 papers by their numbers, each with its texts, and how many each
-/// user submitted, at most 20. Who a paper's authors are stands in the table of ties.
+/// The most bytes that one user may upload, in all versions of all papers.
+pub const MOST_OWN_BYTES: u64 = 67_108_864;
+
+/// What was submitted: at most 9,999 papers by their numbers, each with its last texts and all that was
+/// uploaded to it; how many papers each user submitted, at most 20; and how many bytes she uploaded, at
+/// most 67,108,864. Who a paper's authors are stands in the table of ties.
 ///
-/// Contracts see the papers by number and the counts, and for how many more entries there is room.
+/// Contracts see the papers by number, the uploads in order and the sums, and for how many more entries
+/// there is room.
 #[derive(Drop)]
 pub struct Papers {
     papers: Vec<Paper>,
-    counts: Counts,
+    uploads: Uploads,
+    submitted: Sums,
+    uploaded: Sums,
 }
 
 impl Model for Papers {
-    ghost use Rattle.std.specs.Prelude.{ℕ, ◌≤◌, ◌-◌, nat_le, length, vec_len, vec_capacity, if◌then◌else◌};
+    ghost use Rattle.std.specs.Prelude.{ℕ, ◌≡◌, ◌≤◌, ◌-◌, nat_le, min, length, vec_len, vec_capacity, if◌then◌else◌};
     ghost use Rattle.cr_papers.specs.Seen.{SeenPapers};
 
     ghost Value = { SeenPapers };
 
     ghost view = { λ t. record {
-      papers = record { papers = t.papers.items; submitted = t.counts.counts };
-      room = if nat_le 10000 t.counts.capacity then vec_capacity t.papers - vec_len t.papers else 0;
+      papers = record {
+        papers = t.papers.items;
+        uploads = t.uploads.uploads;
+        submitted = t.submitted.sums;
+        uploaded = t.uploaded.sums;
+      };
+      room =
+          if nat_le 10000 (min t.submitted.capacity t.uploaded.capacity)
+          then min (vec_capacity t.papers - vec_len t.papers) t.uploads.room
+          else 0;
     } };
 
-    ghost invariant = { λ t. length t.papers.items ≤ 9999 };
+    ghost invariant = { λ t. (length t.papers.items ≤ 9999) × (t.uploads.papers ≡ length t.papers.items) };
 }
 
 /// What is read.
@@ -45,7 +68,9 @@ impl Papers {
     {
         Papers {
             papers: Vec::new(alloc),
-            counts: Counts::new(alloc),
+            uploads: Uploads::new(alloc),
+            submitted: Sums::new(alloc),
+            uploaded: Sums::new(alloc),
         }
     }
 
@@ -61,7 +86,15 @@ impl Papers {
     pub fn count_of_user(&self, user: UserNo) -> u64
         ensures { result ≡ own_count self.now.papers (Some user) }
     {
-        self.counts.of(user)
+        self.submitted.of(user)
+    }
+
+    /// How many bytes a user has uploaded, in all versions of all papers, 0 to 67,108,864. One read by
+    /// number.
+    pub fn bytes_of_user(&self, user: UserNo) -> u64
+        ensures { result ≡ own_bytes self.now.papers (Some user) }
+    {
+        self.uploaded.of(user)
     }
 
     /// Whether there is a paper of this number; reads no paper.
@@ -88,18 +121,121 @@ impl Papers {
         let paper = self.papers.get(paper.place())?;
         Some(&paper.abstract_)
     }
+
+    /// Whether a paper was withdrawn; false where there is no such paper. One read by number.
+    pub fn is_withdrawn(&self, paper: PaperNo) -> bool
+        ensures { result ≡ is_withdrawn_at self.now.papers paper }
+    {
+        match self.papers.get(paper.place()) {
+            Some(paper) => paper.withdrawn,
+            None => false,
+        }
+    }
 }
 
-/// What is judged and added.
+/// What is read of a paper's uploads.
+impl Papers {
+    /// How many versions a paper has, 0 where there is no such paper. They are numbered from 1, so this
+    /// is the last one's number too. One read by number.
+    pub fn version_count(&self, paper: PaperNo) -> u64
+        ensures count { result ≡ length (uploads_at self.now.papers paper) }
+        ensures numbers { map (λ u. u.version) (uploads_at self.now.papers paper) ≡ numbers_from 1 (uploads_at self.now.papers paper) }
+        ensures few { result < 2 ^ 63 }
+    {
+        self.uploads.count(paper)
+    }
+
+    /// The number of a paper's last version, and none where it has none. One read by number.
+    pub fn last_version(&self, paper: PaperNo) -> Option<u64>
+        ensures { result ≡ option_map (λ u. u.version) (last (uploads_at self.now.papers paper)) }
+    {
+        self.uploads.last_version(paper)
+    }
+
+    /// The numbers of a paper's versions, in ascending order; an error only for lack of memory. It is
+    /// told by their count alone.
+    pub fn versions(&self, alloc: Global, paper: PaperNo) -> Result<Versions, AllocError>
+        ensures { IfOk result (λ versions. versions ≡ map (λ u. u.version) (uploads_at self.now.papers paper)) }
+    {
+        self.uploads.versions(alloc, paper)
+    }
+
+    /// The content of a version of a paper, and none where there is no such version. One look-up.
+    pub fn content(&self, paper: PaperNo, version: u64) -> Option<&Blob>
+        ensures { option_copied result ≡ option_map (λ u. u.content) (find (λ u. u.version == version) (uploads_at self.now.papers paper)) }
+    {
+        self.uploads.content(paper, version)
+    }
+
+    /// The content of a paper's last version, and none where it has none. One look-up.
+    pub fn last_content(&self, paper: PaperNo) -> Option<&Blob>
+        ensures { option_copied result ≡ option_map (λ u. u.content) (last (uploads_at self.now.papers paper)) }
+    {
+        self.uploads.last_content(paper)
+    }
+
+    /// The numbers of those versions of a paper that are told: of all, or of the last alone; an error
+    /// only for lack of memory. They are told by their count alone.
+    pub fn versions_told(
+        &self,
+        alloc: Global,
+        paper: PaperNo,
+        all: bool,
+    ) -> Result<Versions, AllocError>
+        ensures { IfOk result (λ versions. versions ≡ map (λ u. u.version) (uploads_told all (uploads_at self.now.papers paper))) }
+    {
+        if all {
+            return self.versions(alloc, paper);
+        }
+        let mut numbers = Vec::new(alloc);
+        if let Some(version) = self.last_version(paper) {
+            numbers.push(version)?;
+        }
+        Ok(Versions::from_vec(numbers))
+    }
+
+    /// The content of the last version of a paper, or of the one that is asked for, where all are told or
+    /// the last alone; none where there is no such version, or it isn't told. One look-up.
+    pub fn content_told(&self, paper: PaperNo, all: bool, version: &Option<u64>) -> Option<&Blob>
+        ensures { option_copied result ≡ option_map (λ u. u.content) (upload_of version.now (uploads_told all (uploads_at self.now.papers paper))) }
+    {
+        let Some(version) = version else {
+            return self.last_content(paper);
+        };
+        if !self.tells(paper, all, *version) {
+            return None;
+        }
+        self.content(paper, *version)
+    }
+
+    /// Whether a version is told, if it is there: of all, or of the last alone.
+    fn tells(&self, paper: PaperNo, all: bool, version: u64) -> bool
+        ensures { let uploads = uploads_at self.now.papers paper in
+            upload_of (Some version) (uploads_told all uploads) ≡ (if result then find (λ u. u.version == version) uploads else None) }
+    {
+        all || version == self.version_count(paper)
+    }
+}
+
+/// What is judged.
 impl Papers {
     /// The number that a paper submitted now would have, the count of papers plus 1, or the first
-    /// broken rule: `WrongPhase` where the phase isn't submission, else `FullPapers` where 9,999 papers
-    /// were submitted, else `QuotaPapers` where this maker has submitted 20. `by` is the maker's
+    /// broken rule: `NoUser` where not all of the co-authors named were found, else `WrongPhase` where
+    /// the phase isn't submission, else `FullPapers` where 9,999 papers were submitted, else
+    /// `QuotaPapers` where this maker has submitted 20, withdrawn ones counted. `by` is the maker's
     /// standing, where no paper is named. One read by number; takes no memory.
-    pub fn judge_submit(&self, by: &Standing, maker: UserNo) -> Result<PaperNo, Rule>
+    pub fn judge_submit(
+        &self,
+        by: &Standing,
+        maker: UserNo,
+        users_found: bool,
+    ) -> Result<PaperNo, Rule>
         ensures { let count = paper_count self.now.papers in
-            result ≡ judged (submit_checks by.now count (own_count self.now.papers (Some maker))) (count + 1) }
+            result ≡ judged (submit_checks (not users_found) by.now count (own_count self.now.papers (Some maker))) (count + 1) }
     {
+        if !users_found {
+            return Err(Rule::NoUser);
+        }
         if !by.phase.is(Phase::Submission) {
             return Err(Rule::WrongPhase);
         }
@@ -112,19 +248,89 @@ impl Papers {
         Ok(PaperNo::new(self.count() + 1))
     }
 
-    /// Takes the memory that the entries of one command need, and the first time 10,000 bytes for the
-    /// counts; an error only for lack of memory, and the papers are the same either way.
+    /// Whether the caller may give a paper other texts, or the first broken rule: `NoPaper` where no
+    /// paper of a number was named or there is none of it, else `NotAuthor` where the caller is none of
+    /// its authors, else `WrongPhase` where the phase isn't submission, else `Withdrawn` where the paper
+    /// was withdrawn. `by` is the caller's standing at the paper. One read by number at most; takes no
+    /// memory.
+    pub fn judge_revise(&self, by: &Standing, paper: &Option<PaperNo>) -> Result<(), Rule>
+        ensures { result ≡ judged (revise_checks by.now (named_in self.now.papers paper.now)) tt }
+    {
+        let Some(paper) = paper else {
+            return Err(Rule::NoPaper);
+        };
+        self.may_change(by, *paper)
+    }
+
+    /// Whether the caller may withdraw a paper, or the first broken rule: the same as of revising it.
+    pub fn judge_withdraw(&self, by: &Standing, paper: &Option<PaperNo>) -> Result<(), Rule>
+        ensures { result ≡ judged (revise_checks by.now (named_in self.now.papers paper.now)) tt }
+    {
+        self.judge_revise(by, paper)
+    }
+
+    /// The number of the version that so many bytes would be, the count of the paper's versions plus 1,
+    /// or the first broken rule: the same as of revising the paper, else `QuotaBytes` where with them
+    /// the maker would have uploaded more than 67,108,864 bytes, in all versions of all papers. `by` is
+    /// the maker's standing at the paper. Three reads by number at most; takes no memory.
+    pub fn judge_upload(
+        &self,
+        by: &Standing,
+        maker: UserNo,
+        paper: &Option<PaperNo>,
+        bytes: u64,
+    ) -> Result<u64, Rule>
+        ensures { result ≡ judged
+            (upload_checks by.now (named_in self.now.papers paper.now) (own_bytes self.now.papers (Some maker)) bytes)
+            (length (uploads_at self.now.papers (unwrap_or paper.now 0)) + 1) }
+    {
+        let Some(paper) = paper else {
+            return Err(Rule::NoPaper);
+        };
+        self.may_change(by, *paper)?;
+        if self.bytes_of_user(maker).saturating_add(bytes) > MOST_OWN_BYTES {
+            return Err(Rule::QuotaBytes);
+        }
+        Ok(self.version_count(*paper) + 1)
+    }
+
+    /// Whether the caller may change the paper of a number.
+    fn may_change(&self, by: &Standing, paper: PaperNo) -> Result<(), Rule>
+        ensures { result ≡ judged (revise_checks by.now (named_in self.now.papers (Some paper))) tt }
+    {
+        if !self.has(paper) {
+            return Err(Rule::NoPaper);
+        }
+        if !by.author {
+            return Err(Rule::NotAuthor);
+        }
+        if !by.phase.is(Phase::Submission) {
+            return Err(Rule::WrongPhase);
+        }
+        if self.is_withdrawn(paper) {
+            return Err(Rule::Withdrawn);
+        }
+        Ok(())
+    }
+}
+
+/// What entries make of it.
+impl Papers {
+    /// Takes the memory that the entries of one command need, and the first time 80,000 bytes for the
+    /// sums; an error only for lack of memory, and the papers are the same either way.
     pub fn room(&mut self, group: &[Stamped]) -> Result<(), AllocError>
         ensures ok { OnOk result (length group.now ≤ self.new.room) }
         ensures same { self.new.papers ≡ self.old.papers }
         ensures keeps { self.old.room ≤ self.new.room }
     {
-        self.counts.make_room()?;
-        self.papers.reserve(group.len())
+        self.submitted.make_room()?;
+        self.uploaded.make_room()?;
+        self.papers.reserve(group.len())?;
+        self.uploads.make_room(group.len())
     }
 
-    /// One more entry, for which there is room. It is taken whole, since the texts of a submission are
-    /// kept; takes no memory.
+    /// One more entry, for which there is room. It is taken whole, since the texts and the content of a
+    /// paper are kept; takes no memory.
     pub fn apply(&mut self, stamped: Stamped)
         requires room { 0 < self.old.room }
         requires fits { PapersFit self.old.papers stamped.maker stamped.entry }
@@ -138,8 +344,33 @@ impl Papers {
                 abstract_,
                 ..
             } => {
-                self.counts.add(maker);
-                self.papers.push_reserved(Paper { title, abstract_ });
+                self.submitted.add(maker, 1);
+                self.uploads.add_paper();
+                self.papers.push_reserved(Paper {
+                    title,
+                    abstract_,
+                    withdrawn: false,
+                });
+            }
+            Entry::Revised {
+                paper,
+                title,
+                abstract_,
+            } => {
+                let revised = &mut self.papers[paper.place()];
+                revised.title = title;
+                revised.abstract_ = abstract_;
+            }
+            Entry::Uploaded {
+                paper,
+                version,
+                content,
+            } => {
+                self.uploaded.add(maker, content.as_slice().len() as u64);
+                self.uploads.add(paper, version, content);
+            }
+            Entry::Withdrawn { paper } => {
+                self.papers[paper.place()].withdrawn = true;
             }
             _ => {}
         }
