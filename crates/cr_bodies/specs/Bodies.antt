@@ -3,13 +3,13 @@ use Rattle.std.specs.Prelude.{ℕ, List, Option, Some, None, codes}
 use Rattle.serde_json.specs.Data.{Data}
 use Rattle.cr_base.specs.declared.command.Command.{Command}
 use Rattle.cr_base.specs.declared.command.Command.TheVariants as commands
-use Rattle.cr_bodies.specs.Field.{◌>>=◌, abstract_under, digest_under, flag_under, mode_under, name_under, phase_under, role_under, title_under, user_under}
+use Rattle.cr_bodies.specs.Field.{◌>>=◌, abstract_under, digest_under, flag_under, mode_under, name_under, names_under, phase_under, role_under, title_under, user_under}
 use Rattle.cr_bodies.specs.Json.{json_of}
 use Rattle.cr_base.specs.declared.ask.Ask.{Ask}
 use Rattle.cr_base.specs.declared.ask.Ask.TheVariants as asks
 
 -- the command that a JSON value tells a request, with the paper that its path tells: a line for each member that must be
--- there. None is a bad body; a query has none
+-- there, or may be. None is a bad body; so it is where what is asked for is told by no such value
 abbrev pub command_in : Ask → Option ℕ → Data → Option Command
 command_in asks.Register paper d = do
   name ← name_under (codes "name") d
@@ -28,7 +28,12 @@ command_in asks.SetPhase paper d = do
 command_in asks.Submit paper d = do
   title ← title_under (codes "title") d
   abstract ← abstract_under (codes "abstract") d
-  Some (commands.Submit title abstract)
+  authors ← names_under (codes "authors") d
+  Some (commands.Submit title abstract authors)
+command_in asks.Revise paper d = do
+  title ← title_under (codes "title") d
+  abstract ← abstract_under (codes "abstract") d
+  Some (commands.Revise paper title abstract)
 command_in asks.SetConflict paper d = do
   on ← flag_under (codes "on") d
   user ← user_under (codes "user") d
@@ -36,6 +41,10 @@ command_in asks.SetConflict paper d = do
 command_in asks.Accounts paper d = None
 command_in asks.Phase paper d = None
 command_in asks.Page paper d = None
+command_in asks.Withdraw paper d = None
+command_in asks.Content paper d = None
+command_in asks.Upload paper d = None
+command_in asks.Version paper d = None
 command_in asks.Me paper d = None
 
 -- the same of a body's bytes

@@ -1,8 +1,8 @@
 -- What a member of a JSON object says, by its key and the kind of its value.
-use Rattle.std.specs.Prelude.{ℕ, List, Bool, IsTrue, Option, Some, None, option_map, if◌then◌else◌}
+use Rattle.std.specs.Prelude.{ℕ, List, [], ◌∷◌, length, Bool, IsTrue, nat_le, Option, Some, None, option_map, if◌then◌else◌}
 use Rattle.sha2.specs.Sha256.{sha256}
-use Rattle.serde_json.specs.Data.{Data}
-use Rattle.serde_json.specs.Find.{get, as_bool, as_str}
+use Rattle.serde_json.specs.Data.{Data, Items, no_items, item}
+use Rattle.serde_json.specs.Find.{get, as_array, as_bool, as_str}
 use Rattle.cr_base.specs.declared.words.Mode.{Mode}
 use Rattle.cr_base.specs.declared.words.Phase.{Phase}
 use Rattle.cr_base.specs.declared.words.Role.{Role}
@@ -60,6 +60,27 @@ digest_under key d = option_map sha256 (tested_under Secret key d)
 -- the user whose name is told under a key, None where the text there is no name
 abbrev pub user_under : List ℕ → Data → Option (Option (List ℕ))
 user_under key d = option_map (passing (admits Name)) (text_under key d)
+
+-- the names that a list tells, each None where its text is no name; None where an element is no text
+abbrev pub names_told : Items → Option (List (Option (List ℕ)))
+names_told no_items = Some []
+names_told (item d ds) = do
+  text ← as_str d
+  names ← names_told ds
+  Some (passing (admits Name) text ∷ names)
+
+-- at most 19 of them
+abbrev pub if_few : List (Option (List ℕ)) → Option (List (Option (List ℕ)))
+if_few names = if nat_le (length names) 19 then Some names else None
+
+-- the names of what may be there: none where it isn't
+abbrev pub names_of : Option Data → Option (List (Option (List ℕ)))
+names_of None = Some []
+names_of (Some d) = as_array d >>= names_told >>= if_few
+
+-- the names that the list under a key tells, at most 19; none where the key isn't there
+abbrev pub names_under : List ℕ → Data → Option (List (Option (List ℕ)))
+names_under key d = names_of (get key d)
 
 -- what is true or false under a key
 abbrev pub flag_under : List ℕ → Data → Option Bool

@@ -2,14 +2,14 @@
 //!
 //! A body is a JSON object (RFC 8259) with the members that its request must have. Of equal keys the last counts, and
 //! other keys are ignored.
-ghost use Rattle.std.specs.Prelude.{◌≡◌, IfOk};
+ghost use Rattle.std.specs.Prelude.{◌≡◌, IfOk, None};
 ghost use Rattle.cr_base.specs.Bounds.{IsBoundedCommand};
 ghost use Rattle.serde_json.specs.View.{view};
 ghost use Rattle.cr_bodies.specs.Json.{json_of};
 ghost use Rattle.cr_bodies.specs.Bodies.{command_in as command_in_text, command_read};
 ghost use Rattle.cr_bodies.specs.Outcome.{TellsBody, TellsBodySeen};
 
-use crate::field::{Grammar, digest, flag, mode, name, phase, role, tested, user};
+use crate::field::{Grammar, digest, flag, mode, name, names, phase, role, tested, user};
 use cr_base::{Ask, Command, PaperNo, Text};
 use serde_json::Value;
 use std::alloc::{AllocError, Global};
@@ -45,8 +45,41 @@ fn read_json(alloc: Global, body: &[u8]) -> Result<Value, BodyError>
     }
 }
 
+/// The submission that a JSON value tells.
+fn submission(alloc: Global, body: &Value) -> Result<Command, BodyError>
+    ensures told { TellsBody result (command_in_text Ask.Submit None (view body.now)) }
+    ensures bounded { IfOk result IsBoundedCommand }
+{
+    let title = tested(body, "title", Grammar::Title)?;
+    let text = tested(body, "abstract", Grammar::Abstract)?;
+    let authors = names(alloc, body, "authors")?;
+    let title = Text::from_str(alloc, title)?;
+    let abstract_ = Text::from_str(alloc, text)?;
+    Ok(Command::Submit {
+        title,
+        abstract_,
+        authors,
+    })
+}
+
+/// The revision that a JSON value tells.
+fn revision(alloc: Global, paper: Option<PaperNo>, body: &Value) -> Result<Command, BodyError>
+    ensures told { TellsBody result (command_in_text Ask.Revise paper (view body.now)) }
+    ensures bounded { IfOk result IsBoundedCommand }
+{
+    let title = tested(body, "title", Grammar::Title)?;
+    let text = tested(body, "abstract", Grammar::Abstract)?;
+    let title = Text::from_str(alloc, title)?;
+    let abstract_ = Text::from_str(alloc, text)?;
+    Ok(Command::Revise {
+        paper,
+        title,
+        abstract_,
+    })
+}
+
 /// The command that a JSON value tells a request: the table of what each body must have, a key and a kind of value a
-/// member. Only a submission takes memory, for its two texts.
+/// member. Only a submission and a revision take memory, for their texts and for the names of the other authors.
 fn command_in(
     alloc: Global,
     ask: Ask,
@@ -75,25 +108,21 @@ fn command_in(
             let phase = phase(body, "phase")?;
             Ok(Command::SetPhase { phase })
         }
-        Ask::Submit => {
-            let title = tested(body, "title", Grammar::Title)?;
-            let text = tested(body, "abstract", Grammar::Abstract)?;
-            let title = Text::from_str(alloc, title)?;
-            let abstract_ = Text::from_str(alloc, text)?;
-            Ok(Command::Submit { title, abstract_ })
-        }
+        Ask::Submit => submission(alloc, body),
+        Ask::Revise => revision(alloc, paper, body),
         Ask::SetConflict => {
             let on = flag(body, "on")?;
             let user = user(body, "user")?;
             Ok(Command::SetConflict { paper, user, on })
         }
         Ask::Accounts | Ask::Phase | Ask::Page | Ask::Me => Err(BodyError::Bad),
+        Ask::Withdraw | Ask::Content | Ask::Upload | Ask::Version => Err(BodyError::Bad),
     }
 }
 
-/// The command that the body of a request tells, with the paper that its path tells, where the command is about one.
+/// The command that the JSON body of a request tells, with the paper that its path tells, where the command is about one.
 /// Reads the body once. `Bad` comes exactly where the body is no JSON object with the members that such a request must
-/// have, memory aside; so it does where a query is asked, which has no body.
+/// have, memory aside; so it does where what is asked for is told by no JSON body: a query, an upload, a withdrawal.
 pub fn read_command(
     alloc: Global,
     ask: Ask,

@@ -1,17 +1,21 @@
 //! The members of a JSON object, each by its key and the kind of its value.
-ghost use Rattle.std.specs.Prelude.{◌≡◌, IfOk, IsTrue};
+ghost use Rattle.std.specs.Prelude.{◌≡◌, ◌≤◌, length, IfOk, IsTrue};
 ghost use Rattle.cr_base.specs.Texts.{IsName};
 ghost use Rattle.cr_base.specs.Words.{is_member};
-ghost use Rattle.cr_bodies.specs.Field.{IsOf, admits as admits_text, digest_under, flag_under, mode_under, name_under};
+ghost use Rattle.cr_bodies.specs.Field.{IsOf, admits as admits_text, digest_under, flag_under, mode_under, name_under, names_of, names_under};
 ghost use Rattle.cr_bodies.specs.Field.{passing, phase_under, role_under, text_under, tested_under, user_under};
-ghost use Rattle.cr_bodies.specs.Outcome.{Tells, TellsSeen};
+ghost use Rattle.cr_bodies.specs.Outcome.{Tells, TellsBody, TellsSeen};
 ghost use Rattle.cr_bodies.specs.declared.field.Grammar.TheVariants as grammars;
-ghost use Rattle.serde_json.specs.View.{view};
+ghost use Rattle.serde_json.specs.Data.{array};
+ghost use Rattle.serde_json.specs.View.{items_view, view};
 
 use crate::body::BodyError;
 use crate::secret::{digest_of, is_secret};
-use cr_base::{Digest, Mode, Phase, Role, Short, is_abstract, is_name, is_title};
+use cr_base::{
+    Digest, MOST_COAUTHORS, Mode, Phase, Role, Short, ToldNames, is_abstract, is_name, is_title,
+};
 use serde_json::Value;
+use std::alloc::Global;
 
 /// What a text has to be.
 #[derive(Clone, Copy)]
@@ -98,6 +102,39 @@ pub(crate) fn user(body: &Value, key: &str) -> Result<Option<Short>, BodyError>
 {
     let text = text(body, key)?;
     Ok(name_in(text))
+}
+
+/// The names that a list tells, each None where its text is no name.
+fn names_in(alloc: Global, items: &[Value]) -> Result<ToldNames, BodyError>
+    ensures told { TellsBody result (names_of (Some (array (items_view items.now)))) }
+    ensures few { IfOk result (λ names. length names ≤ 19) }
+{
+    if items.len() > MOST_COAUTHORS {
+        return Err(BodyError::Bad);
+    }
+    let mut names = Vec::with_capacity(alloc, items.len())?;
+    'elements: for item in items {
+        let Some(text) = item.as_str() else {
+            return Err(BodyError::Bad);
+        };
+        names.push_reserved(name_in(text));
+    }
+    Ok(ToldNames::from_vec(names))
+}
+
+/// The names that the list under a key tells, at most 19 and each None where its text is no name; none where the key isn't
+/// there. One vector is taken for them.
+pub(crate) fn names(alloc: Global, body: &Value, key: &str) -> Result<ToldNames, BodyError>
+    ensures told { TellsBody result (names_under key.now (view body.now)) }
+    ensures few { IfOk result (λ names. length names ≤ 19) }
+{
+    let Some(list) = body.get(key) else {
+        return Ok(ToldNames::from_vec(Vec::new(alloc)));
+    };
+    match list.as_array() {
+        Some(items) => names_in(alloc, items.as_slice()),
+        None => Err(BodyError::Bad),
+    }
 }
 
 /// What is true or false under a key.

@@ -1,15 +1,15 @@
 -- What a wish asks for is what its request does, whatever the body tells.
-use Rattle.std.proofs.Common.{◌≡◌, ℕ, List, Option, Some, None, refl, ap}
+use Rattle.std.proofs.Common.{◌≡◌, ℕ, List, Option, Some, None, IsTrue, refl, ap}
 use Rattle.std.specs.Prelude.{codes}
 use Rattle.cr_base.specs.Logins.{command_ask}
 use Rattle.cr_base.specs.declared.ask.Ask.{Ask}
 use Rattle.cr_base.specs.declared.ask.Ask.TheVariants as asks
 use Rattle.cr_base.specs.declared.command.Command.{Command}
 use Rattle.cr_bodies.specs.Bodies.{command_in, command_read}
-use Rattle.cr_bodies.specs.Field.{◌>>=◌, abstract_under, digest_under, flag_under, mode_under, name_under, phase_under, role_under, title_under, user_under}
+use Rattle.cr_bodies.specs.Field.{◌>>=◌, abstract_under, digest_under, flag_under, mode_under, name_under, names_under, phase_under, role_under, title_under, user_under}
 use Rattle.cr_bodies.specs.Json.{json_of}
 use Rattle.cr_routes.specs.Parts.{FoundPath}
-use Rattle.cr_wire.specs.Asked.{asked, command_of, commanded}
+use Rattle.cr_wire.specs.Asked.{LooksAtBody, ask_has_body, asked, command_of, commanded}
 use Rattle.cr_wire.specs.Caller.{ask_of}
 use Rattle.cr_wire.specs.Paper.{paper_of}
 
@@ -41,7 +41,12 @@ given asks.SetPhase paper body =
 given asks.Submit paper body =
     of_each asks.Submit (json_of body) (command_in asks.Submit paper) (λ d.
     of_each asks.Submit (title_under (codes "title") d) _ (λ title.
-    of_each asks.Submit (abstract_under (codes "abstract") d) _ (λ abstract. refl)))
+    of_each asks.Submit (abstract_under (codes "abstract") d) _ (λ abstract.
+    of_each asks.Submit (names_under (codes "authors") d) _ (λ authors. refl))))
+given asks.Revise paper body =
+    of_each asks.Revise (json_of body) (command_in asks.Revise paper) (λ d.
+    of_each asks.Revise (title_under (codes "title") d) _ (λ title.
+    of_each asks.Revise (abstract_under (codes "abstract") d) _ (λ abstract. refl)))
 given asks.SetConflict paper body =
     of_each asks.SetConflict (json_of body) (command_in asks.SetConflict paper) (λ d.
     of_each asks.SetConflict (flag_under (codes "on") d) _ (λ on.
@@ -61,5 +66,10 @@ ask_by_ask asks.Name found body = by_body asks.Name found body
 ask_by_ask asks.SetMode found body = by_body asks.SetMode found body
 ask_by_ask asks.SetPhase found body = by_body asks.SetPhase found body
 ask_by_ask asks.Submit found body = by_body asks.Submit found body
+ask_by_ask asks.Revise found body = by_body asks.Revise found body
 ask_by_ask asks.SetConflict found body = by_body asks.SetConflict found body
 ask_by_ask ask found body = refl
+
+-- what is told by a body looks at it, whatever it tells
+pub looked : (ask : Ask) (found : FoundPath) (body : List ℕ) → IsTrue (ask_has_body ask) → LooksAtBody (commanded ask found body)
+looked ask found body has = rw (by_body ask found body) has

@@ -1,8 +1,10 @@
 -- What a request wishes, by its method, its target and its body.
-use Rattle.std.specs.Prelude.{ℕ, List, ◌==◌, Option, Some, None, option_and_then, if◌then◌else◌}
+use Rattle.std.specs.Prelude.{ℕ, List, Bool, true, false, IsTrue, ◌==◌, Option, Some, None, option_and_then, if◌then◌else◌}
+use Rattle.std.specs.Option.{option_map_or}
 use Rattle.std.specs.List.{before_first}
 use Rattle.std.specs.Str.{is_utf8}
 use Rattle.cr_base.specs.declared.command.Command.{Command}
+use Rattle.cr_base.specs.declared.command.Command.TheVariants as commands
 use Rattle.cr_base.specs.declared.command.Query.TheVariants as queries
 use Rattle.cr_bodies.specs.Bodies.{command_read}
 use Rattle.cr_routes.specs.Asks.{ask_at}
@@ -10,7 +12,8 @@ use Rattle.cr_routes.specs.Parts.{FoundPath, found_at}
 use Rattle.cr_routes.specs.Methods.{method_of}
 use Rattle.cr_base.specs.declared.ask.Ask.{Ask}
 use Rattle.cr_base.specs.declared.ask.Ask.TheVariants as asks
-use Rattle.cr_wire.specs.Paper.{paper_of}
+use Rattle.cr_wire.specs.Caller.{ask_of}
+use Rattle.cr_wire.specs.Paper.{paper_of, version_of}
 use Rattle.cr_wire.specs.declared.what.What.{What}
 use Rattle.cr_wire.specs.declared.what.What.TheVariants.{NoRoute, WrongMethod, BadBody, Command as Commands, Query as Queries}
 
@@ -31,7 +34,7 @@ command_of ask (Some command) = Commands command
 abbrev pub commanded : Ask → FoundPath → List ℕ → What
 commanded ask found body = command_of ask (command_read ask (paper_of found) body)
 
--- one line for each thing that can be asked for
+-- one line for each thing that can be asked for; an upload's body is the content
 abbrev pub asked : Ask → FoundPath → List ℕ → What
 asked asks.Register found body = commanded asks.Register found body
 asked asks.Accounts found body = Queries queries.Accounts
@@ -41,6 +44,11 @@ asked asks.Phase found body = Queries queries.Phase
 asked asks.SetPhase found body = commanded asks.SetPhase found body
 asked asks.Submit found body = commanded asks.Submit found body
 asked asks.Page found body = Queries (queries.Page (paper_of found))
+asked asks.Revise found body = commanded asks.Revise found body
+asked asks.Withdraw found body = Commands (commands.Withdraw (paper_of found))
+asked asks.Content found body = Queries (queries.Content (paper_of found))
+asked asks.Upload found body = Commands (commands.Upload (paper_of found) body)
+asked asks.Version found body = Queries (queries.Version (paper_of found) (version_of found))
 asked asks.SetConflict found body = commanded asks.SetConflict found body
 asked asks.Me found body = Queries queries.Me
 
@@ -55,10 +63,24 @@ with_found (Some found) method body = with_ask found (option_and_then (ask_at fo
 abbrev pub what_of : List ℕ → List ℕ → List ℕ → What
 what_of method target body = with_found (find_at (path_of target)) method body
 
--- a body was looked at, which alone takes memory
+-- whether what is asked for is told by a body: all commands are but a withdrawal
+abbrev pub ask_has_body : Ask → Bool
+ask_has_body asks.Register = true
+ask_has_body asks.Accounts = false
+ask_has_body asks.Name = true
+ask_has_body asks.SetMode = true
+ask_has_body asks.Phase = false
+ask_has_body asks.SetPhase = true
+ask_has_body asks.Submit = true
+ask_has_body asks.Page = false
+ask_has_body asks.Revise = true
+ask_has_body asks.Withdraw = false
+ask_has_body asks.Content = false
+ask_has_body asks.Upload = true
+ask_has_body asks.Version = false
+ask_has_body asks.SetConflict = true
+ask_has_body asks.Me = false
+
+-- a body was looked at, which alone takes memory: this goes by what is asked for
 abbrev pub LooksAtBody : What → Type 0
-LooksAtBody NoRoute = ⊥
-LooksAtBody (WrongMethod place) = ⊥
-LooksAtBody (BadBody ask) = Unit {0}
-LooksAtBody (Commands command) = Unit {0}
-LooksAtBody (Queries query) = ⊥
+LooksAtBody what = IsTrue (option_map_or ask_has_body (ask_of what) false)

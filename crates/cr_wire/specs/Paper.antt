@@ -1,7 +1,8 @@
--- The paper that a path's parameter names.
-use Rattle.std.specs.Prelude.{ℕ, List, length, Bool, ◌&&◌, ◌==◌, not, nat_le, Option, Some, None, option_and_then, if◌then◌else◌, slice_index}
+-- The paper and the version that a path's parameters name.
+use Rattle.std.specs.Prelude.{ℕ, ◌^◌, List, length, Bool, ◌&&◌, ◌==◌, not, nat_le, nat_lt, Option, Some, None, option_and_then, if◌then◌else◌, slice_index}
 use Rattle.std.specs.Char.{is_ascii_digit}
 use Rattle.std.specs.List.{list_all}
+use Rattle.std.specs.Option.{option_map_or}
 use Rattle.std.specs.Str.Parse.{digits_value}
 use Rattle.cr_routes.specs.Parts.{FoundPath}
 
@@ -20,3 +21,15 @@ paper_spelt text = if is_paper_number text then Some (digits_value 10 text) else
 -- the paper that a path is about: its first parameter names it
 abbrev pub paper_of : FoundPath → Option ℕ
 paper_of found = option_and_then paper_spelt found.first
+
+-- a number in decimal: digits, of which the first isn't 0
+abbrev pub is_number : List ℕ → Bool
+is_number text = nat_le 1 (length text) && not (slice_index text 0 == 48) && list_all is_ascii_digit text
+
+-- the version of a text: such a number below 2 ^ 64, and else 0, which no version has
+abbrev pub version_spelt : List ℕ → ℕ
+version_spelt text = if is_number text && nat_lt (digits_value 10 text) (2 ^ 64) then digits_value 10 text else 0
+
+-- the version that a path is about: its second parameter names it
+abbrev pub version_of : FoundPath → ℕ
+version_of found = option_map_or version_spelt found.second 0

@@ -1,7 +1,5 @@
 //! From a path, a method and a body to what is wished.
-ghost use Rattle.std.specs.Prelude.{◌≡◌, option_and_then, option_map, IfOk, OnErr};
-ghost use Rattle.cr_base.specs.Bounds.{IsBoundedCommand};
-ghost use Rattle.cr_bodies.specs.Outcome.{TellsBody};
+ghost use Rattle.std.specs.Prelude.{◌≡◌, option_and_then, option_map, IfOk, IsTrue, OnErr};
 ghost use Rattle.cr_routes.specs.Asks.{ask_at as ask_of_place};
 ghost use Rattle.cr_routes.specs.Methods.{method_of};
 ghost use Rattle.cr_routes.specs.Parts.{seen};
@@ -9,10 +7,11 @@ ghost use Rattle.cr_wire.specs.Asked as spec;
 ghost use Rattle.cr_wire.specs.Bounds.{IsBoundedWhat};
 ghost use Rattle.cr_wire.specs.Outcome.{Gives};
 
-use crate::paper::paper_of;
+use crate::paper::{paper_of, version_of};
 use crate::what::What;
-use cr_base::{Ask, Command, Query};
+use cr_base::{Ask, Command, PaperNo, Query};
 use cr_bodies::{BodyError, before_first, read_command};
+use cr_http::Body;
 use cr_routes::{Matched, Method, Place, Routes};
 use std::alloc::{AllocError, Global};
 use std::str::from_utf8;
@@ -34,21 +33,31 @@ fn ask_at(place: Place, method: &[u8]) -> Option<Ask>
     place.ask(Method::read(method)?)
 }
 
-/// The command, where the body tells one.
-fn command(ask: Ask, read: Result<Command, BodyError>) -> Result<What, AllocError>
-    ensures told { (told : _) → TellsBody read told → Gives result (spec.command_of ask told) }
-    ensures bounded { IfOk read IsBoundedCommand → IfOk result IsBoundedWhat }
-    ensures sure { (told : _) → OnErr result (spec.LooksAtBody (spec.command_of ask told)) }
+/// The command that path and body tell, of what is told by a JSON body.
+fn command(alloc: Global, ask: Ask, found: Matched<'_>, body: &[u8]) -> Result<What, AllocError>
+    requires { IsTrue (spec.ask_has_body ask) }
+    ensures told { Gives result (spec.commanded ask (seen found.entry) body.now) }
+    ensures bounded { IfOk result IsBoundedWhat }
+    ensures sure { OnErr result (spec.LooksAtBody (spec.commanded ask (seen found.entry) body.now)) }
 {
-    match read {
+    match read_command(alloc, ask, paper_of(found), body) {
         Ok(command) => Ok(What::Command(command)),
         Err(BodyError::Bad) => Ok(What::BadBody(ask)),
         Err(BodyError::OutOfMemory) => Err(AllocError),
     }
 }
 
+/// An upload, whose content is the body as it is.
+fn upload(alloc: Global, paper: Option<PaperNo>, body: &Body<'_>) -> Result<What, AllocError>
+    ensures told { Gives result (What.Command (Command.Upload paper body.now)) }
+    ensures bounded { IfOk result IsBoundedWhat }
+{
+    let content = body.to_blob(alloc)?;
+    Ok(What::Command(Command::Upload { paper, content }))
+}
+
 /// What is asked for, by its path and its body too.
-fn asked(alloc: Global, ask: Ask, found: Matched<'_>, body: &[u8]) -> Result<What, AllocError>
+fn asked(alloc: Global, ask: Ask, found: Matched<'_>, body: &Body<'_>) -> Result<What, AllocError>
     ensures told { Gives result (spec.asked ask (seen found.entry) body.now) }
     ensures bounded { IfOk result IsBoundedWhat }
     ensures sure { OnErr result (spec.LooksAtBody (spec.asked ask (seen found.entry) body.now)) }
@@ -59,20 +68,36 @@ fn asked(alloc: Global, ask: Ask, found: Matched<'_>, body: &[u8]) -> Result<Wha
         Ask::Page => Ok(What::Query(Query::Page {
             paper: paper_of(found),
         })),
+        Ask::Content => Ok(What::Query(Query::Content {
+            paper: paper_of(found),
+        })),
+        Ask::Version => Ok(What::Query(Query::Version {
+            paper: paper_of(found),
+            version: version_of(found),
+        })),
         Ask::Me => Ok(What::Query(Query::Me)),
-        Ask::Register | Ask::Name | Ask::SetMode | Ask::SetPhase | Ask::Submit | Ask::SetConflict =>
-            command(ask, read_command(alloc, ask, paper_of(found), body)),
+        Ask::Withdraw => Ok(What::Command(Command::Withdraw {
+            paper: paper_of(found),
+        })),
+        Ask::Upload => upload(alloc, paper_of(found), body),
+        Ask::Register
+        | Ask::Name
+        | Ask::SetMode
+        | Ask::SetPhase
+        | Ask::Submit
+        | Ask::Revise
+        | Ask::SetConflict => command(alloc, ask, found, body.as_slice()),
     }
 }
 
 /// What a request of this method, this target and this body wishes. Fails only for lack of memory, which the reading of
-/// a JSON body alone takes.
+/// a JSON body and the keeping of an upload alone take.
 pub(crate) fn what_of(
     alloc: Global,
     routes: &Routes,
     method: &[u8],
     target: &[u8],
-    body: &[u8],
+    body: &Body<'_>,
 ) -> Result<What, AllocError>
     ensures told { Gives result (spec.what_of method.now target.now body.now) }
     ensures bounded { IfOk result IsBoundedWhat }

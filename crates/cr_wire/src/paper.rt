@@ -1,4 +1,4 @@
-//! The paper that a path's parameter names.
+//! The paper and the version that a path's parameters name.
 ghost use Rattle.std.specs.Prelude.{◌≡◌};
 ghost use Rattle.cr_routes.specs.Parts.{seen};
 ghost use Rattle.cr_wire.specs.Paper as spec;
@@ -32,10 +32,41 @@ fn paper_spelt(text: &[u8]) -> Option<PaperNo>
     }
 }
 
+/// Whether a text is a number in decimal, without a zero in front.
+fn is_number(text: &[u8]) -> bool
+    ensures { result ≡ spec.is_number text.now }
+{
+    !text.is_empty() && text[0] != b'0' && all_digits(text)
+}
+
+/// The version of a text.
+fn version_spelt(text: &str) -> u64
+    ensures { result ≡ spec.version_spelt text.now }
+{
+    if !is_number(text.as_bytes()) {
+        return 0;
+    }
+    match text.parse::<u64>() {
+        Ok(version) => version,
+        Err(_) => 0,
+    }
+}
+
 /// The paper that a path is about: Some exactly where its first parameter is a number from 1 to 9,999 in decimal, without
 /// a sign and without a zero in front. Looks at four bytes at most and costs no allocation.
 pub(crate) fn paper_of(found: Matched<'_>) -> Option<PaperNo>
     ensures { result ≡ spec.paper_of (seen found.entry) }
 {
     paper_spelt(found.first?.as_bytes())
+}
+
+/// The version that a path is about: its second parameter, where that is a number below 2 ^ 64 in decimal, without a sign and
+/// without a zero in front. Else 0, which no version has. Looks at each of its bytes at most twice and costs no allocation.
+pub(crate) fn version_of(found: Matched<'_>) -> u64
+    ensures { result ≡ spec.version_of (seen found.entry) }
+{
+    match found.second {
+        Some(text) => version_spelt(text),
+        None => 0,
+    }
 }

@@ -12,7 +12,7 @@ use crate::asked::what_of;
 use crate::connection::has_close;
 use crate::what::{What, Wish};
 use cr_bodies::{Credentials, read_credentials};
-use cr_http::{Head, Values, Version};
+use cr_http::{Body, Head, Values, Version};
 use cr_routes::Routes;
 use std::alloc::{AllocError, Global};
 
@@ -57,21 +57,21 @@ fn asks_close(head: &Head<'_>) -> bool
     head.version() == Version::Http10 || field_asks_close(head)
 }
 
-/// The wish of a request, by its head and its body. Fails only for lack of memory, which the reading of a JSON body
-/// alone takes. Reads the target, the fields' names and the field Connection once, the body only where the method and the
+/// The wish of a request, by its head and its body. Fails only for lack of memory, which the reading of a JSON body and
+/// the keeping of an upload alone take. Reads the target, the fields' names and the field Connection once, the body only where the method and the
 /// path want one, and the field Authorization only where `reads_credentials` says so. A command that is wished is within
 /// the bounds on commands.
 pub fn wish_of(
     alloc: Global,
     routes: &Routes,
     head: &Head<'_>,
-    body: &[u8],
+    body: Body<'_>,
 ) -> Result<Wish, AllocError>
-    ensures told { Gives result (wish_text (record { head = head.now; body = body.now })) }
+    ensures told { Gives result (wish_text (record { head = head.now; body = body.entry })) }
     ensures bounded { IfOk result (λ wish. IsBoundedWhat wish.what) }
-    ensures sure { OnErr result (LooksAtBody (what_text head.now.method head.now.target body.now)) }
+    ensures sure { OnErr result (LooksAtBody (what_text head.now.method head.now.target body.entry)) }
 {
-    let what = match what_of(alloc, routes, head.method(), head.target(), body) {
+    let what = match what_of(alloc, routes, head.method(), head.target(), &body) {
         Ok(what) => what,
         Err(error) => return Err(error),
     };

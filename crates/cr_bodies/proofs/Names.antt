@@ -1,0 +1,45 @@
+-- A list of names read element by element.
+use Rattle.std.proofs.Common.{◌≡◌, ℕ, suc, ◌+◌, ◌<◌, ◌≤◌, List, [], ◌∷◌, ◌++◌, length, get_or, drop, Option, Some, None, Bool, true, false, nat_le, if◌then◌else◌, refl, sym, ap, ◌∙◌, append_assoc, append-nil, IsTrue, arith}
+use Rattle.std.proofs.lemmas.List.{drop_more, drop_all}
+use Rattle.std.proofs.lemmas.Bool.Decides.{nat_tests}
+use Rattle.serde_json.specs.Find.{as_str}
+use Rattle.serde_json.specs.View.{items_view, view}
+use Rattle.serde_json.specs.declared.value.Value.{Value}
+use Rattle.cr_bodies.specs.Field.{◌>>=◌, admits, if_few, names_told, passing}
+use Rattle.cr_bodies.specs.declared.field.Grammar.TheVariants.{Name}
+
+abbrev Told : Type 0
+Told = List (Option (List ℕ))
+
+-- the names told of each element
+abbrev one_more : Option (List ℕ) → Option Told → Option Told
+one_more text rest = text >>= λ t. rest >>= λ names. Some (passing (admits Name) t ∷ names)
+
+-- as many names as elements
+as_many : (vs : List Value) (names : Told) → names_told (items_view vs) ≡ Some names → length names ≡ length vs
+as_many [] names e = let same : [] ≡ names = cc in sym (ap (λ (n : Told). length n) same)
+as_many (v ∷ vs) names e = by (as_str (view v)) (names_told (items_view vs)) (as_many vs) names e
+  where
+    by : (text : Option (List ℕ)) (rest : Option Told) → ((some : Told) → rest ≡ Some some → length some ≡ length vs)
+        → (names : Told) → one_more text rest ≡ Some names → length names ≡ length (v ∷ vs)
+    by None rest more names e = cc
+    by (Some t) None more names e = cc
+    by (Some t) (Some some) more names e =
+        let same : passing (admits Name) t ∷ some ≡ names = cc in
+        let n = more some refl in
+        sym (ap (λ (n : Told). length n) same) ∙ ap suc n
+
+isn't_few : (n : ℕ) → 19 < n → nat_le n 19 ≡ false
+isn't_few n h = grind (arith, nat_tests)
+
+pub too_many : (vs : List Value) → 19 < length vs → (names_told (items_view vs) >>= if_few) ≡ None
+too_many vs many = by (names_told (items_view vs)) (as_many vs)
+  where
+    by : (told : Option Told) → ((names : Told) → told ≡ Some names → length names ≡ length vs) → (told >>= if_few) ≡ None
+    by None long = refl
+    by (Some names) long = rw (long names refl, isn't_few (length vs) many) refl
+
+-- names in front of those that may follow
+abbrev pub onto : Told → Option Told → Option Told
+onto names None = None
+onto names (Some more) = Some (names ++ more)
