@@ -1,7 +1,7 @@
 -- What a read into the room behind the bytes of a block does to them.
-use Rattle.std.proofs.Common.{◌≡◌, ◌∙◌, ℕ, ◌+◌, ◌≤◌, List, ◌++◌, length, take, drop, ap, arith, length-take}
-use Rattle.std.proofs.lemmas.List.{drop-append-le}
-use Rattle.std.proofs.Math.Seq.{take-add}
+use Rattle.std.proofs.Common.{◌≡◌, ◌∙◌, ℕ, ◌+◌, ◌-◌, ◌≤◌, List, ◌++◌, length, take, drop, sym, ap, subst, arith, length-take, length-drop}
+use Rattle.std.proofs.lemmas.List.{drop-append-le, drop-take}
+use Rattle.std.proofs.Math.Seq.{take-add, take-append-add}
 
 -- the bytes from start to end, and then those that a read put behind them
 pub grown : (start end n : ℕ) (items items' : List ℕ) → start ≤ end → end ≤ length items' → take end items' ≡ take end items
@@ -11,3 +11,21 @@ grown start end n items items' le within same =
     ap (drop start) (take-add end n items')
     ∙ drop-append-le start (take end items') (take n (drop end items')) (rw l le)
     ∙ ap (λ t. drop start t ++ take n (drop end items')) same
+
+-- the bytes up to end, once others stand in the place of the first
+over : (end : ℕ) (front items : List ℕ) → length front ≤ end → take end (front ++ drop (length front) items) ≡ front ++ drop (length front) (take end items)
+over end front items le =
+    let n = length front in
+    let k : end ≡ n + (end - n) = omega (arith, le) in
+    ap (λ m. take m (front ++ drop n items)) k
+    ∙ take-append-add front (drop n items) (end - n)
+    ∙ ap (λ t. front ++ t) (sym (drop-take n (end - n) items) ∙ ap (λ m. drop n (take m items)) (sym k))
+
+-- the same of bytes that begin where their block does
+pub over_from : (start end : ℕ) (front items : List ℕ) → start ≡ 0 → length front ≤ length (drop start (take end items))
+    → drop start (take end (front ++ drop (length front) items)) ≡ front ++ drop (length front) (drop start (take end items))
+over_from start end front items zero_is le =
+    let d = length-drop start (take end items) in
+    let t = length-take end items in
+    subst (λ (k : ℕ). drop k (take end (front ++ drop (length front) items)) ≡ front ++ drop (length front) (drop k (take end items))) (sym zero_is)
+    (over end front items (omega (arith, d, t, le)))

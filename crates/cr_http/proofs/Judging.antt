@@ -1,6 +1,6 @@
 -- From what one call knows to what it says of the text.
-use Rattle.std.proofs.Common.{◌≡◌, ℕ, ◌+◌, ◌-◌, ◌<◌, ◌≤◌, List, ◌++◌, length, take, drop, Option, Some, Bool, true, false, refl, sym, ◌∙◌, ap, subst, arith, inl, inr, length-drop, length-take}
-use Rattle.std.specs.Prelude.{nat_lt, nat_le, slice_range, MatchBool, if◌then◌else◌, ◌==◌}
+use Rattle.std.proofs.Common.{◌≡◌, ℕ, ◌+◌, ◌-◌, ◌<◌, ◌≤◌, List, ◌++◌, length, take, drop, Option, Some, None, Bool, true, false, refl, sym, ◌∙◌, ap, subst, arith, inl, inr, length-drop, length-take, length-take-le, take_all, take-append-drop, drop_of_length-le}
+use Rattle.std.specs.Prelude.{◌⊎◌, nat_lt, nat_le, slice_range, MatchBool, if◌then◌else◌, ◌==◌}
 use Rattle.httparse.specs.declared.spans.HeaderSpan.{HeaderSpan}
 use Rattle.httparse.specs.declared.spans.RequestSpans.{RequestSpans}
 use Rattle.httparse.specs.Spans.{IsRequestWithin}
@@ -8,10 +8,15 @@ use Rattle.cr_http.specs.Extent.{spans_head}
 use Rattle.cr_http.specs.declared.framing.Framing.TheVariants.{Body}
 use Rattle.cr_http.specs.declared.refusal.Refusal.TheVariants.{HeadTooLarge, BadHttp}
 use Rattle.std.proofs.lemmas.List.{drop-drop}
+use Rattle.cr_http.specs.declared.fill_body.BodyFill.{BodyFill}
 use Rattle.cr_http.specs.declared.head_range.HeadRange.{HeadRange}
+use Rattle.cr_http.specs.declared.inbox.Extent.{Extent}
+use Rattle.cr_http.specs.declared.read.RequestRead.{RequestRead}
+use Rattle.cr_http.specs.BodyFill.{FillsBody}
 use Rattle.cr_http.specs.declared.read.RequestRead.TheVariants as reads
-use Rattle.cr_http.specs.Reading.{IsSettled, IsUnsettled, Lies}
+use Rattle.cr_http.specs.Reading.{IsSettled, IsUnsettled, Lies, ReadsInto}
 use Rattle.cr_http.specs.HeadRange.{blank_end_from, head_at}
+use Rattle.cr_http.specs.ToHead.{IsToHead, IsToHeadFrom}
 use Rattle.cr_http.proofs.Unique.{StandsAt-unique}
 use Rattle.cr_http.specs.Head.{HeadText, framing_of}
 use Rattle.cr_http.specs.Filling.{IsStill, Moves, NeedsHead, ReadsWhile}
@@ -89,7 +94,7 @@ short_body most e len text few = let l = length-take (e + len - e) (drop e text)
 pub request_lies : (left left' : Option (List ℕ)) (old text : List ℕ) (headers : List HeaderSpan) (range : HeadRange) (spans : RequestSpans) (len : ℕ)
     → Moves left left' old text → IsFramed old range.start range.end (spans_head (slice_range old range.start range.end) headers spans) len
     → IsRequestWithin (slice_range old range.start range.end) headers spans → len ≤ 4194304 → range.end + len ≤ length text
-    → Lies reads.Whole text headers (Some (record { range = range; spans = spans; end = range.end + len }))
+    → Lies reads.Whole text text headers None (Some (record { range = range; spans = spans; end = range.end + len }))
 request_lies left left' old text headers range spans len m f within few full =
     let s = range.start in
     let e = range.end in
@@ -104,13 +109,54 @@ request_lies left left' old text headers range spans len m f within few full =
       subst (StandsAt text) (λ i. whole (head i) (body i) (rest i)) stands,
     )
 
+-- the same in what is kept of the text, where that is all of it
+pub request_kept : (left left' : Option (List ℕ)) (old text kept : List ℕ) (headers : List HeaderSpan) (block : Option (List ℕ)) (range : HeadRange) (spans : RequestSpans) (len : ℕ)
+    → Moves left left' old text → IsFramed old range.start range.end (spans_head (slice_range old range.start range.end) headers spans) len
+    → IsRequestWithin (slice_range old range.start range.end) headers spans → len ≤ 4194304 → block ≡ None → (kept ≡ text) × (range.end + len ≤ length text)
+    → Lies reads.Whole text kept headers block (Some (record { range = range; spans = spans; end = range.end + len }))
+request_kept left left' old text kept headers block range spans len m f within few none is =
+    let e : Extent = record { range = range; spans = spans; end = range.end + len } in
+    subst (λ (b : Option (List ℕ)). Lies reads.Whole text kept headers b (Some e)) (sym none)
+    (subst (λ (k : List ℕ). Lies reads.Whole text k headers None (Some e)) (sym is.0)
+    (request_lies left left' old text headers range spans len m f within few is.1))
+
+-- the request whose body has come into a block of its own
+pub block_lies : (left left' : Option (List ℕ)) (old text kept block : List ℕ) (headers : List HeaderSpan) (range : HeadRange) (spans : RequestSpans) (len : ℕ)
+    → Moves left left' old text → IsFramed old range.start range.end (spans_head (slice_range old range.start range.end) headers spans) len
+    → IsRequestWithin (slice_range old range.start range.end) headers spans → len ≤ 4194304
+    → (kept ≡ take range.end text) × (block ≡ drop range.end text) × (length text ≡ range.end + len)
+    → Lies reads.Whole text kept headers (Some block) (Some (record { range = range; spans = spans; end = range.end }))
+block_lies left left' old text kept block headers range spans len m f within few is =
+    let s = range.start in
+    let e = range.end in
+    let b = head_at_bounds old (s, e) f.range in
+    let all = is.2 in
+    let front : length kept ≡ e = ap length is.0 ∙ length-take-le e text (omega (arith, all)) in
+    let long : length block ≡ len = ap length is.1 ∙ length-drop e text ∙ left_of e len (length text) all in
+    let whole_is : text ≡ kept ++ block = sym (take-append-drop e text) ∙ ap (λ t. t ++ drop e text) (sym is.0) ∙ ap (λ t. kept ++ t) (sym is.1) in
+    let same : slice_range kept s e ≡ slice_range old s e =
+    sym (slice_range-append kept block s e b.0 (omega (arith, front))) ∙ ap (λ t. slice_range t s e) (sym whole_is ∙ m.kept) ∙ slice_range-append old m.got s e b.0 b.1 in
+    let head : spans_head (slice_range old s e) headers spans ≡ spans_head (slice_range kept s e) headers spans = ap (λ t. spans_head t headers spans) (sym same) in
+    let body : take len (drop e text) ≡ block = ap (take len) (sym is.1) ∙ take_all len block (omega (arith, long)) in
+    let rest : drop len (drop e text) ≡ drop e kept = ap (drop len) (sym is.1) ∙ drop_of_length-le block (omega (arith, long)) ∙ sym (drop_of_length-le kept (omega (arith, front))) in
+    let stands = framed_whole text s e _ len (framed_moved left left' old text s e _ len m f) (omega (arith, all)) in (
+      record { head = omega (arith, b); body = omega arith; short = few_of 4194304 len (length block) long few; within = omega (arith, front); spans = rw same within },
+      subst (StandsAt text) (λ i. whole (head i) (body i) (rest i)) stands,
+    )
+  where
+    left_of : (e len n : ℕ) → n ≡ e + len → n - e ≡ len
+    left_of e len n is = omega (arith, is)
+
+    few_of : (most len n : ℕ) → n ≡ len → len ≤ most → n ≤ most
+    few_of most len n is le = omega (arith, is, le)
+
 -- the text ends before the body does
 pub body_cut : (left left' : Option (List ℕ)) (old text : List ℕ) (range : HeadRange) (head : HeadText) (len : ℕ)
     → Moves left left' old text → IsFramed old range.start range.end head len → length text < range.end + len → StandsAt text cut
 body_cut left left' old text range head len m f short =
     framed_cut text range.start range.end head len (framed_moved left left' old text range.start range.end head len m f) short
 
-short_is : (m n : ℕ) → m < n → nat_lt m n ≡ true
+pub short_is : (m n : ℕ) → m < n → nat_lt m n ≡ true
 short_is m n lt = grind arith
 
 fits_is : (m n : ℕ) → nat_le m n ≡ true → m ≤ n
@@ -118,6 +164,31 @@ fits_is m n e = grind arith
 
 past_is : (m n : ℕ) → nat_le m n ≡ false → n < m
 past_is m n e = grind arith
+
+-- what stands where no head does
+no_head : (text : List ℕ) (found : Found) → head_at text ≡ None → found ≡ without_head text → StandsAt text found
+no_head text found none is = subst (λ (o : Option (ℕ × ℕ)). StandsFrom text o found) (sym none) is
+
+pub full_stands : (text : List ℕ) → head_at text ≡ None → nat_lt (length text) 16384 ≡ false → StandsAt text (refused HeadTooLarge false)
+full_stands text none full = no_head text (refused HeadTooLarge false) none
+    (ap (λ (t : Bool). if t then (if blank_end_from 0 text == length text then clean else cut) else refused HeadTooLarge false) (sym full))
+
+pub short_stands : (text : List ℕ) → head_at text ≡ None → nat_lt (length text) 16384 ≡ true → StandsAt text clean ⊎ StandsAt text cut
+short_stands text none short = by (blank_end_from 0 text == length text) refl
+  where
+    is : (u : Bool) → (blank_end_from 0 text == length text) ≡ u → without_head text ≡ (if u then clean else cut)
+    is u e = ap (λ (t : Bool). if t then (if blank_end_from 0 text == length text then clean else cut) else refused HeadTooLarge false) short
+        ∙ ap (λ (u : Bool). if u then clean else cut) e
+
+    by : (u : Bool) → (blank_end_from 0 text == length text) ≡ u → StandsAt text clean ⊎ StandsAt text cut
+    by true e = inl (no_head text clean none (sym (is true e)))
+    by false e = inr (no_head text cut none (sym (is false e)))
+
+pub no_head_to : (text : List ℕ) → head_at text ≡ None → IsToHead text false
+no_head_to text none = subst (λ (o : Option (ℕ × ℕ)). IsToHeadFrom text o false) (sym none) refl
+
+pub is_full : (m n : ℕ) → m ≤ n → nat_lt n m ≡ false
+is_full m n le = grind arith
 
 -- where something stands however the text goes on, a head ends or none can
 pub settled_needs_no_head : (text : List ℕ) → IsSettled text → NeedsHead text → ⊥
@@ -162,3 +233,14 @@ module _ {S : Type 0} (left : S → Option (List ℕ)) (gives : S → S → List
   settled_is_still a b t u (inl still) settled = still
   settled_is_still a b t u (inr last) settled =
       absurd (last.wants (subst IsSettled (sym last.before.kept) (settled-append t last.before.got settled)))
+
+  -- what is read behind a head, where the answer is right of it
+  pub reads_body : (a b : S) (old kept : List ℕ) (start end : ℕ) (head : HeadText) (len : ℕ) (headers : List HeaderSpan) (block : Option (List ℕ)) (request : Option Extent)
+      (filled : BodyFill) (answer : RequestRead) → IsFramed old start end head len → (f : FillsBody left gives a b old kept end (end + len) filled)
+      → Lies answer f.text kept headers block request → ReadsInto left gives a b old kept headers block request answer
+  reads_body a b old kept start end head len headers block request filled answer framed f lies = record {
+    text = f.text;
+    moves = f.moves;
+    needed = body_needed a b old f.text start end head len framed f.needed;
+    lies = lies;
+  }

@@ -3,6 +3,7 @@ pub mod Windows
 pub mod Searching
 pub mod Moving
 pub mod Blocks
+pub mod Bodies
 pub mod Founds
 pub mod Fields
 pub mod Unique

@@ -18,23 +18,28 @@ spans_head bytes headers s = record {
   fields = map (header_bytes bytes) (take s.headers headers);
 }
 
+-- its body: what of the text follows its head, or what lies in a block of its own
+abbrev pub extent_body : List ℕ → Extent → Option (List ℕ) → List ℕ
+extent_body text e None = slice_range text e.range.end e.end
+extent_body text e (Some block) = block
+
 -- the request that lies there
-abbrev pub extent_text : List ℕ → List HeaderSpan → Extent → RequestText
-extent_text text headers e = record {
+abbrev pub extent_text : List ℕ → List HeaderSpan → Option (List ℕ) → Extent → RequestText
+extent_text text headers block e = record {
   head = spans_head (slice_range text e.range.start e.range.end) headers e.spans;
-  body = slice_range text e.range.end e.end;
+  body = extent_body text e block;
 }
 
--- how many bytes a request takes with the empty lines before it
+-- how many bytes of the text a request takes with the empty lines before it
 abbrev pub used : Option Extent → ℕ
 used None = 0
 used (Some e) = e.end
 
 -- The request lies in the text, and its spans in its head.
-pub record IsExtent (text : List ℕ) (headers : List HeaderSpan) (e : Extent) : Type 0 where
+pub record IsExtent (text : List ℕ) (headers : List HeaderSpan) (block : Option (List ℕ)) (e : Extent) : Type 0 where
   pub head : e.range.start ≤ e.range.end
   pub body : e.range.end ≤ e.end
-  pub short : IsBody (slice_range text e.range.end e.end)
+  pub short : IsBody (extent_body text e block)
   pub within : e.end ≤ length text
   pub spans : IsRequestWithin (slice_range text e.range.start e.range.end) headers e.spans
 
@@ -44,5 +49,5 @@ pub record InboxText : Type 0 where
   pub rest : List ℕ
 
 -- the same by where they lie
-abbrev pub inbox_text : List ℕ → List HeaderSpan → Option Extent → InboxText
-inbox_text text headers request = record { request = option_map (extent_text text headers) request; rest = drop (used request) text }
+abbrev pub inbox_text : List ℕ → List HeaderSpan → Option (List ℕ) → Option Extent → InboxText
+inbox_text text headers block request = record { request = option_map (extent_text text headers block) request; rest = drop (used request) text }

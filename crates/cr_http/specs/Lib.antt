@@ -3,6 +3,7 @@ pub mod Search
 pub mod Buffer
 pub mod Body
 pub mod Filling
+pub mod BodyFill
 pub mod Head
 pub mod Values
 pub mod Found

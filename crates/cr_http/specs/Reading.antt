@@ -10,7 +10,7 @@ use Rattle.cr_http.specs.declared.read.RequestRead.TheVariants as reads
 use Rattle.cr_http.specs.declared.judge.HeadJudgement.{HeadJudgement}
 use Rattle.cr_http.specs.declared.judge.HeadJudgement.TheVariants as judged
 use Rattle.cr_http.specs.Extent.{spans_head, extent_text, IsExtent, InboxText}
-use Rattle.cr_http.specs.Filling.{IsAtEnd, ReadsWhile}
+use Rattle.cr_http.specs.Filling.{IsAtEnd, Moves, ReadsWhile}
 use Rattle.cr_http.specs.Found.{Found, whole, refused, clean, cut, StandsAt, IsFinal, IsFramed}
 use Rattle.cr_http.specs.Head.{is_head_method}
 use Rattle.cr_http.specs.Requests.{RequestText}
@@ -60,15 +60,23 @@ pub record Reads {S : Type 0} (left : S → Option (List ℕ)) (gives : S → S 
   pub ended : AtEndIfEnded answer (left source')
   pub needed : ReadsWhile left gives IsUnsettled source source' inbox.rest (inbox.rest ++ got)
 
--- the same by where a request lies in the text
-abbrev pub Lies : RequestRead → List ℕ → List HeaderSpan → Option Extent → Type 0
-Lies reads.Whole text headers None = ⊥
-Lies reads.Whole text headers (Some e) = IsExtent text headers e × StandsWhole text (extent_text text headers e) (drop e.end text)
-Lies (reads.Refused why is_head) text headers request = (request ≡ None) × StandsAt text (refused why is_head)
-Lies reads.Clean text headers request = (request ≡ None) × StandsAt text clean
-Lies reads.Cut text headers request = (request ≡ None) × StandsAt text cut
-Lies reads.ReadFault text headers request = (request ≡ None) × (StandsAt text clean ⊎ StandsAt text cut)
-Lies (reads.OutOfMemory is_head) text headers request = (request ≡ None) × (StandsAt text clean ⊎ StandsAt text cut) × IsToHead text is_head
+-- the same by where a request lies in what is kept of the text
+abbrev pub Lies : RequestRead → List ℕ → List ℕ → List HeaderSpan → Option (List ℕ) → Option Extent → Type 0
+Lies reads.Whole text kept headers block None = ⊥
+Lies reads.Whole text kept headers block (Some e) = IsExtent kept headers block e × StandsWhole text (extent_text kept headers block e) (drop e.end kept)
+Lies (reads.Refused why is_head) text kept headers block request = (request ≡ None) × (kept ≡ text) × StandsAt text (refused why is_head)
+Lies reads.Clean text kept headers block request = (request ≡ None) × (kept ≡ text) × StandsAt text clean
+Lies reads.Cut text kept headers block request = (request ≡ None) × (kept ≡ text) × StandsAt text cut
+Lies reads.ReadFault text kept headers block request = (request ≡ None) × (kept ≡ text) × (StandsAt text clean ⊎ StandsAt text cut)
+Lies (reads.OutOfMemory is_head) text kept headers block request = (request ≡ None) × (kept ≡ text) × (StandsAt text clean ⊎ StandsAt text cut) × IsToHead text is_head
+
+-- The source gave what makes this text of the bytes that were there, and the answer stands at its front.
+pub record ReadsInto {S : Type 0} (left : S → Option (List ℕ)) (gives : S → S → List ℕ → Type 0)
+    (source source' : S) (old kept : List ℕ) (headers : List HeaderSpan) (block : Option (List ℕ)) (request : Option Extent) (answer : RequestRead) : Type 0 where
+  pub text : List ℕ
+  pub moves : Moves (left source) (left source') old text
+  pub needed : ReadsWhile left gives IsUnsettled source source' old text
+  pub lies : Lies answer text kept headers block request
 
 -- what is known once a head was looked at
 abbrev pub JudgesHead : List ℕ → HeadRange → List HeaderSpan → HeadJudgement → Type 0

@@ -1,15 +1,20 @@
 //! The bytes of a connection that were read and not yet used, in one block that grows.
-ghost use Rattle.std.specs.Prelude.{◌≡◌, ◌≢◌, ◌≤◌, ◌<◌, ◌+◌, ◌-◌, [], length, take, drop, vec_len, OnOk};
+ghost use Rattle.std.specs.Prelude.{◌≡◌, ◌≢◌, ◌≤◌, ◌<◌, ◌+◌, ◌-◌, ◌++◌, [], length, take, drop, replicate, vec_len, IfOk, IfErr, OnOk};
 ghost use Rattle.cr_ports.specs.Count.{Rises};
 ghost use Rattle.cr_ports.specs.Stream.{FillsWithin, and_left, gave};
 ghost use Rattle.cr_http.specs.Filling.{Moves, IsAtEnd, GrowsAs, ReadsWhile};
 
 use crate::head_range::WINDOW;
+use cr_base::Blob;
 use cr_ports::{ReadStep, Source};
-use std::alloc::{AllocError, Global};
+use std::alloc::{AllocError, AllocFailed, Global};
 
 /// The least room that a read is given.
 const LEAST_ROOM: usize = 4_096;
+
+/// The most room that a read is given in a block whose length is known before. It is cleared first, so a block is no
+/// larger in fact than by one piece than what came.
+const PIECE: usize = 65_536;
 
 /// What one read did.
 #[derive(Clone, Copy, Debug, PartialEq, Eq)]
@@ -59,8 +64,16 @@ fn read_behind<S: Source>(source: &mut S, block: &mut [u8], end: usize) -> ReadS
     source.read(&mut block[end..])
 }
 
+/// Writes these bytes over the first of a block.
+fn write_front(block: &mut [u8], front: &[u8])
+    requires { length front.now ≤ length block.old }
+    ensures { block.new ≡ front.now ++ drop (length front.now) block.old }
+{
+    block[..front.len()].copy_from_slice(front);
+}
+
 impl Buffer {
-    ghost use Rattle.cr_http.specs.Buffer.{text_of};
+    ghost use Rattle.cr_http.specs.Buffer.{text_of, HasRoomFor};
 
     /// No bytes and no block yet.
     pub fn new(alloc: Global) -> Self
@@ -71,6 +84,26 @@ impl Buffer {
             start: 0,
             end: 0,
         }
+    }
+
+    /// Zeros, `front` of them, and then these bytes, in a block that has room for `len` in all. It takes the memory
+    /// of this one's source.
+    pub fn beside(&self, front: usize, len: usize) -> Result<Self, AllocError>
+        requires front { front ≤ length (text_of self.now) }
+        requires within { length (text_of self.now) ≤ len }
+        ensures text { IfOk result (λ b. text_of b ≡ replicate front 0 ++ drop front (text_of self.now)) }
+        ensures room { IfOk result (HasRoomFor len) }
+    {
+        let alloc: Global = *self.block.allocator();
+        let mut block = Vec::with_capacity(alloc, len)?;
+        block.resize(front, 0)?;
+        block.extend_from_slice(&self.as_slice()[front..])?;
+        let end = block.len();
+        Ok(Buffer {
+            block,
+            start: 0,
+            end,
+        })
     }
 
     /// The bytes.
@@ -93,6 +126,47 @@ impl Buffer {
         ensures { text_of self.new ≡ drop n (text_of self.old) }
     {
         self.start += n;
+    }
+
+    /// Drops all but the first `n` bytes.
+    pub fn truncate(&mut self, n: usize)
+        requires { n ≤ length (text_of self.old) }
+        ensures { text_of self.new ≡ take n (text_of self.old) }
+    {
+        self.end = self.start + n;
+    }
+
+    /// Writes these bytes over its first ones.
+    pub fn copy_front(&mut self, front: &[u8])
+        requires start { self.old.start ≡ 0 }
+        requires within { length front.now ≤ length (text_of self.old) }
+        ensures { text_of self.new ≡ front.now ++ drop (length front.now) (text_of self.old) }
+    {
+        write_front(&mut self.block, front);
+    }
+
+    /// The bytes behind the first `n`, in the buffer's own block; the buffer as it was, where there is no memory for
+    /// the count of those who share them.
+    pub fn into_blob(self, n: usize) -> Result<Blob, Buffer>
+        requires { n ≤ length (text_of self) }
+        ensures ok { IfOk result (λ blob. blob ≡ drop n (text_of self)) }
+        ensures back { IfErr result (λ buffer. text_of buffer ≡ text_of self) }
+        ensures start { IfErr result (λ buffer. buffer.start ≡ self.start) }
+    {
+        let Buffer {
+            mut block,
+            start,
+            end,
+        } = self;
+        block.truncate(end);
+        match Blob::from_vec(block) {
+            Ok(mut blob) => {
+                blob.discard(start);
+                blob.discard(n);
+                Ok(blob)
+            }
+            Err(AllocFailed { value: block }) => Err(Buffer { block, start, end }),
+        }
     }
 
     /// Moves the bytes to the front of the block.
@@ -130,6 +204,44 @@ impl Buffer {
         self.grow()
     }
 
+    /// Makes room behind the bytes, up to a length of the block that is at most `most`.
+    fn make_room_within(&mut self, most: usize) -> Result<(), AllocError>
+        requires room { HasRoomFor most self.old }
+        requires short { length (text_of self.old) < most }
+        ensures text { text_of self.new ≡ text_of self.old }
+        ensures room { HasRoomFor most self.new }
+        ensures more { OnOk result (self.new.end < vec_len self.new.block) }
+    {
+        if self.end < self.block.len() {
+            return Ok(());
+        }
+        let more = (most - self.end).min(PIECE);
+        self.block.resize(self.end + more, 0)
+    }
+
+    /// One read into the room behind the bytes, which is there.
+    fn read_room<S: Source>(&mut self, source: &mut S) -> Fill
+        requires { self.old.end < vec_len self.old.block }
+        ensures moves { Moves (S.left source.old) (S.left source.new) (text_of self.old) (text_of self.new) }
+        ensures once { ReadsWhile S.left S.read_gives (λ text. text ≡ text_of self.old) source.old source.new (text_of self.old) (text_of self.new) }
+        ensures grows { GrowsAs result (text_of self.old) (text_of self.new) }
+        ensures start { self.new.start ≡ self.old.start }
+        ensures len { vec_len self.new.block ≡ vec_len self.old.block }
+        ensures ended { result ≡ Fill.Ended → IsAtEnd (S.left source.new) }
+        ensures count { S.faults source.old ≤ S.faults source.new }
+        ensures failed { result ≡ Fill.Failed → Rises (S.faults source.old) (S.faults source.new) }
+        ensures steady { result ≢ Fill.Failed → S.faults source.new ≡ S.faults source.old }
+    {
+        match read_behind(source, &mut self.block, self.end) {
+            ReadStep::Got(n) => {
+                self.end += n;
+                Fill::Grew
+            }
+            ReadStep::End => Fill::Ended,
+            ReadStep::Failed => Fill::Failed,
+        }
+    }
+
     /// One read, behind the bytes that are there.
     pub fn read_more<S: Source>(&mut self, source: &mut S) -> Fill
         ensures moves { Moves (S.left source.old) (S.left source.new) (text_of self.old) (text_of self.new) }
@@ -143,13 +255,25 @@ impl Buffer {
         if self.make_room().is_err() {
             return Fill::OutOfMemory;
         }
-        match read_behind(source, &mut self.block, self.end) {
-            ReadStep::Got(n) => {
-                self.end += n;
-                Fill::Grew
-            }
-            ReadStep::End => Fill::Ended,
-            ReadStep::Failed => Fill::Failed,
+        self.read_room(source)
+    }
+
+    /// One read, behind the bytes that are there and not past the length `most`.
+    pub fn read_within<S: Source>(&mut self, source: &mut S, most: usize) -> Fill
+        requires room { HasRoomFor most self.old }
+        requires short { length (text_of self.old) < most }
+        ensures moves { Moves (S.left source.old) (S.left source.new) (text_of self.old) (text_of self.new) }
+        ensures once { ReadsWhile S.left S.read_gives (λ text. text ≡ text_of self.old) source.old source.new (text_of self.old) (text_of self.new) }
+        ensures grows { GrowsAs result (text_of self.old) (text_of self.new) }
+        ensures room { HasRoomFor most self.new }
+        ensures ended { result ≡ Fill.Ended → IsAtEnd (S.left source.new) }
+        ensures count { S.faults source.old ≤ S.faults source.new }
+        ensures failed { result ≡ Fill.Failed → Rises (S.faults source.old) (S.faults source.new) }
+        ensures steady { result ≢ Fill.Failed → S.faults source.new ≡ S.faults source.old }
+    {
+        if self.make_room_within(most).is_err() {
+            return Fill::OutOfMemory;
         }
+        self.read_room(source)
     }
 }

@@ -1,7 +1,7 @@
 //! Reads on, until the buffer has what is wanted.
 ghost use Rattle.std.specs.Prelude.{◌≡◌, ◌≤◌, ◌<◌, ◌≢◌, length, take};
 ghost use Rattle.cr_ports.specs.Count.{Rises};
-ghost use Rattle.cr_http.specs.Buffer.{text_of};
+ghost use Rattle.cr_http.specs.Buffer.{text_of, HasRoomFor};
 ghost use Rattle.cr_http.specs.Filling.{Moves, IsAtEnd, FindsHead, NeedsHead, ReadsWhile};
 ghost use Rattle.cr_http.specs.HeadRange.{window};
 
@@ -85,6 +85,29 @@ pub fn fill_to<S: Source>(source: &mut S, buffer: &mut Buffer, len: usize) -> Fi
 {
     'reading: while buffer.len() < len {
         let step = buffer.read_more(source);
+        if step != Fill::Grew {
+            return step;
+        }
+    }
+    Fill::Grew
+}
+
+/// Reads on until a buffer has so many bytes, for which it has room.
+#[tactic(auto, using(crate::proofs::Moving::moving))]
+pub fn fill_room<S: Source>(source: &mut S, buffer: &mut Buffer, len: usize) -> Fill
+    requires { HasRoomFor len buffer.old }
+    ensures moves { Moves (S.left source.old) (S.left source.new) (text_of buffer.old) (text_of buffer.new) }
+    ensures needed { ReadsWhile S.left S.read_gives (λ text. length text < len) source.old source.new (text_of buffer.old) (text_of buffer.new) }
+    ensures room { HasRoomFor len buffer.new }
+    ensures full { result ≡ Fill.Grew → length (text_of buffer.new) ≡ len }
+    ensures ended { result ≡ Fill.Ended → IsAtEnd (S.left source.new) }
+    ensures short { result ≢ Fill.Grew → length (text_of buffer.new) < len }
+    ensures count { S.faults source.old ≤ S.faults source.new }
+    ensures failed { result ≡ Fill.Failed → Rises (S.faults source.old) (S.faults source.new) }
+    ensures steady { result ≢ Fill.Failed → S.faults source.new ≡ S.faults source.old }
+{
+    'reading: while buffer.len() < len {
+        let step = buffer.read_within(source, len);
         if step != Fill::Grew {
             return step;
         }

@@ -1,5 +1,5 @@
 //! What a connection has read: the request at hand, lent, and the bytes behind it.
-ghost use Rattle.std.specs.Prelude.{◌≡◌, [], IsSome, IfSome, length};
+ghost use Rattle.std.specs.Prelude.{◌≡◌, [], IsSome, IfSome, length, unwrap_or};
 ghost use Rattle.cr_http.specs.Body.{IsBody};
 ghost use Rattle.cr_http.specs.Buffer.{text_of};
 ghost use Rattle.cr_http.specs.Extent.{InboxText, IsExtent, inbox_text};
@@ -8,6 +8,7 @@ use crate::body::Body;
 use crate::buffer::Buffer;
 use crate::head::{Head, MAX_FIELDS};
 use crate::head_range::HeadRange;
+use cr_base::Blob;
 use httparse::spans::{EMPTY_HEADER_SPAN, HeaderSpan, RequestSpans};
 use std::alloc::Global;
 use std::marker::Model;
@@ -19,7 +20,8 @@ pub struct Extent {
     pub range: HeadRange,
     /// The parts of its head, counted from the head's first byte.
     pub spans: RequestSpans,
-    /// The end of its body, which begins where the head ends.
+    /// Where what follows it begins: behind its body, which begins where the head ends, or behind its head, where its
+    /// body is in a block of its own.
     pub end: usize,
 }
 
@@ -32,8 +34,9 @@ pub struct Request<'b> {
     pub body: Body<'b>,
 }
 
-/// What a connection has read. It is made once a connection, and keeps one block of bytes, which
-/// grows with the longest request.
+/// What a connection has read. It is made once a connection, and keeps one block of bytes, which grows with the longest
+/// request. A body of 16,384 bytes or more that came in pieces has a block of its own, which is dropped here when the next
+/// request is read.
 ///
 /// Contracts see the request that was read last, if one was, and the bytes that were read and not
 /// used.
@@ -42,14 +45,26 @@ pub struct Inbox {
     pub(crate) buffer: Buffer,
     pub(crate) headers: [HeaderSpan; MAX_FIELDS],
     pub(crate) request: Option<Extent>,
+    pub(crate) block: Option<Blob>,
 }
 
 impl Model for Inbox {
     ghost Value = { InboxText };
 
-    ghost view = { λ i. inbox_text (text_of i.buffer) i.headers i.request };
+    ghost view = { λ i. inbox_text (text_of i.buffer) i.headers i.block i.request };
 
-    ghost invariant = { λ i. IfSome i.request (IsExtent (text_of i.buffer) i.headers) };
+    ghost invariant = { λ i. IfSome i.request (IsExtent (text_of i.buffer) i.headers i.block) };
+}
+
+/// The body in its block, or else these bytes.
+fn body_in<'b>(block: &'b Option<Blob>, lent: &'b [u8]) -> Body<'b>
+    requires { IsBody (unwrap_or block.now lent.now) }
+    ensures { result ≡ unwrap_or block.now lent.now }
+{
+    match block {
+        Some(block) => Body::block(block),
+        None => Body::lent(lent),
+    }
 }
 
 impl Inbox {
@@ -62,6 +77,7 @@ impl Inbox {
             buffer: Buffer::new(alloc),
             headers: [EMPTY_HEADER_SPAN; MAX_FIELDS],
             request: None,
+            block: None,
         }
     }
 
@@ -79,7 +95,7 @@ impl Inbox {
         let head = &text[extent.range.start..extent.range.end];
         Request {
             head: Head::new(head, extent.spans, &self.headers),
-            body: Body::lent(&text[extent.range.end..extent.end]),
+            body: body_in(&self.block, &text[extent.range.end..extent.end]),
         }
     }
 }

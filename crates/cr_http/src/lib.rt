@@ -5,13 +5,16 @@
 //! stands at a place is a relation on texts that knows nothing of pieces, and it is one thing.
 //!
 //! The head is parsed once, by `httparse`, and head and body are lent from the connection's
-//! [`Inbox`], whose one block of bytes is all that is ever allocated.
+//! [`Inbox`]. It allocates one block of bytes, and one more for a body of [`LARGE_BODY`] bytes or more
+//! that isn't whole when its head is read: of that at most what came with the head is copied, and
+//! whoever keeps the body shares the block.
 #![tactic(auto)]
 
 mod body;
 mod buffer;
 mod digits;
 mod fill;
+mod fill_body;
 mod framing;
 mod head;
 mod head_range;
@@ -24,6 +27,7 @@ mod values;
 
 pub use body::Body;
 pub use digits::{all_digits, decimal_value};
+pub use fill_body::LARGE_BODY;
 pub use framing::MAX_BODY;
 pub use head::{Head, MAX_FIELDS, Version};
 pub use head_range::WINDOW;

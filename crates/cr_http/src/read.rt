@@ -3,17 +3,18 @@ ghost use Rattle.std.specs.Prelude.{◌≡◌, ◌≢◌, ◌⊎◌, ◌≤◌, 
 ghost use Rattle.cr_ports.specs.Count.{Rises};
 ghost use Rattle.cr_http.specs.Buffer.{text_of};
 ghost use Rattle.cr_http.specs.Extent.{used};
-ghost use Rattle.cr_http.specs.Filling.{Moves, ReadsWhile};
 ghost use Rattle.cr_http.specs.Found.{StandsAt, clean, cut};
 ghost use Rattle.cr_http.specs.HeadRange.{head_at};
-ghost use Rattle.cr_http.specs.Reading.{AtEndIfEnded, IsSettled, IsUnsettled, Lies, Reads};
+ghost use Rattle.cr_http.specs.Reading.{AtEndIfEnded, IsSettled, Reads, ReadsInto};
 
-use crate::buffer::{Buffer, Fill};
-use crate::fill::{HeadFill, fill_head, fill_to};
+use crate::buffer::Buffer;
+use crate::fill::{HeadFill, fill_head};
+use crate::fill_body::{BodyFill, fill_body};
 use crate::head_range::{HeadRange, blank_end};
 use crate::inbox::{Extent, Inbox};
 use crate::judge::{HeadJudgement, judge_head};
 use crate::refusal::Refusal;
+use cr_base::Blob;
 use cr_ports::Source;
 use httparse::spans::HeaderSpan;
 
@@ -49,7 +50,8 @@ pub enum RequestRead {
 /// Nothing is read ahead: each read is made only where neither a whole request nor a refusal stands in
 /// what has come, so behind a refusal that closes no byte of a body is asked for. Bytes behind the
 /// request that came with its last piece stay in the inbox. Where bytes of a head come later, the
-/// search goes on where it stopped.
+/// search goes on where it stopped. A body of 16,384 bytes or more that isn't whole when its head is read
+/// goes into a block of its own, of the length that the head tells, and no read goes past its end.
 ///
 /// `ReadFault` comes only where the source's count of faults rose, or stands at its last value, and
 /// with every other answer that count is as it was. Behind it, and behind `OutOfMemory`, the inbox
@@ -67,10 +69,12 @@ pub fn read_request<S: Source>(source: &mut S, inbox: &mut Inbox) -> RequestRead
         inbox.buffer.discard(extent.end);
         inbox.request = None;
     }
+    inbox.block = None;
     read_into(
         source,
         &mut inbox.buffer,
         &mut inbox.headers,
+        &mut inbox.block,
         &mut inbox.request,
     )
 }
@@ -80,20 +84,19 @@ fn read_into<S: Source>(
     source: &mut S,
     buffer: &mut Buffer,
     headers: &mut [HeaderSpan],
+    block: &mut Option<Blob>,
     request: &mut Option<Extent>,
 ) -> RequestRead
     requires room { length headers.old ≡ 64 }
-    requires none { request.old ≡ None }
-    ensures moves { Moves (S.left source.old) (S.left source.new) (text_of buffer.old) (text_of buffer.new) }
-    ensures needed { ReadsWhile S.left S.read_gives IsUnsettled source.old source.new (text_of buffer.old) (text_of buffer.new) }
-    ensures lies { Lies result (text_of buffer.new) headers.new request.new }
+    requires none { (request.old ≡ None) × (block.old ≡ None) }
+    ensures reads { ReadsInto S.left S.read_gives source.old source.new (text_of buffer.old) (text_of buffer.new) headers.new block.new request.new result }
     ensures ended { AtEndIfEnded result (S.left source.new) }
     ensures count { S.faults source.old ≤ S.faults source.new }
     ensures fault { result ≡ RequestRead.ReadFault → Rises (S.faults source.old) (S.faults source.new) }
     ensures steady { result ≢ RequestRead.ReadFault → S.faults source.new ≡ S.faults source.old }
 {
     match fill_head(source, buffer) {
-        HeadFill::Found(range) => read_framed(source, buffer, headers, request, range),
+        HeadFill::Found(range) => read_framed(source, buffer, headers, block, request, range),
         HeadFill::Full => RequestRead::Refused {
             why: Refusal::HeadTooLarge,
             is_head: false,
@@ -109,15 +112,14 @@ fn read_framed<S: Source>(
     source: &mut S,
     buffer: &mut Buffer,
     headers: &mut [HeaderSpan],
+    block: &mut Option<Blob>,
     request: &mut Option<Extent>,
     range: HeadRange,
 ) -> RequestRead
     requires range { head_at (text_of buffer.old) ≡ Some (range.start, range.end) }
     requires room { length headers.old ≡ 64 }
-    requires none { request.old ≡ None }
-    ensures moves { Moves (S.left source.old) (S.left source.new) (text_of buffer.old) (text_of buffer.new) }
-    ensures needed { ReadsWhile S.left S.read_gives IsUnsettled source.old source.new (text_of buffer.old) (text_of buffer.new) }
-    ensures lies { Lies result (text_of buffer.new) headers.new request.new }
+    requires none { (request.old ≡ None) × (block.old ≡ None) }
+    ensures reads { ReadsInto S.left S.read_gives source.old source.new (text_of buffer.old) (text_of buffer.new) headers.new block.new request.new result }
     ensures ended { AtEndIfEnded result (S.left source.new) }
     ensures count { S.faults source.old ≤ S.faults source.new }
     ensures fault { result ≡ RequestRead.ReadFault → Rises (S.faults source.old) (S.faults source.new) }
@@ -132,14 +134,20 @@ fn read_framed<S: Source>(
         HeadJudgement::Refused { why, is_head } => return RequestRead::Refused { why, is_head },
     };
     let end = range.end + len;
-    match fill_to(source, buffer, end) {
-        Fill::Grew => {
+    match fill_body(source, buffer, range.end, end) {
+        BodyFill::Buffer => {
             *request = Some(Extent { range, spans, end });
             RequestRead::Whole
         }
-        Fill::Ended => RequestRead::Cut,
-        Fill::Failed => RequestRead::ReadFault,
-        Fill::OutOfMemory => RequestRead::OutOfMemory { is_head },
+        BodyFill::Block(body) => {
+            let end = range.end;
+            *request = Some(Extent { range, spans, end });
+            *block = Some(body);
+            RequestRead::Whole
+        }
+        BodyFill::Ended => RequestRead::Cut,
+        BodyFill::Failed => RequestRead::ReadFault,
+        BodyFill::OutOfMemory => RequestRead::OutOfMemory { is_head },
     }
 }
 

@@ -1,7 +1,8 @@
-use Rattle.std.proofs.Common.{arith, refl, inr}
+use Rattle.std.proofs.Common.{arith, refl, inr, None, Some}
+use Rattle.cr_http.proofs.Answering.{reads_none}
 use Rattle.cr_http.proofs.HeadsRead.{to_head_framed}
-use Rattle.cr_http.proofs.Judging.{request_lies, body_cut, body_needed, framed_moved}
-use Rattle.cr_http.proofs.Windows.{head_at_end_le}
+use Rattle.cr_http.proofs.Judging.{block_lies, body_cut, framed_moved, reads_body, request_kept}
+use Rattle.cr_http.proofs.Windows.{head_at_bounds, head_at_end_le}
 use Rattle.cr_http.specs.Buffer.{text_of}
 use Rattle.cr_http.proofs.read.read_framed.Goals as goal
 
@@ -11,46 +12,46 @@ overflow_add-end g c =
     let s = c.in-Framed.ensures.1 in
     omega (arith, e, s)
 
-pub returns-in-Grew-clause-lies : goal.returns-in-Grew-clause-lies
-returns-in-Grew-clause-lies g c =
+pub returns-in-Buffer-clause-reads : goal.returns-in-Buffer-clause-reads
+returns-in-Buffer-clause-reads g c =
     let judged = rw c.as_slice.ensures at c.in-Framed.ensures in
-    request_lies _ _ (text_of c.args.buffer.now) _ c.judge_head.new.headers c.args.range c.in-Framed.spans c.in-Framed.len c.in-Grew.ensures.moves judged.0 judged.2 judged.1 (c.in-Grew.ensures.full refl)
+    let f = c.in-Buffer.ensures.fills in
+    reads_body g.S.Source.left g.S.Source.read_gives c.args.source.now c.fill_body.new.source (text_of c.args.buffer.now) (text_of c.fill_body.new.buffer) c.args.range.start c.args.range.end _ c.in-Framed.len _ _ _ _ _
+    judged.0 f (request_kept _ _ (text_of c.args.buffer.now) f.text _ c.judge_head.new.headers _ c.args.range c.in-Framed.spans c.in-Framed.len f.moves judged.0 judged.2 judged.1 c.requires.none.1 f.holds)
 
-pub returns-in-Ended-clause-lies : goal.returns-in-Ended-clause-lies
-returns-in-Ended-clause-lies g c =
+pub returns-in-Block-clause-reads : goal.returns-in-Block-clause-reads
+returns-in-Block-clause-reads g c =
     let judged = rw c.as_slice.ensures at c.in-Framed.ensures in
-    (c.requires.none, body_cut _ _ (text_of c.args.buffer.now) _ c.args.range _ c.in-Framed.len c.in-Ended.ensures.moves judged.0 (c.in-Ended.ensures.short (λ is. cc)))
+    let f = c.in-Block.ensures.fills in
+    reads_body g.S.Source.left g.S.Source.read_gives c.args.source.now c.fill_body.new.source (text_of c.args.buffer.now) (text_of c.fill_body.new.buffer) c.args.range.start c.args.range.end _ c.in-Framed.len _ _ _ _ _
+    judged.0 f (block_lies _ _ (text_of c.args.buffer.now) f.text _ _ c.judge_head.new.headers c.args.range c.in-Framed.spans c.in-Framed.len f.moves judged.0 judged.2 judged.1 f.holds)
 
-pub returns-in-Failed-clause-lies : goal.returns-in-Failed-clause-lies
-returns-in-Failed-clause-lies g c =
+pub returns-in-Ended-clause-reads : goal.returns-in-Ended-clause-reads
+returns-in-Ended-clause-reads g c =
     let judged = rw c.as_slice.ensures at c.in-Framed.ensures in
-    (c.requires.none, inr (body_cut _ _ (text_of c.args.buffer.now) _ c.args.range _ c.in-Framed.len c.in-Failed.ensures.moves judged.0 (c.in-Failed.ensures.short (λ is. cc))))
+    let f = c.in-Ended.ensures.fills in
+    reads_body g.S.Source.left g.S.Source.read_gives c.args.source.now c.fill_body.new.source (text_of c.args.buffer.now) (text_of c.fill_body.new.buffer) c.args.range.start c.args.range.end _ c.in-Framed.len _ _ _ _ _
+    judged.0 f (c.requires.none.0, f.holds.0, body_cut _ _ (text_of c.args.buffer.now) f.text c.args.range _ c.in-Framed.len f.moves judged.0 f.holds.1)
 
-pub returns-in-OutOfMemory-clause-lies : goal.returns-in-OutOfMemory-clause-lies
-returns-in-OutOfMemory-clause-lies g c =
+pub returns-in-Failed-clause-reads : goal.returns-in-Failed-clause-reads
+returns-in-Failed-clause-reads g c =
     let judged = rw c.as_slice.ensures at c.in-Framed.ensures in
-    let framed = framed_moved _ _ (text_of c.args.buffer.now) _ c.args.range.start c.args.range.end _ c.in-Framed.len c.in-OutOfMemory.ensures.moves judged.0 in (
-      c.requires.none,
-      inr (body_cut _ _ (text_of c.args.buffer.now) _ c.args.range _ c.in-Framed.len c.in-OutOfMemory.ensures.moves judged.0 (c.in-OutOfMemory.ensures.short (λ is. cc))),
-      to_head_framed _ c.args.range.start c.args.range.end _ c.in-Framed.len c.in-Framed.is_head framed judged.3,
-    )
+    let f = c.in-Failed.ensures.fills in
+    reads_body g.S.Source.left g.S.Source.read_gives c.args.source.now c.fill_body.new.source (text_of c.args.buffer.now) (text_of c.fill_body.new.buffer) c.args.range.start c.args.range.end _ c.in-Framed.len _ _ _ _ _
+    judged.0 f (c.requires.none.0, f.holds.0, inr (body_cut _ _ (text_of c.args.buffer.now) f.text c.args.range _ c.in-Framed.len f.moves judged.0 f.holds.1))
 
-pub returns-in-Grew-clause-needed : goal.returns-in-Grew-clause-needed
-returns-in-Grew-clause-needed g c =
+pub returns-in-OutOfMemory-clause-reads : goal.returns-in-OutOfMemory-clause-reads
+returns-in-OutOfMemory-clause-reads g c =
     let judged = rw c.as_slice.ensures at c.in-Framed.ensures in
-    body_needed g.S.Source.left g.S.Source.read_gives c.args.source.now c.fill_to.new.source (text_of c.args.buffer.now) (text_of c.fill_to.new.buffer) c.args.range.start c.args.range.end _ c.in-Framed.len judged.0 c.in-Grew.ensures.needed
+    let f = c.in-OutOfMemory.ensures.fills in
+    let framed = framed_moved _ _ (text_of c.args.buffer.now) f.text c.args.range.start c.args.range.end _ c.in-Framed.len f.moves judged.0 in
+    reads_body g.S.Source.left g.S.Source.read_gives c.args.source.now c.fill_body.new.source (text_of c.args.buffer.now) (text_of c.fill_body.new.buffer) c.args.range.start c.args.range.end _ c.in-Framed.len _ _ _ _ _
+    judged.0 f (c.requires.none.0, f.holds.0, inr (body_cut _ _ (text_of c.args.buffer.now) f.text c.args.range _ c.in-Framed.len f.moves judged.0 f.holds.1), to_head_framed f.text c.args.range.start c.args.range.end _ c.in-Framed.len c.in-Framed.is_head framed judged.3)
 
-pub returns-in-Ended-clause-needed : goal.returns-in-Ended-clause-needed
-returns-in-Ended-clause-needed g c =
-    let judged = rw c.as_slice.ensures at c.in-Framed.ensures in
-    body_needed g.S.Source.left g.S.Source.read_gives c.args.source.now c.fill_to.new.source (text_of c.args.buffer.now) (text_of c.fill_to.new.buffer) c.args.range.start c.args.range.end _ c.in-Framed.len judged.0 c.in-Ended.ensures.needed
+pub fill_body-requires-clause-head : goal.fill_body-requires-clause-head
+fill_body-requires-clause-head g c = (head_at_bounds (text_of c.args.buffer.now) (c.args.range.start, c.args.range.end) c.requires.range).1
 
-pub returns-in-Failed-clause-needed : goal.returns-in-Failed-clause-needed
-returns-in-Failed-clause-needed g c =
-    let judged = rw c.as_slice.ensures at c.in-Framed.ensures in
-    body_needed g.S.Source.left g.S.Source.read_gives c.args.source.now c.fill_to.new.source (text_of c.args.buffer.now) (text_of c.fill_to.new.buffer) c.args.range.start c.args.range.end _ c.in-Framed.len judged.0 c.in-Failed.ensures.needed
-
-pub returns-in-OutOfMemory-clause-needed : goal.returns-in-OutOfMemory-clause-needed
-returns-in-OutOfMemory-clause-needed g c =
-    let judged = rw c.as_slice.ensures at c.in-Framed.ensures in
-    body_needed g.S.Source.left g.S.Source.read_gives c.args.source.now c.fill_to.new.source (text_of c.args.buffer.now) (text_of c.fill_to.new.buffer) c.args.range.start c.args.range.end _ c.in-Framed.len judged.0 c.in-OutOfMemory.ensures.needed
+pub returns-in-Refused-clause-reads : goal.returns-in-Refused-clause-reads
+returns-in-Refused-clause-reads g c =
+    let judged = rw c.as_slice.ensures at c.in-Refused.ensures in
+    reads_none g.S.Source.left g.S.Source.read_gives c.args.source.now (text_of c.args.buffer.now) _ _ _ _ (c.requires.none.0, refl, judged)
