@@ -70,7 +70,7 @@ page_answer (Err error) = Err error
 
 module _ (t : Tables) (caller paper : Option ℕ) where
   abbrev checks : List Check
-  checks = query_checks (facts_of_tables t caller) (queries.Page paper)
+  checks = query_checks (facts_of_tables t caller) (shown_in_tables t) (queries.Page paper)
 
   abbrev page : Page
   page = page_by (facts_of_tables t caller) (shown_in_tables t) (unwrap_or paper 0)

@@ -1,6 +1,8 @@
 pub mod AnswerLaws
+pub mod ContentLaws
 pub mod FitLaws
 pub mod GroupLaws
 pub mod JudgeLaws
 pub mod MeLaws
+pub mod SubmissionLaws
 pub mod TargetLaws

@@ -14,8 +14,9 @@ use Rattle.cr_base.specs.Accounts.{number_at, role_at, lines_of}
 use Rattle.cr_base.specs.Checks.{Check, NamedPaper, judged, of_role, name_checks, conflict_checks}
 use Rattle.cr_base.specs.Drawn.{Drawn, naming_drawn, conflict_drawn}
 use Rattle.cr_base.specs.Judging.{name_judged, conflict_judged, judge_by_role}
-use Rattle.cr_base.specs.Sources.{has_paper, none_withdrawn, paper_named, user_among, standing_at, facts_of_tables, shown_in_tables}
+use Rattle.cr_base.specs.Sources.{has_paper, paper_named, user_among, standing_at, facts_of_tables, shown_in_tables}
 use Rattle.cr_base.specs.Lists.{at_some, is_number}
+use Rattle.cr_base.specs.Papers.{is_withdrawn_at}
 use Rattle.cr_base.specs.Tables.{Tables}
 use Rattle.cr_base.specs.Ties.{TiesState, authors_in, is_author_in, is_conflicted_in}
 use Rattle.cr_base.proofs.AccountLaws.{number_in-lines_of}
@@ -44,7 +45,7 @@ nobody-conflicted ties user (Some p) is = sym (ap (λ (u : Option ℕ). is_confl
 
 -- ---- the user named
 
-target-among : (accounts : List Account) (name : Option (List ℕ)) → user_among (lines_of accounts) name ≡ target_at accounts name
+pub target-among : (accounts : List Account) (name : Option (List ℕ)) → user_among (lines_of accounts) name ≡ target_at accounts name
 target-among accounts None = refl
 target-among accounts (Some name) = number_in-lines_of accounts name
 
@@ -99,7 +100,7 @@ naming-drawn t maker name given user role by kept r is found stands judges told 
 
 -- a conflict, where there are the paper and a user of the name
 pub conflict-drawn : (t : Tables) (maker : ℕ) (paper : Option ℕ) (number : ℕ) (name : Option (List ℕ)) (on found withdrawn : Bool) (by : Standing) (target : Option (ℕ × Role)) (user : ℕ) (kept : Result (Unit {0}) Rule) (r : Result Draw Rule)
-    → paper ≡ Some number → found ≡ has_paper (facts_of_tables t None) paper → found ≡ true → withdrawn ≡ at_some none_withdrawn paper → by ≡ standing_at t (Some maker) paper
+    → paper ≡ Some number → found ≡ has_paper (facts_of_tables t None) paper → found ≡ true → withdrawn ≡ at_some (is_withdrawn_at t.papers) paper → by ≡ standing_at t (Some maker) paper
     → option_map (λ (p : ℕ × Role). p.0) target ≡ Some user → option_map (λ (p : ℕ × Role). p.0) target ≡ target_at t.accounts name → option_map (λ (p : ℕ × Role). p.1) target ≡ option_and_then (role_at t.accounts) (target_at t.accounts name)
     → kept ≡ judged (conflict_checks by (record { there = is_some paper; withdrawn = withdrawn }) (target_of t.ties maker paper target) on) tt → r ≡ result_and kept (Ok (draws.Conflict maker number user on))
     → drawn_or_rule r ≡ conflict_at t maker paper name on
