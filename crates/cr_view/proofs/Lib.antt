@@ -4,5 +4,4 @@ pub mod FitLaws
 pub mod GroupLaws
 pub mod JudgeLaws
 pub mod MeLaws
-pub mod SubmissionLaws
 pub mod TargetLaws

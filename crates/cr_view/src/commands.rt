@@ -215,13 +215,15 @@ impl Live {
         };
         let by = self.standing(&Some(maker), paper);
         let length = content.as_slice().len() as u64;
-        let version = self.papers.judge_upload(&by, maker, paper, length)?;
-        Ok(Draw::Upload {
-            maker,
-            paper: *number,
-            version,
-            content,
-        })
+        match self.papers.judge_upload(&by, maker, paper, length) {
+            Ok(version) => Ok(Draw::Upload {
+                maker,
+                paper: *number,
+                version,
+                content,
+            }),
+            Err(rule) => Err(rule),
+        }
     }
 
     fn judge_withdrawal(&self, maker: UserNo, paper: &Option<PaperNo>) -> Result<Draw, Rule>

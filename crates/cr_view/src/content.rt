@@ -123,7 +123,8 @@ impl Live {
         if by.author {
             return self.papers.content(paper, version);
         }
-        if self.papers.last_version(paper) == Some(version) {
+        let last = self.papers.last_version(paper)?;
+        if last == version {
             return self.papers.last_content(paper);
         }
         None
