@@ -1,5 +1,5 @@
 -- What a query is answered by reads of the tables.
-use Rattle.std.proofs.Common.{ℕ, ◌≡◌, ◌<◌, ◌+◌, List, ◌∷◌, ◌++◌, length, drop, get_or, append_assoc, refl, sym, ap, ◌∙◌, Option, Result, Ok, Err}
+use Rattle.std.proofs.Common.{ℕ, ◌≡◌, ◌<◌, ◌+◌, List, [], ◌∷◌, ◌++◌, length, drop, get_or, append_assoc, refl, sym, ap, ◌∙◌, Option, Result, Ok, Err}
 use Rattle.std.specs.Option.{option_map}
 use Rattle.std.specs.Prelude.{map, unwrap_or, IsOk}
 use Rattle.std.proofs.lemmas.List.{at_drop_more}
@@ -14,8 +14,8 @@ use Rattle.cr_base.specs.declared.reply.Reply.TheVariants as replies
 use Rattle.cr_base.specs.declared.reply.Rule.{Rule}
 use Rattle.cr_base.specs.Accounts.{account_at, lines_of}
 use Rattle.cr_base.specs.Checks.{Check, judged}
-use Rattle.cr_base.specs.Answering.{query_checks, page_by, reply_or_rule, answer_by_role}
-use Rattle.cr_base.specs.Sources.{names_in, facts_of_tables, shown_in_tables}
+use Rattle.cr_base.specs.Answering.{query_checks, page_by, content_by, content_asked, reply_or_rule, answer_by_role}
+use Rattle.cr_base.specs.Sources.{Facts, names_in, facts_of_tables, shown_in_tables}
 use Rattle.cr_base.specs.Lists.{listed}
 use Rattle.cr_base.specs.Papers.{paper_count}
 use Rattle.cr_base.specs.Tables.{Tables}
@@ -24,7 +24,7 @@ use Rattle.cr_base.proofs.CheckLaws.{judged-Ok}
 use Rattle.cr_base.proofs.ListLaws.{length-numbers_from, name_in-lines_of}
 use Rattle.cr_view.specs.declared.queries.AnswerError.{AnswerError}
 use Rattle.cr_view.specs.declared.queries.AnswerError.TheVariants as errors
-use Rattle.cr_view.specs.Replies.{IsServed, AnswersAsDue, ShowsAsDue}
+use Rattle.cr_view.specs.Replies.{IsServed, AnswersAsDue, ShowsAsDue, page_due, content_due, content_reply_at}
 use Rattle.cr_view.proofs.JudgeLaws.{refused, passed}
 
 -- ---- walks
@@ -63,35 +63,38 @@ names-step accounts ties i other before after wanted found within is pushed told
 pub reader-is : {A : Type 0} (checks : List Check) (x given : A) → ◌≡◌ {A = Result A Rule} (Ok given) (judged checks x) → given ≡ x
 reader-is checks x given h = sym (judged-Ok checks x given (sym h)).1
 
--- a page that is shown, or isn't, as the answer
-abbrev pub page_answer : Result Page AnswerError → Result Reply AnswerError
-page_answer (Ok page) = Ok (replies.Page page)
-page_answer (Err error) = Err error
+-- what is shown, or isn't, as the answer
+abbrev pub as_reply : {A : Type 0} → (A → Reply) → Result A AnswerError → Result Reply AnswerError
+as_reply made (Ok shown) = Ok (made shown)
+as_reply made (Err error) = Err error
 
-module _ (t : Tables) (caller paper : Option ℕ) where
-  abbrev checks : List Check
-  checks = query_checks (facts_of_tables t caller) (queries.Page paper)
-
-  abbrev page : Page
-  page = page_by (facts_of_tables t caller) (shown_in_tables t) (unwrap_or paper 0)
-
+module _ {A : Type 0} (checks : List Check) (x : A) (made : A → Reply) (serves : (a : A) → IsServed (made a)) where
   abbrev due : Reply
-  due = answer_by_role t caller (queries.Page paper)
+  due = reply_or_rule (judged checks (made x))
 
-  page-due : (given : Page) → judged checks page ≡ Ok given → due ≡ replies.Page given
-  page-due given h = ap reply_or_rule (sym (passed checks (λ (p : Page). replies.Page p) page given (sym h)))
+  shown-due : (given : A) → judged checks x ≡ Ok given → due ≡ made given
+  shown-due given h = ap reply_or_rule (sym (passed checks made x given (sym h)))
 
-  page-served : (judgement : Result Page Rule) → judged checks page ≡ judgement → IsOk judgement → IsServed due
-  page-served (Ok given) h ok = λ rule e. let same : replies.Page given ≡ replies.Refused rule = sym (page-due given h) ∙ e in cc
-  page-served (Err rule) h ok = cc
+  shown-served : (judgement : Result A Rule) → judged checks x ≡ judgement → IsOk judgement → IsServed due
+  shown-served (Ok given) h ok = λ rule e. serves given rule (sym (shown-due given h) ∙ e)
+  shown-served (Err rule) h ok = cc
 
-  -- what is shown of a page is what is answered
-  pub page-answered : (r : Result Page AnswerError) → ShowsAsDue r (judged checks page) → AnswersAsDue (page_answer r) due
-  page-answered (Ok given) h = (sym (page-due given h), page-served (Ok given) h refl)
-  page-answered (Err (errors.Rule rule)) h = ap reply_or_rule (sym (refused checks page (replies.Page page) rule (sym h)))
-  page-answered (Err errors.OutOfMemory) h = page-served (judged checks page) refl h
+  -- what is shown is what is answered
+  pub shown-answered : (r : Result A AnswerError) → ShowsAsDue r (judged checks x) → AnswersAsDue (as_reply made r) due
+  shown-answered (Ok given) h = (sym (shown-due given h), shown-served (Ok given) h refl)
+  shown-answered (Err (errors.Rule rule)) h = ap reply_or_rule (sym (refused checks x (made x) rule (sym h)))
+  shown-answered (Err errors.OutOfMemory) h = shown-served (judged checks x) refl h
 
--- ---- the conference
+-- a page, and a content
+pub page-answered : (t : Tables) (caller paper : Option ℕ) (r : Result Page AnswerError) → ShowsAsDue r (page_due t caller paper) → AnswersAsDue (as_reply (λ (p : Page). replies.Page p) r) (answer_by_role t caller (queries.Page paper))
+page-answered t caller paper r h =
+    let facts : Facts = facts_of_tables t caller in
+    shown-answered (query_checks facts (shown_in_tables t) (queries.Page paper)) (page_by facts (shown_in_tables t) (unwrap_or paper 0)) (λ (p : Page). replies.Page p) (λ p rule e. cc) r h
+
+pub content-answered : (t : Tables) (caller paper version : Option ℕ) (r : Result (List ℕ) AnswerError) → ShowsAsDue r (content_due t caller paper version) → AnswersAsDue (as_reply (λ (c : List ℕ). replies.Content c) r) (content_reply_at t caller paper version)
+content-answered t caller paper version r h =
+    let facts : Facts = facts_of_tables t caller in
+    shown-answered (content_asked facts (shown_in_tables t) paper version) (unwrap_or (content_by facts (shown_in_tables t) paper version) []) (λ (c : List ℕ). replies.Content c) (λ c rule e. cc) r h
 
 pub conference-told : (t : Tables) (caller : Option ℕ) (query : Query) (conference : Conference) → conference ≡ record { mode = t.stage.mode; papers = paper_count t.papers; phase = t.stage.phase } → query ≡ queries.Phase → replies.Conference conference ≡ answer_by_role t caller query
 conference-told t caller query conference is asked =

@@ -1,8 +1,9 @@
 -- How a group grows.
-use Rattle.std.proofs.Common.{ℕ, cond, ◌≡◌, ◌<◌, ◌+◌, ◌==◌, List, [], ◌∷◌, ◌++◌, length, get_or, true, false, refl, sym, ap, ◌∙◌, arith, zero, suc}
-use Rattle.std.specs.Prelude.{slice_set}
+use Rattle.std.proofs.Common.{ℕ, cond, ◌≡◌, ◌≤◌, ◌<◌, ◌+◌, ◌==◌, List, [], ◌∷◌, ◌++◌, length, take, get_or, true, false, refl, sym, ap, subst, ◌∙◌, arith, zero, suc}
+use Rattle.std.specs.Prelude.{slice_set, map}
+use Rattle.std.proofs.lemmas.List.{map_more, take_all}
 use Rattle.cr_base.specs.declared.entry.Entry.{Entry}
-use Rattle.cr_base.specs.declared.entry.Entry.TheVariants.{Registered, Named}
+use Rattle.cr_base.specs.declared.entry.Entry.TheVariants.{Registered, Named, Coauthor}
 use Rattle.cr_base.specs.declared.entry.Stamped.{Stamped}
 use Rattle.cr_base.specs.declared.words.Role.TheVariants.{Chair}
 use Rattle.cr_base.specs.Drawn.{grouped, registration}
@@ -34,3 +35,20 @@ marked-last-at maker entries next k a items is n at = ap (λ xs. slice_set xs k 
 -- the first user is made a chair
 pub first-registration : (user n : ℕ) (name digest : List ℕ) → n ≡ user → n ≡ 1 → Registered user name digest ∷ Named user Chair ∷ [] ≡ registration user name digest
 first-registration user n name digest e h = sym (ap (λ k. cond (k == 1) (Registered user name digest ∷ Named user Chair ∷ []) (Registered user name digest ∷ [])) (sym e ∙ h))
+
+-- one more co-author, behind the entry of the paper and those before her
+pub coauthors-step : (maker paper : ℕ) (first : Entry) (coauthors items : List ℕ) (i user : ℕ) (after : List Stamped) → items ≡ coauthors → i < length items → user ≡ get_or items i user
+    → after ≡ grouped maker (first ∷ map (λ (u : ℕ). Coauthor paper u) (take i coauthors) ++ Coauthor paper user ∷ [])
+    → after ≡ grouped maker (first ∷ map (λ (u : ℕ). Coauthor paper u) (take (i + 1) coauthors))
+coauthors-step maker paper first coauthors items i user after same within at told =
+    let entries : List Entry = map (λ (u : ℕ). Coauthor paper u) (take i coauthors) in
+    told
+    ∙ ap (λ (u : ℕ). grouped maker (first ∷ entries ++ Coauthor paper u ∷ [])) (at ∙ ap (λ (us : List ℕ). get_or us i user) same)
+    ∙ sym (ap (λ (es : List Entry). grouped maker (first ∷ es)) (map_more (λ (u : ℕ). Coauthor paper u) coauthors i user (subst (λ (us : List ℕ). i < length us) same within)))
+
+-- and all of them
+pub coauthors-all : (maker paper : ℕ) (first : Entry) (coauthors items : List ℕ) (i : ℕ) (group : List Stamped) → items ≡ coauthors → length items ≤ i
+    → group ≡ grouped maker (first ∷ map (λ (u : ℕ). Coauthor paper u) (take i coauthors))
+    → group ≡ grouped maker (first ∷ map (λ (u : ℕ). Coauthor paper u) coauthors)
+coauthors-all maker paper first coauthors items i group same all told =
+    told ∙ ap (λ (us : List ℕ). grouped maker (first ∷ map (λ (u : ℕ). Coauthor paper u) us)) (take_all i coauthors (subst (λ (us : List ℕ). length us ≤ i) same all))

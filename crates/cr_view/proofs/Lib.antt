@@ -1,4 +1,5 @@
 pub mod AnswerLaws
+pub mod ContentLaws
 pub mod FitLaws
 pub mod GroupLaws
 pub mod JudgeLaws

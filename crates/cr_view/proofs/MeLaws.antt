@@ -13,7 +13,7 @@ use Rattle.cr_base.specs.declared.pairs.Order.TheVariants.{ByPaper, ByUser}
 use Rattle.cr_base.specs.declared.pairs.Tie.{Tie}
 use Rattle.cr_base.specs.Lists.{IsRising, given}
 use Rattle.cr_base.specs.Pairs.{papers_tied_to}
-use Rattle.cr_base.specs.Papers.{paper_count, paper_numbers}
+use Rattle.cr_base.specs.Papers.{paper_count, paper_numbers, own_bytes}
 use Rattle.cr_base.specs.Tables.{Tables}
 use Rattle.cr_base.specs.Ties.{BareTies, pair_of, is_author_in, is_conflict_on_in, is_conflicted_in, AreWithin}
 use Rattle.cr_base.proofs.PairLaws.{list_any-others_of}
@@ -56,20 +56,22 @@ module _ (t : Tables) (user : ℕ) (within : AreWithin (paper_count t.papers) t.
 -- ---- the answer
 
 -- what is read piece by piece is what she is told
-pub me-told : (t : Tables) (user : ℕ) (papers conflicts name : List ℕ) (role : Role)
+pub me-told : (t : Tables) (user bytes : ℕ) (papers conflicts name : List ℕ) (role : Role)
+    → bytes ≡ own_bytes t.papers (Some user)
     → papers ≡ filter (λ p. is_author_in t.ties (Some user) p) (paper_numbers t.papers)
     → conflicts ≡ filter (λ p. is_conflicted_in t.ties (Some user) p && not (is_author_in t.ties (Some user) p)) (paper_numbers t.papers)
     → name ≡ unwrap_or (option_map (λ (a : Account). a.name) (account_at t.accounts user)) []
     → role ≡ role_in t.accounts (Some user)
-    → ◌≡◌ {A = Me} (record { conflicts = conflicts; name = name; papers = papers; role = role; user = user }) (me_by (facts_of_tables t (Some user)) user)
-me-told t user papers conflicts name role hers others named has =
+    → ◌≡◌ {A = Me} (record { bytes = bytes; conflicts = conflicts; name = name; papers = papers; role = role; user = user }) (me_by (facts_of_tables t (Some user)) user)
+me-told t user bytes papers conflicts name role uploaded hers others named has =
     let wanted : Me = me_by (facts_of_tables t (Some user)) user in
     let known : name ≡ wanted.name = named ∙ sym (ap (λ (o : Option (List ℕ)). unwrap_or o []) (name_in-lines_of t.accounts user)) in
-    let told : List ℕ → List ℕ → List ℕ → Role → Me = λ c n p r. record { conflicts = c; name = n; papers = p; role = r; user = user } in
-    ap (λ (c : List ℕ). told c name papers role) others
-    ∙ ap (λ (n : List ℕ). told wanted.conflicts n papers role) known
-    ∙ ap (λ (p : List ℕ). told wanted.conflicts wanted.name p role) hers
-    ∙ ap (λ (r : Role). told wanted.conflicts wanted.name wanted.papers r) has
+    let told : ℕ → List ℕ → List ℕ → List ℕ → Role → Me = λ b c n p r. record { bytes = b; conflicts = c; name = n; papers = p; role = r; user = user } in
+    ap (λ (b : ℕ). told b conflicts name papers role) uploaded
+    ∙ ap (λ (c : List ℕ). told wanted.bytes c name papers role) others
+    ∙ ap (λ (n : List ℕ). told wanted.bytes wanted.conflicts n papers role) known
+    ∙ ap (λ (p : List ℕ). told wanted.bytes wanted.conflicts wanted.name p role) hers
+    ∙ ap (λ (r : Role). told wanted.bytes wanted.conflicts wanted.name wanted.papers r) has
 
 -- ---- walks
 

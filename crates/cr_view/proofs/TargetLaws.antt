@@ -1,31 +1,34 @@
--- Namings and conflicts: what they draw, by reads of the tables.
-use Rattle.std.proofs.Common.{ℕ, Bool, true, false, cond, ◌≡◌, List, [], ◌∷◌, refl, sym, ap, ◌∙◌, ◌||◌, Option, Some, None, Result, Ok, Err}
-use Rattle.std.specs.Prelude.{is_some, unwrap_or}
-use Rattle.std.specs.List.{list_any}
+-- What each command draws, by reads of the tables.
+use Rattle.std.proofs.Common.{ℕ, Bool, true, false, cond, ◌≡◌, ◌+◌, length, List, [], ◌∷◌, refl, sym, ap, ◌∙◌, ◌||◌, Option, Some, None, Result, Ok, Err}
+use Rattle.std.specs.Prelude.{map, is_some, is_none, unwrap_or}
+use Rattle.std.specs.List.{flat_map, list_any}
 use Rattle.std.specs.Option.{option_map, option_and_then}
 use Rattle.std.specs.Result.{result_and}
-use Rattle.cr_base.specs.declared.command.Command.TheVariants.{Name, SetConflict}
+use Rattle.cr_base.specs.declared.command.Command.TheVariants.{Submit, Upload, Name, SetConflict}
 use Rattle.cr_base.specs.declared.entry.Account.{Account}
 use Rattle.cr_base.specs.declared.reply.Rule.{Rule}
 use Rattle.cr_base.specs.declared.standing.Standing.{Standing}
 use Rattle.cr_base.specs.declared.target.Target.{Target}
 use Rattle.cr_base.specs.declared.words.Role.{Role}
 use Rattle.cr_base.specs.Accounts.{number_at, role_at, lines_of}
-use Rattle.cr_base.specs.Checks.{Check, NamedPaper, judged, of_role, name_checks, conflict_checks}
-use Rattle.cr_base.specs.Drawn.{Drawn, naming_drawn, conflict_drawn}
-use Rattle.cr_base.specs.Judging.{name_judged, conflict_judged, judge_by_role}
-use Rattle.cr_base.specs.Sources.{has_paper, none_withdrawn, paper_named, user_among, standing_at, facts_of_tables, shown_in_tables}
-use Rattle.cr_base.specs.Lists.{at_some, is_number}
+use Rattle.cr_base.specs.Checks.{Check, NamedPaper, judged, of_role, submit_checks, revise_checks, upload_checks, name_checks, conflict_checks}
+use Rattle.cr_base.specs.Drawn.{Drawn, submission_drawn, upload_drawn, naming_drawn, conflict_drawn}
+use Rattle.cr_base.specs.Judging.{name_judged, submission_judged, conflict_judged, judge_by_role}
+use Rattle.cr_base.specs.Sources.{has_paper, paper_named, user_among, users_among, standing_at, facts_of_tables, shown_in_tables}
+use Rattle.cr_base.specs.Lists.{listed, at_some, is_number}
+use Rattle.cr_base.specs.Papers.{is_withdrawn_at, uploads_at, own_count, own_bytes}
 use Rattle.cr_base.specs.Tables.{Tables}
 use Rattle.cr_base.specs.Ties.{TiesState, authors_in, is_author_in, is_conflicted_in}
 use Rattle.cr_base.proofs.AccountLaws.{number_in-lines_of}
-use Rattle.cr_base.proofs.ListLaws.{role_among-lines_of}
+use Rattle.cr_base.proofs.ListLaws.{length-numbers_from, role_among-lines_of}
 use Rattle.cr_conflicts.specs.Targets.{target_in, target_of}
+use Rattle.cr_papers.specs.Named.{named_in}
 use Rattle.cr_view.specs.declared.draw.Draw.{Draw}
 use Rattle.cr_view.specs.declared.draw.Draw.TheVariants as draws
-use Rattle.cr_view.specs.ByTables.{naming_of, naming_at, asked_at, conflict_at}
+use Rattle.cr_view.specs.ByTables.{submission_at, naming_of, naming_at, asked_at, conflict_at}
 use Rattle.cr_view.specs.Draws.{drawn_by, drawn_or_rule}
-use Rattle.cr_view.specs.Targets.{target_at}
+use Rattle.cr_view.specs.Targets.{target_at, users_at}
+use Rattle.cr_view.proofs.JudgeLaws.{refused, passed}
 
 -- ---- nobody
 
@@ -55,6 +58,19 @@ target-asked t maker paper (Some p) user known has =
     ap (option_map (target_in t.ties maker paper p.0)) (has ∙ sym (ap (option_and_then (role_at t.accounts)) known)) ∙ ap (asked_at t maker paper) known
 
 -- ---- what is judged
+
+users-among : (accounts : List Account) (names : List (Option (List ℕ))) → users_among (lines_of accounts) names ≡ users_at accounts names
+users-among accounts names = ap (λ (f : Option (List ℕ) → Option ℕ). map f names) (λ i name. target-among accounts name i)
+
+-- a submission is judged by the number of papers and by the users of the names
+pub judge-submit : (t : Tables) (maker : ℕ) (title abstract : List ℕ) (authors : List (Option (List ℕ))) → judge_by_role t (Some maker) (Submit title abstract authors) ≡ submission_at t maker title abstract authors
+judge-submit t maker title abstract authors =
+    let users : List (Option ℕ) = users_at t.accounts authors in
+    let by : Standing = standing_at t (Some maker) None in
+    let judge : ℕ → Result Drawn Rule = λ n.
+    judged (submit_checks (list_any is_none users) by n (own_count t.papers (Some maker))) (submission_drawn maker (n + 1) title abstract (flat_map listed users)) in
+    ap (λ (us : List (Option ℕ)). submission_judged (facts_of_tables t (Some maker)) (Some maker) us title abstract) (users-among t.accounts authors)
+    ∙ ap judge (length-numbers_from 1 t.papers.papers)
 
 pub judge-name : (t : Tables) (maker : ℕ) (name : Option (List ℕ)) (role : Role) → judge_by_role t (Some maker) (Name name role) ≡ naming_at t maker name role
 judge-name t maker name role =
@@ -86,6 +102,38 @@ and-judged (check ∷ checks) draw = by check.broken (and-judged checks draw)
 pub drawn-and : (checks : List Check) (draw : Draw) (kept : Result (Unit {0}) Rule) (r : Result Draw Rule) → kept ≡ judged checks tt → r ≡ result_and kept (Ok draw) → drawn_or_rule r ≡ judged checks (drawn_by draw)
 drawn-and checks draw kept r judges told = ap drawn_or_rule told ∙ ap (λ (k : Result (Unit {0}) Rule). behind k draw) judges ∙ and-judged checks draw
 
+-- an upload, judged by so many bytes
+module _ (t : Tables) (maker : ℕ) (paper : Option ℕ) (content : List ℕ) (count : ℕ) (by : Standing) (counted : count ≡ length content) (stands : by ≡ standing_at t (Some maker) paper) where
+  abbrev asked : Standing → ℕ → List Check
+  asked s n = upload_checks s (named_in t.papers paper) (own_bytes t.papers (Some maker)) n
+
+  abbrev next : ℕ
+  next = length (uploads_at t.papers (unwrap_or paper 0)) + 1
+
+  abbrev made : ℕ → Drawn
+  made version = upload_drawn maker (unwrap_or paper 0) version content
+
+  upload-due : judged (asked by count) (made next) ≡ judge_by_role t (Some maker) (Upload paper content)
+  upload-due = ap (λ (s : Standing). judged (asked s count) (made next)) stands ∙ ap (λ (n : ℕ). judged (asked (standing_at t (Some maker) paper) n) (made next)) counted
+
+  pub upload-refused : (rule : Rule) → ◌≡◌ {A = Result ℕ Rule} (Err rule) (judged (asked by count) next) → ◌≡◌ {A = Result Drawn Rule} (Err rule) (judge_by_role t (Some maker) (Upload paper content))
+  upload-refused rule h = refused (asked by count) next (made next) rule h ∙ upload-due
+
+  pub upload-drawn : (number version : ℕ) → paper ≡ Some number → ◌≡◌ {A = Result ℕ Rule} (Ok version) (judged (asked by count) next)
+      → ◌≡◌ {A = Result Drawn Rule} (Ok (drawn_by (draws.Upload maker number version content))) (judge_by_role t (Some maker) (Upload paper content))
+  upload-drawn number version is h =
+      sym (ap (λ (p : Option ℕ). Ok (upload_drawn maker (unwrap_or p 0) version content)) is) ∙ passed (asked by count) made next version h ∙ upload-due
+
+-- a revision or a withdrawal, of which the same is asked
+pub revision-drawn : (t : Tables) (maker : ℕ) (paper : Option ℕ) (number : ℕ) (by : Standing) (draw : ℕ → Draw) (kept : Result (Unit {0}) Rule) (r : Result Draw Rule)
+    → paper ≡ Some number → by ≡ standing_at t (Some maker) paper → kept ≡ judged (revise_checks by (named_in t.papers paper)) tt → r ≡ result_and kept (Ok (draw number))
+    → drawn_or_rule r ≡ judged (revise_checks (standing_at t (Some maker) paper) (named_in t.papers paper)) (drawn_by (draw (unwrap_or paper 0)))
+revision-drawn t maker paper number by draw kept r is stands judges told =
+    let asked : Standing → List Check = λ s. revise_checks s (named_in t.papers paper) in
+    drawn-and (asked by) (draw number) kept r judges told
+    ∙ ap (λ (s : Standing). judged (asked s) (drawn_by (draw number))) stands
+    ∙ sym (ap (λ (p : Option ℕ). judged (asked (standing_at t (Some maker) paper)) (drawn_by (draw (unwrap_or p 0)))) is)
+
 -- a naming, where there is a user of the name
 pub naming-drawn : (t : Tables) (maker : ℕ) (name : Option (List ℕ)) (given : List ℕ) (user : ℕ) (role : Role) (by : Standing) (kept : Result (Unit {0}) Rule) (r : Result Draw Rule)
     → name ≡ Some given → Some user ≡ number_at t.accounts given → by ≡ standing_at t (Some maker) None → kept ≡ judged (name_checks by (option_map of_role (role_at t.accounts user)) role) tt → r ≡ result_and kept (Ok (draws.Naming maker user given role))
@@ -99,7 +147,7 @@ naming-drawn t maker name given user role by kept r is found stands judges told 
 
 -- a conflict, where there are the paper and a user of the name
 pub conflict-drawn : (t : Tables) (maker : ℕ) (paper : Option ℕ) (number : ℕ) (name : Option (List ℕ)) (on found withdrawn : Bool) (by : Standing) (target : Option (ℕ × Role)) (user : ℕ) (kept : Result (Unit {0}) Rule) (r : Result Draw Rule)
-    → paper ≡ Some number → found ≡ has_paper (facts_of_tables t None) paper → found ≡ true → withdrawn ≡ at_some none_withdrawn paper → by ≡ standing_at t (Some maker) paper
+    → paper ≡ Some number → found ≡ has_paper (facts_of_tables t None) paper → found ≡ true → withdrawn ≡ at_some (is_withdrawn_at t.papers) paper → by ≡ standing_at t (Some maker) paper
     → option_map (λ (p : ℕ × Role). p.0) target ≡ Some user → option_map (λ (p : ℕ × Role). p.0) target ≡ target_at t.accounts name → option_map (λ (p : ℕ × Role). p.1) target ≡ option_and_then (role_at t.accounts) (target_at t.accounts name)
     → kept ≡ judged (conflict_checks by (record { there = is_some paper; withdrawn = withdrawn }) (target_of t.ties maker paper target) on) tt → r ≡ result_and kept (Ok (draws.Conflict maker number user on))
     → drawn_or_rule r ≡ conflict_at t maker paper name on

@@ -1,5 +1,6 @@
 -- What the rules make of each command, by reads of the tables; the caller is `maker`.
-use Rattle.std.specs.Prelude.{ℕ, Bool, ◌+◌, List, [], length, Option, Some, None, is_some, unwrap_or, Result}
+use Rattle.std.specs.Prelude.{ℕ, Bool, ◌+◌, List, [], length, Option, Some, None, is_some, is_none, unwrap_or, Result}
+use Rattle.std.specs.List.{flat_map, list_any}
 use Rattle.std.specs.Option.{option_map, option_and_then}
 use Rattle.cr_base.specs.declared.reply.Rule.{Rule}
 use Rattle.cr_base.specs.declared.target.Target.{Target}
@@ -7,22 +8,28 @@ use Rattle.cr_base.specs.declared.words.Role.{Role}
 use Rattle.cr_base.specs.Accounts.{number_at, role_at}
 use Rattle.cr_base.specs.Checks.{judged, of_role, register_checks, submit_checks, name_checks, conflict_checks}
 use Rattle.cr_base.specs.Drawn.{Drawn, registration_drawn, submission_drawn, naming_drawn, conflict_drawn}
-use Rattle.cr_base.specs.Lists.{is_number, at_some}
+use Rattle.cr_base.specs.Lists.{listed, is_number, at_some}
 use Rattle.cr_base.specs.Papers.{paper_count, own_count}
 use Rattle.cr_base.specs.Sources.{standing_at, facts_of_tables, shown_in_tables, paper_named}
 use Rattle.cr_base.specs.Tables.{Tables}
 use Rattle.cr_base.specs.Ties.{is_author_in}
-use Rattle.cr_view.specs.Targets.{target_at}
+use Rattle.cr_view.specs.Targets.{target_at, users_at}
 
 abbrev pub registration_at : Tables → List ℕ → List ℕ → Result Drawn Rule
 registration_at t name digest =
     let count = length t.accounts in
     judged (register_checks (is_some (number_at t.accounts name)) count) (registration_drawn (count + 1) name digest)
 
-abbrev pub submission_at : Tables → ℕ → List ℕ → List ℕ → Result Drawn Rule
-submission_at t maker title abstract =
+-- submitting a paper with the users of these names
+abbrev pub submission_of : Tables → ℕ → List (Option ℕ) → List ℕ → List ℕ → Result Drawn Rule
+submission_of t maker users title abstract =
     let count = paper_count t.papers in
-    judged (submit_checks (standing_at t (Some maker) None) count (own_count t.papers (Some maker))) (submission_drawn maker (count + 1) title abstract)
+    judged
+    (submit_checks (list_any is_none users) (standing_at t (Some maker) None) count (own_count t.papers (Some maker)))
+    (submission_drawn maker (count + 1) title abstract (flat_map listed users))
+
+abbrev pub submission_at : Tables → ℕ → List ℕ → List ℕ → List (Option (List ℕ)) → Result Drawn Rule
+submission_at t maker title abstract authors = submission_of t maker (users_at t.accounts authors) title abstract
 
 -- naming this user, if there is one; and the user of a name
 abbrev pub naming_of : Tables → ℕ → Option ℕ → List ℕ → Role → Result Drawn Rule

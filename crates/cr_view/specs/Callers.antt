@@ -1,6 +1,7 @@
 -- Whose a command or a query is.
-use Rattle.std.specs.Prelude.{ℕ, Option, IsSome}
+use Rattle.std.specs.Prelude.{ℕ, ◌≤◌, length, Option, IsSome}
 use Rattle.cr_base.specs.declared.command.Command.{Command}
+use Rattle.cr_base.specs.declared.command.Command.TheVariants.{Submit}
 use Rattle.cr_base.specs.declared.command.Query.{Query}
 use Rattle.cr_base.specs.declared.command.Query.TheVariants as queries
 use Rattle.cr_base.specs.Logins.{IfWanted, command_wants_login}
@@ -9,10 +10,17 @@ use Rattle.cr_base.specs.Logins.{IfWanted, command_wants_login}
 abbrev pub HasCaller : Option ℕ → Command → Type 0
 HasCaller caller command = IfWanted (command_wants_login command) (IsSome caller)
 
--- there is a caller, where the query is about herself: that nobody may ask for a page is no concern of the tables, which
--- answer it for anybody
+-- a submission tells no more co-authors than a draw has place for
+abbrev pub HasFewAuthors : Command → Type 0
+HasFewAuthors (Submit title abstract authors) = length authors ≤ 19
+HasFewAuthors _ = Unit {0}
+
+-- there is a caller, where the query is about herself: that nobody may ask for a page or a content is no concern of the
+-- tables, which answer it for anybody
 abbrev pub HasAsker : Option ℕ → Query → Type 0
 HasAsker caller queries.Me = IsSome caller
 HasAsker caller queries.Accounts = Unit {0}
 HasAsker caller queries.Phase = Unit {0}
 HasAsker caller (queries.Page paper) = Unit {0}
+HasAsker caller (queries.Content paper) = Unit {0}
+HasAsker caller (queries.Version paper version) = Unit {0}

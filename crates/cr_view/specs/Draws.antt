@@ -1,18 +1,36 @@
 -- What a draw adds and tells.
-use Rattle.std.specs.Prelude.{Result, Ok, Err}
+use Rattle.std.specs.Prelude.{ℕ, ◌∷◌, map, Result, Ok, Err}
+use Rattle.cr_base.specs.declared.entry.Entry.TheVariants.{Submitted, Coauthor}
+use Rattle.cr_base.specs.declared.reply.Receipt.TheVariants as receipts
 use Rattle.cr_base.specs.declared.reply.Rule.{Rule}
-use Rattle.cr_base.specs.Drawn.{Drawn, registration_drawn, phase_drawn, submission_drawn, naming_drawn, mode_drawn, conflict_drawn}
+use Rattle.cr_base.specs.Drawn.{Drawn, grouped, registration_drawn, phase_drawn, revision_drawn, upload_drawn}
+use Rattle.cr_base.specs.Drawn.{withdrawal_drawn, naming_drawn, mode_drawn, conflict_drawn}
 use Rattle.cr_view.specs.declared.draw.Draw.{Draw}
-use Rattle.cr_view.specs.declared.draw.Draw.TheVariants.{Registration, Phase, Submission, Naming, Mode, Conflict}
+use Rattle.cr_view.specs.declared.draw.Draw.TheVariants.{Registration, Phase, Submission, Revision, Upload, Withdrawal, Naming, Mode, Conflict}
 
--- the entries and the receipt of a draw
+-- the entries and the receipt of a draw; a submission's co-authors were found before, each once
 abbrev pub drawn_by : Draw → Drawn
 drawn_by (Registration user name digest) = registration_drawn user name digest
 drawn_by (Phase maker phase) = phase_drawn maker phase
-drawn_by (Submission maker paper title abstract) = submission_drawn maker paper title abstract
+drawn_by (Submission maker paper title abstract coauthors) = record {
+  group = grouped maker (Submitted paper title abstract ∷ map (λ (user : ℕ). Coauthor paper user) coauthors);
+  receipt = receipts.Paper paper;
+}
+drawn_by (Revision maker paper title abstract) = revision_drawn maker paper title abstract
+drawn_by (Upload maker paper version content) = upload_drawn maker paper version content
+drawn_by (Withdrawal maker paper) = withdrawal_drawn maker paper
 drawn_by (Naming maker user name role) = naming_drawn maker user name role
 drawn_by (Mode maker mode) = mode_drawn maker mode
 drawn_by (Conflict maker paper user on) = conflict_drawn maker paper user on
+
+-- the draw is of a paper that is there
+abbrev pub IsOfPaper : Draw → Type 0
+IsOfPaper (Registration user name digest) = ⊥
+IsOfPaper (Phase maker phase) = ⊥
+IsOfPaper (Submission maker paper title abstract coauthors) = ⊥
+IsOfPaper (Naming maker user name role) = ⊥
+IsOfPaper (Mode maker mode) = ⊥
+IsOfPaper draw = Unit {0}
 
 -- the same of a judgement: what it drew, or the broken rule
 abbrev pub drawn_or_rule : Result Draw Rule → Result Drawn Rule

@@ -1,5 +1,6 @@
 -- What a caller is told of a query.
-use Rattle.std.specs.Prelude.{ℕ, ◌≡◌, ◌≢◌, List, [], map, Option, unwrap_or, Result, Ok, Err, IsOk}
+use Rattle.std.specs.Prelude.{ℕ, Bool, true, ◌≡◌, ◌≢◌, List, [], map, Option, unwrap_or, Result, Ok, Err, IsOk}
+use Rattle.std.specs.Option.{option_map}
 use Rattle.cr_base.specs.declared.command.Query.TheVariants as queries
 use Rattle.cr_base.specs.declared.page.Page.{Page}
 use Rattle.cr_base.specs.declared.pairs.Tie.{Tie}
@@ -9,10 +10,11 @@ use Rattle.cr_base.specs.declared.reply.Reply.TheVariants as replies
 use Rattle.cr_base.specs.declared.reply.Rule.{Rule}
 use Rattle.cr_base.specs.declared.standing.Standing.{Standing}
 use Rattle.cr_base.specs.Accounts.{lines_of}
-use Rattle.cr_base.specs.Answering.{query_checks, page_by}
-use Rattle.cr_base.specs.Checks.{judged}
-use Rattle.cr_base.specs.Papers.{paper_count}
-use Rattle.cr_base.specs.Sources.{standing_at, facts_of_tables, shown_in_tables, names_in}
+use Rattle.cr_base.specs.Answering.{query_checks, page_by, uploads_told, upload_of, content_by, content_asked, reply_or_rule}
+use Rattle.cr_base.specs.Checks.{judged, of_there, content_checks}
+use Rattle.cr_base.specs.History.{Upload}
+use Rattle.cr_base.specs.Papers.{paper_count, uploads_at}
+use Rattle.cr_base.specs.Sources.{Facts, standing_at, facts_of_tables, shown_in_tables, has_paper, names_in}
 use Rattle.cr_base.specs.Tables.{Tables}
 use Rattle.cr_base.specs.Ties.{BareTies}
 use Rattle.cr_view.specs.declared.queries.AnswerError.{AnswerError}
@@ -29,9 +31,9 @@ AnswersAsDue (Ok reply) due = (reply ≡ due) × IsServed due
 AnswersAsDue (Err (errors.Rule rule)) due = due ≡ replies.Refused rule
 AnswersAsDue (Err errors.OutOfMemory) due = IsServed due
 
--- the same of a page, which is due or stands behind a rule
-abbrev pub ShowsAsDue : Result Page AnswerError → Result Page Rule → Type 0
-ShowsAsDue (Ok page) due = due ≡ Ok page
+-- the same of a page or a content, which is due or stands behind a rule
+abbrev pub ShowsAsDue : {A : Type 0} → Result A AnswerError → Result A Rule → Type 0
+ShowsAsDue (Ok shown) due = due ≡ Ok shown
 ShowsAsDue (Err (errors.Rule rule)) due = due ≡ Err rule
 ShowsAsDue (Err errors.OutOfMemory) due = IsOk due
 
@@ -43,17 +45,44 @@ conference_at t = record { mode = t.stage.mode; papers = paper_count t.papers; p
 
 -- how a user stands to the paper whose page she may see, or the first broken rule
 abbrev pub reader_at : Tables → Option ℕ → Option ℕ → Result Standing Rule
-reader_at t user paper = judged (query_checks (facts_of_tables t user) (queries.Page paper)) (standing_at t user paper)
+reader_at t user paper = judged (query_checks (facts_of_tables t user) (shown_in_tables t) (queries.Page paper)) (standing_at t user paper)
 
 -- the page of a paper, for a reader who stands so to it
 abbrev pub page_at : Tables → Standing → ℕ → Page
-page_at t by p = page_by (record { standing = λ (paper : Option ℕ). by; accounts = lines_of t.accounts; papers = []; own_papers = 0 }) (shown_in_tables t) p
+page_at t by p =
+    let facts : Facts = record { standing = λ (paper : Option ℕ). by; accounts = lines_of t.accounts; papers = []; own_papers = 0; own_bytes = 0 } in
+    page_by facts (shown_in_tables t) p
 
 -- the page that is due to a user, or the first broken rule
 abbrev pub page_due : Tables → Option ℕ → Option ℕ → Result Page Rule
 page_due t user paper =
     let facts = facts_of_tables t user in
-    judged (query_checks facts (queries.Page paper)) (page_by facts (shown_in_tables t) (unwrap_or paper 0))
+    judged (query_checks facts (shown_in_tables t) (queries.Page paper)) (page_by facts (shown_in_tables t) (unwrap_or paper 0))
+
+-- the versions that authors or others are told of a paper, and the content of the one that is asked for
+abbrev pub versions_at : Tables → Bool → ℕ → List ℕ
+versions_at t author p = map (λ (u : Upload). u.version) (uploads_told author (uploads_at t.papers p))
+
+abbrev pub content_at : Tables → Bool → ℕ → Option ℕ → Option (List ℕ)
+content_at t author p version = option_map (λ (u : Upload). u.content) (upload_of version (uploads_told author (uploads_at t.papers p)))
+
+-- how a user stands to the paper of which she may read some content, if there is any, or the first broken rule
+abbrev pub content_reader_at : Tables → Option ℕ → Option ℕ → Result Standing Rule
+content_reader_at t user paper =
+    let by = standing_at t user paper in
+    judged (content_checks by (of_there (has_paper (facts_of_tables t user) paper)) true) by
+
+-- the content that is due to a user, or the first broken rule; and the reply that holds it
+abbrev pub content_due : Tables → Option ℕ → Option ℕ → Option ℕ → Result (List ℕ) Rule
+content_due t user paper version =
+    let facts = facts_of_tables t user in
+    judged (content_asked facts (shown_in_tables t) paper version) (unwrap_or (content_by facts (shown_in_tables t) paper version) [])
+
+abbrev pub content_reply_at : Tables → Option ℕ → Option ℕ → Option ℕ → Reply
+content_reply_at t user paper version =
+    let facts = facts_of_tables t user in
+    let content = unwrap_or (content_by facts (shown_in_tables t) paper version) [] in
+    reply_or_rule (judged (content_asked facts (shown_in_tables t) paper version) (replies.Content content))
 
 -- the names of those whom these ties tie
 abbrev pub names_of : Tables → BareTies → List (List ℕ)

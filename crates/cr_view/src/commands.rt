@@ -1,18 +1,20 @@
 //! What is judged by the tables.
-ghost use Rattle.std.specs.Prelude.{◌≡◌, IfOk, IsSome, Some};
+ghost use Rattle.std.specs.Prelude.{◌≡◌, ◌≤◌, IfOk, IsSome, Some, length};
 ghost use Rattle.std.specs.Option.{option_map, option_and_then};
 ghost use Rattle.cr_base.specs.Accounts.{role_at};
 ghost use Rattle.cr_base.specs.Judging.{judge_by_role};
 ghost use Rattle.cr_base.specs.Tables.{FitInTurn};
 ghost use Rattle.cr_base.specs.declared.command.Command.TheVariants as commands;
 ghost use Rattle.cr_view.specs.ByTables.{registration_at, submission_at, naming_at, conflict_at};
-ghost use Rattle.cr_view.specs.Callers.{HasCaller};
+ghost use Rattle.cr_view.specs.Callers.{HasCaller, HasFewAuthors};
 ghost use Rattle.cr_view.specs.Draws.{drawn_by, drawn_or_rule};
 ghost use Rattle.cr_view.specs.Targets.{target_at};
 
 use crate::draw::Draw;
 use crate::live::Live;
-use cr_base::{Command, Digest, Mode, PaperNo, Phase, Role, Rule, Short, Text, UserNo};
+use cr_base::{
+    Blob, Command, Digest, Mode, PaperNo, Phase, Role, Rule, Short, Text, ToldNames, UserNo,
+};
 
 /// The caller of a command or a query that is a user's.
 pub(crate) fn maker(caller: &Option<UserNo>) -> UserNo
@@ -27,11 +29,13 @@ pub(crate) fn maker(caller: &Option<UserNo>) -> UserNo
 
 impl Live {
     /// What the caller's command draws, or the first broken rule of its kind. There is a caller, but for
-    /// a registration. The entries drawn may be applied in their turn. Takes no memory: the command's
-    /// texts are moved. A registration, a naming and a conflict take one look-up by name, a conflict a
-    /// binary search of the ties besides, and all else a few reads by number.
+    /// a registration; a submission tells at most 19 co-authors. The entries drawn may be applied in their
+    /// turn. Takes no memory: the command's texts and its content are moved. A registration, a naming and a
+    /// conflict take one look-up by name, a submission one for each co-author told, a conflict a binary
+    /// search of the ties besides, and all else a few reads by number.
     pub fn judge(&self, caller: &Option<UserNo>, command: Command) -> Result<Draw, Rule>
-        requires { HasCaller caller.now command }
+        requires caller { HasCaller caller.now command }
+        requires few { HasFewAuthors command }
         ensures drawn { drawn_or_rule result ≡ judge_by_role self.now.tables caller.now command }
         ensures fits { IfOk result (λ draw. FitInTurn self.now.tables (drawn_by draw).group) }
     {
@@ -39,9 +43,20 @@ impl Live {
         match command {
             Command::Register { name, digest } => self.judge_registration(name, digest),
             Command::SetPhase { phase } => self.judge_phase(maker(caller), phase),
-            Command::Submit { title, abstract_ } => {
-                self.judge_submission(maker(caller), title, abstract_)
+            Command::Submit {
+                title,
+                abstract_,
+                authors,
+            } => self.judge_submission(maker(caller), title, abstract_, &authors),
+            Command::Revise {
+                paper,
+                title,
+                abstract_,
+            } => self.judge_revision(maker(caller), &paper, title, abstract_),
+            Command::Upload { paper, content } => {
+                self.judge_upload(maker(caller), &paper, content)
             }
+            Command::Withdraw { paper } => self.judge_withdrawal(maker(caller), &paper),
             Command::Name { user, role } => self.judge_naming(maker(caller), &user, role),
             Command::SetMode { mode } => self.judge_mode(maker(caller), mode),
             Command::SetConflict { paper, user, on } => {
@@ -65,16 +80,27 @@ impl Live {
         kept.and(Ok(Draw::Phase { maker, phase }))
     }
 
-    fn judge_submission(&self, maker: UserNo, title: Text, abstract_: Text) -> Result<Draw, Rule>
-        ensures { drawn_or_rule result ≡ submission_at self.now.tables maker title abstract_ }
+    fn judge_submission(
+        &self,
+        maker: UserNo,
+        title: Text,
+        abstract_: Text,
+        authors: &ToldNames,
+    ) -> Result<Draw, Rule>
+        requires { length authors.now ≤ 19 }
+        ensures { drawn_or_rule result ≡ submission_at self.now.tables maker title abstract_ authors.now }
     {
+        let Some(coauthors) = self.coauthors(maker, authors.as_slice()) else {
+            return Err(Rule::NoUser);
+        };
         let by = self.standing(&Some(maker), &None);
-        let paper = self.papers.judge_submit(&by, maker)?;
+        let paper = self.papers.judge_submit(&by, maker, true)?;
         Ok(Draw::Submission {
             maker,
             paper,
             title,
             abstract_,
+            coauthors,
         })
     }
 
@@ -125,8 +151,7 @@ impl Live {
             return Err(Rule::NoUser);
         };
         let by = self.standing(&Some(maker), paper);
-        // No entry withdraws a paper yet.
-        let withdrawn = false;
+        let withdrawn = self.papers.is_withdrawn(*number);
         let kept = self
             .ties
             .judge_conflict(&by, maker, paper, &target, on, withdrawn);
@@ -149,5 +174,69 @@ impl Live {
         let user = self.number_of(name)?;
         let role = self.accounts.role_given(user)?;
         Some((user, role))
+    }
+}
+
+/// What is judged of a paper that is there: `NoPaper` comes first, of the texts, of a content and of a
+/// withdrawal alike.
+impl Live {
+    fn judge_revision(
+        &self,
+        maker: UserNo,
+        paper: &Option<PaperNo>,
+        title: Text,
+        abstract_: Text,
+    ) -> Result<Draw, Rule>
+        ensures { drawn_or_rule result ≡ judge_by_role self.now.tables (Some maker) (commands.Revise paper.now title abstract_) }
+    {
+        let Some(number) = paper else {
+            return Err(Rule::NoPaper);
+        };
+        let by = self.standing(&Some(maker), paper);
+        let kept = self.papers.judge_revise(&by, paper);
+        kept.and(Ok(Draw::Revision {
+            maker,
+            paper: *number,
+            title,
+            abstract_,
+        }))
+    }
+
+    fn judge_upload(
+        &self,
+        maker: UserNo,
+        paper: &Option<PaperNo>,
+        content: Blob,
+    ) -> Result<Draw, Rule>
+        ensures { drawn_or_rule result ≡ judge_by_role self.now.tables (Some maker) (commands.Upload paper.now content) }
+    {
+        let Some(number) = paper else {
+            return Err(Rule::NoPaper);
+        };
+        let by = self.standing(&Some(maker), paper);
+        let length = content.as_slice().len() as u64;
+        match self.papers.judge_upload(&by, maker, paper, length) {
+            Ok(version) => Ok(Draw::Upload {
+                maker,
+                paper: *number,
+                version,
+                content,
+            }),
+            Err(rule) => Err(rule),
+        }
+    }
+
+    fn judge_withdrawal(&self, maker: UserNo, paper: &Option<PaperNo>) -> Result<Draw, Rule>
+        ensures { drawn_or_rule result ≡ judge_by_role self.now.tables (Some maker) (commands.Withdraw paper.now) }
+    {
+        let Some(number) = paper else {
+            return Err(Rule::NoPaper);
+        };
+        let by = self.standing(&Some(maker), paper);
+        let kept = self.papers.judge_withdraw(&by, paper);
+        kept.and(Ok(Draw::Withdrawal {
+            maker,
+            paper: *number,
+        }))
     }
 }

@@ -1,9 +1,12 @@
 //! What an accepted command draws.
 ghost use Rattle.std.specs.Prelude.{◌≡◌, IfOk};
-ghost use Rattle.cr_view.specs.Draws.{drawn_by};
+ghost use Rattle.cr_view.specs.Draws.{drawn_by, IsOfPaper};
 
-use crate::group::{registration, single};
-use cr_base::{Digest, Entry, Mode, PaperNo, Phase, Receipt, Role, Short, Stamped, Text, UserNo};
+use crate::group::{registration, single, submission};
+use cr_base::{
+    Blob, Coauthors, Digest, Entry, Mode, PaperNo, Phase, Receipt, Role, Short, Stamped, Text,
+    UserNo,
+};
 use std::alloc::{AllocError, Global};
 
 /// What an accepted command draws: the numbers that it was given or that were found for its names, and
@@ -37,6 +40,37 @@ pub enum Draw {
         title: Text,
         /// Its abstract.
         abstract_: Text,
+        /// Its other authors, each once, in the order told.
+        coauthors: Coauthors,
+    },
+    /// Other texts of a paper.
+    Revision {
+        /// Who revises it.
+        maker: UserNo,
+        /// The paper.
+        paper: PaperNo,
+        /// Its title.
+        title: Text,
+        /// Its abstract.
+        abstract_: Text,
+    },
+    /// One more version of a paper's content.
+    Upload {
+        /// Who uploads it.
+        maker: UserNo,
+        /// The paper.
+        paper: PaperNo,
+        /// The version's number: the count of the paper's versions plus 1.
+        version: u64,
+        /// Its bytes.
+        content: Blob,
+    },
+    /// A paper is withdrawn.
+    Withdrawal {
+        /// Who withdraws it.
+        maker: UserNo,
+        /// The paper.
+        paper: PaperNo,
     },
     /// A member or a chair.
     Naming {
@@ -78,16 +112,21 @@ impl Draw {
             Draw::Registration { user, .. } => Receipt::User { user: *user },
             Draw::Phase { phase, .. } => Receipt::Phase { phase: *phase },
             Draw::Submission { paper, .. } => Receipt::Paper { paper: *paper },
+            Draw::Revision { paper, .. } => Receipt::Changed { paper: *paper },
+            Draw::Upload { version, .. } => Receipt::Version { version: *version },
+            Draw::Withdrawal { paper, .. } => Receipt::Changed { paper: *paper },
             Draw::Naming { name, role, .. } => Receipt::Named {
                 name: *name,
                 role: *role,
             },
             Draw::Mode { mode, .. } => Receipt::Mode { mode: *mode },
-            Draw::Conflict { paper, .. } => Receipt::Conflict { paper: *paper },
+            Draw::Conflict { paper, .. } => Receipt::Changed { paper: *paper },
         }
     }
 
-    /// The entries that the command adds, which take its texts whole; an error only for lack of memory.
+    /// The entries that the command adds, which take its texts and its content whole: one, but two of
+    /// the first registration, and one more of a submission for each co-author. An error only for lack of
+    /// memory.
     pub fn group(self, alloc: Global) -> Result<Vec<Stamped>, AllocError>
         ensures { IfOk result (λ group. group.items ≡ (drawn_by self).group) }
     {
@@ -99,14 +138,8 @@ impl Draw {
                 paper,
                 title,
                 abstract_,
-            } => {
-                let entry = Entry::Submitted {
-                    paper,
-                    title,
-                    abstract_,
-                };
-                single(alloc, maker, entry)
-            }
+                coauthors,
+            } => submission(alloc, maker, paper, title, abstract_, &coauthors),
             Draw::Naming {
                 maker,
                 user,
@@ -114,12 +147,50 @@ impl Draw {
                 ..
             } => single(alloc, maker, Entry::Named { user, role }),
             Draw::Mode { maker, mode } => single(alloc, maker, Entry::ModeSet { mode }),
-            Draw::Conflict {
-                maker,
-                paper,
-                user,
-                on,
-            } => single(alloc, maker, Entry::Conflict { paper, user, on }),
+            other => of_paper(alloc, other),
         }
+    }
+}
+
+/// The entry of a draw that is of a paper which is there; an error only for lack of memory.
+fn of_paper(alloc: Global, draw: Draw) -> Result<Vec<Stamped>, AllocError>
+    requires { IsOfPaper draw }
+    ensures { IfOk result (λ group. group.items ≡ (drawn_by draw).group) }
+{
+    match draw {
+        Draw::Revision {
+            maker,
+            paper,
+            title,
+            abstract_,
+        } => {
+            let entry = Entry::Revised {
+                paper,
+                title,
+                abstract_,
+            };
+            single(alloc, maker, entry)
+        }
+        Draw::Upload {
+            maker,
+            paper,
+            version,
+            content,
+        } => {
+            let entry = Entry::Uploaded {
+                paper,
+                version,
+                content,
+            };
+            single(alloc, maker, entry)
+        }
+        Draw::Withdrawal { maker, paper } => single(alloc, maker, Entry::Withdrawn { paper }),
+        Draw::Conflict {
+            maker,
+            paper,
+            user,
+            on,
+        } => single(alloc, maker, Entry::Conflict { paper, user, on }),
+        _ => unreachable!(),
     }
 }

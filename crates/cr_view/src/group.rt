@@ -1,9 +1,10 @@
 //! The entries of one command.
-ghost use Rattle.std.specs.Prelude.{◌≡◌, ◌≤◌, ◌-◌, ℕ, List, [], ◌∷◌, ◌++◌, OnOk, IfOk, false, vec_len, vec_capacity};
+ghost use Rattle.std.specs.Prelude.{◌≡◌, ◌≤◌, ◌-◌, ℕ, List, [], ◌∷◌, ◌++◌, OnOk, IfOk, false, map, vec_len, vec_capacity};
 ghost use Rattle.cr_base.specs.declared.entry.Entry.{Entry};
+ghost use Rattle.cr_base.specs.declared.entry.Entry.TheVariants.{Submitted, Coauthor};
 ghost use Rattle.cr_base.specs.Drawn.{grouped, registration};
 
-use cr_base::{Digest, Entry, Role, Short, Stamped, UserNo};
+use cr_base::{Coauthors, Digest, Entry, PaperNo, Role, Short, Stamped, Text, UserNo};
 use std::alloc::{AllocError, Global};
 
 /// Marks the last entry as one that another of the same command follows.
@@ -62,5 +63,30 @@ pub(crate) fn registration(
         role: Role::Chair,
     };
     push_entry(&mut group, user, named)?;
+    Ok(group)
+}
+
+/// The group of a submission: the paper and its texts, and each co-author, in their order. An error only
+/// for lack of memory.
+pub(crate) fn submission(
+    alloc: Global,
+    maker: UserNo,
+    paper: PaperNo,
+    title: Text,
+    abstract_: Text,
+    coauthors: &Coauthors,
+) -> Result<Vec<Stamped>, AllocError>
+    ensures { IfOk result (λ group. group.items
+        ≡ grouped maker (Submitted paper title abstract_ ∷ map (λ user. Coauthor paper user) coauthors.now)) }
+{
+    let first = Entry::Submitted {
+        paper,
+        title,
+        abstract_,
+    };
+    let mut group = single(alloc, maker, first)?;
+    for user in coauthors.as_slice() {
+        push_entry(&mut group, maker, Entry::Coauthor { paper, user: *user })?;
+    }
     Ok(group)
 }

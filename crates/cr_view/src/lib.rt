@@ -2,7 +2,9 @@
 //! answered, and what an accepted command adds. Every look-up is in the tables; no view is made.
 #![tactic(auto)]
 
+mod coauthors;
 mod commands;
+mod content;
 mod draw;
 mod group;
 mod live;

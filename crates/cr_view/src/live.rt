@@ -70,8 +70,8 @@ impl Live {
         self.ties.room(group)
     }
 
-    /// One more entry, for which there is room. It is taken whole, since the papers keep the texts of
-    /// a submission; takes no memory.
+    /// One more entry, for which there is room. It is taken whole, since the papers keep its texts and
+    /// its content; takes no memory.
     pub fn apply(&mut self, stamped: Stamped)
         requires room { 0 < self.old.room }
         requires fits { Fits self.old.tables stamped }

@@ -21,6 +21,7 @@ impl Live {
         let papers = papers_of(alloc, self.ties.authored(user))?;
         let conflicts = self.others(alloc, user, self.ties.conflicting(user))?;
         Ok(Me {
+            bytes: self.papers.bytes_of_user(user),
             conflicts,
             name: self.own_name(user),
             papers,

@@ -1,10 +1,12 @@
 //! Which keys of a paper's page a caller is told, by her standing at the paper.
 ghost use Rattle.std.specs.Prelude.{◌≡◌, IfOk, Some};
 ghost use Rattle.std.specs.Option.{option_copied};
-ghost use Rattle.cr_base.specs.Page.{gets_title, gets_abstract, gets_conflict, gets_conflicts, gets_declared, bare_keys, where_told};
+ghost use Rattle.cr_base.specs.Lists.{listed};
+ghost use Rattle.cr_base.specs.Page.{gets_title, gets_abstract, gets_conflict, gets_conflicts, gets_declared, gets_versions, gets_withdrawn};
+ghost use Rattle.cr_base.specs.Page.{bare_keys, where_told};
 
-use cr_base::{BareKeys, Phase, Standing, Text};
-use std::alloc::AllocError;
+use cr_base::{BareKeys, Phase, Standing, Text, Versions};
+use std::alloc::{AllocError, Global};
 
 /// Whether she is told the title: authors; members from bidding on.
 pub(crate) fn gets_title(by: &Standing) -> bool
@@ -53,6 +55,31 @@ pub(crate) fn gets_declared(by: &Standing) -> bool
     by.author
 }
 
+/// Whether she is told the versions: authors; from bidding on members who aren't in conflict.
+pub(crate) fn gets_versions(by: &Standing) -> bool
+    ensures { result ≡ gets_versions by.now }
+{
+    by.author || (by.is_clear_member() && by.phase.is_from(Phase::Bidding))
+}
+
+/// Whether she is told if the paper is withdrawn: authors; members from bidding on.
+fn gets_withdrawn(by: &Standing) -> bool
+    ensures { result ≡ gets_withdrawn by.now }
+{
+    by.author || (by.role.is_member() && by.phase.is_from(Phase::Bidding))
+}
+
+/// Whether the paper is withdrawn, where she is told that.
+pub(crate) fn withdrawn_told(by: &Standing, withdrawn: bool) -> Option<bool>
+    ensures { result ≡ where_told (gets_withdrawn by.now) (Some withdrawn) }
+{
+    if gets_withdrawn(by) {
+        Some(withdrawn)
+    } else {
+        None
+    }
+}
+
 /// Whether she is told who reviews: from bidding on chairs who aren't in conflict, from discussion on
 /// such members; from notification on authors, in the open mode.
 fn gets_reviewers(by: &Standing) -> bool
@@ -78,8 +105,6 @@ pub(crate) fn bare_keys(by: &Standing) -> BareKeys
         decision: (clear_member && discussion) || (by.author && notification),
         reviewers: gets_reviewers(by),
         tags: clear_member && bidding,
-        versions: by.author || (clear_member && bidding),
-        withdrawn: by.author || (by.role.is_member() && bidding),
     }
 }
 
@@ -94,4 +119,15 @@ pub(crate) fn shared_where(told: bool, text: Option<&Text>) -> Result<Option<Tex
         Some(text) => Ok(Some(text.copy()?)),
         None => Ok(None),
     }
+}
+
+/// The last version alone, and none where there is none; an error only for lack of memory.
+pub(crate) fn last_alone(alloc: Global, last: Option<u64>) -> Result<Versions, AllocError>
+    ensures { IfOk result (λ versions. versions ≡ listed last) }
+{
+    let mut numbers = Vec::new(alloc);
+    if let Some(version) = last {
+        numbers.push(version)?;
+    }
+    Ok(Versions::from_vec(numbers))
 }

@@ -4,22 +4,22 @@ ghost use Rattle.cr_base.specs.Accounts.{lines_of};
 ghost use Rattle.cr_base.specs.Answering.{query_checks, answer_by_role};
 ghost use Rattle.cr_base.specs.Checks.{judged};
 ghost use Rattle.cr_base.specs.Lists.{listed};
-ghost use Rattle.cr_base.specs.Page.{where_told};
-ghost use Rattle.cr_base.specs.Sources.{facts_of_tables, has_paper};
+ghost use Rattle.cr_base.specs.Page.{gets_versions, where_told};
+ghost use Rattle.cr_base.specs.Sources.{facts_of_tables, shown_in_tables, has_paper};
 ghost use Rattle.cr_base.specs.declared.command.Query.TheVariants as queries;
 ghost use Rattle.cr_view.specs.Callers.{HasAsker};
-ghost use Rattle.cr_view.specs.Replies.{AnswersAsDue, ShowsAsDue, conference_at, names_of, page_at, page_due, reader_at};
+ghost use Rattle.cr_view.specs.Replies.{AnswersAsDue, ShowsAsDue, conference_at, names_of, page_at, page_due, reader_at, versions_at};
 
 use crate::commands::maker;
 use crate::live::Live;
 use crate::page::{
     bare_keys, conflict_told, gets_abstract, gets_conflicts, gets_declared, gets_title,
-    shared_where,
+    gets_versions, last_alone, shared_where, withdrawn_told,
 };
 use cr_anonymity::shows_author;
 use cr_base::{
     AccountLines, Conference, Names, Page, PaperNo, Query, Reply, Rule, Short, Standing, Tie,
-    UserNo,
+    UserNo, Versions,
 };
 use std::alloc::{AllocError, Global};
 
@@ -27,9 +27,10 @@ use std::alloc::{AllocError, Global};
 impl Live {
     /// Whether a user, or nobody, may ask this, or the first broken rule of its kind: of a page
     /// `NoPaper` where there is no such paper, else `NotMember` where she is neither a member of the
-    /// committee nor an author of the paper. Takes no memory; a few reads by number.
+    /// committee nor an author of the paper; of a content as `content_for` tells it. Takes no memory; a
+    /// few reads by number, of a content one look-up besides.
     pub fn may(&self, user: &Option<UserNo>, query: &Query) -> Result<(), Rule>
-        ensures { result ≡ judged (query_checks (facts_of_tables self.now.tables user.now) query.now) tt }
+        ensures { result ≡ judged (query_checks (facts_of_tables self.now.tables user.now) (shown_in_tables self.now.tables) query.now) tt }
     {
         match query {
             Query::Me | Query::Accounts | Query::Phase => Ok(()),
@@ -37,6 +38,8 @@ impl Live {
                 Ok(_) => Ok(()),
                 Err(rule) => Err(rule),
             },
+            Query::Content { paper } => self.may_read(user, paper, None),
+            Query::Version { paper, version } => self.may_read(user, paper, Some(*version)),
         }
     }
 
@@ -90,8 +93,9 @@ impl Live {
     /// What the caller's query is answered, or the first broken rule of its kind; an error for want of
     /// memory only where no rule is broken, and never where the state of the conference is asked for.
     /// There is a caller where the query is about herself. All accounts cost a walk over them; a page a few
-    /// look-ups and one more for each name that is told, whatever the length of the texts; what she is told
-    /// of herself a walk over her own papers and conflicts.
+    /// look-ups and one more for each name that is told, whatever the length of the texts, and a step for
+    /// each version that is told; what she is told of herself a walk over her own papers and conflicts; a
+    /// content one look-up, whatever its length.
     pub fn answer(
         &self,
         alloc: Global,
@@ -110,6 +114,8 @@ impl Live {
                 Ok(page) => Ok(Reply::Page(page)),
                 Err(error) => Err(error),
             },
+            Query::Content { paper } => self.content_reply(caller, paper, None),
+            Query::Version { paper, version } => self.content_reply(caller, paper, Some(*version)),
         }
     }
 
@@ -162,6 +168,7 @@ impl Live {
         let authors = self.names_where(alloc, shows_author(by, false), self.ties.authors(paper))?;
         let conflicts = self.names_where(alloc, gets_conflicts(by), self.ties.conflicts(paper))?;
         let declared = self.names_where(alloc, gets_declared(by), self.ties.declared(paper))?;
+        let versions = self.versions_told(alloc, by, paper)?;
         Ok(Page {
             paper,
             abstract_,
@@ -170,8 +177,28 @@ impl Live {
             conflicts,
             declared,
             title,
+            versions,
+            withdrawn: withdrawn_told(by, self.papers.is_withdrawn(paper)),
             bare: bare_keys(by),
         })
+    }
+
+    /// The versions that she is told who stands so to the paper: all to authors, the last alone to others.
+    fn versions_told(
+        &self,
+        alloc: Global,
+        by: &Standing,
+        paper: PaperNo,
+    ) -> Result<Option<Versions>, AllocError>
+        ensures { IfOk result (λ versions. versions ≡ where_told (gets_versions by.now) (Some (versions_at self.now.tables by.now.author paper))) }
+    {
+        if !gets_versions(by) {
+            return Ok(None);
+        }
+        if by.author {
+            return Ok(Some(self.papers.versions(alloc, paper)?));
+        }
+        Ok(Some(last_alone(alloc, self.papers.last_version(paper))?))
     }
 }
 

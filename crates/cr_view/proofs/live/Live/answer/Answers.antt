@@ -22,3 +22,9 @@ returns-in-Err-clause-answered c =
     let t = c.args.self.now.tables in
     let u = c.args.caller.now in
     subst (λ (q : Query). AnswersAsDue (Err c.in-Err.error) (answer_by_role t u q)) (sym c.in-Page.is) (page-answered t u c.in-Page.paper (Err c.in-Err.error) c.in-Err.ensures)
+
+pub returns-in-Content-clause-answered : goal.returns-in-Content-clause-answered
+returns-in-Content-clause-answered c = subst (λ (q : Query). AnswersAsDue c.content_reply.result (answer_by_role c.args.self.now.tables c.args.caller.now q)) (sym c.in-Content.is) c.content_reply.ensures
+
+pub returns-in-Version-clause-answered : goal.returns-in-Version-clause-answered
+returns-in-Version-clause-answered c = subst (λ (q : Query). AnswersAsDue c.content_reply-in-Version.result (answer_by_role c.args.self.now.tables c.args.caller.now q)) (sym c.in-Version.is) c.content_reply-in-Version.ensures

@@ -1,10 +1,11 @@
-use Rattle.std.proofs.Common.{◌∙◌, sym, ap, Some}
+use Rattle.std.proofs.Common.{◌∙◌, sym, ap, subst, Some}
 use Rattle.cr_base.specs.declared.command.Command.TheVariants as commands
 use Rattle.cr_base.specs.Judging.{judge_by_role}
 use Rattle.cr_base.proofs.AccountLaws.{judge_by_role-register}
+use Rattle.cr_view.specs.Callers.{HasFewAuthors}
 use Rattle.cr_view.proofs.FitLaws.{draw-fits}
-use Rattle.cr_view.proofs.JudgeLaws.{along, judge-submit}
-use Rattle.cr_view.proofs.TargetLaws.{judge-name, judge-conflict}
+use Rattle.cr_view.proofs.JudgeLaws.{along}
+use Rattle.cr_view.proofs.TargetLaws.{judge-submit, judge-name, judge-conflict}
 use Rattle.cr_view.proofs.live.Live.judge.Goals as goal
 
 pub returns-in-Register-clause-drawn : goal.returns-in-Register-clause-drawn
@@ -23,11 +24,40 @@ returns-in-SetPhase-clause-drawn c = along c.args.self.now.tables c.args.caller.
 pub returns-in-SetPhase-clause-fits : goal.returns-in-SetPhase-clause-fits
 returns-in-SetPhase-clause-fits c = draw-fits c.args.self.now.tables c.law_within.ensures c.maker.result (commands.SetPhase c.in-SetPhase.phase) c.judge_phase.result c.judge_phase.ensures
 
+pub judge_submission-requires : goal.judge_submission-requires
+judge_submission-requires c = subst HasFewAuthors c.in-Submit.is c.requires.few
+
 pub returns-in-Submit-clause-drawn : goal.returns-in-Submit-clause-drawn
-returns-in-Submit-clause-drawn c = along c.args.self.now.tables c.args.caller.now (Some c.maker-in-Submit.result) c.args.command (commands.Submit c.in-Submit.title c.in-Submit.abstract_) _ c.maker-in-Submit.ensures c.in-Submit.is (c.judge_submission.ensures ∙ sym (judge-submit c.args.self.now.tables c.maker-in-Submit.result c.in-Submit.title c.in-Submit.abstract_))
+returns-in-Submit-clause-drawn c =
+    let t = c.args.self.now.tables in
+    let command = commands.Submit c.in-Submit.title c.in-Submit.abstract_ c.in-Submit.authors in
+    along t c.args.caller.now (Some c.maker-in-Submit.result) c.args.command command _ c.maker-in-Submit.ensures c.in-Submit.is
+    (c.judge_submission.ensures ∙ sym (judge-submit t c.maker-in-Submit.result c.in-Submit.title c.in-Submit.abstract_ c.in-Submit.authors))
 
 pub returns-in-Submit-clause-fits : goal.returns-in-Submit-clause-fits
-returns-in-Submit-clause-fits c = draw-fits c.args.self.now.tables c.law_within.ensures c.maker-in-Submit.result (commands.Submit c.in-Submit.title c.in-Submit.abstract_) c.judge_submission.result (c.judge_submission.ensures ∙ sym (judge-submit c.args.self.now.tables c.maker-in-Submit.result c.in-Submit.title c.in-Submit.abstract_))
+returns-in-Submit-clause-fits c =
+    let t = c.args.self.now.tables in
+    let command = commands.Submit c.in-Submit.title c.in-Submit.abstract_ c.in-Submit.authors in
+    draw-fits t c.law_within.ensures c.maker-in-Submit.result command c.judge_submission.result
+    (c.judge_submission.ensures ∙ sym (judge-submit t c.maker-in-Submit.result c.in-Submit.title c.in-Submit.abstract_ c.in-Submit.authors))
+
+pub returns-in-Revise-clause-drawn : goal.returns-in-Revise-clause-drawn
+returns-in-Revise-clause-drawn c = along c.args.self.now.tables c.args.caller.now (Some c.maker-in-Revise.result) c.args.command (commands.Revise c.in-Revise.paper c.in-Revise.title c.in-Revise.abstract_) _ c.maker-in-Revise.ensures c.in-Revise.is c.judge_revision.ensures
+
+pub returns-in-Revise-clause-fits : goal.returns-in-Revise-clause-fits
+returns-in-Revise-clause-fits c = draw-fits c.args.self.now.tables c.law_within.ensures c.maker-in-Revise.result (commands.Revise c.in-Revise.paper c.in-Revise.title c.in-Revise.abstract_) c.judge_revision.result c.judge_revision.ensures
+
+pub returns-in-Upload-clause-drawn : goal.returns-in-Upload-clause-drawn
+returns-in-Upload-clause-drawn c = along c.args.self.now.tables c.args.caller.now (Some c.maker-in-Upload.result) c.args.command (commands.Upload c.in-Upload.paper c.in-Upload.content) _ c.maker-in-Upload.ensures c.in-Upload.is c.judge_upload.ensures
+
+pub returns-in-Upload-clause-fits : goal.returns-in-Upload-clause-fits
+returns-in-Upload-clause-fits c = draw-fits c.args.self.now.tables c.law_within.ensures c.maker-in-Upload.result (commands.Upload c.in-Upload.paper c.in-Upload.content) c.judge_upload.result c.judge_upload.ensures
+
+pub returns-in-Withdraw-clause-drawn : goal.returns-in-Withdraw-clause-drawn
+returns-in-Withdraw-clause-drawn c = along c.args.self.now.tables c.args.caller.now (Some c.maker-in-Withdraw.result) c.args.command (commands.Withdraw c.in-Withdraw.paper) _ c.maker-in-Withdraw.ensures c.in-Withdraw.is c.judge_withdrawal.ensures
+
+pub returns-in-Withdraw-clause-fits : goal.returns-in-Withdraw-clause-fits
+returns-in-Withdraw-clause-fits c = draw-fits c.args.self.now.tables c.law_within.ensures c.maker-in-Withdraw.result (commands.Withdraw c.in-Withdraw.paper) c.judge_withdrawal.result c.judge_withdrawal.ensures
 
 pub returns-in-Name-clause-drawn : goal.returns-in-Name-clause-drawn
 returns-in-Name-clause-drawn c = along c.args.self.now.tables c.args.caller.now (Some c.maker-in-Name.result) c.args.command (commands.Name c.in-Name.user c.in-Name.role) _ c.maker-in-Name.ensures c.in-Name.is (c.judge_naming.ensures ∙ sym (judge-name c.args.self.now.tables c.maker-in-Name.result c.in-Name.user c.in-Name.role))

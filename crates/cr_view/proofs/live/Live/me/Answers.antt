@@ -3,6 +3,7 @@ use Rattle.std.specs.Prelude.{filter, not}
 use Rattle.cr_base.specs.Accounts.{role_in}
 use Rattle.cr_base.specs.Lists.{IsRising}
 use Rattle.cr_base.specs.Pairs.{papers_tied_to}
+use Rattle.cr_base.specs.Papers.{own_bytes}
 use Rattle.cr_base.specs.Ties.{is_author_in}
 use Rattle.cr_view.specs.Seen.{SeenTables}
 use Rattle.cr_view.proofs.MeLaws.{own-papers, own-conflicts, me-told}
@@ -17,4 +18,5 @@ returns c =
     let declared = c.conflicting.ensures.papers ∙ ap (λ (v : SeenTables). papers_tied_to user v.tables.ties.conflicts) c.self.view_is in
     let others = c.in_ok-conflicts.ensures ∙ ap (λ (ns : List ℕ). filter (λ p. not (is_author_in t.ties (Some user) p)) ns) declared ∙ own-conflicts t user within (subst (λ (v : SeenTables). IsRising (papers_tied_to user v.tables.ties.conflicts)) c.self.view_is c.conflicting.ensures.rising) in
     let role = c.standing_for.ensures ∙ ap (λ (v : SeenTables). role_in v.tables.accounts (Some user)) c.self.view_is in
-    me-told t user c.in_ok-papers.papers c.in_ok-conflicts.conflicts c.own_name.result c.standing_for.result hers others c.own_name.ensures role
+    let bytes = c.bytes_of_user.ensures ∙ ap (λ (v : SeenTables). own_bytes v.tables.papers (Some user)) c.self.view_is in
+    me-told t user c.bytes_of_user.result c.in_ok-papers.papers c.in_ok-conflicts.conflicts c.own_name.result c.standing_for.result bytes hers others c.own_name.ensures role

@@ -16,7 +16,8 @@ returns-in-Err c =
     let u = c.args.user.now in
     let p = c.args.paper.now in
     let facts = facts_of_tables t u in
-    sym (refused (query_checks facts (queries.Page p)) (standing_at t u p) (page_by facts (shown_in_tables t) (unwrap_or p 0)) c.in-Err.rule c.in-Err.ensures)
+    let shown = shown_in_tables t in
+    sym (refused (query_checks facts shown (queries.Page p)) (standing_at t u p) (page_by facts (shown_in_tables t) (unwrap_or p 0)) c.in-Err.rule c.in-Err.ensures)
 
 pub returns : goal.returns
 returns c =
@@ -24,7 +25,8 @@ returns c =
     let u = c.args.user.now in
     let p = c.args.paper.now in
     let facts = facts_of_tables t u in
-    let checks = query_checks facts (queries.Page p) in
+    let shown = shown_in_tables t in
+    let checks = query_checks facts shown (queries.Page p) in
     let by = reader-is checks (standing_at t u p) c.in-Ok.by c.in-Ok.ensures in
     sym
     (ap (λ (page : Page). Ok page)

@@ -1,0 +1,14 @@
+use Rattle.std.proofs.Common.{ℕ, ◌≡◌, ◌≤◌, ◌∷◌, ◌++◌, [], drop, length, is_none}
+use Rattle.std.specs.List.{flat_map, list_any}
+use Rattle.cr_base.specs.Drawn.{besides}
+use Rattle.cr_base.specs.Lists.{listed}
+use Rattle.cr_view.specs.Targets.{users_at}
+use Rattle.cr_view.proofs.live.Live.coauthors.Given as goal
+
+abbrev pub invariant-names : goal.invariant-names
+invariant-names l = record {
+  rest : l.coauthors ++ besides (l.maker ∷ l.coauthors) (flat_map listed (users_at l.self.tables.accounts (drop l.name-index l.names)))
+      ≡ besides (l.maker ∷ []) (flat_map listed (users_at l.self.tables.accounts l.names));
+  lacks : list_any is_none (users_at l.self.tables.accounts (drop l.name-index l.names)) ≡ list_any is_none (users_at l.self.tables.accounts l.names);
+  few : length l.coauthors ≤ l.name-index;
+}

@@ -1,0 +1,132 @@
+//! What is answered of a paper's content: the last version to members, any to authors.
+ghost use Rattle.std.specs.Prelude.{◌≡◌, IfOk, IfErr, Ok, Err, Some, true};
+ghost use Rattle.std.specs.Option.{option_copied};
+ghost use Rattle.cr_base.specs.Answering.{content_asked};
+ghost use Rattle.cr_base.specs.Checks.{judged};
+ghost use Rattle.cr_base.specs.Sources.{facts_of_tables, shown_in_tables};
+ghost use Rattle.cr_view.specs.Replies.{AnswersAsDue, ShowsAsDue, content_at, content_due, content_reader_at, content_reply_at};
+
+use crate::live::Live;
+use crate::queries::AnswerError;
+use cr_base::{Blob, PaperNo, Phase, Reply, Rule, Standing, UserNo};
+
+impl Live {
+    /// The content of a version of a paper, or of its last one, as a user, or nobody, may read it, or the
+    /// first broken rule: `NoPaper` where there is no such paper; where she is no author of it, `NotMember`,
+    /// else `Conflict` where she is in conflict with it, else `WrongPhase` before the bidding; else
+    /// `NoContent` where the paper has no such version, or where she is no author of it and that isn't the
+    /// last one. An error for lack of memory only where no rule is broken. The bytes are shared: the cost
+    /// is a few reads by number and one look-up, whatever their number.
+    pub fn content_for(
+        &self,
+        user: &Option<UserNo>,
+        paper: &Option<PaperNo>,
+        version: Option<u64>,
+    ) -> Result<Blob, AnswerError>
+        ensures { ShowsAsDue result (content_due self.now.tables user.now paper.now version) }
+    {
+        match self.content_told(user, paper, version) {
+            Ok(content) => Ok(content.copy()?),
+            Err(rule) => Err(AnswerError::Rule(rule)),
+        }
+    }
+
+    /// The same as a reply.
+    pub(crate) fn content_reply(
+        &self,
+        user: &Option<UserNo>,
+        paper: &Option<PaperNo>,
+        version: Option<u64>,
+    ) -> Result<Reply, AnswerError>
+        ensures { AnswersAsDue result (content_reply_at self.now.tables user.now paper.now version) }
+    {
+        match self.content_for(user, paper, version) {
+            Ok(content) => Ok(Reply::Content(content)),
+            Err(error) => Err(error),
+        }
+    }
+
+    /// Whether she may read it, or the first broken rule; takes no memory.
+    pub(crate) fn may_read(
+        &self,
+        user: &Option<UserNo>,
+        paper: &Option<PaperNo>,
+        version: Option<u64>,
+    ) -> Result<(), Rule>
+        ensures { result ≡ judged (content_asked (facts_of_tables self.now.tables user.now) (shown_in_tables self.now.tables) paper.now version) tt }
+    {
+        match self.content_told(user, paper, version) {
+            Ok(_) => Ok(()),
+            Err(rule) => Err(rule),
+        }
+    }
+
+    /// The content, lent, or the first broken rule.
+    fn content_told(
+        &self,
+        user: &Option<UserNo>,
+        paper: &Option<PaperNo>,
+        version: Option<u64>,
+    ) -> Result<&Blob, Rule>
+        ensures content { IfOk result (λ content. content_due self.now.tables user.now paper.now version ≡ Ok content.now) }
+        ensures rule { IfErr result (λ rule. content_due self.now.tables user.now paper.now version ≡ Err rule) }
+    {
+        let by = match self.content_reader(user, paper) {
+            Ok(by) => by,
+            Err(rule) => return Err(rule),
+        };
+        let Some(number) = paper else {
+            return Err(Rule::NoPaper);
+        };
+        match self.content_of(&by, *number, version) {
+            Some(content) => Ok(content),
+            None => Err(Rule::NoContent),
+        }
+    }
+
+    /// How she stands to the paper of which she may read some content, if there is any, or the first broken
+    /// rule.
+    fn content_reader(
+        &self,
+        user: &Option<UserNo>,
+        paper: &Option<PaperNo>,
+    ) -> Result<Standing, Rule>
+        ensures { result ≡ content_reader_at self.now.tables user.now paper.now }
+    {
+        if !self.has_paper(paper) {
+            return Err(Rule::NoPaper);
+        }
+        let by = self.standing(user, paper);
+        if by.author {
+            return Ok(by);
+        }
+        if !by.role.is_member() {
+            return Err(Rule::NotMember);
+        }
+        if by.conflicted {
+            return Err(Rule::Conflict);
+        }
+        if !by.phase.is_from(Phase::Bidding) {
+            return Err(Rule::WrongPhase);
+        }
+        Ok(by)
+    }
+
+    /// The content that she is told who stands so to the paper: of any version to authors, of the last
+    /// alone to others.
+    fn content_of(&self, by: &Standing, paper: PaperNo, version: Option<u64>) -> Option<&Blob>
+        ensures { option_copied result ≡ content_at self.now.tables by.now.author paper version }
+    {
+        let Some(version) = version else {
+            return self.papers.last_content(paper);
+        };
+        if by.author {
+            return self.papers.content(paper, version);
+        }
+        let last = self.papers.last_version(paper)?;
+        if last == version {
+            return self.papers.last_content(paper);
+        }
+        None
+    }
+}
