@@ -16,8 +16,6 @@ mod shape;
 mod spelling;
 mod standing;
 mod target;
-#[cfg(test)]
-mod tests;
 mod texts;
 mod told;
 mod words;
