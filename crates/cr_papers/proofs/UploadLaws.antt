@@ -3,7 +3,7 @@ use Rattle.std.proofs.Common.{ℕ, Bool, true, false, cond, ◌≡◌, ◌≢◌
 use Rattle.std.specs.Prelude.{find, unwrap_or, slice_set}
 use Rattle.std.specs.List.{slice_get}
 use Rattle.std.specs.Option.{option_or}
-use Rattle.std.proofs.lemmas.Bool.{and_parts}
+use Rattle.std.proofs.lemmas.Bool.{and_parts, eqb-true}
 use Rattle.std.proofs.lemmas.Bool.Decides.{nat_tests}
 use Rattle.std.proofs.lemmas.Grind.{flat_map-append}
 use Rattle.std.proofs.lemmas.List.{map-append}
@@ -17,9 +17,6 @@ use Rattle.cr_base.specs.Papers.{PaperUpload}
 use Rattle.cr_base.proofs.ListLaws.{numbered-push, numbers_from-push}
 use Rattle.cr_papers.specs.declared.uploads.VersionOf.{VersionOf}
 use Rattle.cr_papers.specs.Index.{uploads_to, numbers_to, version_of, is_same, upload_at, IsVersionIndex}
-
-same : (n m : ℕ) → eqb n m ≡ true → n ≡ m
-same n m is = grind (arith, nat_tests)
 
 equal : (n m : ℕ) → n ≡ m → eqb n m ≡ true
 equal n m is = grind (arith, nat_tests)
@@ -86,11 +83,11 @@ number_told us count n is h = by (last us) (eqb n count) refl (found_last us cou
 
     by : (o : Option Upload) (b : Bool) → eqb n count ≡ b → find_number count us ≡ o → ((v : Upload) → o ≡ Some v → v.version ≡ count)
         → find_number n (listed o) ≡ cond b (find_number n us) None
-    by None true e found at = sym (ap (λ (k : ℕ). find_number k us) (same n count e) ∙ found)
+    by None true e found at = sym (ap (λ (k : ℕ). find_number k us) (eqb-true n count e) ∙ found)
     by None false e found at = refl
     by (Some v) true e found at =
-        ap (λ b. cond b (Some v) None) (equal v.version n (at v refl ∙ sym (same n count e)))
-        ∙ sym (ap (λ (k : ℕ). find_number k us) (same n count e) ∙ found)
+        ap (λ b. cond b (Some v) None) (equal v.version n (at v refl ∙ sym (eqb-true n count e)))
+        ∙ sym (ap (λ (k : ℕ). find_number k us) (eqb-true n count e) ∙ found)
     by (Some v) false e found at = ap (λ b. cond b (Some v) None) (unequal v.version n count (at v refl) e)
 
 -- the numbers from 1 are those of as many elements
@@ -191,7 +188,7 @@ module _ (uploads : List PaperUpload) (counts : List ℕ) (old new : Places) (u 
       ∙ ap length (sym (uploads_to-push p uploads u))
     where
       by : (b : Bool) → eqb u.paper p ≡ b → cond b u.upload.version (unwrap_or (numbered counts p) 0) ≡ length (uploads_to p uploads) + length (given b u.upload)
-      by true is = next ∙ ap (λ q. length (uploads_to q uploads) + 1) (same u.paper p is)
+      by true is = next ∙ ap (λ q. length (uploads_to q uploads) + 1) (eqb-true u.paper p is)
       by false is = index.counted p ∙ nothing (length (uploads_to p uploads))
         where
           nothing : (n : ℕ) → n ≡ n + 0
@@ -202,7 +199,7 @@ module _ (uploads : List PaperUpload) (counts : List ℕ) (old new : Places) (u 
     where
       by : (b : Bool) → eqb u.paper p ≡ b → numbers_of (uploads_to p uploads ++ given b u.upload) ≡ numbers_from 1 (uploads_to p uploads ++ given b u.upload)
       by true is =
-          let count : u.upload.version ≡ 1 + length (uploads_to p uploads) = next ∙ ap (λ q. length (uploads_to q uploads) + 1) (same u.paper p is) ∙ turned (length (uploads_to p uploads)) in
+          let count : u.upload.version ≡ 1 + length (uploads_to p uploads) = next ∙ ap (λ q. length (uploads_to q uploads) + 1) (eqb-true u.paper p is) ∙ turned (length (uploads_to p uploads)) in
           map-append (λ (v : Upload). v.version) (uploads_to p uploads) (u.upload ∷ [])
           ∙ ap (λ ns. ns ++ u.upload.version ∷ []) (index.versions p)
           ∙ sym (numbers_from-push 1 u.upload.version (uploads_to p uploads) u.upload count)
@@ -215,8 +212,8 @@ module _ (uploads : List PaperUpload) (counts : List ℕ) (old new : Places) (u 
   fresh : (k : VersionOf) → is_same (version_of u) k ≡ true → find (λ (v : PaperUpload). is_same (version_of v) k) uploads ≡ None
   fresh k is =
       let parts = and_parts (eqb u.paper k.paper) (eqb u.upload.version k.version) is in
-      let paper : u.paper ≡ k.paper = same u.paper k.paper parts.0 in
-      let version : u.upload.version ≡ k.version = same u.upload.version k.version parts.1 in
+      let paper : u.paper ≡ k.paper = eqb-true u.paper k.paper parts.0 in
+      let version : u.upload.version ≡ k.version = eqb-true u.upload.version k.version parts.1 in
       let before : u.upload.version ≡ length (uploads_to k.paper uploads) + 1 = next ∙ ap (λ q. length (uploads_to q uploads) + 1) paper in
       none_behind (λ (v : PaperUpload). v.upload) _
       (found-to k uploads ∙ fresh_number 1 k.version (uploads_to k.paper uploads) (index.versions k.paper) (omega (arith, version, before)))
