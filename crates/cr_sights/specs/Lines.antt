@@ -1,5 +1,5 @@
 -- The lines of a view: each sighting is one compact JSON object and a line feed.
-use Rattle.std.specs.Prelude.{ℕ, List, ◌++◌, Option, Some, codes, decimal}
+use Rattle.std.specs.Prelude.{ℕ, List, ◌++◌, length, Option, Some, codes, decimal}
 use Rattle.std.specs.List.{flat_map}
 use Rattle.std.specs.Option.{option_map}
 use Rattle.hex.specs.Hex.{encode_lower}
@@ -14,7 +14,7 @@ use Rattle.cr_policy.specs.Sighting.{Sighting}
 use Rattle.cr_policy.specs.View.{View}
 use Rattle.cr_print.specs.Json.{Member, member_of, object_text, truth_text}
 
--- the value of a member: a text, a digest in lower-case hexadecimal digits, a word, a number
+-- the value of a member: a text, a digest in lower-case hexadecimal digits, a word, a number, how many bytes a content has
 abbrev pub bytes_value : Option (List ℕ) → Option (List ℕ)
 bytes_value bytes = option_map quoted bytes
 
@@ -33,11 +33,15 @@ role_value role = option_map (λ r. quoted (role_name r)) role
 abbrev pub number_value : Option ℕ → Option (List ℕ)
 number_value number = option_map decimal number
 
+abbrev pub length_value : Option (List ℕ) → Option (List ℕ)
+length_value content = option_map (λ bytes. decimal (length bytes)) content
+
 -- the parts that are shown, and the mark `mine` on the reader's own, with their keys in the order of their bytes
 unfoldable pub first_members : Sighting → List Member
 first_members s =
     member_of (codes "abstract") (bytes_value s.abstract)
     ++ member_of (codes "by") (number_value s.by)
+    ++ member_of (codes "bytes") (length_value s.content)
     ++ member_of (codes "digest") (digest_value s.digest)
     ++ member_of (codes "kind") (Some (quoted (kind_name s.kind)))
 
@@ -55,6 +59,7 @@ last_members s =
     ++ member_of (codes "role") (role_value s.role)
     ++ member_of (codes "title") (bytes_value s.title)
     ++ member_of (codes "user") (number_value s.user)
+    ++ member_of (codes "version") (number_value s.version)
 
 abbrev pub sighting_members : Sighting → List Member
 sighting_members s = first_members s ++ middle_members s ++ last_members s

@@ -5,7 +5,10 @@ ghost use Rattle.cr_print.specs.Json.{AddsMembers};
 ghost use Rattle.cr_print.specs.Put.{Appends};
 ghost use Rattle.cr_sights.specs.Lines.{first_members, last_members, line_text, lines_text, middle_members};
 
-use crate::members::{add_bytes, add_digest, add_mode, add_paper, add_phase, add_role, add_user};
+use crate::members::{
+    add_bytes, add_digest, add_length, add_mode, add_paper, add_phase, add_role, add_user,
+    add_version,
+};
 use crate::sighting::Sighting;
 use cr_base::{Short, Text};
 use cr_print::Object;
@@ -17,6 +20,7 @@ fn add_first(object: &mut Object, into: &mut Vec<u8>, sighting: &Sighting) -> Re
 {
     add_bytes(object, into, "abstract", text_bytes(&sighting.abstract_))?;
     add_user(object, into, "by", &sighting.by)?;
+    add_length(object, into, "bytes", sighting.content)?;
     add_digest(object, into, "digest", sighting.digest)?;
     object.string(into, "kind", sighting.kind.name().as_bytes())?;
     Ok(())
@@ -46,6 +50,7 @@ fn add_last(object: &mut Object, into: &mut Vec<u8>, sighting: &Sighting) -> Res
     add_role(object, into, "role", sighting.role)?;
     add_bytes(object, into, "title", text_bytes(&sighting.title))?;
     add_user(object, into, "user", &sighting.user)?;
+    add_version(object, into, "version", sighting.version)?;
     Ok(())
 }
 

@@ -2,9 +2,9 @@
 ghost use Rattle.std.specs.Prelude.{◌≡◌, option_map};
 ghost use Rattle.hex.specs.Hex.{encode_lower};
 ghost use Rattle.cr_print.specs.Json.{AddsMembers, member_of};
-ghost use Rattle.cr_sights.specs.Lines.{bytes_value, digest_value, mode_value, number_value, phase_value, role_value};
+ghost use Rattle.cr_sights.specs.Lines.{bytes_value, digest_value, length_value, mode_value, number_value, phase_value, role_value};
 
-use cr_base::{Digest, Mode, PaperNo, Phase, Role, UserNo};
+use cr_base::{Blob, Digest, Mode, PaperNo, Phase, Role, UserNo};
 use cr_print::Object;
 use std::alloc::AllocError;
 
@@ -34,6 +34,37 @@ pub(crate) fn add_paper(
 {
     match paper {
         Some(paper) => object.number(into, key, paper.number()),
+        None => Ok(()),
+    }
+}
+
+/// Writes the number of a version.
+pub(crate) fn add_version(
+    object: &mut Object,
+    into: &mut Vec<u8>,
+    key: &str,
+    version: Option<u64>,
+) -> Result<(), AllocError>
+    ensures { AddsMembers result into.old into.new object.old.is_first object.new.is_first (member_of key.now (number_value version)) }
+{
+    match version {
+        Some(version) => object.number(into, key, version),
+        None => Ok(()),
+    }
+}
+
+/// Writes the length of a content, of which nothing is copied.
+pub(crate) fn add_length(
+    object: &mut Object,
+    into: &mut Vec<u8>,
+    key: &str,
+    content: Option<&Blob>,
+) -> Result<(), AllocError>
+    ensures { AddsMembers result into.old into.new object.old.is_first object.new.is_first
+        (member_of key.now (length_value (option_map (λ c. c.now) content.entry))) }
+{
+    match content {
+        Some(content) => object.number(into, key, content.as_slice().len() as u64),
         None => Ok(()),
     }
 }

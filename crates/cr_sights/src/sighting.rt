@@ -5,14 +5,15 @@ ghost use Rattle.cr_base.specs.Page.{is_clear_member, is_clear_chair};
 ghost use Rattle.cr_base.specs.Phases.{is_from};
 ghost use Rattle.cr_base.specs.Words.{is_anonymous, is_member};
 ghost use Rattle.cr_base.specs.declared.words.Phase.TheVariants as phases;
-ghost use Rattle.cr_base.specs.declared.entry.Entry.TheVariants.{Submitted, Conflict};
-ghost use Rattle.cr_policy.specs.Triggers.{Around, authors, none_alike, standing_to, user_named};
+ghost use Rattle.cr_base.specs.declared.entry.Entry.TheVariants.{Submitted, Coauthor, Revised, Uploaded, Withdrawn, Conflict};
+ghost use Rattle.cr_policy.specs.Triggers.{Around, authors, members, none_alike, standing_to, unless_anonymous, user_named};
 ghost use Rattle.cr_policy.specs.Sighting.{blank as blank_sighting};
 ghost use Rattle.cr_policy.specs.View.{sight as sight_at};
 ghost use Rattle.cr_sights.specs.Readers.{reader_in};
 
 use cr_base::{
-    Digest, Entry, EntryKind, Mode, PaperNo, Phase, Role, Short, Stamped, Standing, Text, UserNo,
+    Blob, Digest, Entry, EntryKind, Mode, PaperNo, Phase, Role, Short, Stamped, Standing, Text,
+    UserNo,
 };
 use cr_view::Live;
 use std::marker::Model;
@@ -29,7 +30,7 @@ pub struct Sighting<'a> {
     pub mine: bool,
     /// The paper of an entry that has one.
     pub paper: Option<PaperNo>,
-    /// The user who was registered, named, or declared in conflict.
+    /// The user who was registered, named, told as a co-author, or declared in conflict.
     pub user: Option<UserNo>,
     /// The name that was registered.
     pub name: Option<&'a Short>,
@@ -43,10 +44,14 @@ pub struct Sighting<'a> {
     pub mode: Option<Mode>,
     /// Who made a submission.
     pub by: Option<UserNo>,
-    /// The title of a submission.
+    /// The title of a submission or a revision.
     pub title: Option<&'a Text>,
-    /// The abstract of a submission.
+    /// The abstract of a submission or a revision.
     pub abstract_: Option<&'a Text>,
+    /// The number of the version that was uploaded.
+    pub version: Option<u64>,
+    /// The content that was uploaded.
+    pub content: Option<&'a Blob>,
     /// Whether a conflict was turned on, or off.
     pub on: Option<bool>,
 }
@@ -70,6 +75,8 @@ impl<'a> Model for Sighting<'a> {
       by = s.by;
       title = option_map (λ t. t.now) s.title;
       abstract = option_map (λ t. t.now) s.abstract_;
+      version = s.version;
+      content = option_map (λ t. t.now) s.content;
       on = s.on;
     } };
 }
@@ -91,6 +98,8 @@ fn blank<'a>(kind: EntryKind, mine: bool) -> Sighting<'a>
         by: None,
         title: None,
         abstract_: None,
+        version: None,
+        content: None,
         on: None,
     }
 }
@@ -111,14 +120,14 @@ fn shows_maker(by: &Standing) -> bool
     by.author || is_bidding(by) && handles
 }
 
-/// Whether she is shown the title of a submission.
+/// Whether she is shown the title of a submission or a revision.
 fn shows_title(by: &Standing, mine: bool, is_last: bool) -> bool
     ensures { result ≡ (by.now.author || ((is_last && is_member by.now.role && is_from phases.Bidding by.now.phase) || mine)) }
 {
     by.author || is_last && by.role.is_member() && is_bidding(by) || mine
 }
 
-/// Whether she is shown the abstract of a submission.
+/// Whether she is shown the abstract of a submission or a revision.
 fn shows_abstract(by: &Standing, mine: bool, is_last: bool) -> bool
     ensures { result ≡ (by.now.author || ((is_last && is_clear_member by.now && is_from phases.Bidding by.now.phase) || mine)) }
 {
@@ -130,6 +139,47 @@ fn shows_conflicts(by: &Standing) -> bool
     ensures { result ≡ (is_clear_chair by.now && is_from phases.Bidding by.now.phase) }
 {
     by.is_clear_chair() && is_bidding(by)
+}
+
+/// Whether she is told that a user is an author of a paper: its authors are, who made the entry, clear chairs from
+/// the bidding, and clear members too where the mode isn't anonymous.
+fn tells_coauthor(live: &Live, reader: UserNo, maker: UserNo, paper: PaperNo) -> bool
+    ensures { let r = reader_in live.now.tables (Some reader) in
+        result ≡ (authors r paper || ((is_clear_chair (standing_to r paper) && is_from phases.Bidding r.now)
+        || ((is_clear_member (standing_to r paper) && unless_anonymous r && is_from phases.Bidding r.now) || user_named r maker))) }
+{
+    let by = live.standing(&Some(reader), &Some(paper));
+    shows_maker(&by) || maker == reader
+}
+
+/// Whether she is told of a revision of a paper: its authors are, who made it, and of the last that gives the paper
+/// texts members from the bidding.
+fn tells_revision(live: &Live, reader: UserNo, maker: UserNo, is_last: bool, paper: PaperNo) -> bool
+    ensures { let r = reader_in live.now.tables (Some reader) in
+        result ≡ (authors r paper || ((is_last && members r && is_from phases.Bidding r.now)
+        || ((is_last && is_clear_member (standing_to r paper) && is_from phases.Bidding r.now) || user_named r maker))) }
+{
+    let by = live.standing(&Some(reader), &Some(paper));
+    shows_title(&by, maker == reader, is_last)
+}
+
+/// Whether she is told of an upload to a paper: its authors are, who made it, and of the last one clear members from
+/// the bidding.
+fn tells_upload(live: &Live, reader: UserNo, maker: UserNo, is_last: bool, paper: PaperNo) -> bool
+    ensures { let r = reader_in live.now.tables (Some reader) in
+        result ≡ (authors r paper || ((is_last && is_clear_member (standing_to r paper) && is_from phases.Bidding r.now) || user_named r maker)) }
+{
+    let by = live.standing(&Some(reader), &Some(paper));
+    by.author || is_last && by.is_clear_member() && is_bidding(&by) || maker == reader
+}
+
+/// Whether she is told that a paper is withdrawn: its authors are, who made the entry, and members from the bidding.
+fn tells_withdrawal(live: &Live, reader: UserNo, maker: UserNo, paper: PaperNo) -> bool
+    ensures { let r = reader_in live.now.tables (Some reader) in
+        result ≡ (authors r paper || ((members r && is_from phases.Bidding r.now) || user_named r maker)) }
+{
+    let by = live.standing(&Some(reader), &Some(paper));
+    by.author || by.role.is_member() && is_bidding(&by) || maker == reader
 }
 
 /// Whether she is told that a user is in conflict with a paper, or no longer: who made the entry is, the user
@@ -169,6 +219,97 @@ fn submission<'a>(
     }
 }
 
+/// What a co-author with these parts shows her: all of it, or nothing where she isn't told of it.
+fn coauthor<'a>(
+    live: &Live,
+    reader: UserNo,
+    stamped: &'a Stamped,
+    paper: PaperNo,
+    user: UserNo,
+) -> Option<Sighting<'a>>
+    requires { stamped.now.entry ≡ Coauthor paper user }
+    ensures { (at : Around) → listed result ≡ sight_at (reader_in live.now.tables (Some reader)) at stamped.now }
+{
+    if !tells_coauthor(live, reader, stamped.maker, paper) {
+        return None;
+    }
+    Some(Sighting {
+        paper: Some(paper),
+        user: Some(user),
+        ..blank(EntryKind::Coauthor, reader == stamped.maker)
+    })
+}
+
+/// What a revision with these parts shows her: its paper, its title and its abstract where she may know them, or
+/// nothing where she isn't told of it.
+fn revision<'a>(
+    live: &Live,
+    reader: UserNo,
+    stamped: &'a Stamped,
+    is_last: bool,
+    paper: PaperNo,
+    title: &'a Text,
+    abstract_: &'a Text,
+) -> Option<Sighting<'a>>
+    requires { stamped.now.entry ≡ Revised paper title.now abstract_.now }
+    ensures { (at : Around) → none_alike stamped.now.entry at.after ≡ is_last → listed result ≡ sight_at (reader_in live.now.tables (Some reader)) at stamped.now }
+{
+    if !tells_revision(live, reader, stamped.maker, is_last, paper) {
+        return None;
+    }
+    let mine = reader == stamped.maker;
+    let by = live.standing(&Some(reader), &Some(paper));
+    Some(Sighting {
+        paper: Some(paper),
+        title: shows_title(&by, mine, is_last).then_some(title),
+        abstract_: shows_abstract(&by, mine, is_last).then_some(abstract_),
+        ..blank(EntryKind::Revised, mine)
+    })
+}
+
+/// What an upload with these parts shows her: all of it, or nothing where she isn't told of it.
+fn upload<'a>(
+    live: &Live,
+    reader: UserNo,
+    stamped: &'a Stamped,
+    is_last: bool,
+    paper: PaperNo,
+    version: u64,
+    content: &'a Blob,
+) -> Option<Sighting<'a>>
+    requires { stamped.now.entry ≡ Uploaded paper version content.now }
+    ensures { (at : Around) → none_alike stamped.now.entry at.after ≡ is_last → listed result ≡ sight_at (reader_in live.now.tables (Some reader)) at stamped.now }
+{
+    if !tells_upload(live, reader, stamped.maker, is_last, paper) {
+        return None;
+    }
+    Some(Sighting {
+        paper: Some(paper),
+        version: Some(version),
+        content: Some(content),
+        ..blank(EntryKind::Uploaded, reader == stamped.maker)
+    })
+}
+
+/// What the withdrawal of this paper shows her: the paper, or nothing where she isn't told of it.
+fn withdrawal<'a>(
+    live: &Live,
+    reader: UserNo,
+    stamped: &'a Stamped,
+    paper: PaperNo,
+) -> Option<Sighting<'a>>
+    requires { stamped.now.entry ≡ Withdrawn paper }
+    ensures { (at : Around) → listed result ≡ sight_at (reader_in live.now.tables (Some reader)) at stamped.now }
+{
+    if !tells_withdrawal(live, reader, stamped.maker, paper) {
+        return None;
+    }
+    Some(Sighting {
+        paper: Some(paper),
+        ..blank(EntryKind::Withdrawn, reader == stamped.maker)
+    })
+}
+
 /// What a conflict with these parts shows her: all of it, or nothing where she isn't told of it.
 fn conflict<'a>(
     live: &Live,
@@ -193,7 +334,8 @@ fn conflict<'a>(
 }
 
 /// What an entry shows a user by the tables of the whole history, and none where it shows her nothing. `is_last`
-/// tells whether no later entry is of the same matter: gives its paper texts. A few look-ups; takes no memory.
+/// tells whether no later entry is of the same matter: gives its paper texts, or content. A few look-ups; takes no
+/// memory.
 pub fn sight<'a>(
     live: &Live,
     reader: UserNo,
@@ -229,6 +371,18 @@ pub fn sight<'a>(
             title,
             abstract_,
         } => Some(submission(live, reader, stamped, is_last, *paper, title, abstract_)),
+        Entry::Coauthor { paper, user } => coauthor(live, reader, stamped, *paper, *user),
+        Entry::Revised {
+            paper,
+            title,
+            abstract_,
+        } => revision(live, reader, stamped, is_last, *paper, title, abstract_),
+        Entry::Uploaded {
+            paper,
+            version,
+            content,
+        } => upload(live, reader, stamped, is_last, *paper, *version, content),
+        Entry::Withdrawn { paper } => withdrawal(live, reader, stamped, *paper),
         Entry::Conflict { paper, user, on } => conflict(live, reader, stamped, *paper, *user, *on),
     }
 }

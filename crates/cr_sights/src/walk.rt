@@ -7,7 +7,7 @@ ghost use Rattle.cr_sights.specs.Lines.{lines_text};
 ghost use Rattle.cr_sights.specs.Readers.{reader_in};
 ghost use Rattle.cr_sights.specs.Walks.{WritesView};
 
-use crate::last::LastTexts;
+use crate::last::LastPlaces;
 use crate::line::fill;
 use crate::sighting::{Sighting, sight};
 use cr_base::{Stamped, UserNo};
@@ -28,8 +28,8 @@ pub enum ViewError {
 /// an error some part of the lines was written. `WriteFault` comes only where the sink's count of faults rose, or
 /// stands at its last value; else the count is as it was, and `OutOfMemory` comes for lack of memory alone.
 ///
-/// Costs two walks over the history, with a few look-ups and one write an entry, 80 KB for the places of the papers'
-/// last texts, and a buffer for the longest line.
+/// Costs two walks over the history, with a few look-ups and one write an entry, 160 KB for the places where each paper
+/// was last given texts and content, and a buffer for the longest line: of a content its length alone is written.
 pub fn write_view<O: Sink>(
     alloc: Global,
     live: &Live,
@@ -40,7 +40,7 @@ pub fn write_view<O: Sink>(
     ensures { let outlet = outlet_of O.taken O.faults in
         WritesView result (lines_text (sights (reader_in live.now.tables (Some reader)) [] log.now)) (outlet sink.old) (outlet sink.new) }
 {
-    let Ok(last) = LastTexts::of(alloc, log) else {
+    let Ok(last) = LastPlaces::of(alloc, log) else {
         return Err(ViewError::OutOfMemory);
     };
     let mut line = Vec::new(alloc);
@@ -68,7 +68,7 @@ pub fn view_len(
 ) -> Result<u64, AllocError>
     ensures { IfOk result (λ n. n ≡ length (sights (reader_in live.now.tables (Some reader)) [] log.now)) }
 {
-    let last = LastTexts::of(alloc, log)?;
+    let last = LastPlaces::of(alloc, log)?;
     let mut count = 0;
     let mut at = 0;
     'sightings: while at < log.len() {
