@@ -12,7 +12,7 @@ use Rattle.std.specs.declared.hash.FoldHasher.{FoldHasher}
 use Rattle.std.specs.declared.hash.BuildHasherDefault.{BuildHasherDefault}
 use Rattle.indexmap.specs.IndexMap.{IndexMap, get}
 use Rattle.cr_base.specs.History.{Upload}
-use Rattle.cr_base.specs.Lists.{given, listed, numbered, numbers_from, last, last_from}
+use Rattle.cr_base.specs.Lists.{given, numbered, numbers_from, last, last_from}
 use Rattle.cr_base.specs.Papers.{PaperUpload}
 use Rattle.cr_base.proofs.ListLaws.{numbered-push, numbers_from-push}
 use Rattle.cr_papers.specs.declared.uploads.VersionOf.{VersionOf}
@@ -67,28 +67,6 @@ found_last (u ∷ us) count is h = (last_number 1 count u us h (omega (arith, is
 pub number_last : (us : List Upload) (count : ℕ) → count ≡ length us → count ≢ 0 → numbers_of us ≡ numbers_from 1 us → Some count ≡ option_map (λ (u : Upload). u.version) (last us)
 number_last [] count is some h = absurd (some is)
 number_last (u ∷ us) count is some h = sym (last_number 1 count u us h (omega (arith, is))).1
-
--- where the last alone is told, it is the version of the count
-pub number_told : (us : List Upload) (count n : ℕ) → count ≡ length us → numbers_of us ≡ numbers_from 1 us → find_number n (listed (last us)) ≡ cond (eqb n count) (find_number n us) None
-number_told us count n is h = by (last us) (eqb n count) refl (found_last us count is h) (number_at us count is h)
-  where
-    number_at : (us : List Upload) (count : ℕ) → count ≡ length us → numbers_of us ≡ numbers_from 1 us → (v : Upload) → last us ≡ Some v → v.version ≡ count
-    number_at [] count is h v at = absurd (cc)
-    number_at (u ∷ us) count is h v at =
-        let e : Some v.version ≡ Some count = sym (ap (option_map (λ (v : Upload). v.version)) at) ∙ (last_number 1 count u us h (omega (arith, is))).1 in
-        cc
-
-    unequal : (k n count : ℕ) → k ≡ count → eqb n count ≡ false → eqb k n ≡ false
-    unequal k n count is e = grind (arith, nat_tests)
-
-    by : (o : Option Upload) (b : Bool) → eqb n count ≡ b → find_number count us ≡ o → ((v : Upload) → o ≡ Some v → v.version ≡ count)
-        → find_number n (listed o) ≡ cond b (find_number n us) None
-    by None true e found at = sym (ap (λ (k : ℕ). find_number k us) (eqb-true n count e) ∙ found)
-    by None false e found at = refl
-    by (Some v) true e found at =
-        ap (λ b. cond b (Some v) None) (equal v.version n (at v refl ∙ sym (eqb-true n count e)))
-        ∙ sym (ap (λ (k : ℕ). find_number k us) (eqb-true n count e) ∙ found)
-    by (Some v) false e found at = ap (λ b. cond b (Some v) None) (unequal v.version n count (at v refl) e)
 
 -- the numbers from 1 are those of as many elements
 abbrev counted_from : ℕ → ℕ → List ℕ

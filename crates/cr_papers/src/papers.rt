@@ -1,8 +1,7 @@
 //! The papers of a history, by number.
-ghost use Rattle.std.specs.Prelude.{◌≡◌, ◌≤◌, ◌<◌, ◌+◌, ◌^◌, ◌==◌, not, OnOk, IfOk, Some, None, if◌then◌else◌, length, map, find, unwrap_or};
+ghost use Rattle.std.specs.Prelude.{◌≡◌, ◌≤◌, ◌<◌, ◌+◌, ◌^◌, ◌==◌, not, OnOk, IfOk, Some, length, map, find, unwrap_or};
 ghost use Rattle.std.specs.List.{list_any};
 ghost use Rattle.std.specs.Option.{option_map, option_copied};
-ghost use Rattle.cr_base.specs.Answering.{upload_of, uploads_told};
 ghost use Rattle.cr_base.specs.Checks.{judged, submit_checks, revise_checks, upload_checks};
 ghost use Rattle.cr_base.specs.Lists.{last, numbers_from};
 ghost use Rattle.cr_base.specs.Papers.{no_papers, papers_after, paper_count, paper_numbers, title_at, abstract_at, PapersFit};
@@ -172,48 +171,6 @@ impl Papers {
         ensures { option_copied result ≡ option_map (λ u. u.content) (last (uploads_at self.now.papers paper)) }
     {
         self.uploads.last_content(paper)
-    }
-
-    /// The numbers of those versions of a paper that are told: of all, or of the last alone; an error
-    /// only for lack of memory. They are told by their count alone.
-    pub fn versions_told(
-        &self,
-        alloc: Global,
-        paper: PaperNo,
-        all: bool,
-    ) -> Result<Versions, AllocError>
-        ensures { IfOk result (λ versions. versions ≡ map (λ u. u.version) (uploads_told all (uploads_at self.now.papers paper))) }
-    {
-        if all {
-            return self.versions(alloc, paper);
-        }
-        let mut numbers = Vec::new(alloc);
-        if let Some(version) = self.last_version(paper) {
-            numbers.push(version)?;
-        }
-        Ok(Versions::from_vec(numbers))
-    }
-
-    /// The content of the last version of a paper, or of the one that is asked for, where all are told or
-    /// the last alone; none where there is no such version, or it isn't told. One look-up.
-    pub fn content_told(&self, paper: PaperNo, all: bool, version: &Option<u64>) -> Option<&Blob>
-        ensures { option_copied result ≡ option_map (λ u. u.content) (upload_of version.now (uploads_told all (uploads_at self.now.papers paper))) }
-    {
-        let Some(version) = version else {
-            return self.last_content(paper);
-        };
-        if !self.tells(paper, all, *version) {
-            return None;
-        }
-        self.content(paper, *version)
-    }
-
-    /// Whether a version is told, if it is there: of all, or of the last alone.
-    fn tells(&self, paper: PaperNo, all: bool, version: u64) -> bool
-        ensures { let uploads = uploads_at self.now.papers paper in
-            upload_of (Some version) (uploads_told all uploads) ≡ (if result then find (λ u. u.version == version) uploads else None) }
-    {
-        all || version == self.version_count(paper)
     }
 }
 
