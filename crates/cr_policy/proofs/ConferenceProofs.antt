@@ -11,7 +11,7 @@ use Rattle.cr_base.specs.declared.words.Phase.TheVariants.{Submission, Bidding}
 use Rattle.cr_base.specs.declared.words.Role.TheVariants.{Member, Chair}
 use Rattle.cr_base.specs.History.{History}
 use Rattle.cr_base.specs.Texts.{IsName, IsTitle, IsAbstract, is_name_byte, is_name, is_title_byte}
-use Rattle.cr_policy.specs.Conference.{alice, bob, dave, fay, gus, Digests, AreDigests, proofs, we_prove, types, we_type, drafts, we_draft, more_proofs, we_prove_more, first_version, second_version, only_version, registered, opened, submitted, before_bidding, in_bidding}
+use Rattle.cr_policy.specs.Conference.{alice, bob, dave, fay, gus, Digests, AreDigests, proofs, we_prove, types, we_type, drafts, we_draft, fewer_proofs, we_prove_less, more_proofs, we_prove_more, first_version, second_version, only_version, registered, opened, submitted, before_bidding, in_bidding}
 use Rattle.cr_policy.specs.ConferenceLaws.{AreCast, ConferenceLegal, ViewsBeforeBidding, ViewsInBidding}
 use Rattle.cr_policy.specs.Legal.{Call, IsAllowed, LeadsTo, Legal}
 use Rattle.cr_policy.proofs.LegalLaws.{LeadsTo-append}
@@ -82,6 +82,7 @@ before-legal d mode legal =
     by bob (Upload (Some 1) first_version)
     ∷ by gus (Upload (Some 2) only_version)
     ∷ by bob (Upload (Some 1) second_version)
+    ∷ by bob (Revise (Some 1) fewer_proofs we_prove_less)
     ∷ by gus (Revise (Some 1) more_proofs we_prove_more)
     ∷ by gus (Withdraw (Some 3))
     ∷ by bob (SetConflict (Some 1) (Some (codes "carol")) true)
@@ -94,7 +95,7 @@ before-legal d mode legal =
         record { caller = refl; bounded = omega arith },
         (
           record { caller = refl; bounded = omega arith },
-          (record { caller = refl; bounded = (ascii-title more_proofs refl, ascii-abstract we_prove_more refl) }, (record { caller = refl; bounded = tt }, (record { caller = refl; bounded = tt }, (record { caller = refl; bounded = tt }, refl)))),
+          (record { caller = refl; bounded = (ascii-title fewer_proofs refl, ascii-abstract we_prove_less refl) }, (record { caller = refl; bounded = (ascii-title more_proofs refl, ascii-abstract we_prove_more refl) }, (record { caller = refl; bounded = tt }, (record { caller = refl; bounded = tt }, (record { caller = refl; bounded = tt }, refl))))),
         ),
       ),
     )

@@ -80,6 +80,12 @@ drafts = codes "Drafts"
 abbrev pub we_draft : List ℕ
 we_draft = codes "We draft."
 
+abbrev pub fewer_proofs : List ℕ
+fewer_proofs = codes "Fewer proofs"
+
+abbrev pub we_prove_less : List ℕ
+we_prove_less = codes "We prove less."
+
 abbrev pub more_proofs : List ℕ
 more_proofs = codes "More proofs"
 
@@ -137,14 +143,15 @@ submitted d mode =
     ∷ gus adds Submitted 3 drafts we_draft
     ∷ []
 
--- bob uploads two versions of paper 1, and gus one of paper 2 between them; gus revises the texts of paper 1 and withdraws
--- paper 3; bob declares carol in conflict with paper 1, and gus declares fay
+-- bob uploads two versions of paper 1, and gus one of paper 2 between them; bob revises the texts of paper 1, and then gus,
+-- who withdraws paper 3; bob declares carol in conflict with paper 1, and gus declares fay
 abbrev pub before_bidding : Digests → Mode → History
 before_bidding d mode =
     submitted d mode
     ++ bob adds Uploaded 1 1 first_version
     ∷ gus adds Uploaded 2 1 only_version
     ∷ bob adds Uploaded 1 2 second_version
+    ∷ bob adds Revised 1 fewer_proofs we_prove_less
     ∷ gus adds Revised 1 more_proofs we_prove_more
     ∷ gus adds Withdrawn 3
     ∷ bob adds Conflict 1 carol true

@@ -8,7 +8,7 @@ use Rattle.cr_base.specs.declared.words.Phase.TheVariants.{Submission, Bidding}
 use Rattle.cr_base.specs.declared.words.Role.{Role}
 use Rattle.cr_base.specs.declared.words.Role.TheVariants.{Member, Chair}
 use Rattle.cr_policy.specs.Conference.{alice, bob, carol, dave, erin, fay, gus, Digests, proofs, we_prove, types, we_type}
-use Rattle.cr_policy.specs.Conference.{drafts, we_draft, more_proofs, we_prove_more, first_version, second_version, only_version}
+use Rattle.cr_policy.specs.Conference.{drafts, we_draft, fewer_proofs, we_prove_less, more_proofs, we_prove_more, first_version, second_version, only_version}
 use Rattle.cr_policy.specs.Sighting.{Sighting, blank}
 use Rattle.cr_policy.specs.View.{View}
 
@@ -141,6 +141,7 @@ bob_before d mode =
     ∷ bare_paper 3
     ∷ mine (upload 1 1 first_version)
     ∷ mine (upload 1 2 second_version)
+    ∷ mine (new_texts 1 fewer_proofs we_prove_less)
     ∷ new_texts 1 more_proofs we_prove_more
     ∷ mine (conflict 1 carol true)
     ∷ conflict 1 fay true
@@ -157,6 +158,7 @@ gus_before d mode =
     ∷ upload 1 1 first_version
     ∷ mine (upload 2 1 only_version)
     ∷ upload 1 2 second_version
+    ∷ new_texts 1 fewer_proofs we_prove_less
     ∷ mine (new_texts 1 more_proofs we_prove_more)
     ∷ mine (withdrawal 3)
     ∷ conflict 1 carol true
