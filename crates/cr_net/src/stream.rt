@@ -1,6 +1,7 @@
 //! The two ends of a connection.
-ghost use Rattle.std.specs.Prelude.{◌≡◌, ℕ, None, ⊤, length};
+ghost use Rattle.std.specs.Prelude.{◌≡◌, ◌≤◌, ℕ, None, ⊤, length};
 ghost use Rattle.std.specs.Io.{ReadsAtMost, WritesAtMost};
+ghost use Rattle.cr_ports.specs.Count.{Rises};
 
 use crate::time::Span;
 use cr_ports::{ReadStep, Sink, Source, WriteStep};
@@ -10,6 +11,7 @@ use std::marker::Model;
 use std::net::{Shutdown, TcpStream};
 use std::sync::Arc;
 use std::sync::atomic::{AtomicBool, Ordering};
+use std::time::Duration;
 
 /// The seconds for a request to come whole, and for an answer to go.
 const LIMIT: u64 = 60;
@@ -45,17 +47,62 @@ pub(crate) fn ends_of(
     Ok((TcpSource::new(rt, ours), TcpSink::new(rt, theirs)))
 }
 
+/// What one end works with: the line, the time for what it is at, and its faults.
+///
+/// Contracts see the count of faults.
+#[derive(Drop)]
+struct Half {
+    rt: HostRuntime,
+    line: Arc<Line, Global>,
+    time: Span,
+    faults: u64,
+}
+
+impl Model for Half {
+    ghost use Rattle.std.specs.Prelude.{ℕ};
+
+    ghost Value = { ℕ };
+
+    ghost view = { λ h. h.faults };
+}
+
+impl Half {
+    /// An end whose time has not begun, with no fault counted.
+    fn new(rt: &HostRuntime, line: Arc<Line, Global>) -> Half
+        ensures { result ≡ 0 }
+    {
+        Half {
+            rt: *rt,
+            line,
+            time: Span::new(LIMIT),
+            faults: 0,
+        }
+    }
+
+    /// What is left of the time, which begins here where it hasn't. An error only where the clock can't be read.
+    fn left(&mut self) -> io::Result<Duration>
+        ensures { self.new ≡ self.old }
+    {
+        self.time.left(&self.rt)
+    }
+
+    /// Counts a fault.
+    fn failed(&mut self)
+        ensures count { self.old ≤ self.new }
+        ensures failed { Rises self.old self.new }
+    {
+        self.faults = self.faults.saturating_add(1);
+    }
+}
+
 /// What a client sends. Each request has 60 seconds to come whole, from the first read behind the last answer on;
 /// past that a read fails.
 ///
 /// Contracts see the count of faults.
 #[derive(Drop)]
 pub struct TcpSource {
-    rt: HostRuntime,
-    line: Arc<Line, Global>,
-    request: Span,
+    half: Half,
     is_ended: bool,
-    faults: u64,
 }
 
 impl Model for TcpSource {
@@ -63,17 +110,14 @@ impl Model for TcpSource {
 
     ghost Value = { ℕ };
 
-    ghost view = { λ s. s.faults };
+    ghost view = { λ s. s.half };
 }
 
 impl TcpSource {
     fn new(rt: &HostRuntime, line: Arc<Line, Global>) -> TcpSource {
         TcpSource {
-            rt: *rt,
-            line,
-            request: Span::new(LIMIT),
+            half: Half::new(rt, line),
             is_ended: false,
-            faults: 0,
         }
     }
 
@@ -83,22 +127,22 @@ impl TcpSource {
         ensures length { length buf.new ≡ length buf.old }
         ensures same { self.new ≡ self.old }
     {
-        if self.line.answered.swap(false, Ordering::SeqCst) {
-            self.request.reset();
+        if self.half.line.answered.swap(false, Ordering::SeqCst) {
+            self.half.time.reset();
         }
-        let left = self.request.left(&self.rt)?;
-        self.line.stream.set_read_timeout(Some(left))?;
-        (&self.line.stream).read(buf)
+        let left = self.half.left()?;
+        self.half.line.stream.set_read_timeout(Some(left))?;
+        (&self.half.line.stream).read(buf)
     }
 
     /// Ends the connection so that the client sees the last answer: what it still sends is read and dropped, for a
     /// second at most. Where a stream is closed before its bytes were read, the client's system may drop the answer.
     pub(crate) fn end(mut self) {
-        if self.is_ended || self.line.stream.shutdown(Shutdown::Write).is_err() {
+        if self.is_ended || self.half.line.stream.shutdown(Shutdown::Write).is_err() {
             return;
         }
-        self.line.answered.store(false, Ordering::SeqCst);
-        self.request = Span::new(ENDING);
+        self.half.line.answered.store(false, Ordering::SeqCst);
+        self.half.time = Span::new(ENDING);
         let mut piece = [0; PIECE];
         let mut dropped = 0;
         'dropping: while dropped < MOST_DROPPED {
@@ -126,7 +170,7 @@ impl Source for TcpSource {
             }
             Ok(n) => ReadStep::Got(n),
             Err(_) => {
-                self.faults = self.faults.saturating_add(1);
+                self.half.failed();
                 ReadStep::Failed
             }
         }
@@ -138,10 +182,7 @@ impl Source for TcpSource {
 /// Contracts see the count of faults.
 #[derive(Drop)]
 pub struct TcpSink {
-    rt: HostRuntime,
-    line: Arc<Line, Global>,
-    answer: Span,
-    faults: u64,
+    half: Half,
 }
 
 impl Model for TcpSink {
@@ -149,16 +190,13 @@ impl Model for TcpSink {
 
     ghost Value = { ℕ };
 
-    ghost view = { λ s. s.faults };
+    ghost view = { λ s. s.half };
 }
 
 impl TcpSink {
     fn new(rt: &HostRuntime, line: Arc<Line, Global>) -> TcpSink {
         TcpSink {
-            rt: *rt,
-            line,
-            answer: Span::new(LIMIT),
-            faults: 0,
+            half: Half::new(rt, line),
         }
     }
 
@@ -167,9 +205,9 @@ impl TcpSink {
         ensures size { WritesAtMost result piece.now }
         ensures same { self.new ≡ self.old }
     {
-        let left = self.answer.left(&self.rt)?;
-        self.line.stream.set_write_timeout(Some(left))?;
-        (&self.line.stream).write(piece)
+        let left = self.half.left()?;
+        self.half.line.stream.set_write_timeout(Some(left))?;
+        (&self.half.line.stream).write(piece)
     }
 }
 
@@ -183,13 +221,13 @@ impl Sink for TcpSink {
     fn write(&mut self, piece: &[u8]) -> WriteStep {
         match self.write_in_time(piece) {
             Ok(n) if n == piece.len() => {
-                self.answer.reset();
-                self.line.answered.store(true, Ordering::SeqCst);
+                self.half.time.reset();
+                self.half.line.answered.store(true, Ordering::SeqCst);
                 WriteStep::Took(n)
             }
             Ok(n) if n > 0 => WriteStep::Took(n),
             _ => {
-                self.faults = self.faults.saturating_add(1);
+                self.half.failed();
                 WriteStep::Failed
             }
         }

@@ -1,5 +1,5 @@
 -- What a sink took, piece by piece.
-use Rattle.std.proofs.Common.{◌≡◌, ◌≢◌, ◌∙◌, ℕ, ◌+◌, ◌<◌, ◌≤◌, ◌-◌, List, [], ◌++◌, length, take, drop, Option, Some, None, refl, sym, ap, subst, append_assoc, append-nil, arith, length-drop}
+use Rattle.std.proofs.Common.{◌≡◌, ◌≢◌, ◌∙◌, ℕ, ◌+◌, ◌<◌, ◌≤◌, ◌-◌, List, [], ◌∷◌, ◌++◌, length, take, drop, Option, Some, None, refl, sym, ap, subst, append_assoc, append-nil, arith, length-drop}
 use Rattle.std.proofs.lemmas.List.{take-append-drop, take_all}
 use Rattle.std.proofs.Math.Seq.{take-add}
 use Rattle.cr_ports.specs.Count.{Rises}
@@ -70,4 +70,34 @@ breaks_behind a b bytes s t u x y = record {
       ∙ ap (taken_and s.taken) (sym (append_assoc a b y.part));
   later = let e = x.steady in let l = y.later in omega (arith, e, l);
   rises = subst (λ (f : ℕ). Rises f u.faults) x.steady y.rises;
+}
+
+-- ---- a text of two pieces
+
+-- the second broke off
+pub breaks_later : (a b : List ℕ) (s t u : Outlet) → Writes a s t → BreaksOff [] b t u → BreaksOff [] (a ++ b) s u
+breaks_later a b s t u x y = record {
+  part = a ++ y.part;
+  missing = y.missing;
+  parts = ap (λ (r : List ℕ). a ++ r) y.parts ∙ sym (append_assoc a y.part y.missing);
+  short = y.short;
+  took = y.took ∙ ap (λ (o : Option (List ℕ)). taken_and o y.part) x.took ∙ taken_and-append s.taken a y.part;
+  later = let e = x.steady in let l = y.later in omega (arith, e, l);
+  rises = subst (λ (f : ℕ). Rises f u.faults) x.steady y.rises;
+}
+
+first-nil : (a b : List ℕ) → a ++ b ≡ [] → a ≡ []
+first-nil [] b none = refl
+first-nil (x ∷ a) b none = cc
+
+-- the first did
+pub breaks_sooner : (a b : List ℕ) (s t : Outlet) → BreaksOff [] a s t → BreaksOff [] (a ++ b) s t
+breaks_sooner a b s t y = record {
+  part = y.part;
+  missing = y.missing ++ b;
+  parts = ap (λ (r : List ℕ). r ++ b) y.parts ∙ append_assoc y.part y.missing b;
+  short = λ none. y.short (first-nil y.missing b none);
+  took = y.took;
+  later = y.later;
+  rises = y.rises;
 }

@@ -38,11 +38,11 @@ pub struct Served<I, O> {
 /// Gives the connections of its share, one at a time: each is given back before the next is asked
 /// for.
 pub trait Door {
-    /// What a connection reads from.
-    type In: Source;
+    /// What a connection reads from. It may go to another thread.
+    type In: Source + Send;
 
-    /// What a connection writes to.
-    type Out: Sink;
+    /// What a connection writes to. It may go to another thread.
+    type Out: Sink + Send;
 
     ghost use Rattle.cr_ports.specs.Doors.{DoorLog, FaultsAfterNext, LeftAfter, and_answer, and_back, gives};
 

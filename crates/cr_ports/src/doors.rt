@@ -72,7 +72,12 @@ impl Model for MemDoor {
 
     ghost Value = { Doored };
 
-    ghost view = { λ d. record { coming = d.coming.items; log = record { last = d.last; out = d.out; served = d.served.items }; calls = d.calls; faults = d.faults } };
+    ghost view = { λ d. record {
+      coming = d.coming.items;
+      log = record { last = d.last; out = d.out; served = d.served.items };
+      calls = d.calls;
+      faults = d.faults;
+    } };
 
     // What is out, and what is still to come, has room behind what came back.
     ghost invariant = { λ d. vec_len d.served + (if is_some d.out then 1 else 0) + deque_len d.coming ≤ vec_capacity d.served };

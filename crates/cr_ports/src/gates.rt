@@ -19,7 +19,7 @@ pub enum Opened<D> {
 /// Opens doors at an address, and takes them back.
 pub trait Gates {
     /// What gives a worker its connections. It may go to another thread.
-    type Door: Door + Send;
+    type Door: Door + Drop + Send;
 
     ghost use Rattle.cr_ports.specs.Doors.{DoorLog, shares, unasked};
     ghost use Rattle.cr_ports.specs.Opening.{FaultsAfterOpen, OnDoors};

@@ -1,5 +1,6 @@
 //! Gates in memory, which tell all that their doors did.
-ghost use Rattle.std.specs.Prelude.{◌≡◌, ◌<◌, ◌≤◌, ◌+◌, ◌-◌, ◌^◌, ◌++◌, ◌∷◌, ◌↔◌, min, ℕ, List, [], length, map, take, drop, flat_map, sum_by, replicate, All, Some, slice_get, option_map, IfOk, IfSome, OnOk, OnErr, IsTrue, IsFalse, is_some};
+ghost use Rattle.std.specs.Prelude.{◌≡◌, ◌<◌, ◌≤◌, ◌+◌, ◌-◌, ◌^◌, ◌++◌, ◌∷◌, ◌↔◌, min, ℕ, List, [], length, map, take, drop, flat_map};
+ghost use Rattle.std.specs.Prelude.{sum_by, replicate, All, Some, slice_get, option_map, IfOk, IfSome, OnOk, OnErr, IsTrue, IsFalse, is_some};
 ghost use Rattle.std.specs.VecDeque.{deque_len};
 ghost use Rattle.cr_ports.specs.Calls.{Advances, fails};
 ghost use Rattle.cr_ports.specs.Count.{Gains};
@@ -37,7 +38,13 @@ impl Model for MemGates {
 
     ghost Value = { Gated };
 
-    ghost view = { λ g. record { coming = g.coming.items; opens = g.opens; failing = map (λ l. l.items) g.failing.items; shut = g.shut.items; faults = g.faults } };
+    ghost view = { λ g. record {
+      coming = g.coming.items;
+      opens = g.opens;
+      failing = map (λ l. l.items) g.failing.items;
+      shut = g.shut.items;
+      faults = g.faults;
+    } };
 }
 
 impl MemGates {

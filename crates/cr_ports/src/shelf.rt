@@ -9,8 +9,8 @@ use crate::keeper::{Keeper, KeeperError};
 
 /// Opens a keeper of the rows at a path, and takes it back.
 pub trait Shelf {
-    /// What it opens.
-    type Keeper: Keeper;
+    /// What it opens. It may go to another thread.
+    type Keeper: Keeper + Send;
 
     /// The rows at each path, where the shelf tells them; those that a keeper appends stand there
     /// once it was shut.

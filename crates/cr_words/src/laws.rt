@@ -57,7 +57,8 @@ pub fn law_serve()
         → takes confd_words (name ∷ codes "serve" ∷ serve_words listen workers connections file) ≡ true }
     ensures job { (name listen workers connections file : Text) → is_plain_text listen ≡ true → is_plain_text file ≡ true
         → are_workers workers ≡ true → are_connections connections ≡ true
-        → job_of (name ∷ codes "serve" ∷ serve_words listen workers connections file) ≡ Some (serve_job listen (spelt workers) (spelt connections) file) }
+        → job_of (name ∷ codes "serve" ∷ serve_words listen workers connections file)
+        ≡ Some (serve_job listen (spelt workers) (spelt connections) file) }
     ensures bad_workers { (name listen workers connections file : Text) → is_plain_text listen ≡ true → is_plain_text file ≡ true
         → is_plain_text workers ≡ true → is_plain_text connections ≡ true → are_workers workers ≡ false
         → fault_of confd_words (name ∷ codes "serve" ∷ serve_words listen workers connections file) ≡ ValueValidation ∷ [] }
@@ -73,7 +74,8 @@ pub fn law_serve_attached()
     ensures passes { (name listen workers connections file : Text) → are_workers workers ≡ true → are_connections connections ≡ true
         → takes confd_words (name ∷ codes "serve" ∷ serve_word listen workers connections file) ≡ true }
     ensures job { (name listen workers connections file : Text) → are_workers workers ≡ true → are_connections connections ≡ true
-        → job_of (name ∷ codes "serve" ∷ serve_word listen workers connections file) ≡ Some (serve_job listen (spelt workers) (spelt connections) file) }
+        → job_of (name ∷ codes "serve" ∷ serve_word listen workers connections file)
+        ≡ Some (serve_job listen (spelt workers) (spelt connections) file) }
     ensures bad_workers { (name listen workers connections file : Text) → are_workers workers ≡ false
         → fault_of confd_words (name ∷ codes "serve" ∷ serve_word listen workers connections file) ≡ ValueValidation ∷ [] }
     ensures bad_connections { (name listen workers connections file : Text) → are_workers workers ≡ true → are_connections connections ≡ false
