@@ -1,11 +1,11 @@
 -- What a content is answered.
-use Rattle.std.proofs.Common.{ℕ, Bool, true, false, cond, ◌≡◌, ◌==◌, List, [], ◌∷◌, ◌++◌, take, refl, sym, ap, ◌∙◌, Option, Some, None, Result, Ok, Err, is_some}
+use Rattle.std.proofs.Common.{ℕ, Bool, true, false, cond, ◌≡◌, List, [], ◌∷◌, ◌++◌, take, refl, sym, ap, ◌∙◌, Option, Some, None, Result, Ok, Err, is_some}
 use Rattle.std.specs.Prelude.{unwrap_or}
 use Rattle.cr_base.specs.declared.reply.Rule.{Rule}
 use Rattle.cr_base.specs.declared.reply.Rule.TheVariants as rules
 use Rattle.cr_base.specs.declared.standing.Standing.{Standing}
 use Rattle.cr_base.specs.Answering.{content_by}
-use Rattle.cr_base.specs.Checks.{Check, ◌breaks◌, NamedPaper, judged, of_there, content_checks}
+use Rattle.cr_base.specs.Checks.{Check, ◌breaks◌, judged, of_there, content_checks}
 use Rattle.cr_base.specs.Sources.{has_paper, standing_at, facts_of_tables, shown_in_tables}
 use Rattle.cr_base.specs.Tables.{Tables}
 use Rattle.cr_base.proofs.CheckLaws.{NoneBroken, judged-Ok}

@@ -1,4 +1,4 @@
-use Rattle.std.proofs.Common.{ℕ, ◌≡◌, ◌≤◌, ◌∷◌, ◌++◌, [], drop, length, is_none}
+use Rattle.std.proofs.Common.{◌≡◌, ◌≤◌, ◌∷◌, ◌++◌, [], drop, length, is_none}
 use Rattle.std.specs.List.{flat_map, list_any}
 use Rattle.cr_base.specs.Drawn.{besides}
 use Rattle.cr_base.specs.Lists.{listed}
