@@ -241,10 +241,7 @@ fn appended_in<S: Alter + Drop>(
 }
 
 fn appended_to_memory(alloc: Global) -> Option<[(bool, Option<u64>); 3]> {
-    appended_in(
-        alloc,
-        open(alloc, Memory::new(alloc), Memory::new(alloc))?,
-    )
+    appended_in(alloc, open(alloc, Memory::new(alloc), Memory::new(alloc))?)
 }
 
 #[test]

@@ -1,9 +1,7 @@
 //! The tables, each by itself and as one.
 
 use cr_accounts::Accounts;
-use cr_base::{
-    Command, Entry, Order, Pair, PaperNo, Query, Reply, Short, Stamped, Tie, UserNo,
-};
+use cr_base::{Command, Entry, Order, Pair, PaperNo, Query, Reply, Short, Stamped, Tie, UserNo};
 use cr_conflicts::Ties;
 use cr_pairs::{IndexedPairs, PairMap};
 use cr_papers::Papers;
