@@ -30,7 +30,15 @@ pub(crate) fn maker(caller: &Option<UserNo>) -> UserNo
 impl Live {
     /// What the caller's command draws, or the first broken rule of its kind. There is a caller, but for
     /// a registration; a submission tells at most 19 co-authors. The entries drawn may be applied in their
-    /// turn. Takes no memory: the command's texts and its content are moved. A registration, a naming and a
+    /// turn.
+    ///
+    /// A submission breaks `NoUser` where one of its co-authors isn't there, else what `judge_submit` of
+    /// `Papers` tells. A revision, an upload and a withdrawal break `NoPaper`, else `NotAuthor`, else
+    /// `WrongPhase`, else `Withdrawn`, and an upload else `QuotaBytes`. Of all else the rules and their order
+    /// stand at the tables' own `register_check`, `judge_phase`, `judge_name`, `judge_mode` and
+    /// `judge_conflict`.
+    ///
+    /// Takes no memory: the command's texts and its content are moved. A registration, a naming and a
     /// conflict take one look-up by name, a submission one for each co-author told, a conflict a binary
     /// search of the ties besides, and all else a few reads by number.
     pub fn judge(&self, caller: &Option<UserNo>, command: Command) -> Result<Draw, Rule>
@@ -177,8 +185,7 @@ impl Live {
     }
 }
 
-/// What is judged of a paper that is there: `NoPaper` comes first, of the texts, of a content and of a
-/// withdrawal alike.
+/// What is judged by the table of papers alone, of a paper that may not be there.
 impl Live {
     fn judge_revision(
         &self,
