@@ -1,5 +1,5 @@
 -- Co-authors of a submission, by the rows behind its own: the names rebuilt of them tell the same users, in their order.
-use Rattle.std.proofs.Common.{ℕ, Bool, true, false, cond, ◌≡◌, ◌≤◌, ◌<◌, ◌+◌, ◌-◌, ◌||◌, ◌&&◌, List, [], ◌∷◌, ◌++◌, length, take, drop, eqb, suc, refl, sym, ap, subst, ◌∙◌, arith, append_assoc, append-nil, Option, Some, None}
+use Rattle.std.proofs.Common.{ℕ, Bool, true, false, cond, ◌≡◌, ◌≤◌, ◌-◌, ◌||◌, ◌&&◌, List, [], ◌∷◌, ◌++◌, length, take, eqb, suc, refl, sym, ap, subst, ◌∙◌, arith, append_assoc, append-nil, Option, Some, None}
 use Rattle.std.specs.Prelude.{is_none, map, not, nat_le, slice_get}
 use Rattle.std.specs.List.{list_any, flat_map, AllByRecursion}
 use Rattle.std.specs.Option.{option_and_then, option_map_or}
@@ -8,7 +8,7 @@ use Rattle.cr_base.specs.declared.entry.Entry.{Entry}
 use Rattle.cr_base.specs.declared.entry.Entry.TheVariants.{Coauthor}
 use Rattle.cr_base.specs.declared.entry.Stamped.{Stamped}
 use Rattle.cr_base.specs.declared.row.Row.{Row}
-use Rattle.cr_base.specs.Accounts.{number_at, lines_of}
+use Rattle.cr_base.specs.Accounts.{lines_of}
 use Rattle.cr_base.specs.Drawn.{besides, grouped}
 use Rattle.cr_base.specs.History.{History}
 use Rattle.cr_base.specs.Lists.{given, is_nothing, listed}

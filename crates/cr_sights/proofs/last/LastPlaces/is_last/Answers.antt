@@ -1,4 +1,4 @@
-use Rattle.std.proofs.Common.{ℕ, Option, Some, None, ◌∙◌, ap, get_or, arith}
+use Rattle.std.proofs.Common.{ℕ, Option, None, ◌∙◌, ap, get_or, arith}
 use Rattle.std.specs.Prelude.{not}
 use Rattle.cr_base.specs.History.{title_told, upload_told}
 use Rattle.cr_base.specs.Lists.{is_number}
