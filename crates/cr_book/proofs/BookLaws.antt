@@ -28,6 +28,8 @@ pub asker-there : (h : History) (caller : Option ℕ) (query : Query) → MayAsk
 asker-there h caller queries.Accounts may = tt
 asker-there h caller queries.Phase may = tt
 asker-there h caller (queries.Page paper) may = tt
+asker-there h caller (queries.Content paper) may = tt
+asker-there h caller (queries.Version paper version) may = tt
 asker-there h None queries.Me may = cc
 asker-there h (Some u) queries.Me may = refl
 

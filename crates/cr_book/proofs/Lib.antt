@@ -1,4 +1,6 @@
 pub mod BookLaws
+pub mod CoauthorLaws
+pub mod NameLaws
 pub mod OpeningCommands
 pub mod OpeningLaws
 pub mod OpeningLegal

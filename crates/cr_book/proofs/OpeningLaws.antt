@@ -1,5 +1,5 @@
 -- What is so of rows that are read one behind another: where they begin a group, and where none.
-use Rattle.std.proofs.Common.{cond, ◌≡◌, ◌≤◌, ◌<◌, ◌⊎◌, inl, inr, List, [], ◌∷◌, ◌++◌, length, take, drop, suc, refl, sym, ap, subst, ◌∙◌, arith, append_assoc, append-nil, IfSome}
+use Rattle.std.proofs.Common.{cond, ◌≡◌, ◌≤◌, ◌<◌, ◌⊎◌, inl, inr, List, [], ◌∷◌, ◌++◌, length, take, drop, suc, refl, sym, ap, subst, ◌∙◌, arith, append_assoc, append-nil, IfSome, Ok}
 use Rattle.std.specs.Prelude.{slice_get}
 use Rattle.std.specs.List.{AllByRecursion}
 use Rattle.std.proofs.lemmas.List.{append_cancel_left, take_all, take-append-drop}
@@ -16,7 +16,11 @@ use Rattle.cr_book.specs.Opening.{Continue}
 use Rattle.cr_book.specs.Reading.{IsOpen, IsGroup, IsReading, IsGoing, IsRowRefused}
 use Rattle.cr_book.specs.declared.reading.ReadError.{ReadError}
 use Rattle.cr_book.specs.declared.reading.ReadError.TheVariants as errors
-use Rattle.cr_book.specs.Rebuilding.{drawn_told, IsBegun, NoneBegun}
+use Rattle.cr_base.specs.Drawn.{Drawn}
+use Rattle.cr_policy.specs.Judge.{judge}
+use Rattle.cr_policy.specs.Legal.{Call, IsAllowed}
+use Rattle.cr_policy.specs.View.{view}
+use Rattle.cr_book.specs.Rebuilding.{authors_told, drawn_by_rows, IsBegun, NoneBegun}
 use Rattle.cr_book.proofs.OpeningRows.{head_is, tail_is, rows-split, group-covers}
 use Rattle.cr_book.proofs.OpeningLegal.{MayAdd, may_add-group, Next, legal-next, next-extends}
 use Rattle.cr_book.proofs.OpeningCommands.{Told, accepted-told, told-adds}
@@ -48,8 +52,9 @@ may_add-legal log group legal add = subst (λ (g : History). Legal (log ++ g)) (
 -- a group that is begun goes on the history
 pub begun-going : (log : History) (t : Tables) (pending rows : List Row) (group : History) → IsReading log t pending → IsBegun t rows group → IsGoing log t rows group
 begun-going log t pending rows group reading begun =
-    let told : drawn_told (tables_of log) begun.first ≡ _ = ap (λ (x : Tables). drawn_told x begun.first) (sym reading.same) ∙ begun.told in
-    let add : MayAdd log group = subst (λ (g : History). MayAdd log g) (sym begun.group_is) (told-adds log reading.legal begun.first begun.drawn begun.bounded told) in
+    let told : drawn_by_rows (tables_of log) rows begun.first ≡ _ = ap (λ (x : Tables). drawn_by_rows x rows begun.first) (sym reading.same) ∙ begun.told in
+    let authors = authors_told (tables_of log) begun.first.maker rows in
+    let add : MayAdd log group = subst (λ (g : History). MayAdd log g) (sym begun.group_is) (told-adds log reading.legal authors begun.first begun.drawn begun.bounded told) in
     record {
       legal = reading.legal;
       same = reading.same;
@@ -92,22 +97,32 @@ none-begun log t pending row reading none goes = or (legal-next log goes.history
     or (inl same) = some_rows pending row goes.after (ap rows_of (sym (nothing same)) ∙ split.2)
     or (inr next) =
         let add = next.add in
-        let told : Told (tables_of log) add.drawn = accepted-told log add.call add.drawn reading.legal add.allowed add.accepted in
+        let further = (next-extends log goes.history next).0 in
         let b = begins next in
+        let covered = group-covers next.group pending row (rows_of further) goes.after (may_add-group log next.group add) reading.unfinished b in
+        let bounded = subst (λ (g : History). AllByRecursion IsBoundedEntry g) add.group_is (group-bounded next) in
+        let told : Told (tables_of log) rows add.drawn = begun-told pending log add.call add.drawn reading.legal add.allowed add.accepted (ap (λ (g : History). take (length rows) (rows_of g)) (sym add.group_is) ∙ covered) bounded in
         let whole : next.group ≡ told.first ∷ told.rest = add.group_is ∙ told.group_is in
-        let covered = group-covers next.group pending row (rows_of (next-extends log goes.history next).0) goes.after (may_add-group log next.group add) reading.unfinished b in
-        let bounded : IsBoundedEntry told.first = (subst (λ (g : History). AllByRecursion IsBoundedEntry (g ++ (next-extends log goes.history next).0)) whole (tail_bounded next)).0 in
-        let first = first-none t pending row told.first (rows_of told.rest ++ rows_of (next-extends log goes.history next).0) goes.after (ap (λ (g : History). rows_of g ++ rows_of (next-extends log goes.history next).0) (sym whole) ∙ b) none in
-        first told.first add.drawn bounded refl (ap (λ (x : Tables). drawn_told x told.first) reading.same ∙ told.told) (ap (λ (g : History). take (length rows) (rows_of g)) (sym add.group_is) ∙ covered)
+        let first = first-none t pending row told.first (rows_of told.rest ++ rows_of further) goes.after (ap (λ (g : History). rows_of g ++ rows_of further) (sym whole) ∙ b) none in
+        first told.first told.given (subst (λ (g : History). AllByRecursion IsBoundedEntry g) told.group_is bounded).0 refl (ap (λ (x : Tables). drawn_by_rows x rows told.first) reading.same ∙ told.told) told.begins
       where
+        begun-told : (pending : List Row) (log : History) (call : Call) (drawn : Drawn) → Legal log → IsAllowed log call → judge call.caller (view call.caller log) call.command ≡ Ok drawn
+            → take (length (pending ++ row ∷ [])) (rows_of drawn.group) ≡ pending ++ row ∷ [] → AllByRecursion IsBoundedEntry drawn.group → Told (tables_of log) (pending ++ row ∷ []) drawn
+        begun-told [] log call drawn legal allowed accepted begins bounded = accepted-told log call drawn row [] legal allowed accepted begins bounded
+        begun-told (p ∷ ps) log call drawn legal allowed accepted begins bounded = accepted-told log call drawn p (ps ++ row ∷ []) legal allowed accepted begins bounded
+
         part : (G H : History) → AllByRecursion IsBoundedEntry (G ++ H) → AllByRecursion IsBoundedEntry H
         part [] H all = all
         part (e ∷ G) H all = part G H all.1
 
-        tail_bounded : (next : Next log goes.history) → AllByRecursion IsBoundedEntry (next.group ++ (next-extends log goes.history next).0)
-        tail_bounded next =
+        front : (G H : History) → AllByRecursion IsBoundedEntry (G ++ H) → AllByRecursion IsBoundedEntry G
+        front [] H all = tt
+        front (e ∷ G) H all = (all.0, front G H all.1)
+
+        group-bounded : (next : Next log goes.history) → AllByRecursion IsBoundedEntry next.group
+        group-bounded next =
             let further = next-extends log goes.history next in
-            part log (next.group ++ further.0) (subst (λ (h : History). AllByRecursion IsBoundedEntry h) (further.1 ∙ append_assoc log next.group further.0) (legal-bounded goes.history goes.legal))
+            front next.group further.0 (part log (next.group ++ further.0) (subst (λ (h : History). AllByRecursion IsBoundedEntry h) (further.1 ∙ append_assoc log next.group further.0) (legal-bounded goes.history goes.legal)))
 
 -- ---- a group that is begun, and its rows
 

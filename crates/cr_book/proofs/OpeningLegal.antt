@@ -1,13 +1,15 @@
 -- Legal histories that begin alike: where a legal history goes on from another, calls lead from that one on.
-use Rattle.std.proofs.Common.{◌≡◌, ◌⊎◌, inl, inr, List, [], ◌∷◌, ◌++◌, length, refl, sym, ap, subst, ◌∙◌, arith, append_assoc, append-nil, length-append, Result, Ok, Err}
+use Rattle.std.proofs.Common.{ℕ, ◌≡◌, ◌⊎◌, inl, inr, List, [], ◌∷◌, ◌++◌, length, refl, sym, ap, subst, ◌∙◌, arith, append_assoc, append-nil, length-append, Result, Ok, Err}
 use Rattle.std.proofs.lemmas.List.{append_cancel_left}
+use Rattle.cr_base.specs.declared.entry.Entry.{Entry}
+use Rattle.cr_base.specs.declared.entry.Entry.TheVariants.{Submitted}
 use Rattle.cr_base.specs.declared.reply.Rule.{Rule}
 use Rattle.cr_base.specs.History.{History}
-use Rattle.cr_base.specs.Drawn.{Drawn}
+use Rattle.cr_base.specs.Drawn.{Drawn, grouped}
 use Rattle.cr_policy.specs.Judge.{judge}
 use Rattle.cr_policy.specs.Legal.{Call, IsAllowed, followed_by, LeadsTo, Legal}
 use Rattle.cr_policy.specs.View.{view}
-use Rattle.cr_history.specs.Groups.{Adds, single, first_user}
+use Rattle.cr_history.specs.Groups.{Adds, single, submitted, first_user}
 use Rattle.cr_policy.proofs.AcceptedLaws.{accepted-adds}
 use Rattle.cr_book.specs.Reading.{IsGroup}
 use Rattle.cr_book.proofs.OpeningRows.{group-first}
@@ -26,8 +28,15 @@ pub record MayAdd (H group : History) : Type 0 where
   pub accepted : judge call.caller (view call.caller H) call.command ≡ Ok drawn
   pub group_is : group ≡ drawn.group
 
+-- the entries of one command are a group
+grouped-group : (maker : ℕ) (e : Entry) (es : List Entry) → IsGroup (grouped maker (e ∷ es))
+grouped-group maker e [] = refl
+grouped-group maker e (next ∷ []) = (refl, refl)
+grouped-group maker e (next ∷ more ∷ es) = (refl, grouped-group maker next (more ∷ es))
+
 adds-group : (H g : History) → Adds H g → IsGroup g
 adds-group H g (single maker e made marked ruled) = refl
+adds-group H g (submitted maker paper title abstract users made ruled registered) = grouped-group maker (Submitted paper title abstract) _
 adds-group H g (first_user user name digest is texts) = (refl, refl)
 
 -- what is added is a group

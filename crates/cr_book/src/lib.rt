@@ -4,6 +4,7 @@
 
 mod book;
 mod laws;
+mod naming;
 mod opening;
 mod reading;
 mod rebuilding;

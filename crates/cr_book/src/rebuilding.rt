@@ -1,13 +1,15 @@
 //! The command that the entries of a group come of.
-ghost use Rattle.std.specs.Prelude.{◌≡◌, ◌<◌, ◌↔◌, IfOk, IfSome, IsTrue, None, length, slice_get, take};
+ghost use Rattle.std.specs.Prelude.{◌≡◌, ◌<◌, ◌↔◌, IfOk, IfSome, IsTrue, None, Some, if◌then◌else◌, length, nat_le, slice_get, take};
 ghost use Rattle.std.specs.Option.{option_map};
 ghost use Rattle.cr_base.specs.Tables.{FitInTurn};
+ghost use Rattle.cr_base.specs.declared.command.Command.TheVariants as commands;
 ghost use Rattle.cr_view.specs.Draws.{drawn_by};
 ghost use Rattle.cr_book.specs.Rebuilding.{giver_told, command_told, user_command_told, drawn_told, is_known, IsBegun, NoneBegun};
 ghost use Rattle.cr_base.specs.declared.row.Row.{Row};
 
+use crate::naming::authors_told;
 use crate::rows::rows_of;
-use cr_base::{Command, Entry, Row, Stamped, UserNo};
+use cr_base::{Command, Entry, MOST_COAUTHORS, Row, Stamped, Text, ToldNames, UserNo};
 use cr_view::{Draw, Live};
 use std::alloc::{AllocError, Global};
 
@@ -31,20 +33,21 @@ fn is_known(live: &Live, caller: &Option<UserNo>) -> bool
     }
 }
 
-/// The command of a group with this first entry, which gives it its texts; none where it names a user
-/// who isn't there, or where no command's group begins so.
-fn command_of(live: &Live, first: Entry) -> Option<Command>
-    ensures { result ≡ command_told live.now.tables first }
+/// The command of a group with this first entry, which gives it its texts and its content, and with these co-authors
+/// told behind it; none where it names a user who isn't there, has too many co-authors, or where no command's group
+/// begins so.
+fn command_of(live: &Live, first: Entry, authors: ToldNames) -> Option<Command>
+    ensures { result ≡ command_told live.now.tables authors first }
 {
     match first {
         Entry::Registered { name, digest, .. } => Some(Command::Register { name, digest }),
-        other => user_command_of(live, other),
+        other => user_command_of(live, other, authors),
     }
 }
 
 /// The same, where a user gave it.
-fn user_command_of(live: &Live, first: Entry) -> Option<Command>
-    ensures { result ≡ user_command_told live.now.tables first }
+fn user_command_of(live: &Live, first: Entry, authors: ToldNames) -> Option<Command>
+    ensures { result ≡ user_command_told live.now.tables authors first }
 {
     match first {
         Entry::PhaseSet { phase } => Some(Command::SetPhase { phase }),
@@ -53,7 +56,21 @@ fn user_command_of(live: &Live, first: Entry) -> Option<Command>
             title,
             abstract_,
             ..
-        } => Some(Command::Submit { title, abstract_ }),
+        } => submission_of(title, abstract_, authors),
+        Entry::Revised {
+            paper,
+            title,
+            abstract_,
+        } => Some(Command::Revise {
+            paper: Some(paper),
+            title,
+            abstract_,
+        }),
+        Entry::Uploaded { paper, content, .. } => Some(Command::Upload {
+            paper: Some(paper),
+            content,
+        }),
+        Entry::Withdrawn { paper } => Some(Command::Withdraw { paper: Some(paper) }),
         Entry::Named { user, role } => {
             let name = live.name_of(user)?;
             Some(Command::Name {
@@ -73,16 +90,30 @@ fn user_command_of(live: &Live, first: Entry) -> Option<Command>
     }
 }
 
+/// A submission with these co-authors, of whom there may be 19.
+fn submission_of(title: Text, abstract_: Text, authors: ToldNames) -> Option<Command>
+    ensures { result ≡ (if nat_le (length authors) 19 then Some (commands.Submit title abstract_ authors) else None) }
+{
+    if authors.as_slice().len() > MOST_COAUTHORS {
+        return None;
+    }
+    Some(Command::Submit {
+        title,
+        abstract_,
+        authors,
+    })
+}
+
 /// What that command draws; none where it has no caller, or breaks a rule.
-fn draw_of(live: &Live, first: Stamped) -> Option<Draw>
-    ensures drawn { option_map drawn_by result ≡ drawn_told live.now.tables first }
+fn draw_of(live: &Live, first: Stamped, authors: ToldNames) -> Option<Draw>
+    ensures drawn { option_map drawn_by result ≡ drawn_told live.now.tables authors first }
     ensures fits { IfSome result (λ draw. FitInTurn live.now.tables (drawn_by draw).group) }
 {
     let caller = caller_of(&first);
     if !is_known(live, &caller) {
         return None;
     }
-    let command = command_of(live, first.entry)?;
+    let command = command_of(live, first.entry, authors)?;
     match live.judge(&caller, command) {
         Ok(draw) => Some(draw),
         Err(_) => None,
@@ -104,9 +135,10 @@ fn are_first(rows: &[Row], all: &[Row]) -> bool
     true
 }
 
-/// The entries of the command whose first rows these are, if there is one: the command of the first
-/// row's entry, judged on the tables of the history before it, draws them. An error only for want of
-/// memory.
+/// The entries of a command whose first rows these are, if there is one: the command of the first row's entry, with
+/// the co-authors told behind it, judged on the tables of the history before it, draws them. Where the last of the rows
+/// tells that another follows, and co-authors may, it is a command with one co-author more, whoever is left. An error
+/// only for want of memory. Costs one judgement, which names each co-author.
 pub(crate) fn begun(
     alloc: Global,
     live: &Live,
@@ -120,7 +152,8 @@ pub(crate) fn begun(
     let Some(first) = Stamped::from_row(&rows[0])? else {
         return Ok(None);
     };
-    let Some(draw) = draw_of(live, first) else {
+    let authors = authors_told(alloc, live, first.maker, rows)?;
+    let Some(draw) = draw_of(live, first, authors) else {
         return Ok(None);
     };
     let group = draw.group(alloc)?;
