@@ -1,9 +1,9 @@
 pub mod BookLaws
-pub mod CoauthorLaws
-pub mod NameLaws
+pub mod OpeningAuthors
 pub mod OpeningCommands
 pub mod OpeningLaws
 pub mod OpeningLegal
+pub mod OpeningNames
 pub mod OpeningRows
 pub mod ViewLaws
 pub mod StoreLaws

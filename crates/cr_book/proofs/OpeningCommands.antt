@@ -32,8 +32,8 @@ use Rattle.cr_base.specs.Sources.{Facts, number_in, paper_named, role_among, sho
 use Rattle.cr_base.specs.Checks.{Check, NamedPaper, judged, of_role, register_checks, phase_checks, submit_checks, revise_checks, upload_checks, name_checks, mode_checks, conflict_checks}
 use Rattle.cr_base.specs.Texts.{IsTitle, IsAbstract}
 use Rattle.cr_base.proofs.CheckLaws.{judged-Ok, judged-none}
-use Rattle.cr_book.proofs.CoauthorLaws.{new-besides, found-back, none-missing, all-listed, coauthors, grouped-cons, numbers, begin-first, told-first, open-rest, same-begin, bounded-numbers, Rebuilt, rebuilt, Become, become}
-use Rattle.cr_book.proofs.NameLaws.{named, found_by_name}
+use Rattle.cr_book.proofs.OpeningAuthors.{new-besides, found-back, none-missing, all-listed, coauthors, grouped-cons, numbers, begin-first, told-first, open-rest, same-begin, IsNumber, bounded-numbers, Rebuilt, rebuilt, Become, become}
+use Rattle.cr_book.proofs.OpeningNames.{AreNamedOnce, named, found_by_name}
 use Rattle.cr_book.proofs.OpeningLegal.{MayAdd}
 use Rattle.cr_base.specs.Rows.{rows_of, IsBoundedEntry}
 use Rattle.cr_base.specs.Tables.{Tables, tables_of}
@@ -99,7 +99,7 @@ told-by t authors first command drawn known told accepted =
 
 -- ---- a submission and its co-authors
 
-module _ (t : Tables) (once : (user : ℕ) (name : List ℕ) → name_told t user ≡ Some name → number_at t.accounts name ≡ Some user) (user : ℕ) (known : is_known t (Some user) ≡ true) (drawn : Drawn) where
+module _ (t : Tables) (once : AreNamedOnce t.accounts) (user : ℕ) (known : is_known t (Some user) ≡ true) (drawn : Drawn) where
   abbrev facts : Facts
   facts = facts_of_tables t (Some user)
 
@@ -153,7 +153,7 @@ module _ (t : Tables) (once : (user : ℕ) (name : List ℕ) → name_told t use
       rest : (rest : List ℕ) × (users ≡ numbers behind ++ rest)
       rest = told-first user next_paper users behind (begin-first user next_paper e (coauthors next_paper users) r behind begun).1
 
-      numbered : AllByRecursion (λ (u : ℕ). (1 ≤ u) × (u ≤ 9999)) users
+      numbered : AllByRecursion IsNumber users
       numbered = bounded-numbers user next_paper users (subst (λ (g : History). AllByRecursion IsBoundedEntry g) (group ∙ grouped-cons user e (coauthors next_paper users)) bounded).1
 
       become_them : Become t user authors users

@@ -6,6 +6,7 @@ use Rattle.cr_base.specs.declared.row.Row.{Row}
 use Rattle.cr_base.specs.History.{History}
 use Rattle.cr_base.specs.Rows.{rows_of, row_of}
 use Rattle.cr_base.specs.Tables.{Tables}
+use Rattle.cr_ports.specs.Count.{Rises}
 use Rattle.cr_ports.specs.Keeping.{HasCause}
 use Rattle.cr_ports.specs.declared.keeper.KeeperError.{KeeperError}
 use Rattle.cr_ports.specs.declared.keeper.KeeperError.TheVariants as refusals
@@ -13,7 +14,7 @@ use Rattle.cr_book.specs.declared.opening.OpenError.{OpenError}
 use Rattle.cr_book.specs.declared.opening.OpenError.TheVariants as errors
 use Rattle.cr_book.specs.declared.reading.ReadError.{ReadError}
 use Rattle.cr_book.specs.declared.reading.ReadError.TheVariants as refused
-use Rattle.cr_book.specs.Opening.{Continue, AreCutOff, IsBadAt, Explains, Opens, untold}
+use Rattle.cr_book.specs.Opening.{Continue, AreCutOff, IsBadAt, IsCounted, Explains, Opens, untold}
 use Rattle.cr_book.specs.Reading.{IsRowRefused, IsCutStore, IsWholeStore, refusal}
 use Rattle.cr_book.specs.Seen.{SeenBook}
 use Rattle.cr_history.specs.Invariants.{IsWhole}
@@ -30,6 +31,29 @@ explains-untold rows refusals.OutOfMemory = tt
 pub untold-explains : (told : Option (List Row)) (error : KeeperError) (e : OpenError) → e ≡ untold error → IfSome told (λ rows. Explains rows e)
 untold-explains None error e is = tt
 untold-explains (Some rows) error e is = subst (λ (x : OpenError). Explains rows x) (sym is) (explains-untold rows error)
+
+-- a call that gave no answer rose the count where it failed, and nowhere else
+pub untold-counted : {A T : Type 0} (before mid now : ℕ) (error : KeeperError) (e : OpenError) → mid ≡ before → HasCause {T = A} mid now (Err error) → e ≡ untold error → IsCounted {T = T} before now (Err e)
+untold-counted {A} {T} before mid now refusals.Failed e same cause is =
+    let later = cause.later in
+    record {
+      later = omega (arith, later, same);
+      failed = λ told. subst (λ (n : ℕ). Rises n now) same (cause.failed refl);
+      steady = λ other. absurd (other (ap (λ (x : OpenError). Err x) is));
+    }
+untold-counted {A} {T} before mid now refusals.OutOfMemory e same cause is =
+    let later = cause.later in
+    record {
+      later = omega (arith, later, same);
+      failed = λ told. absurd (no_fault (sym (ap (λ (x : OpenError). Err x) is) ∙ told));
+      steady = λ other. cause.steady no_failure ∙ same;
+    }
+  where
+    no_fault : ◌≡◌ {A = Result T OpenError} (Err errors.OutOfMemory) (Err errors.KeeperFault) → ⊥
+    no_fault e = cc (e)
+
+    no_failure : ◌≡◌ {A = Result A KeeperError} (Err refusals.OutOfMemory) (Err refusals.Failed) → ⊥
+    no_failure e = cc (e)
 
 not_failed : {A : Type 0} (x : A) → ◌≡◌ {A = Result A KeeperError} (Ok x) (Err refusals.Failed) → ⊥
 not_failed x e = cc (e)

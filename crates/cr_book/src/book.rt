@@ -65,6 +65,7 @@ impl<K: Keeper> Book<K> {
     /// The book of the legal history that the keeper's rows spell; with each error the keeper is handed
     /// back. Every row is read once, in order, and the command of its group is judged again, by the same
     /// judgement and on the history before it; at each row of the group, so one of n rows costs n judgements.
+    /// Only a submission's has more than two rows, 20 at most; its judgement looks up each co-author told so far.
     ///
     /// `OpenError::BadStore` comes exactly where no legal history has these rows, and tells the first that
     /// is no entry's or doesn't continue a legal history, or else the last one, where another of its
@@ -189,8 +190,9 @@ impl<K: Keeper> Book<K> {
     /// login; or the first broken rule, which is told whatever memory there is. `AnswerError::OutOfMemory`
     /// comes for lack of memory alone, and never where the state of the conference is asked for. The
     /// keeper isn't asked. `Query::Accounts` costs a walk over all accounts, `Query::Page` a few look-ups,
-    /// one more for each name that is told, whatever the length of the texts, `Query::Me` a walk
-    /// over her own papers and conflicts, `Query::Phase` nothing that grows.
+    /// one more for each name that is told, whatever the length of the texts, and a step for each version
+    /// that is told, `Query::Me` a walk over her own papers and conflicts, `Query::Content` and
+    /// `Query::Version` one look-up, whatever the content's length, `Query::Phase` nothing that grows.
     pub fn answer(&self, caller: &Option<UserNo>, query: &Query) -> Result<Reply, AnswerError>
         requires { MayAsk self.now.log (query_wants_login query.now) caller.now }
         ensures answered { AnswersAsDue result (answer caller.now (view caller.now self.now.log) query.now) }

@@ -1,6 +1,6 @@
 use Rattle.std.proofs.Common.{◌∙◌, sym, ap, arith}
 use Rattle.cr_book.specs.Rebuilding.{name_told}
-use Rattle.cr_book.proofs.NameLaws.{free-next}
+use Rattle.cr_book.proofs.OpeningNames.{free-next}
 use Rattle.cr_book.proofs.naming.first_free.Goals as goal
 
 pub users-preserved : goal.users-preserved

@@ -1,10 +1,14 @@
 use Rattle.std.proofs.Common.{◌++◌, ◌∙◌, refl, Ok}
 use Rattle.cr_base.specs.Rows.{rows_of}
-use Rattle.cr_book.proofs.StoreLaws.{untold-explains, answered-steady, read-more, bad-row}
+use Rattle.cr_book.proofs.StoreLaws.{untold-explains, untold-counted, answered-steady, read-more, bad-row}
 use Rattle.cr_book.proofs.opening.read_rows.Goals as goal
 
 pub returns-in-Err-clause-bad : goal.returns-in-Err-clause-bad
 returns-in-Err-clause-bad g c = untold-explains (g.K.Keeper.rows c.args.keeper.now) c.in-Err.error c.untold.result c.untold.ensures
+
+pub returns-in-Err-clause-cause : goal.returns-in-Err-clause-cause
+returns-in-Err-clause-cause g c =
+    untold-counted (g.K.Keeper.faults c.args.keeper.now) (g.K.Keeper.faults c.loop-i.keeper) (g.K.Keeper.faults c.row.new.self) c.in-Err.error c.untold.result c.loop-i.invariant.steady c.in-Err.ensures.cause c.untold.ensures
 
 pub returns-in-Err-read-clause-bad : goal.returns-in-Err-read-clause-bad
 returns-in-Err-read-clause-bad g c =

@@ -3,7 +3,7 @@ use Rattle.std.proofs.Common.{ℕ, Bool, true, false, cond, ◌≡◌, ◌≤◌
 use Rattle.std.specs.List.{slice_get, position_from}
 use Rattle.std.specs.Option.{option_map, option_and_then}
 use Rattle.std.specs.Str.{bytes_eq}
-use Rattle.std.proofs.lemmas.Bool.{true≢false}
+use Rattle.std.proofs.lemmas.Bool.{eqb-true, true≢false}
 use Rattle.std.proofs.lemmas.Bool.Decides.{nat_tests}
 use Rattle.std.proofs.lemmas.Slice.Eq.{bytes_eq-Decides}
 use Rattle.cr_base.specs.declared.entry.Account.{Account}
@@ -14,7 +14,8 @@ use Rattle.cr_base.specs.declared.words.Role.{Role}
 use Rattle.cr_base.specs.Accounts.{number_at, account_at, accounts_after, with_role, AccountsFit}
 use Rattle.cr_base.specs.History.{History}
 use Rattle.cr_base.specs.Tables.{Tables, no_tables, tables_after, tables_from, tables_of, FitInTurn}
-use Rattle.cr_base.proofs.AccountLaws.{number_at-from, number_at-push, number_at-with_role, with_role-suc}
+use Rattle.cr_base.proofs.AccountLaws.{number_at-from, number_at-push, number_at-with_role}
+use Rattle.cr_base.proofs.ChangeLaws.{where_changed, numbered-changed_at}
 use Rattle.cr_base.proofs.ListLaws.{numbered-push}
 use Rattle.cr_policy.specs.Legal.{Legal}
 use Rattle.cr_policy.proofs.LegalLaws.{Legal-fits}
@@ -53,15 +54,12 @@ named t name user h = by (position_from (λ (a : Account). bytes_eq a.name name)
 -- ---- the user of a name that somebody has
 
 -- the name of an account by its user's number
-abbrev name_at : List Account → ℕ → Option (List ℕ)
+abbrev pub name_at : List Account → ℕ → Option (List ℕ)
 name_at accounts user = option_map (λ (a : Account). a.name) (account_at accounts user)
 
 -- no two accounts have one name: who has it is found by it
-abbrev AreNamedOnce : List Account → Type 0
+abbrev pub AreNamedOnce : List Account → Type 0
 AreNamedOnce accounts = (user : ℕ) (name : List ℕ) → name_at accounts user ≡ Some name → number_at accounts name ≡ Some user
-
-same_number : (a b : ℕ) → eqb a b ≡ true → a ≡ b
-same_number a b h = grind (arith, nat_tests, h)
 
 -- one account more, whose name is new
 once-push : (accounts : List Account) (a : Account) (user : ℕ) → user ≡ length accounts + 1 → number_at accounts a.name ≡ None → AreNamedOnce accounts → AreNamedOnce (accounts ++ a ∷ [])
@@ -73,25 +71,24 @@ once-push accounts a user next new once v name told = number_at-push accounts a 
 
     by : (b : Bool) → eqb v (length accounts + 1) ≡ b → option_map (λ (x : Account). x.name) (cond b (Some a) (account_at accounts v)) ≡ Some name → cond (bytes_eq a.name name) (Some user) (number_at accounts name) ≡ Some v
     by true is h =
-        let here : v ≡ user = same_number v (length accounts + 1) is ∙ sym next in
+        let here : v ≡ user = eqb-true v (length accounts + 1) is ∙ sym next in
         ap (λ b. cond b (Some user) (number_at accounts name)) ((bytes_eq-Decides a.name name).1 (some_is a.name name h)) ∙ ap Some (sym here)
     by false is h = other (bytes_eq a.name name) refl (once v name h)
 
 -- another role leaves the names
-name-with_role : (accounts : List Account) (k : ℕ) (role : Role) (i : ℕ) → option_map (λ (a : Account). a.name) (slice_get (with_role accounts k role) i) ≡ option_map (λ (a : Account). a.name) (slice_get accounts i)
-name-with_role [] k role i = refl
-name-with_role (a ∷ accounts) zero role zero = refl
-name-with_role (a ∷ accounts) zero role (suc i) = refl
-name-with_role (a ∷ accounts) (suc k) role zero = ap (λ (xs : List Account). option_map (λ (a : Account). a.name) (slice_get xs zero)) (with_role-suc a accounts k role)
-name-with_role (a ∷ accounts) (suc k) role (suc i) = ap (λ (xs : List Account). option_map (λ (a : Account). a.name) (slice_get xs (suc i))) (with_role-suc a accounts k role) ∙ name-with_role accounts k role i
+name-changed : (role : Role) (b : Bool) (o : Option Account) → option_map (λ (a : Account). a.name) (where_changed (λ (a : Account). record a { role = role }) b o) ≡ option_map (λ (a : Account). a.name) o
+name-changed role true None = refl
+name-changed role true (Some a) = refl
+name-changed role false o = refl
 
-name_at-with_role : (accounts : List Account) (k : ℕ) (role : Role) (user : ℕ) → name_at (with_role accounts k role) user ≡ name_at accounts user
-name_at-with_role accounts k role zero = refl
-name_at-with_role accounts k role (suc i) = name-with_role accounts k role i
+name_at-with_role : (accounts : List Account) (user : ℕ) (role : Role) (v : ℕ) → 1 ≤ user → name_at (with_role accounts (user - 1) role) v ≡ name_at accounts v
+name_at-with_role accounts user role v low =
+    ap (option_map (λ (a : Account). a.name)) (numbered-changed_at (λ (a : Account). record a { role = role }) accounts user v low)
+    ∙ name-changed role (eqb user v) (account_at accounts v)
 
 once-after : (accounts : List Account) (e : Entry) → AccountsFit accounts e → AreNamedOnce accounts → AreNamedOnce (accounts_after accounts e)
 once-after accounts (Registered user name digest) fits once = once-push accounts _ user fits.0 fits.2 once
-once-after accounts (Named user role) fits once = λ v name told. number_at-with_role accounts (user - 1) role name ∙ once v name (sym (name_at-with_role accounts (user - 1) role v) ∙ told)
+once-after accounts (Named user role) fits once = λ v name told. number_at-with_role accounts (user - 1) role name ∙ once v name (sym (name_at-with_role accounts user role v fits.0) ∙ told)
 once-after accounts e fits once = once
 
 once-from : (t : Tables) (H : History) → FitInTurn t H → AreNamedOnce t.accounts → AreNamedOnce (tables_from t H).accounts
@@ -103,7 +100,7 @@ none-once zero name told = absurd (none_some name told)
 none-once (suc i) name told = absurd (none_some name told)
 
 -- by the tables of a legal history, who has a name is found by it
-pub found_by_name : (H : History) → Legal H → (user : ℕ) (name : List ℕ) → name_told (tables_of H) user ≡ Some name → number_at (tables_of H).accounts name ≡ Some user
+pub found_by_name : (H : History) → Legal H → AreNamedOnce (tables_of H).accounts
 found_by_name H legal = once-from no_tables H (Legal-fits H legal) none-once
 
 -- ---- somebody who isn't taken
@@ -152,7 +149,7 @@ module _ (t : Tables) (maker : ℕ) (behind : List Row) (user : ℕ) (name : Lis
         where
           differ : (b : Bool) → eqb from user ≡ b → eqb from user ≡ false
           differ false e = e
-          differ true e = absurd (true≢false (sym is ∙ ap (is_taken maker behind) (same_number from user e) ∙ free))
+          differ true e = absurd (true≢false (sym is ∙ ap (is_taken maker behind) (eqb-true from user e) ∙ free))
 
           further : eqb from user ≡ false → from + 1 ≤ user
           further e = grind (arith, nat_tests, e, le)

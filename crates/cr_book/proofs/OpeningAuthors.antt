@@ -16,8 +16,9 @@ use Rattle.cr_base.specs.Rows.{row_of, rows_of, IsBoundedEntry}
 use Rattle.cr_base.specs.Sources.{number_in, user_among, users_among}
 use Rattle.cr_base.specs.Tables.{Tables}
 use Rattle.cr_base.proofs.AccountLaws.{number_in-lines_of}
-use Rattle.cr_book.specs.Rebuilding.{name_told, name_numbered, name_left, is_taken, are_open, authors_told}
-use Rattle.cr_book.proofs.NameLaws.{named, some-free, left}
+use Rattle.cr_base.proofs.CoauthorLaws.{users-each}
+use Rattle.cr_book.specs.Rebuilding.{name_told, names_told, name_left, is_taken, are_open, authors_told}
+use Rattle.cr_book.proofs.OpeningNames.{AreNamedOnce, named, some-free, left}
 use Rattle.cr_book.proofs.OpeningRows.{head_is, tail_is}
 
 -- ---- users of whom each is told once
@@ -94,14 +95,9 @@ pub record IsFound (t : Tables) (user : ℕ) : Type 0 where
 
 -- the users whom names tell are
 among-found : (t : Tables) (names : List (Option (List ℕ))) → AllByRecursion (IsFound t) (flat_map listed (users_among (lines_of t.accounts) names))
-among-found t [] = tt
-among-found t (None ∷ names) = among-found t names
-among-found t (Some name ∷ names) = by (number_in (lines_of t.accounts) name) refl (among-found t names)
-  where
-    by : (o : Option ℕ) → number_in (lines_of t.accounts) name ≡ o → AllByRecursion (IsFound t) (flat_map listed (users_among (lines_of t.accounts) names))
-        → AllByRecursion (IsFound t) (listed o ++ flat_map listed (users_among (lines_of t.accounts) names))
-    by None is rest = rest
-    by (Some user) is rest = (record { name = name; told = named t name user (sym (number_in-lines_of t.accounts name) ∙ is); found = is }, rest)
+among-found t names =
+    users-each (IsFound t) (lines_of t.accounts)
+    (λ name user at. record { name = name; told = named t name user (sym (number_in-lines_of t.accounts name) ∙ at); found = at }) names
 
 among-few : (t : Tables) (names : List (Option (List ℕ))) → length (flat_map listed (users_among (lines_of t.accounts) names)) ≤ length names
 among-few t [] = omega arith
@@ -126,6 +122,10 @@ none-missing (u ∷ users) = none-missing users
 pub all-listed : (users : List ℕ) → flat_map listed (map (λ (u : ℕ). Some u) users) ≡ users
 all-listed [] = refl
 all-listed (u ∷ users) = ap (λ (us : List ℕ). u ∷ us) (all-listed users)
+
+-- a user's number
+abbrev pub IsNumber : ℕ → Type 0
+IsNumber user = (1 ≤ user) × (user ≤ 9999)
 
 -- ---- the rows of a group
 
@@ -219,10 +219,7 @@ module _ (maker paper : ℕ) where
       begin-both e (coauthors paper (b.n2 ∷ numbers behind ++ more)) r (b ∷ behind) split.0
       (subst (λ (n : ℕ). BeginRows (b ∷ behind) (grouped maker (Coauthor paper n ∷ coauthors paper (numbers behind ++ more)))) (head_is u b.n2 users (numbers behind ++ rest) is) next)
 
-  -- the numbers of co-authors whose entries have rows
-  abbrev pub IsNumber : ℕ → Type 0
-  IsNumber user = (1 ≤ user) × (user ≤ 9999)
-
+  -- co-authors whose entries have rows have numbers
   pub bounded-numbers : (users : List ℕ) → AllByRecursion IsBoundedEntry (grouped maker (coauthors paper users)) → AllByRecursion IsNumber users
   bounded-numbers [] all = tt
   bounded-numbers (u ∷ users) all =
@@ -231,10 +228,10 @@ module _ (maker paper : ℕ) where
 
 -- ---- what is rebuilt
 
-numbered-told : (t : Tables) (behind : List Row) → AllByRecursion (λ (u : ℕ). (1 ≤ u) × (u ≤ 9999)) (numbers behind) → map (λ (r : Row). name_numbered t r.n2) behind ≡ map (name_told t) (numbers behind)
+numbered-told : (t : Tables) (behind : List Row) → AllByRecursion IsNumber (numbers behind) → names_told t behind ≡ map (name_told t) (numbers behind)
 numbered-told t [] all = refl
 numbered-told t (b ∷ behind) all =
-    ap (λ (o : Option (List ℕ)). o ∷ map (λ (r : Row). name_numbered t r.n2) behind) (ap (λ c. cond c (name_told t b.n2) None) (within b.n2 all.0.0 all.0.1))
+    ap (λ (o : Option (List ℕ)). o ∷ names_told t behind) (ap (λ c. cond c (name_told t b.n2) None) (within b.n2 all.0.0 all.0.1))
     ∙ ap (λ (os : List (Option (List ℕ))). name_told t b.n2 ∷ os) (numbered-told t behind all.1)
   where
     within : (n : ℕ) → 1 ≤ n → n ≤ 9999 → (nat_le 1 n && nat_le n 9999) ≡ true
@@ -261,31 +258,31 @@ pub record Rebuilt (t : Tables) (maker : ℕ) (rows behind : List Row) (users re
   pub new : AreNew (maker ∷ []) (numbers behind ++ more)
   pub few : length (numbers behind ++ more) ≤ length users
 
-module _ (t : Tables) (once : (user : ℕ) (name : List ℕ) → name_told t user ≡ Some name → number_at t.accounts name ≡ Some user) (maker : ℕ) (r : Row) (behind : List Row) where
-  pub rebuilt : (users rest : List ℕ) → users ≡ numbers behind ++ rest → are_open (r ∷ behind) ≡ not (is_nothing rest) → AllByRecursion (IsFound t) users → AllByRecursion (λ (u : ℕ). (1 ≤ u) × (u ≤ 9999)) users
+module _ (t : Tables) (once : AreNamedOnce t.accounts) (maker : ℕ) (r : Row) (behind : List Row) where
+  pub rebuilt : (users rest : List ℕ) → users ≡ numbers behind ++ rest → are_open (r ∷ behind) ≡ not (is_nothing rest) → AllByRecursion (IsFound t) users → AllByRecursion IsNumber users
       → AreNew (maker ∷ []) users → Rebuilt t maker (r ∷ behind) behind users rest
   rebuilt users rest is opened found numbered new =
-      by rest opened (subst (λ (us : List ℕ). AllByRecursion (IsFound t) us) is found) (subst (λ (us : List ℕ). AllByRecursion (λ (u : ℕ). (1 ≤ u) × (u ≤ 9999)) us) is numbered) (subst (λ (us : List ℕ). AreNew (maker ∷ []) us) is new) (ap length (sym is))
+      by rest opened (subst (λ (us : List ℕ). AllByRecursion (IsFound t) us) is found) (subst (λ (us : List ℕ). AllByRecursion IsNumber us) is numbered) (subst (λ (us : List ℕ). AreNew (maker ∷ []) us) is new) (ap length (sym is))
     where
       told : List ℕ
       told = numbers behind
 
-      names : (b : Bool) (all : AllByRecursion (λ (u : ℕ). (1 ≤ u) × (u ≤ 9999)) told) → are_open (r ∷ behind) ≡ b → authors_told t maker (r ∷ behind) ≡ map (name_told t) told ++ given b (name_left t maker behind)
-      names b all is = ap (λ (c : Bool). map (λ (x : Row). name_numbered t x.n2) behind ++ given c (name_left t maker behind)) is ∙ ap (λ (xs : List (Option (List ℕ))). xs ++ given b (name_left t maker behind)) (numbered-told t behind all)
+      names : (b : Bool) (all : AllByRecursion IsNumber told) → are_open (r ∷ behind) ≡ b → authors_told t maker (r ∷ behind) ≡ map (name_told t) told ++ given b (name_left t maker behind)
+      names b all is = ap (λ (c : Bool). names_told t behind ++ given c (name_left t maker behind)) is ∙ ap (λ (xs : List (Option (List ℕ))). xs ++ given b (name_left t maker behind)) (numbered-told t behind all)
 
-      by : (rest : List ℕ) → are_open (r ∷ behind) ≡ not (is_nothing rest) → AllByRecursion (IsFound t) (told ++ rest) → AllByRecursion (λ (u : ℕ). (1 ≤ u) × (u ≤ 9999)) (told ++ rest)
+      by : (rest : List ℕ) → are_open (r ∷ behind) ≡ not (is_nothing rest) → AllByRecursion (IsFound t) (told ++ rest) → AllByRecursion IsNumber (told ++ rest)
           → AreNew (maker ∷ []) (told ++ rest) → length (told ++ rest) ≡ length users → Rebuilt t maker (r ∷ behind) behind users rest
       by [] opened found numbered new few = record {
         more = [];
         alike = refl;
-        names = names false (all-first (λ (u : ℕ). (1 ≤ u) × (u ≤ 9999)) told [] numbered) opened ∙ append-nil (map (name_told t) told) ∙ ap (map (name_told t)) (sym (append-nil told));
+        names = names false (all-first IsNumber told [] numbered) opened ∙ append-nil (map (name_told t) told) ∙ ap (map (name_told t)) (sym (append-nil told));
         found = found;
         new = new;
         few = omega (arith, few);
       }
       by (u ∷ rest) opened found numbered new few =
           let here = (all-second (IsFound t) told (u ∷ rest) found).0 in
-          let range = (all-second (λ (u : ℕ). (1 ≤ u) × (u ≤ 9999)) told (u ∷ rest) numbered).0 in
+          let range = (all-second IsNumber told (u ∷ rest) numbered).0 in
           let low = range.0 in
           let high = range.1 in
           let free = some-free t maker behind u here.name here.told (any-numbers maker behind u ∙ new-next (maker ∷ []) told u rest new) 9999 1 (omega arith) low (omega (arith, high)) in
@@ -293,7 +290,7 @@ module _ (t : Tables) (once : (user : ℕ) (name : List ℕ) → name_told t use
           record {
             more = free.user ∷ [];
             alike = refl;
-            names = names true (all-first (λ (u : ℕ). (1 ≤ u) × (u ≤ 9999)) told (u ∷ rest) numbered) opened
+            names = names true (all-first IsNumber told (u ∷ rest) numbered) opened
                 ∙ ap (λ (o : Option (List ℕ)). map (name_told t) told ++ o ∷ []) (left t maker behind free.name free.found ∙ sym free.told)
                 ∙ map-both t told (free.user ∷ []);
             found = all-both (IsFound t) told (free.user ∷ []) (all-first (IsFound t) told (u ∷ rest) found) (her, tt);
