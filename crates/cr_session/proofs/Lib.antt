@@ -6,6 +6,7 @@ pub mod Passes
 pub mod Alone
 pub mod Endings
 pub mod TurnLaws
+pub mod Sendings
 pub mod Requests
 pub mod NoFurther
 pub mod NoMemory

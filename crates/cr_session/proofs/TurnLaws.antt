@@ -1,5 +1,5 @@
 -- What one turn does is what Told and Step say.
-use Rattle.std.proofs.Common.{◌≡◌, ◌∙◌, ℕ, Bool, true, false, cond, Option, Some, None, Result, Ok, Err, refl, sym, ap, subst, IsSome, IsOk}
+use Rattle.std.proofs.Common.{◌≡◌, ◌∙◌, ℕ, Bool, true, false, cond, Option, Some, None, Result, Ok, Err, refl, sym, ap, subst, append-nil, IsSome, IsOk}
 use Rattle.cr_base.specs.declared.command.Command.TheVariants.{Register}
 use Rattle.cr_base.specs.declared.ask.Ask.{Ask}
 use Rattle.cr_routes.specs.declared.place.Place.{Place}
@@ -102,7 +102,7 @@ is_ok-accepted (Err rule) h = h
 pub command-turn : (turn : Turn) (w : Wish) (u : Option ℕ) (command : Command) (b b' : Ledger) → w.what ≡ whats.Command command → u ≡ caller b.history w → is_unauthorized u (whats.Command command) ≡ false
     → JudgesCommand turn u command b b' → Turns turn w b b'
 command-turn (turns.Refused (refused.Rule rule)) w u command b b' is by may j = record {
-  told_is = λ close. told-command b.history w u command (Err rule) close is by may j.0;
+  told_is = λ close. sym (append-nil (refusal_text (refused.Rule rule) (form_of w close))) ∙ told-command b.history w u command (Err rule) close is by may j.0;
   stepped = ap (λ (x : Ledger). x.history) j.1 ∙ sym (stepped-command b.history w u command (Err rule) is by may j.0);
   steady = ap (λ (x : Ledger). x.faults) j.1;
 }
@@ -114,7 +114,7 @@ command-turn (turns.Refused refused.BadBody) w u command b b' is by may j = absu
 command-turn (turns.Refused refused.KeeperFault) w u command b b' is by may j = absurd j
 command-turn (turns.Refused refused.NoMemory) w u command b b' is by may j = absurd j
 command-turn (turns.Accepted receipt) w u command b b' is by may j = record {
-  told_is = λ close. ap (λ x. receipt_text x (form_of w close)) j.0.receipt_is ∙ told-command b.history w u command (Ok j.0.drawn) close is by may j.0.judged;
+  told_is = λ close. ap (λ x. receipt_text x (form_of w close)) j.0.receipt_is ∙ sym (append-nil (receipt_text j.0.drawn.receipt (form_of w close))) ∙ told-command b.history w u command (Ok j.0.drawn) close is by may j.0.judged;
   stepped = j.0.added ∙ sym (stepped-command b.history w u command (Ok j.0.drawn) is by may j.0.judged);
   steady = j.1;
 }

@@ -11,7 +11,7 @@ use Rattle.cr_policy.specs.View.{View, view}
 use Rattle.cr_base.specs.History.{History}
 use Rattle.cr_print.specs.declared.form.Form.{Form}
 use Rattle.cr_print.specs.declared.refused.Refused.TheVariants as refused
-use Rattle.cr_print.specs.Answers.{IsBrief, refusal_text, receipt_text, reply_text}
+use Rattle.cr_print.specs.Answers.{IsBrief, refusal_text, receipt_text, reply_text, front_text, block_text}
 use Rattle.cr_wire.specs.declared.what.What.{What}
 use Rattle.cr_wire.specs.declared.what.What.TheVariants as whats
 use Rattle.cr_wire.specs.declared.what.Wish.{Wish}
@@ -36,6 +36,16 @@ turn_text (turns.Accepted receipt) form = receipt_text receipt form
 turn_text (turns.Answered reply) form = reply_text reply form
 turn_text turns.Lost form = refusal_text refused.KeeperFault form
 turn_text turns.OutOfMemory form = []
+
+-- what is printed of it: of an answer all but what is written as it is kept
+abbrev pub turn_front : Turn → Form → List ℕ
+turn_front (turns.Answered reply) form = front_text form reply
+turn_front turn form = turn_text turn form
+
+-- what is written behind that, as it is kept
+abbrev pub turn_block : Turn → Form → List ℕ
+turn_block (turns.Answered reply) form = block_text form reply
+turn_block turn form = []
 
 -- memory may run out in the turn of what a caller wishes on her view: for a command that Judge accepts, and for a query
 -- that Answer doesn't refuse

@@ -3,7 +3,7 @@ ghost use Rattle.std.specs.Prelude.{◌≡◌, ◌≢◌, ◌≤◌, [], IfOk, I
 ghost use Rattle.cr_ports.specs.Count.{Rises};
 ghost use Rattle.cr_session.specs.Reading.{ReadsWish, IsBoundedRead, IsAtHand};
 
-use cr_http::{Refusal, RequestRead, read_request};
+use cr_http::{Refusal, Request, RequestRead, read_request};
 use cr_ports::Source;
 use cr_routes::Routes;
 use cr_wire::{Wish, wish_of};
@@ -97,11 +97,11 @@ fn wish_at_hand(alloc: Global, routes: &Routes, requests: &cr_http::Inbox) -> Wi
     ensures wish { IsAtHand result requests.now.request }
     ensures bounded { IsBoundedRead result }
 {
-    let request = requests.request();
-    match wish_of(alloc, routes, &request.head, request.body) {
+    let Request { head, body } = requests.request();
+    match wish_of(alloc, routes, &head, body) {
         Ok(wish) => WishRead::Wish(wish),
         Err(_) => WishRead::OutOfMemory {
-            is_head: request.head.is_head(),
+            is_head: head.is_head(),
         },
     }
 }

@@ -1,5 +1,5 @@
 //! The loop over the requests of one connection.
-ghost use Rattle.std.specs.Prelude.{◌≡◌, ◌≤◌, ◌<◌, ◌+◌, ◌-◌, ◌^◌, [], List, ℕ, Some, vec_capacity};
+ghost use Rattle.std.specs.Prelude.{◌≡◌, ◌≤◌, ◌<◌, ◌+◌, ◌-◌, ◌^◌, ◌++◌, [], List, ℕ, Some, vec_capacity};
 ghost use Rattle.cr_ports.specs.Count.{Rises};
 ghost use Rattle.cr_wire.specs.Bounds.{IsBoundedWhat};
 ghost use Rattle.cr_wire.specs.Wishes.{closes};
@@ -9,7 +9,7 @@ ghost use Rattle.cr_session.specs.Turning.{Sends, ServesRequest};
 ghost use Rattle.cr_ports.specs.Writing.{outlet_of};
 
 use crate::reading::{Inbox, WishRead, read_wish};
-use crate::turn::{Turn, in_turn, print_turn};
+use crate::turn::{Turn, block_of, in_turn, print_turn};
 use cr_book::Book;
 use cr_http::Refusal;
 use cr_lock::{HistoryLock, Pass};
@@ -97,16 +97,20 @@ fn serve_request<R: Wait, K: Keeper, O: Sink>(
         return Served::OutOfMemory;
     }
     match print_turn(reply, &turn, form) {
-        Ok(()) => send(sink, reply, close),
+        Ok(()) => send(sink, reply, block_of(&turn, form), close),
         Err(_) => Served::OutOfMemory,
     }
 }
 
-/// Writes an answer.
-fn send<O: Sink>(sink: &mut O, reply: &[u8], close: bool) -> Served
-    ensures { Sends result close reply.now (outlet_of O.taken O.faults sink.old) (outlet_of O.taken O.faults sink.new) }
+/// Writes an answer: what was printed of it, and what stands behind that, which isn't copied.
+fn send<O: Sink>(sink: &mut O, front: &[u8], block: &[u8], close: bool) -> Served
+    ensures { Sends result close (front.now ++ block.now) (outlet_of O.taken O.faults sink.old) (outlet_of O.taken O.faults sink.new) }
 {
-    match write_all(sink, reply) {
+    match write_all(sink, front) {
+        Err(_) => return Served::WriteFault,
+        Ok(()) => {}
+    }
+    match write_all(sink, block) {
         Err(_) => Served::WriteFault,
         Ok(()) if close => Served::Closes,
         Ok(()) => Served::Goes,

@@ -9,13 +9,13 @@ ghost use Rattle.cr_wire.specs.Bounds.{IsBoundedWhat};
 ghost use Rattle.cr_wire.specs.Caller.{caller};
 ghost use Rattle.cr_session.specs.Replay.{Ledger, ledger_of};
 ghost use Rattle.cr_session.specs.Told.{is_unauthorized};
-ghost use Rattle.cr_session.specs.Turning.{Turns, JudgesCommand, AnswersQuery, turn_text, MayWantToPrint};
+ghost use Rattle.cr_session.specs.Turning.{Turns, JudgesCommand, AnswersQuery, turn_block, turn_front, MayWantToPrint};
 
 use cr_base::{Command, Query, Receipt, Reply, UserNo};
 use cr_book::{AnswerError, Book, BookError};
 use cr_lock::{HistoryLock, Pass};
 use cr_ports::Keeper;
-use cr_print::{Form, Refused, print_receipt, print_refusal, print_reply};
+use cr_print::{Form, Refused, block, print_receipt, print_refusal, print_reply};
 use cr_wire::{What, Wish};
 use std::alloc::AllocError;
 use std::sync::Wait;
@@ -121,12 +121,12 @@ fn answer<K: Keeper>(book: &Book<K>, caller: &Option<UserNo>, query: &Query) -> 
     }
 }
 
-/// Appends the answer to what a turn came to: only a query's answer may want more memory than the room
-/// that was made before, and none of those that are bounded. The room never gets smaller.
+/// Appends the answer to what a turn came to, but for what `block_of` lends: only a query's answer may want more memory than
+/// the room that was made before, and none of those that are bounded. The room never gets smaller.
 pub(crate) fn print_turn(reply: &mut Vec<u8>, turn: &Turn, form: Form) -> Result<(), AllocError>
     requires empty { reply.old.items ≡ [] }
     requires room { HasRoom reply.old 512 }
-    ensures ok { OnOk result (reply.new.items ≡ turn_text turn.now form) }
+    ensures ok { OnOk result (reply.new.items ≡ turn_front turn.now form) }
     ensures err { OnErr result (MayWantToPrint turn.now) }
     ensures kept { vec_capacity reply.old ≤ vec_capacity reply.new }
 {
@@ -138,4 +138,14 @@ pub(crate) fn print_turn(reply: &mut Vec<u8>, turn: &Turn, form: Form) -> Result
         Turn::OutOfMemory => {}
     }
     Ok(())
+}
+
+/// What is written behind that, lent from where it is kept: a paper's content.
+pub(crate) fn block_of(turn: &Turn, form: Form) -> &[u8]
+    ensures { result.now ≡ turn_block turn.now form }
+{
+    match turn {
+        Turn::Answered(reply) => block(reply, form),
+        _ => &[],
+    }
 }

@@ -1,0 +1,28 @@
+-- An answer is written in two parts.
+use Rattle.std.proofs.Common.{◌≡◌, ◌∙◌, List, ℕ, [], ◌∷◌, ◌++◌, refl, ap, append_assoc, append-nil}
+use Rattle.cr_ports.specs.Writing.{Outlet, BreaksOff}
+use Rattle.cr_print.specs.declared.form.Form.{Form}
+use Rattle.cr_session.specs.declared.turn.Turn.{Turn}
+use Rattle.cr_session.specs.declared.turn.Turn.TheVariants as turns
+use Rattle.cr_session.specs.Turning.{turn_block, turn_front, turn_text}
+
+-- what is printed, and what is written behind it
+pub turn_parts : (turn : Turn) (form : Form) → turn_front turn form ++ turn_block turn form ≡ turn_text turn form
+turn_parts (turns.Answered reply) form = refl
+turn_parts turn form = append-nil (turn_text turn form)
+
+none_before : (a b : List ℕ) → a ++ b ≡ [] → a ≡ []
+none_before [] b e = refl
+none_before (x ∷ a) b e = absurd (cc)
+
+-- where the first part's write broke off
+pub breaks_at_front : (front block : List ℕ) (s t : Outlet) → BreaksOff [] front s t → BreaksOff [] (front ++ block) s t
+breaks_at_front front block s t x = record {
+  part = x.part;
+  missing = x.missing ++ block;
+  parts = ap (λ p. p ++ block) x.parts ∙ append_assoc x.part x.missing block;
+  short = λ e. x.short (none_before x.missing block e);
+  took = x.took;
+  later = x.later;
+  rises = x.rises;
+}
