@@ -140,6 +140,23 @@ module _ {D I O : Type 0} (left : D → ℕ) (is_out : D → Bool) (faults : D �
 
 -- ---- what an exit tells
 
+-- the exits of workers that served
+abbrev EndsServing : Exit → Type 0
+EndsServing exits.Done = Unit {0}
+EndsServing exits.WriteFault = Unit {0}
+EndsServing exits.ListenFault = Unit {0}
+EndsServing exits.OutOfMemory = Unit {0}
+EndsServing _ = ⊥
+
+ended-by : {exit x : Exit} (ended : Worked) (written : Bool) → exit ≡ exit_of_workers ended written → exit ≡ x → EndsServing x
+ended-by ended written is e = subst EndsServing (sym is ∙ e) (by ended written)
+  where
+    by : (ended : Worked) (written : Bool) → EndsServing (exit_of_workers ended written)
+    by worked.OutOfMemory written = tt
+    by worked.DoorFailed written = tt
+    by worked.Done true = tt
+    by worked.Done false = tt
+
 module _ {K I O : Type 0} (rows : K → Option (List Row)) (path : List ℕ) (streams : Streams I O) (workers connections : ℕ) (exit : Exit) (o o' : Outlet) (s s' : ShelfState) (g g' : GatesState I O) where
   abbrev pub Serves : Type 0
   Serves = ServesGates rows path streams workers connections exit o o' s s' g g'
@@ -176,39 +193,23 @@ module _ {K I O : Type 0} (rows : K → Option (List Row)) (path : List ℕ) (st
   write-rises (inr (inl closed)) e = absurd (subst (λ (x : Exit). IsWhyClosed x g g') e closed.0.refused)
   write-rises (inr (inr m)) e = by-write m.ended m.written (length m.history) (sym e ∙ m.exit_is) m.line
 
-  by-keeper : (ended : Worked) (written : Bool) → exits.KeeperFault ≢ exit_of_workers ended written
-  by-keeper worked.Done false e = absurd (cc (e))
-  by-keeper worked.Done true e = absurd (cc (e))
-  by-keeper worked.DoorFailed written e = absurd (cc (e))
-  by-keeper worked.OutOfMemory written e = absurd (cc (e))
-
   pub keeper-rises : Serves → exit ≡ exits.KeeperFault → Rises s.faults s'.faults
   keeper-rises (inl shut) e = subst (λ (x : Exit). IsWhyShut path x s s') e shut.0.refused
   keeper-rises (inr (inl closed)) e = absurd (subst (λ (x : Exit). IsWhyClosed x g g') e closed.0.refused)
-  keeper-rises (inr (inr m)) e = absurd (by-keeper m.ended m.written (sym e ∙ m.exit_is))
+  keeper-rises (inr (inr m)) e = absurd (ended-by m.ended m.written m.exit_is e)
+
+  -- an exit that neither a store gives that doesn't open, nor gates, nor workers
+  never : (x : Exit) → (IsWhyShut path x s s' → ⊥) → (IsWhyClosed x g g' → ⊥) → (EndsServing x → ⊥) → Serves → exit ≢ x
+  never x unshut unclosed unended (inl shut) e = unshut (subst (λ (y : Exit). IsWhyShut path y s s') e shut.0.refused)
+  never x unshut unclosed unended (inr (inl closed)) e = unclosed (subst (λ (y : Exit). IsWhyClosed y g g') e closed.0.refused)
+  never x unshut unclosed unended (inr (inr m)) e = unended (ended-by m.ended m.written m.exit_is e)
 
   -- no input is read
-  by-read : (ended : Worked) (written : Bool) → exits.ReadFault ≢ exit_of_workers ended written
-  by-read worked.Done false e = absurd (cc (e))
-  by-read worked.Done true e = absurd (cc (e))
-  by-read worked.DoorFailed written e = absurd (cc (e))
-  by-read worked.OutOfMemory written e = absurd (cc (e))
-
   pub never-reads : Serves → exit ≢ exits.ReadFault
-  never-reads (inl shut) e = absurd (subst (λ (x : Exit). IsWhyShut path x s s') e shut.0.refused)
-  never-reads (inr (inl closed)) e = absurd (subst (λ (x : Exit). IsWhyClosed x g g') e closed.0.refused)
-  never-reads (inr (inr m)) e = absurd (by-read m.ended m.written (sym e ∙ m.exit_is))
-
-  by-usage : (ended : Worked) (written : Bool) → exits.Usage ≢ exit_of_workers ended written
-  by-usage worked.Done false e = absurd (cc (e))
-  by-usage worked.Done true e = absurd (cc (e))
-  by-usage worked.DoorFailed written e = absurd (cc (e))
-  by-usage worked.OutOfMemory written e = absurd (cc (e))
+  never-reads = never exits.ReadFault (λ none. none) (λ none. none) (λ none. none)
 
   pub never-usage : Serves → exit ≢ exits.Usage
-  never-usage (inl shut) e = absurd (subst (λ (x : Exit). IsWhyShut path x s s') e shut.0.refused)
-  never-usage (inr (inl closed)) e = absurd (subst (λ (x : Exit). IsWhyClosed x g g') e closed.0.refused)
-  never-usage (inr (inr m)) e = absurd (by-usage m.ended m.written (sym e ∙ m.exit_is))
+  never-usage = never exits.Usage (λ none. none) (λ none. none) (λ none. none)
 
   -- ---- where nothing fails
 

@@ -1,5 +1,6 @@
 -- What a run does that serves many connections over a store.
-use Rattle.std.specs.Prelude.{◌≡◌, ◌≢◌, ◌≤◌, ◌⊎◌, ℕ, ◌+◌, List, [], ◌∷◌, ◌++◌, codes, decimal, length, map, Bool, true, false, Option, Some, IfSome}
+use Rattle.std.specs.Prelude.{◌≡◌, ◌≢◌, ◌≤◌, ◌⊎◌, ℕ, ◌+◌, List, [], ◌∷◌, ◌++◌, codes, decimal, length, map, Bool, true, false}
+use Rattle.std.specs.Prelude.{Option, Some, IfSome}
 use Rattle.cr_base.specs.declared.entry.Stamped.{Stamped}
 use Rattle.cr_base.specs.declared.row.Row.{Row}
 use Rattle.cr_base.specs.History.{History}
@@ -49,6 +50,10 @@ pub record IsNew {I O : Type 0} (d : SeenDoor I O) : Type 0 where
   pub faults : d.faults ≡ 0
   pub log : IfSome d.log (λ log. log ≡ unasked)
 
+-- the doors of which this is seen are new
+abbrev pub AreNew : {D I O : Type 0} → (D → SeenDoor I O) → List D → Type 0
+AreNew seen doors = Every IsNew (map seen doors)
+
 -- a door's last answer, by how the workers ended: its share was given; or that, or it failed; or, for lack of memory, any
 abbrev pub EndsBy : {I O : Type 0} → Worked → DoorLog I O → Type 0
 EndsBy worked.Done log = log.last ≡ Some answers.Done
@@ -64,7 +69,8 @@ pub record AreTold {I O : Type 0} (ended : Worked) (works : List (DoorWork I O))
 -- ---- answers that a command wasn't kept
 
 -- how many wishes of these connections were lost to the keeper: each has such an answer, or a part of it where its write failed
-abbrev pub lost_in : {I O : Type 0} → (streams : Streams I O) (first last : History) (connections : List (ServedConnection I O)) → Every (IsServedWithin streams first last) connections → ℕ
+abbrev pub lost_in : {I O : Type 0} → (streams : Streams I O) (first last : History) (connections : List (ServedConnection I O))
+    → Every (IsServedWithin streams first last) connections → ℕ
 lost_in streams first last [] served = 0
 lost_in streams first last (c ∷ cs) served =
     lost_count (served.0.served.connection.answered ++ listed served.0.served.connection.failed) + lost_in streams first last cs served.1
@@ -74,7 +80,8 @@ lost_in streams first last (c ∷ cs) served =
 -- From the history of the rows at the path on workers served the connections that their doors gave, one door each, and the
 -- exit is by how they ended: 0 or 5 where each door gave its share, 7 where one failed, and 9 where memory ran out. The
 -- rows at the path are then those of the last history, and the output has the number of its entries.
-pub record ServesMany {K I O : Type 0} (rows : K → Option (List Row)) (path : List ℕ) (streams : Streams I O) (workers connections : ℕ) (exit : Exit) (o o' : Outlet) (s s' : ShelfState) (g g' : GatesState I O) : Type 0 where
+pub record ServesMany {K I O : Type 0} (rows : K → Option (List Row)) (path : List ℕ) (streams : Streams I O) (workers connections : ℕ)
+    (exit : Exit) (o o' : Outlet) (s s' : ShelfState) (g g' : GatesState I O) : Type 0 where
   pub opening : History
   pub opens : Legal opening
   pub found : IfSome s.files (λ files. rows_of opening ≡ files path)
@@ -122,7 +129,8 @@ pub record StaysClosed {I O : Type 0} (exit : Exit) (s s' : ShelfState) (g g' : 
   pub gates : g.faults ≤ g'.faults
 
 -- a store that doesn't open leaves the gates unasked; and where no connection was served, nothing is written
-abbrev pub ServesGates : {K I O : Type 0} → (K → Option (List Row)) → List ℕ → Streams I O → ℕ → ℕ → Exit → Outlet → Outlet → ShelfState → ShelfState → GatesState I O → GatesState I O → Type 0
+abbrev pub ServesGates : {K I O : Type 0} → (K → Option (List Row)) → List ℕ → Streams I O → ℕ → ℕ
+    → Exit → Outlet → Outlet → ShelfState → ShelfState → GatesState I O → GatesState I O → Type 0
 ServesGates rows path streams workers connections exit o o' s s' g g' =
     (StaysShut path exit s s' × (o' ≡ o) × (g' ≡ g))
     ⊎ ((StaysClosed exit s s' g g' × (o' ≡ o)) ⊎ ServesMany rows path streams workers connections exit o o' s s' g g')

@@ -50,7 +50,8 @@ KeepsFiles s s' = IfSome s.files (λ files. (path : List ℕ) → rows_told_at s
 
 -- The rows at the path are those of one legal history, the book's; its keeper tells them where the shelf does and has counted
 -- no fault, and nothing changed.
-pub record OpensStore {K : Type 0} (rows : K → Option (List Row)) (faults : K → ℕ) (path : List ℕ) (book : SeenBook K) (s s' : ShelfState) : Type 0 where
+pub record OpensStore {K : Type 0} (rows : K → Option (List Row)) (faults : K → ℕ) (path : List ℕ) (book : SeenBook K)
+    (s s' : ShelfState) : Type 0 where
   pub legal : Legal book.log
   pub found : IfSome s.files (λ files. rows_of book.log ≡ files path)
   pub only : IfSome s.files (λ files. (H : History) → Legal H → rows_of H ≡ files path → H ≡ book.log)

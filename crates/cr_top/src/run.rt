@@ -15,7 +15,7 @@ use crate::serve::{Address, serve_store};
 use crate::storing::pipe_store;
 use crate::viewing::view_store;
 use cr_book::Book;
-use cr_ports::{Door, Gates, PlainKeeper, Shelf, Sink, Source, write_all};
+use cr_ports::{Gates, PlainKeeper, Shelf, Sink, Source, write_all};
 use cr_words::{Job, WordsError, read_words, usage_text};
 use std::alloc::Global;
 use std::sync::Wait;
@@ -53,11 +53,6 @@ fn do_job<R: Threads + Wait + Sync, I: Source, O: Sink, S: Shelf, G: Gates>(
     shelf: &mut S,
     gates: &mut G,
 ) -> Exit
-where
-    S::Keeper: Send,
-    G::Door: Drop,
-    <G::Door as Door>::In: Send,
-    <G::Door as Door>::Out: Send,
     requires { IsInRange (job_seen job) }
     ensures does { let around = around_of I.faults O.taken O.faults S.rows S.faults G.faults G.logs in
         Does S.Keeper.rows I.left I.read_gives (streams_of G.Door.In.left G.Door.In.read_gives G.Door.In.faults G.Door.Out.taken G.Door.Out.faults)
@@ -123,11 +118,6 @@ pub fn top<R: Threads + Wait + Sync, I: Source, O: Sink, S: Shelf, G: Gates>(
     shelf: &mut S,
     gates: &mut G,
 ) -> Exit
-where
-    S::Keeper: Send,
-    G::Door: Drop,
-    <G::Door as Door>::In: Send,
-    <G::Door as Door>::Out: Send,
     // What the job that the words name did: one connection, or many, whose bytes are the answers that its wishes are told, each
     // on the caller's view of the one history at its turn's place; or a user's view.
     ensures does { let around = around_of I.faults O.taken O.faults S.rows S.faults G.faults G.logs in

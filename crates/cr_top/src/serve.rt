@@ -3,20 +3,20 @@ ghost use Rattle.std.specs.Prelude.{◌≡◌, ◌≢◌, ◌⊎◌, ◌≤◌, 
 ghost use Rattle.cr_base.specs.History.{History};
 ghost use Rattle.cr_base.specs.Rows.{rows_of};
 ghost use Rattle.cr_policy.specs.Legal.{Legal};
-ghost use Rattle.cr_lock.specs.Counts.{Every, total};
+ghost use Rattle.cr_lock.specs.Counts.{total};
 ghost use Rattle.cr_ports.specs.Count.{Rises};
 ghost use Rattle.cr_ports.specs.Doors.{shares};
 ghost use Rattle.cr_ports.specs.Writing.{outlet_of};
 ghost use Rattle.cr_workers.specs.Connections.{streams_of};
-ghost use Rattle.cr_workers.specs.Doors.{door_of};
+ghost use Rattle.cr_workers.specs.Doors.{door_of, turns_for};
 ghost use Rattle.cr_top.specs.declared.exit.Exit.{Exit};
-ghost use Rattle.cr_top.specs.Serves.{IsNew, IsWhyClosed, ServesGates, ServesMany, TellsEntries, gates_of};
+ghost use Rattle.cr_top.specs.Serves.{AreNew, IsWhyClosed, ServesGates, ServesMany, TellsEntries, gates_of};
 ghost use Rattle.cr_top.specs.Stores.{Files, OpensStore, ShelfState, state_of};
 
 use crate::exit::{Exit, exit_of_workers};
 use crate::storing::open_store;
 use cr_book::Book;
-use cr_ports::{Door, Gates, Opened, Shelf, Sink, WriteFault, write_all};
+use cr_ports::{Gates, Opened, Shelf, Sink, WriteFault, write_all};
 use cr_workers::serve_book;
 use itoa::Buffer;
 use std::alloc::Global;
@@ -54,10 +54,11 @@ fn open_gates<G: Gates>(
 ) -> Result<Vec<G::Door>, Exit>
     requires { 1 ≤ address.workers }
     ensures shared { IfOk result (λ doors. map G.Door.left doors.items ≡ shares address.entry.workers address.entry.connections) }
-    ensures new { IfOk result (λ doors. Every IsNew (map (door_of G.Door.left G.Door.is_out G.Door.faults G.Door.log) doors.items)) }
+    ensures new { IfOk result (λ doors. AreNew (door_of G.Door.left G.Door.is_out G.Door.faults G.Door.log) doors.items) }
     ensures same { IfOk result (λ doors. G.faults gates.new ≡ G.faults gates.old) }
     ensures logs { IfOk result (λ doors. G.logs gates.new ≡ G.logs gates.old) }
-    ensures refused { IfErr result (λ exit. IsWhyClosed exit (gates_of G.faults G.logs gates.old) (gates_of G.faults G.logs gates.new) × (G.faults gates.old ≤ G.faults gates.new)) }
+    ensures refused { let gates_at = gates_of G.faults G.logs in
+        IfErr result (λ exit. IsWhyClosed exit (gates_at gates.old) (gates_at gates.new) × (G.faults gates.old ≤ G.faults gates.new)) }
 {
     match gates.open(alloc, address.listen, address.workers, address.connections) {
         Opened::Doors(doors) => Ok(doors),
@@ -78,14 +79,9 @@ fn serve_doors<R: Threads + Wait + Sync, S: Shelf, G: Gates, O: Sink>(
     shelf: &mut S,
     gates: &mut G,
 ) -> Exit
-where
-    S::Keeper: Send,
-    G::Door: Drop,
-    <G::Door as Door>::In: Send,
-    <G::Door as Door>::Out: Send,
     requires at_most { length doors.items ≤ 64 }
-    requires few { 1048576 * total G.Door.left doors.items ≤ 2 ^ 40 }
-    requires new { Every IsNew (map (door_of G.Door.left G.Door.is_out G.Door.faults G.Door.log) doors.items) }
+    requires few { turns_for (total G.Door.left doors.items) ≤ 2 ^ 40 }
+    requires new { AreNew (door_of G.Door.left G.Door.is_out G.Door.faults G.Door.log) doors.items }
     requires open { S.has_opened shelf.old path.now }
     ensures { let outlet = outlet_of O.taken O.faults in let stores = state_of S.rows S.faults in let gates_at = gates_of G.faults G.logs in
         (s : ShelfState) → OpensStore S.Keeper.rows S.Keeper.faults path.now book s (stores shelf.old)
@@ -112,19 +108,16 @@ pub fn serve_store<R: Threads + Wait + Sync, S: Shelf, G: Gates, O: Sink>(
     shelf: &mut S,
     gates: &mut G,
 ) -> Exit
-where
-    S::Keeper: Send,
-    G::Door: Drop,
-    <G::Door as Door>::In: Send,
-    <G::Door as Door>::Out: Send,
     requires workers { (1 ≤ address.workers) × (address.workers ≤ 64) }
     requires connections { (1 ≤ address.connections) × (address.connections ≤ 65536) }
     ensures serves { let outlet = outlet_of O.taken O.faults in let stores = state_of S.rows S.faults in let gates_at = gates_of G.faults G.logs in
         ServesGates S.Keeper.rows path.now (streams_of G.Door.In.left G.Door.In.read_gives G.Door.In.faults G.Door.Out.taken G.Door.Out.faults)
-        address.entry.workers address.entry.connections result (outlet out.old) (outlet out.new) (stores shelf.old) (stores shelf.new) (gates_at gates.old) (gates_at gates.new) }
+        address.entry.workers address.entry.connections result (outlet out.old) (outlet out.new)
+        (stores shelf.old) (stores shelf.new) (gates_at gates.old) (gates_at gates.new) }
 
     // Where nothing fails and the rows are a legal history's, each door gives its share, or memory runs out.
-    ensures answers { (Rises (O.faults out.old) (O.faults out.new) → ⊥) → (Rises (G.faults gates.old) (G.faults gates.new) → ⊥) → (Rises (S.faults shelf.old) (S.faults shelf.new) → ⊥)
+    ensures answers { (Rises (O.faults out.old) (O.faults out.new) → ⊥)
+        → (Rises (G.faults gates.old) (G.faults gates.new) → ⊥) → (Rises (S.faults shelf.old) (S.faults shelf.new) → ⊥)
         → (files : Files) → S.rows shelf.old ≡ Some files → (H : History) → Legal H → rows_of H ≡ files path.now
         → (result ≡ Exit.OutOfMemory) ⊎ (result ≡ Exit.Done) }
     ensures known { result ≢ Exit.Usage }

@@ -19,7 +19,8 @@ pub record Streams (I O : Type 0) : Type 1 where
   pub taken : O → Option (List ℕ)
   pub write_faults : O → ℕ
 
-abbrev pub streams_of : {I O : Type 0} → (I → Option (List ℕ)) → (I → I → List ℕ → Type 0) → (I → ℕ) → (O → Option (List ℕ)) → (O → ℕ) → Streams I O
+abbrev pub streams_of : {I O : Type 0} → (I → Option (List ℕ)) → (I → I → List ℕ → Type 0) → (I → ℕ)
+    → (O → Option (List ℕ)) → (O → ℕ) → Streams I O
 streams_of left gives read_faults taken write_faults =
     record { left = left; gives = gives; read_faults = read_faults; taken = taken; write_faults = write_faults }
 

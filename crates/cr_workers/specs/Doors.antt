@@ -1,6 +1,7 @@
 -- What workers did with their doors.
-use Rattle.std.specs.Prelude.{◌≡◌, ◌≤◌, ◌⊎◌, ℕ, ◌+◌, List, [], ◌∷◌, ◌++◌, length, map, flat_map, Bool, true, false, Option, Some, None, Result, Ok, Err}
-use Rattle.cr_lock.specs.Counts.{Every}
+use Rattle.std.specs.Prelude.{◌≡◌, ◌≤◌, ◌⊎◌, ℕ, ◌+◌, ◌*◌, ◌^◌, List, [], ◌∷◌, ◌++◌, length, map, flat_map, Bool, true, false}
+use Rattle.std.specs.Prelude.{Option, Some, None, Result, Ok, Err}
+use Rattle.cr_lock.specs.Counts.{Every, total}
 use Rattle.cr_ports.specs.Count.{Rises}
 use Rattle.cr_ports.specs.Doors.{DoorLog}
 use Rattle.cr_ports.specs.declared.door.DoorAnswer.{DoorAnswer}
@@ -135,6 +136,19 @@ pub record ServesDoors {I O : Type 0} (streams : Streams I O) (ended : Worked) (
   pub each : Every (IsWorkedOn ended) works
   pub cause : HasCause ended works
   pub served : ServeAll streams (connections_of works) p p'
+
+-- the same of doors of which this is seen
+abbrev pub ServesSeen : {D I O : Type 0} → (D → SeenDoor I O) → Streams I O → Worked → List D → List D → KnownPass → KnownPass → Type 0
+ServesSeen seen streams ended doors doors' p p' = ServesDoors streams ended (map seen doors) (map seen doors') p p'
+
+-- so many connections take at most so many turns
+abbrev pub turns_for : ℕ → ℕ
+turns_for connections = 1048576 * connections
+
+-- Doors that may be served behind so many turns: none has a connection out, and the turns of all that they give stay within
+-- the lock's.
+abbrev pub AreReady : {D : Type 0} → (D → ℕ) → (D → Bool) → List D → ℕ → Type 0
+AreReady left is_out doors turns = (turns + turns_for (total left doors) ≤ 2 ^ 40) × Every (λ door. is_out door ≡ false) doors
 
 -- ---- one worker's steps
 

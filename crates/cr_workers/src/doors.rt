@@ -1,10 +1,10 @@
 //! All workers: a thread for each door, where one can be made.
-ghost use Rattle.std.specs.Prelude.{◌≡◌, ◌≤◌, ◌<◌, ◌+◌, ◌-◌, ◌*◌, ◌/◌, ◌^◌, ◌++◌, length, map, false, vec_capacity, IfOk, IfErr};
+ghost use Rattle.std.specs.Prelude.{◌≡◌, ◌≤◌, ◌<◌, ◌+◌, ◌-◌, ◌*◌, ◌/◌, ◌^◌, ◌++◌, length, false, vec_capacity, IfOk, IfErr};
 ghost use Rattle.std.specs.Thread.{IsSync};
 ghost use Rattle.cr_lock.specs.Counts.{Every, total};
 ghost use Rattle.cr_session.specs.Passing.{StaysPass};
 ghost use Rattle.cr_workers.specs.Connections.{streams_of};
-ghost use Rattle.cr_workers.specs.Doors.{door_of, ServesDoors};
+ghost use Rattle.cr_workers.specs.Doors.{AreReady, door_of, ServesSeen, turns_for};
 
 use crate::worked::Worked;
 use crate::worker::serve_door;
@@ -25,11 +25,10 @@ fn serve_last<R: Wait, K: Keeper, D: Door + Drop>(
 ) -> (Pass<Book<K>>, Vec<D>, Worked)
     requires own { pass.lock ≡ lock.now.lock }
     requires last { length doors.items ≤ 1 }
-    requires few { pass.turns + 1048576 * total D.left doors.items ≤ 2 ^ 40 }
-    requires back { Every (λ door. D.is_out door ≡ false) doors.items }
-    ensures serves { let seen = map (door_of D.left D.is_out D.faults D.log) in
-        ServesDoors (streams_of D.In.left D.In.read_gives D.In.faults D.Out.taken D.Out.faults) result.2 (seen doors.items) (seen result.1.items) pass result.0 }
-    ensures pass { StaysPass (1048576 * total D.left doors.items) pass result.0 }
+    requires ready { AreReady D.left D.is_out doors.items pass.turns }
+    ensures serves { ServesSeen (door_of D.left D.is_out D.faults D.log) (streams_of D.In.left D.In.read_gives D.In.faults D.Out.taken D.Out.faults)
+        result.2 doors.items result.1.items pass result.0 }
+    ensures pass { StaysPass (turns_for (total D.left doors.items)) pass result.0 }
     ensures len { length result.1.items ≡ length doors.items }
     ensures room { vec_capacity doors ≤ vec_capacity result.1 }
 {
@@ -94,16 +93,12 @@ pub(crate) fn serve_doors<R: Threads + Wait + Sync, K: Keeper + Send, D: Door + 
     pass: Pass<Book<K>>,
     doors: Vec<D>,
 ) -> (Pass<Book<K>>, Vec<D>, Worked)
-where
-    D::In: Send,
-    D::Out: Send,
     requires own { pass.lock ≡ lock.now.lock }
     requires share { length doors.items ≤ pass.share }
-    requires few { pass.turns + 1048576 * total D.left doors.items ≤ 2 ^ 40 }
-    requires back { Every (λ door. D.is_out door ≡ false) doors.items }
-    ensures serves { let seen = map (door_of D.left D.is_out D.faults D.log) in
-        ServesDoors (streams_of D.In.left D.In.read_gives D.In.faults D.Out.taken D.Out.faults) result.2 (seen doors.items) (seen result.1.items) pass result.0 }
-    ensures pass { StaysPass (1048576 * total D.left doors.items) pass result.0 }
+    requires ready { AreReady D.left D.is_out doors.items pass.turns }
+    ensures serves { ServesSeen (door_of D.left D.is_out D.faults D.log) (streams_of D.In.left D.In.read_gives D.In.faults D.Out.taken D.Out.faults)
+        result.2 doors.items result.1.items pass result.0 }
+    ensures pass { StaysPass (turns_for (total D.left doors.items)) pass result.0 }
     ensures len { length result.1.items ≡ length doors.items }
     ensures room { vec_capacity doors ≤ vec_capacity result.1 }
 {
@@ -119,19 +114,19 @@ where
     };
     let first_half = move || -> (Pass<Book<K>>, Vec<D>, Worked)
         requires { IsSync R.row × (larger.lock ≡ lock.now.lock) × (length front.items ≤ larger.share)
-            × (larger.turns + 1048576 * total D.left front.items ≤ 2 ^ 40) × Every (λ door. D.is_out door ≡ false) front.items }
-        ensures serves { let seen = map (door_of D.left D.is_out D.faults D.log) in
-            ServesDoors (streams_of D.In.left D.In.read_gives D.In.faults D.Out.taken D.Out.faults) result.2 (seen front.items) (seen result.1.items) larger result.0 }
-        ensures pass { StaysPass (1048576 * total D.left front.items) larger result.0 }
+            × AreReady D.left D.is_out front.items larger.turns }
+        ensures serves { ServesSeen (door_of D.left D.is_out D.faults D.log) (streams_of D.In.left D.In.read_gives D.In.faults D.Out.taken D.Out.faults)
+            result.2 front.items result.1.items larger result.0 }
+        ensures pass { StaysPass (turns_for (total D.left front.items)) larger result.0 }
         ensures len { length result.1.items ≡ length front.items }
         ensures room { vec_capacity front ≤ vec_capacity result.1 }
     { serve_doors(rt, alloc, lock, larger, front) };
     let second_half = move || -> (Pass<Book<K>>, Vec<D>, Worked)
         requires { IsSync R.row × (smaller.lock ≡ lock.now.lock) × (length back.items ≤ smaller.share)
-            × (smaller.turns + 1048576 * total D.left back.items ≤ 2 ^ 40) × Every (λ door. D.is_out door ≡ false) back.items }
-        ensures serves { let seen = map (door_of D.left D.is_out D.faults D.log) in
-            ServesDoors (streams_of D.In.left D.In.read_gives D.In.faults D.Out.taken D.Out.faults) result.2 (seen back.items) (seen result.1.items) smaller result.0 }
-        ensures pass { StaysPass (1048576 * total D.left back.items) smaller result.0 }
+            × AreReady D.left D.is_out back.items smaller.turns }
+        ensures serves { ServesSeen (door_of D.left D.is_out D.faults D.log) (streams_of D.In.left D.In.read_gives D.In.faults D.Out.taken D.Out.faults)
+            result.2 back.items result.1.items smaller result.0 }
+        ensures pass { StaysPass (turns_for (total D.left back.items)) smaller result.0 }
         ensures len { length result.1.items ≡ length back.items }
     { serve_doors(rt, alloc, lock, smaller, back) };
     let ((one, front, first), (other, back, second)) = join(rt, first_half, second_half);

@@ -1,9 +1,9 @@
 //! All workers over one book.
-ghost use Rattle.std.specs.Prelude.{◌≡◌, ◌≤◌, ◌*◌, ◌^◌, length, map, false};
+ghost use Rattle.std.specs.Prelude.{◌≡◌, ◌≤◌, ◌^◌, length, map, false};
 ghost use Rattle.cr_lock.specs.Counts.{Every, total};
 ghost use Rattle.cr_session.specs.Replay.{ledger_of};
 ghost use Rattle.cr_workers.specs.Connections.{streams_of};
-ghost use Rattle.cr_workers.specs.Doors.{door_of};
+ghost use Rattle.cr_workers.specs.Doors.{door_of, turns_for};
 ghost use Rattle.cr_workers.specs.OneHistory.{ServesHistory};
 
 use crate::doors::serve_doors;
@@ -30,14 +30,12 @@ pub fn serve_book<R: Threads + Wait + Sync, K: Keeper + Send, D: Door + Drop + S
     book: Book<K>,
     doors: Vec<D>,
 ) -> (Worked, Book<K>, Vec<D>)
-where
-    D::In: Send,
-    D::Out: Send,
     requires at_most { length doors.items ≤ 64 }
-    requires few { 1048576 * total D.left doors.items ≤ 2 ^ 40 }
+    requires few { turns_for (total D.left doors.items) ≤ 2 ^ 40 }
     requires back { Every (λ door. D.is_out door ≡ false) doors.items }
     ensures { let seen = map (door_of D.left D.is_out D.faults D.log) in
-        ServesHistory (streams_of D.In.left D.In.read_gives D.In.faults D.Out.taken D.Out.faults) result.0 (seen doors.items) (seen result.2.items) (ledger_of K.faults book) (ledger_of K.faults result.1) }
+        ServesHistory (streams_of D.In.left D.In.read_gives D.In.faults D.Out.taken D.Out.faults)
+        result.0 (seen doors.items) (seen result.2.items) (ledger_of K.faults book) (ledger_of K.faults result.1) }
 {
     let (lock, pass) = match HistoryLock::new(alloc, book) {
         Ok(made) => made,

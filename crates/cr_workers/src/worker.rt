@@ -1,8 +1,8 @@
 //! One worker: the connections of one door, one after another.
-ghost use Rattle.std.specs.Prelude.{◌≡◌, ◌≤◌, ◌+◌, ◌*◌, ◌^◌, [], ◌∷◌, ◌||◌, IsFalse};
+ghost use Rattle.std.specs.Prelude.{◌≡◌, ◌≤◌, ◌+◌, ◌^◌, [], ◌∷◌, ◌||◌, IsFalse};
 ghost use Rattle.cr_session.specs.Passing.{StaysPass};
 ghost use Rattle.cr_workers.specs.Connections.{streams_of};
-ghost use Rattle.cr_workers.specs.Doors.{door_of, ended_by, lacks, ServesDoors, ServesNext};
+ghost use Rattle.cr_workers.specs.Doors.{door_of, ended_by, lacks, ServesNext, ServesSeen, turns_for};
 
 use crate::worked::Worked;
 use cr_book::Book;
@@ -30,11 +30,11 @@ fn serve_next<R: Wait, K: Keeper, D: Door>(
     door: &mut D,
 ) -> Result<Ending, Last>
     requires own { pass.old.lock ≡ lock.now.lock }
-    requires few { pass.old.turns + 1048576 * D.left door.old ≤ 2 ^ 40 }
+    requires few { pass.old.turns + turns_for (D.left door.old) ≤ 2 ^ 40 }
     requires back { IsFalse (D.is_out door.old) }
     ensures serves { let seen = door_of D.left D.is_out D.faults D.log in
         ServesNext (streams_of D.In.left D.In.read_gives D.In.faults D.Out.taken D.Out.faults) result (seen door.old) (seen door.new) pass.old pass.new }
-    ensures pass { StaysPass 1048576 pass.old pass.new }
+    ensures pass { StaysPass (turns_for 1) pass.old pass.new }
 {
     match door.next() {
         NextConnection::Done => Err(Last::Done),
@@ -79,11 +79,11 @@ pub(crate) fn serve_door<R: Wait, K: Keeper, D: Door>(
     door: &mut D,
 ) -> Worked
     requires own { pass.old.lock ≡ lock.now.lock }
-    requires few { pass.old.turns + 1048576 * D.left door.old ≤ 2 ^ 40 }
+    requires few { pass.old.turns + turns_for (D.left door.old) ≤ 2 ^ 40 }
     requires back { IsFalse (D.is_out door.old) }
-    ensures serves { let seen = door_of D.left D.is_out D.faults D.log in
-        ServesDoors (streams_of D.In.left D.In.read_gives D.In.faults D.Out.taken D.Out.faults) result (seen door.old ∷ []) (seen door.new ∷ []) pass.old pass.new }
-    ensures pass { StaysPass (1048576 * D.left door.old) pass.old pass.new }
+    ensures serves { ServesSeen (door_of D.left D.is_out D.faults D.log) (streams_of D.In.left D.In.read_gives D.In.faults D.Out.taken D.Out.faults)
+        result (door.old ∷ []) (door.new ∷ []) pass.old pass.new }
+    ensures pass { StaysPass (turns_for (D.left door.old)) pass.old pass.new }
 {
     let mut lacked = false;
     'serving: loop {
