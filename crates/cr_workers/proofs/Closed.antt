@@ -1,10 +1,10 @@
 -- All turns, once the lock is closed.
-use Rattle.std.proofs.Common.{◌≡◌, ◌∙◌, ℕ, ◌+◌, ◌≤◌, ◌⊎◌, inl, inr, ⊎_elim, List, [], length, refl, sym, ap, subst, arith}
+use Rattle.std.proofs.Common.{◌≡◌, ◌∙◌, ℕ, inl, inr, ⊎_elim, List, [], length, sym, ap, subst, arith}
 use mathlib.Core.Logic.{dite}
 use native.Mathlib.Decide.{dec_le}
 use mathlib.Core.List.{IsPrefix}
 use Rattle.cr_base.specs.History.{History}
-use Rattle.cr_lock.specs.Counts.{Every, total, within, last_count}
+use Rattle.cr_lock.specs.Counts.{Every, total, within}
 use Rattle.cr_lock.specs.Turns.{groups_with, marks, rises}
 use Rattle.cr_lock.specs.Closing.{Closes}
 use Rattle.cr_lock.proofs.Prefixes.{prefix_self}

@@ -1,12 +1,12 @@
 -- Connections that were served one after another, or side by side.
-use Rattle.std.proofs.Common.{◌≡◌, ◌∙◌, ℕ, ◌+◌, ◌<◌, ◌≤◌, ◌⊎◌, inl, inr, ⊎_elim, List, [], ◌∷◌, ◌++◌, length, Bool, true, false, nat_lt, if◌then◌else◌, refl, sym, ap, subst, arith}
+use Rattle.std.proofs.Common.{◌≡◌, ◌∙◌, ◌<◌, ◌≤◌, ◌⊎◌, inl, inr, List, [], ◌∷◌, ◌++◌, length, Bool, true, false, nat_lt, if◌then◌else◌, refl, sym, ap, subst, arith}
 use Rattle.std.proofs.lemmas.Bool.Decides.{nat_tests}
 use mathlib.Core.List.{IsPrefix}
 use Rattle.cr_base.specs.declared.entry.Stamped.{Stamped}
 use Rattle.cr_base.specs.History.{History}
 use Rattle.cr_lock.specs.declared.view.Turn.{Turn}
-use Rattle.cr_lock.specs.Counts.{Every, total, within}
-use Rattle.cr_lock.specs.Turns.{groups_with, marks, rises, end_of, merged, longer}
+use Rattle.cr_lock.specs.Counts.{Every, within}
+use Rattle.cr_lock.specs.Turns.{groups_with, marks, rises, end_of, longer}
 use Rattle.cr_lock.specs.Passes.{larger_half, smaller_half, united, Agree}
 use Rattle.cr_lock.proofs.Prefixes.{prefix_self, prefix_trans, prefix_length, prefix_whole}
 use Rattle.cr_lock.proofs.Sums.{total_append, total_merged}

@@ -12,7 +12,7 @@ use Rattle.cr_lock.proofs.Prefixes.{prefix_self, prefix_trans, prefix_drop, ever
 use Rattle.cr_ports.specs.Writing.{Outlet}
 use Rattle.cr_session.specs.declared.serve.Ending.{Ending}
 use Rattle.cr_session.specs.declared.serve.Ending.TheVariants as endings
-use Rattle.cr_session.specs.Passing.{KnownPass, TakesTurn, TakesTurns}
+use Rattle.cr_session.specs.Passing.{KnownPass, TakesTurns}
 use Rattle.cr_session.specs.Replay.{JudgedWish, history_after}
 use Rattle.cr_session.specs.Serving.{World, ConnectionInHistory, EndsTurns, EndsAs}
 use Rattle.cr_session.specs.Turning.{TurnsInVain}

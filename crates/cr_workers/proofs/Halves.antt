@@ -1,9 +1,9 @@
 -- Doors that workers shared.
-use Rattle.std.proofs.Common.{◌≡◌, ◌∙◌, ℕ, ◌⊎◌, inl, inr, List, [], ◌∷◌, ◌++◌, map, flat_map, refl, sym, ap, subst, append_assoc}
+use Rattle.std.proofs.Common.{◌≡◌, ◌∙◌, inl, inr, List, [], ◌∷◌, ◌++◌, map, refl, sym, ap, subst, append_assoc}
 use Rattle.cr_lock.specs.Counts.{Every}
 use Rattle.cr_lock.specs.Passes.{larger_half, smaller_half, united, Agree}
 use Rattle.cr_session.specs.Passing.{KnownPass}
-use Rattle.cr_workers.specs.Connections.{Streams, ServedConnection, ServeAll}
+use Rattle.cr_workers.specs.Connections.{Streams, ServeAll}
 use Rattle.cr_workers.specs.Doors.{SeenDoor, DoorWork, IsWorkedOn, OneFailed, HasCause, connections_of, joined, ServesDoors}
 use Rattle.cr_workers.specs.declared.worked.Worked.{Worked}
 use Rattle.cr_workers.specs.declared.worked.Worked.TheVariants as worked

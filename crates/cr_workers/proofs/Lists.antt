@@ -1,5 +1,5 @@
 -- Lists of doors that are cut, and one door that was taken out and put back.
-use Rattle.std.proofs.Common.{◌≡◌, ◌∙◌, ℕ, zero, suc, ◌+◌, ◌≤◌, List, [], ◌∷◌, ◌++◌, length, take, drop, refl, sym, ap, arith, length-append}
+use Rattle.std.proofs.Common.{◌≡◌, ◌∙◌, ℕ, zero, suc, ◌+◌, ◌≤◌, List, [], ◌∷◌, ◌++◌, length, take, drop, refl, ap, arith, length-append}
 use Rattle.cr_lock.specs.Counts.{Every, total}
 use Rattle.cr_lock.proofs.Sums.{total_append}
 

@@ -1,13 +1,12 @@
 -- A worker between two connections of its door, and at its end.
-use Rattle.std.proofs.Common.{◌≡◌, ◌∙◌, ℕ, ◌+◌, ◌*◌, ◌^◌, ◌≤◌, inl, inr, List, [], ◌∷◌, ◌++◌, length, map, Bool, true, false, ◌||◌, Option, Some, None, Ok, Err, refl, sym, ap, subst, arith, append_assoc, length-append}
-use Rattle.cr_lock.specs.Counts.{Every}
+use Rattle.std.proofs.Common.{◌≡◌, ◌∙◌, ℕ, ◌+◌, ◌*◌, ◌^◌, ◌≤◌, inl, inr, List, [], ◌∷◌, ◌++◌, length, Bool, true, false, ◌||◌, Option, Some, None, Ok, Err, refl, sym, ap, subst, arith, append_assoc, length-append}
 use Rattle.cr_ports.specs.Doors.{DoorLog, and_answer, and_back}
 use Rattle.cr_ports.specs.declared.door.NextConnection.TheVariants as next
 use Rattle.cr_session.specs.declared.serve.Ending.{Ending}
 use Rattle.cr_session.specs.Passing.{KnownPass, StaysPass}
 use Rattle.cr_session.proofs.Passes.{stays-now, stays-then}
 use Rattle.cr_workers.specs.Connections.{Streams, ServedConnection, ServeAll}
-use Rattle.cr_workers.specs.Doors.{SeenDoor, DoorWork, IsWorkedOn, HasCause, TellsMore, Visits, Stops, Works, NoneLacked, lacks, ended_by, ends_of, ServesNext, ServesDoors}
+use Rattle.cr_workers.specs.Doors.{SeenDoor, DoorWork, IsWorkedOn, HasCause, TellsMore, Visits, Works, NoneLacked, lacks, ended_by, ends_of, ServesNext, ServesDoors}
 use Rattle.cr_workers.specs.declared.worker.Last.{Last}
 use Rattle.cr_workers.specs.declared.worker.Last.TheVariants as lasts
 use Rattle.cr_workers.proofs.Grown.{append-nil, every-append}

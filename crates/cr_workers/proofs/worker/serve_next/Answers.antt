@@ -1,4 +1,4 @@
-use Rattle.std.proofs.Common.{◌∙◌, [], ◌∷◌, refl, arith}
+use Rattle.std.proofs.Common.{◌∙◌, refl, arith}
 use Rattle.cr_session.specs.Serving.{world_of}
 use Rattle.cr_workers.specs.Connections.{ServedConnection}
 use Rattle.cr_workers.proofs.Grown.{grown-connection}
