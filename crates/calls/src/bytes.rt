@@ -2,7 +2,7 @@
 
 use cr_base::{AccountLine, AccountLines, Ask, Command, Reply, Role, Short, UserNo};
 use cr_bodies::{read_command, read_credentials};
-use cr_http::{Inbox, RequestRead, read_request};
+use cr_http::{Inbox, Request, RequestRead, read_request};
 use cr_ports::PlainSource;
 use cr_print::{Form, no_memory_text, print_reply};
 use cr_routes::Routes;
@@ -52,8 +52,8 @@ fn reads_a_wish(alloc: Global) -> Result<bool, Fail> {
     if read_request(&mut source, &mut inbox) != RequestRead::Whole {
         return Ok(false);
     }
-    let request = inbox.request();
-    if wish_of(alloc, &routes, &request.head, request.body).is_err() {
+    let Request { head, body } = inbox.request();
+    if wish_of(alloc, &routes, &head, body).is_err() {
         return Ok(false);
     }
     Ok(read_request(&mut source, &mut inbox) == RequestRead::Clean)
