@@ -24,6 +24,8 @@ SIZE = 4_194_304
 USERS = 25
 EACH = 16
 TIMES = 32
+# Connections, and the threads of wrk that make them.
+LOADS = ((1, 1), (8, 2))
 
 NGINX = """
 worker_processes 1;
@@ -87,7 +89,7 @@ def speed(program, folder):
     port = free_port()
     with confd(program, os.path.join(folder, "speed.store"), port, 8):
         up = uploads_a_second(port)
-        down = [load(port, "/papers/1/content", connections, 2, "u0") * SIZE for connections in (1, 8)]
+        down = [load(port, "/papers/1/content", connections, threads, "u0") * SIZE for connections, threads in LOADS]
     port = free_port()
     os.makedirs(os.path.join(folder, "files"))
     with open(os.path.join(folder, "files", "content"), "wb") as file:
@@ -97,10 +99,10 @@ def speed(program, folder):
         file.write(NGINX.format(folder=folder, port=port))
     os.chmod(folder, 0o755)
     with running(["nginx", "-c", conf, "-g", "daemon off;"], port):
-        peer = [load(port, "/content", connections, 2) * SIZE for connections in (1, 8)]
+        peer = [load(port, "/content", connections, threads) * SIZE for connections, threads in LOADS]
     print(f"uploads of 4 MiB, kept in a store, on one connection: {up / 1e6:,.0f} MB a second")
-    for connections, ours, theirs in zip((1, 8), down, peer):
-        print(f"downloads of 4 MiB on {connections}: {ours / 1e6:,.0f} MB a second; by nginx from a file {theirs / 1e6:,.0f}; "
+    for (connections, _), ours, theirs in zip(LOADS, down, peer):
+        print(f"downloads of 4 MiB, connections {connections}: {ours / 1e6:,.0f} MB a second; by nginx from a file {theirs / 1e6:,.0f}; "
               f"ours are {ours / theirs:.2f} of it")
 
 
