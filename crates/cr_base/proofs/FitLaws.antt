@@ -1,12 +1,12 @@
 -- The entries that a command draws fit the tables, each in its turn.
 use Rattle.std.proofs.Common.{ℕ, Bool, true, false, cond, ◌≡◌, ◌≤◌, ◌<◌, ◌+◌, ◌==◌, List, [], ◌∷◌, length, length-append, refl, sym, ap, subst, ◌∙◌, arith, Option, Some, None, is_some, Ok}
-use Rattle.std.specs.Prelude.{is_none, unwrap_or, nat_lt}
+use Rattle.std.specs.Prelude.{is_none, unwrap_or, not, nat_le, nat_lt, ◌||◌}
 use Rattle.std.specs.List.{flat_map, list_any}
 use Rattle.std.specs.Option.{option_map}
-use Rattle.std.proofs.lemmas.Bool.{leb-false}
+use Rattle.std.proofs.lemmas.Bool.{leb-false, true≢false}
 use Rattle.std.proofs.lemmas.Bool.Decides.{nat_tests}
 use Rattle.cr_base.specs.declared.command.Command.{Command}
-use Rattle.cr_base.specs.declared.command.Command.TheVariants.{Register, SetPhase, Submit, Revise, Upload, Withdraw, Name, SetMode, SetConflict}
+use Rattle.cr_base.specs.declared.command.Command.TheVariants.{Register, SetPhase, Submit, Revise, Upload, Withdraw, Name, SetMode, SetConflict, Bid, Assign, Unassign}
 use Rattle.cr_base.specs.declared.entry.Account.{Account}
 use Rattle.cr_base.specs.declared.entry.Entry.TheVariants.{Registered, Named}
 use Rattle.cr_base.specs.declared.target.Target.{Target}
@@ -14,15 +14,17 @@ use Rattle.cr_base.specs.declared.words.Role.{Role}
 use Rattle.cr_base.specs.declared.words.Role.TheVariants as roles
 use Rattle.cr_base.specs.Accounts.{number_at, lines_of}
 use Rattle.cr_base.specs.Checks.{NamedPaper, of_role, register_checks, phase_checks, submit_checks, revise_checks, upload_checks}
-use Rattle.cr_base.specs.Checks.{name_checks, mode_checks, conflict_checks}
+use Rattle.cr_base.specs.Checks.{name_checks, mode_checks, conflict_checks, bid_checks, assign_checks, unassign_checks, target_is}
 use Rattle.cr_base.specs.Drawn.{Drawn, grouped, registration, registration_drawn, phase_drawn, submission_drawn, revision_drawn, upload_drawn}
-use Rattle.cr_base.specs.Drawn.{withdrawal_drawn, naming_drawn, mode_drawn, conflict_drawn}
+use Rattle.cr_base.specs.Drawn.{withdrawal_drawn, naming_drawn, mode_drawn, conflict_drawn, bid_drawn, assignment_drawn, unassignment_drawn}
 use Rattle.cr_base.specs.Judging.{judge_by_role}
-use Rattle.cr_base.specs.Sources.{Facts, standing_at, facts_of_tables, shown_in_tables, user_among, users_among, role_among, paper_named, target_named}
+use Rattle.cr_base.specs.Sources.{Facts, standing_at, facts_of_tables, shown_in_tables, user_among, users_among, role_among, has_paper, maker_of, paper_named, target_named}
 use Rattle.cr_base.specs.Papers.{paper_count, paper_numbers, uploads_at, own_count, own_bytes}
-use Rattle.cr_base.specs.Lists.{listed}
+use Rattle.cr_base.specs.Lists.{listed, is_number}
+use Rattle.cr_base.specs.Pairs.{users_tied_to}
+use Rattle.cr_base.specs.Seats.{labels_in, seat_in}
 use Rattle.cr_base.specs.Tables.{Tables, FitInTurn}
-use Rattle.cr_base.specs.Ties.{AreWithin}
+use Rattle.cr_base.specs.Ties.{authors_in, AreWithin}
 use Rattle.cr_base.proofs.AccountLaws.{judge_by_role-register, registration-fits}
 use Rattle.cr_base.proofs.CheckLaws.{judged-Ok, judged-none}
 use Rattle.cr_base.proofs.CoauthorLaws.{users-within, submission-fits}
@@ -38,12 +40,51 @@ registration-in_turn t user name digest fits = by (user == 1)
     by true =
         let added : Account = record { name = name; digest = digest; role = roles.Account } in
         let n = length-append t.accounts (added ∷ []) in
-        (record { accounts = fits; papers = tt; ties = tt }, (record { accounts = (omega (arith, fits.0), omega (arith, n, fits.0)); papers = tt; ties = tt }, tt))
-    by false = (record { accounts = fits; papers = tt; ties = tt }, tt)
+        (record { accounts = fits; papers = tt; ties = tt; seats = tt }, (record { accounts = (omega (arith, fits.0), omega (arith, n, fits.0)); papers = tt; ties = tt; seats = tt }, tt))
+    by false = (record { accounts = fits; papers = tt; ties = tt; seats = tt }, tt)
 
 -- a user named among the lines has an account
 target-in : (t : Tables) (target : Option ℕ) (asked : Role → Target) → is_none (option_map asked (role_among (lines_of t.accounts) target)) ≡ false → (1 ≤ unwrap_or target 0) × (unwrap_or target 0 ≤ length t.accounts)
 target-in t target asked h = target_within t.accounts target (sym (ap is_none (role_among-lines_of t.accounts target)) ∙ sym (is_none-asked asked (role_among (lines_of t.accounts) target)) ∙ h)
+
+-- ---- the seat of the user named
+
+none-where : (seat : Option ℕ) → is_some seat ≡ false → seat ≡ None
+none-where None h = refl
+none-where (Some ordinal) h = absurd (true≢false h)
+
+-- whether the user named reviews the paper named, as the rules ask it, is whether she has a seat there
+seat-named : (t : Tables) (caller paper target : Option ℕ) (reviews : Bool) → is_none (target_named (facts_of_tables t caller) (shown_in_tables t) caller paper target) ≡ false
+    → not (has_paper (facts_of_tables t caller) paper) ≡ false
+    → target_is (λ (user : Target). user.reviewer) (target_named (facts_of_tables t caller) (shown_in_tables t) caller paper target) ≡ reviews
+    → is_some (seat_in t.seats (Some (unwrap_or target 0)) (unwrap_or paper 0)) ≡ reviews
+seat-named t caller paper None reviews user there says = absurd (true≢false user)
+seat-named t caller None (Some v) reviews user there says = absurd (true≢false there)
+seat-named t caller (Some p) (Some v) reviews user there says = by (role_among (lines_of t.accounts) (Some v)) user says
+  where
+    asked : Role → Target
+    asked role = record {
+      role = role;
+      herself = is_number (Some v) (maker_of caller);
+      author = list_any (is_number (Some v)) (authors_in t.ties p);
+      conflicted = list_any (is_number (Some v)) (authors_in t.ties p) || list_any (is_number (Some v)) (users_tied_to p t.ties.conflicts);
+      reviewer = is_some (seat_in t.seats (Some v) p);
+    }
+
+    by : (found : Option Role) → is_none (option_map asked found) ≡ false → target_is (λ (user : Target). user.reviewer) (option_map asked found) ≡ reviews → is_some (seat_in t.seats (Some v) p) ≡ reviews
+    by None user says = absurd (true≢false user)
+    by (Some role) user says = says
+
+-- the seat that is there, where she has one
+some-where : (t : Tables) (target : Option ℕ) (p : ℕ) → is_some (seat_in t.seats (Some (unwrap_or target 0)) p) ≡ true
+    → (asked : Role → Target) → is_none (option_map asked (role_among (lines_of t.accounts) target)) ≡ false
+    → seat_in t.seats (Some (unwrap_or target 0)) p ≡ Some (unwrap_or (seat_in t.seats target p) 0)
+some-where t None p h asked user = absurd (true≢false user)
+some-where t (Some v) p h asked user = by (seat_in t.seats (Some v) p) h
+  where
+    by : (seat : Option ℕ) → is_some seat ≡ true → seat ≡ Some (unwrap_or seat 0)
+    by None h = absurd (true≢false (sym h))
+    by (Some ordinal) h = refl
 
 -- where the papers that have ties are there
 module _ (t : Tables) (within : AreWithin (paper_count t.papers) t.ties) (maker : ℕ) where
@@ -60,7 +101,7 @@ module _ (t : Tables) (within : AreWithin (paper_count t.papers) t.ties) (maker 
       subst (λ (d : Drawn). FitInTurn t d.group) k.1 (registration-in_turn t (n + 1) name digest (registration-fits t.accounts name digest (n + 1) (sym (judged-none checks (n + 1) k.0))))
   judged-fits (SetPhase to) drawn accepted =
       let k = judged-Ok (phase_checks (standing_at t (Some maker) None) t.stage.phase to) (phase_drawn maker to) drawn accepted in
-      subst (λ (d : Drawn). FitInTurn t d.group) k.1 (record { accounts = tt; papers = tt; ties = tt }, tt)
+      subst (λ (d : Drawn). FitInTurn t d.group) k.1 (record { accounts = tt; papers = tt; ties = tt; seats = tt }, tt)
   judged-fits (Submit title abstract authors) drawn accepted =
       let n : ℕ = length (paper_numbers t.papers) in
       let users : List (Option ℕ) = users_among (lines_of t.accounts) authors in
@@ -75,7 +116,7 @@ module _ (t : Tables) (within : AreWithin (paper_count t.papers) t.ties) (maker 
       (within-before (paper_count t.papers) (n + 1) (ap (λ m. m + 1) same) t.ties.authors within.authors) (users-within t.accounts authors))
   judged-fits (Revise paper title abstract) drawn accepted =
       let k = judged-Ok (revise_checks (standing_at t (Some maker) paper) (named paper)) (revision_drawn maker (unwrap_or paper 0) title abstract) drawn accepted in
-      subst (λ (d : Drawn). FitInTurn t d.group) k.1 (record { accounts = tt; papers = paper_within t.papers.papers paper k.0.0; ties = tt }, tt)
+      subst (λ (d : Drawn). FitInTurn t d.group) k.1 (record { accounts = tt; papers = paper_within t.papers.papers paper k.0.0; ties = tt; seats = tt }, tt)
   judged-fits (Upload paper content) drawn accepted =
       let own : ℕ = own_bytes t.papers (Some maker) in
       let p : ℕ = unwrap_or paper 0 in
@@ -83,20 +124,20 @@ module _ (t : Tables) (within : AreWithin (paper_count t.papers) t.ties) (maker 
       (upload_checks (standing_at t (Some maker) paper) (named paper) own (length content))
       (upload_drawn maker p (length (uploads_at t.papers p) + 1) content) drawn accepted in
       subst (λ (d : Drawn). FitInTurn t d.group) k.1
-      (record { accounts = tt; papers = (paper_within t.papers.papers paper k.0.0, refl, not-past 67108864 (own + length content) k.0.1.1.1.1.0); ties = tt }, tt)
+      (record { accounts = tt; papers = (paper_within t.papers.papers paper k.0.0, refl, not-past 67108864 (own + length content) k.0.1.1.1.1.0); ties = tt; seats = tt }, tt)
     where
       not-past : (most n : ℕ) → nat_lt most n ≡ false → n ≤ most
       not-past most n h = grind (arith, nat_tests, h)
   judged-fits (Withdraw paper) drawn accepted =
       let k = judged-Ok (revise_checks (standing_at t (Some maker) paper) (named paper)) (withdrawal_drawn maker (unwrap_or paper 0)) drawn accepted in
-      subst (λ (d : Drawn). FitInTurn t d.group) k.1 (record { accounts = tt; papers = paper_within t.papers.papers paper k.0.0; ties = tt }, tt)
+      subst (λ (d : Drawn). FitInTurn t d.group) k.1 (record { accounts = tt; papers = paper_within t.papers.papers paper k.0.0; ties = tt; seats = tt }, tt)
   judged-fits (Name name role) drawn accepted =
       let target : Option ℕ = user_among (lines_of t.accounts) name in
       let k = judged-Ok (name_checks (standing_at t (Some maker) None) (option_map of_role (role_among (lines_of t.accounts) target)) role) (naming_drawn maker (unwrap_or target 0) (unwrap_or name []) role) drawn accepted in
-      subst (λ (d : Drawn). FitInTurn t d.group) k.1 (record { accounts = target-in t target of_role k.0.0; papers = tt; ties = tt }, tt)
+      subst (λ (d : Drawn). FitInTurn t d.group) k.1 (record { accounts = target-in t target of_role k.0.0; papers = tt; ties = tt; seats = tt }, tt)
   judged-fits (SetMode to) drawn accepted =
       let k = judged-Ok (mode_checks (standing_at t (Some maker) None) t.stage.phase) (mode_drawn maker to) drawn accepted in
-      subst (λ (d : Drawn). FitInTurn t d.group) k.1 (record { accounts = tt; papers = tt; ties = tt }, tt)
+      subst (λ (d : Drawn). FitInTurn t d.group) k.1 (record { accounts = tt; papers = tt; ties = tt; seats = tt }, tt)
   judged-fits (SetConflict paper name on) drawn accepted =
       let facts : Facts = facts_of_tables t (Some maker) in
       let target : Option ℕ = user_among (lines_of t.accounts) name in
@@ -104,4 +145,36 @@ module _ (t : Tables) (within : AreWithin (paper_count t.papers) t.ties) (maker 
       (conflict_checks (standing_at t (Some maker) paper) (paper_named facts (shown_in_tables t) paper) (target_named facts (shown_in_tables t) (Some maker) paper target) on)
       (conflict_drawn maker (unwrap_or paper 0) (unwrap_or target 0) on) drawn accepted in
       let there = paper_within t.papers.papers paper k.0.0 in
-      subst (λ (d : Drawn). FitInTurn t d.group) k.1 (record { accounts = target-in t target _ k.0.1.0; papers = there; ties = tt }, tt)
+      subst (λ (d : Drawn). FitInTurn t d.group) k.1 (record { accounts = target-in t target _ k.0.1.0; papers = there; ties = tt; seats = tt }, tt)
+  judged-fits (Bid paper value) drawn accepted =
+      let k = judged-Ok (bid_checks (standing_at t (Some maker) paper) (named paper)) (bid_drawn maker (unwrap_or paper 0) value) drawn accepted in
+      subst (λ (d : Drawn). FitInTurn t d.group) k.1 (record { accounts = tt; papers = paper_within t.papers.papers paper k.0.0; ties = tt; seats = tt }, tt)
+  judged-fits (Assign paper name kind) drawn accepted =
+      let target : Option ℕ = user_among (lines_of t.accounts) name in
+      let p : ℕ = unwrap_or paper 0 in
+      let labels : ℕ = labels_in t.seats p in
+      let k = judged-Ok
+      (assign_checks (standing_at t (Some maker) paper) (named paper) (target_named (facts_of_tables t (Some maker)) (shown_in_tables t) (Some maker) paper target) labels)
+      (assignment_drawn maker p (unwrap_or target 0) kind (labels + 1)) drawn accepted in
+      let there = paper_within t.papers.papers paper k.0.0 in
+      let user = target-in t target _ k.0.1.0 in
+      let free = none-where (seat_in t.seats (Some (unwrap_or target 0)) p) (seat-named t (Some maker) paper target false k.0.1.0 k.0.0 k.0.1.1.1.1.1.1.1.1.0) in
+      subst (λ (d : Drawn). FitInTurn t d.group) k.1
+      (record { accounts = user; papers = there; ties = tt; seats = (refl, few labels k.0.1.1.1.1.1.1.1.1.1.0, free) }, tt)
+    where
+      few : (n : ℕ) → nat_le 26 n ≡ false → n + 1 ≤ 26
+      few n h = grind (arith, nat_tests, h)
+  judged-fits (Unassign paper name) drawn accepted =
+      let target : Option ℕ = user_among (lines_of t.accounts) name in
+      let p : ℕ = unwrap_or paper 0 in
+      let k = judged-Ok
+      (unassign_checks (standing_at t (Some maker) paper) (named paper) (target_named (facts_of_tables t (Some maker)) (shown_in_tables t) (Some maker) paper target))
+      (unassignment_drawn maker p (unwrap_or target 0) (unwrap_or (seat_in t.seats target p) 0)) drawn accepted in
+      let there = paper_within t.papers.papers paper k.0.0 in
+      let user = target-in t target _ k.0.1.0 in
+      let taken = some-where t target p (seat-named t (Some maker) paper target true k.0.1.0 k.0.0 (not-false _ k.0.1.1.1.1.1.1.0)) _ k.0.1.0 in
+      subst (λ (d : Drawn). FitInTurn t d.group) k.1 (record { accounts = user; papers = there; ties = tt; seats = taken }, tt)
+    where
+      not-false : (b : Bool) → not b ≡ false → b ≡ true
+      not-false true h = refl
+      not-false false h = absurd (true≢false h)

@@ -10,6 +10,7 @@ pub mod PaperLaws
 pub mod RisingLists
 pub mod RoleLaws
 pub mod RowLaws
+pub mod SeatLaws
 pub mod TargetLaws
 pub mod TextLaws
 pub mod TieLaws

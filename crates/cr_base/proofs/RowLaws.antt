@@ -3,14 +3,16 @@ use Rattle.std.proofs.Common.{ℕ, Bool, true, false, cond, ◌≡◌, ◌≤◌
 use Rattle.std.proofs.lemmas.Bool.Decides.{nat_tests}
 use Rattle.std.proofs.lemmas.List.{drop-replicate}
 use Rattle.std.proofs.lemmas.Slice.{drop-append-drop}
-use Rattle.cr_base.specs.Words.{phase_number, phase_numbered, mode_number, mode_numbered, role_number, role_numbered}
+use Rattle.cr_base.specs.Words.{phase_number, phase_numbered, mode_number, mode_numbered, role_number, role_numbered, seat_number, seat_numbered}
 use Rattle.cr_base.specs.Shapes.{FitsShape, HasText, InRange, IsAtMost, unused}
 use Rattle.cr_base.specs.Rows.{kind_number, shape_of, kind_of, row_of, built, stamped, IsBoundedEntry}
 use Rattle.cr_base.specs.declared.entry.EntryKind.{EntryKind}
 use Rattle.cr_base.specs.declared.entry.EntryKind.TheVariants as kind
 use Rattle.cr_base.specs.declared.entry.Entry.{Entry}
-use Rattle.cr_base.specs.declared.entry.Entry.TheVariants.{Named, PhaseSet, ModeSet, Conflict}
+use Rattle.cr_base.specs.declared.entry.Entry.TheVariants.{Named, PhaseSet, ModeSet, Conflict, Assigned}
 use Rattle.cr_base.specs.declared.entry.Stamped.{Stamped}
+use Rattle.cr_base.specs.declared.words.Kind.{Kind}
+use Rattle.cr_base.specs.declared.words.Kind.TheVariants.{Primary, Secondary, Pc}
 use Rattle.cr_base.specs.declared.words.Phase.{Phase}
 use Rattle.cr_base.specs.declared.words.Phase.TheVariants.{Setup, Submission, Bidding, Reviewing, Discussion, Notification, Closed}
 use Rattle.cr_base.specs.declared.words.Mode.{Mode}
@@ -66,6 +68,18 @@ mode_numbered-number Overt = refl
 mode_numbered-number Blind = refl
 mode_numbered-number Anonymous = refl
 
+seat_number-cond : (b : Bool) (x y : Kind) → seat_number (cond b x y) ≡ cond b (seat_number x) (seat_number y)
+seat_number-cond true x y = refl
+seat_number-cond false x y = refl
+
+seat_number-numbered : (n : ℕ) → 1 ≤ n → n ≤ 3 → seat_number (seat_numbered n) ≡ n
+seat_number-numbered n l h = simp seat_number-cond (grind (arith, nat_tests))
+
+seat_numbered-number : (x : Kind) → seat_numbered (seat_number x) ≡ x
+seat_numbered-number Primary = refl
+seat_numbered-number Secondary = refl
+seat_numbered-number Pc = refl
+
 bit : (n : ℕ) → n ≤ 1 → cond (n == 1) 1 0 ≡ n
 bit n h = grind (arith, nat_tests)
 
@@ -79,10 +93,10 @@ unused-zero n h = omega arith
 -- ---- from a row to its entry and back
 
 -- a row is the one with its fields
-same_row : (r : Row) (k : EntryKind) (a b c : ℕ) (x y : List ℕ) → kind_number k ≡ r.kind → FitsShape (shape_of k) r → 0 ≡ r.n4 → 0 ≡ r.n5 → a ≡ r.n1 → b ≡ r.n2 → c ≡ r.n3 → x ≡ r.b1 → y ≡ r.b2 → record { kind = kind_number k; maker = r.maker; more = cond (r.more == 1) 1 0; n1 = a; n2 = b; n3 = c; n4 = 0; n5 = 0; b1 = x; b2 = y } ≡ r
-same_row r k a b c x y hk f h4 h5 h1 h2 h3 hx hy =
-    let o = bit r.more f.more in
-    let e : record { kind = kind_number k; maker = r.maker; more = cond (r.more == 1) 1 0; n1 = a; n2 = b; n3 = c; n4 = 0; n5 = 0; b1 = x; b2 = y } ≡ record { kind = r.kind; maker = r.maker; more = r.more; n1 = r.n1; n2 = r.n2; n3 = r.n3; n4 = r.n4; n5 = r.n5; b1 = r.b1; b2 = r.b2 } = cc in
+same_row : (r : Row) (k : EntryKind) (a b c d f : ℕ) (x y : List ℕ) → kind_number k ≡ r.kind → FitsShape (shape_of k) r → d ≡ r.n4 → f ≡ r.n5 → a ≡ r.n1 → b ≡ r.n2 → c ≡ r.n3 → x ≡ r.b1 → y ≡ r.b2 → record { kind = kind_number k; maker = r.maker; more = cond (r.more == 1) 1 0; n1 = a; n2 = b; n3 = c; n4 = d; n5 = f; b1 = x; b2 = y } ≡ r
+same_row r k a b c d f x y hk fits h4 h5 h1 h2 h3 hx hy =
+    let o = bit r.more fits.more in
+    let e : record { kind = kind_number k; maker = r.maker; more = cond (r.more == 1) 1 0; n1 = a; n2 = b; n3 = c; n4 = d; n5 = f; b1 = x; b2 = y } ≡ record { kind = r.kind; maker = r.maker; more = r.more; n1 = r.n1; n2 = r.n2; n3 = r.n3; n4 = r.n4; n5 = r.n5; b1 = r.b1; b2 = r.b2 } = cc in
     e
 
 -- what a field spells that holds a number as it is, a mark, or nothing
@@ -113,18 +127,20 @@ plain_text-is text bytes h = refl
 
 -- the entry that a row spells has that row: a line for each kind with a word in it
 pub row_of-stamped : (k : EntryKind) (r : Row) → kind_number k ≡ r.kind → FitsShape (shape_of k) r → row_of (stamped k r) ≡ r
-row_of-stamped kind.Named r hk f = same_row r kind.Named _ _ _ _ _ hk f (unused-zero _ f.n4) (unused-zero _ f.n5) refl (role_number-numbered r.n2 f.n2.0 f.n2.1) (unused-zero _ f.n3) (sym f.b1) (sym f.b2)
-row_of-stamped kind.PhaseSet r hk f = same_row r kind.PhaseSet _ _ _ _ _ hk f (unused-zero _ f.n4) (unused-zero _ f.n5) (phase_number-numbered r.n1 f.n1.1) (unused-zero _ f.n2) (unused-zero _ f.n3) (sym f.b1) (sym f.b2)
-row_of-stamped kind.ModeSet r hk f = same_row r kind.ModeSet _ _ _ _ _ hk f (unused-zero _ f.n4) (unused-zero _ f.n5) (mode_number-numbered r.n1 f.n1.1) (unused-zero _ f.n2) (unused-zero _ f.n3) (sym f.b1) (sym f.b2)
+row_of-stamped kind.Named r hk f = same_row r kind.Named _ _ _ _ _ _ _ hk f (unused-zero _ f.n4) (unused-zero _ f.n5) refl (role_number-numbered r.n2 f.n2.0 f.n2.1) (unused-zero _ f.n3) (sym f.b1) (sym f.b2)
+row_of-stamped kind.PhaseSet r hk f = same_row r kind.PhaseSet _ _ _ _ _ _ _ hk f (unused-zero _ f.n4) (unused-zero _ f.n5) (phase_number-numbered r.n1 f.n1.1) (unused-zero _ f.n2) (unused-zero _ f.n3) (sym f.b1) (sym f.b2)
+row_of-stamped kind.ModeSet r hk f = same_row r kind.ModeSet _ _ _ _ _ _ _ hk f (unused-zero _ f.n4) (unused-zero _ f.n5) (mode_number-numbered r.n1 f.n1.1) (unused-zero _ f.n2) (unused-zero _ f.n3) (sym f.b1) (sym f.b2)
+row_of-stamped kind.Assigned r hk f = same_row r kind.Assigned _ _ _ _ _ _ _ hk f refl (unused-zero _ f.n5) refl refl (seat_number-numbered r.n3 f.n3.0 f.n3.1) (sym f.b1) (sym f.b2)
 row_of-stamped k r hk f =
     let s : Shape = shape_of k in
-    same_row r k _ _ _ _ _ hk f (plain-is s.n4 r.n4 f.n4) (plain-is s.n5 r.n5 f.n5) (plain-is s.n1 r.n1 f.n1) (plain-is s.n2 r.n2 f.n2) (plain-is s.n3 r.n3 f.n3) (plain_text-is s.b1 r.b1 f.b1) (plain_text-is s.b2 r.b2 f.b2)
+    same_row r k _ _ _ _ _ _ _ hk f (plain-is s.n4 r.n4 f.n4) (plain-is s.n5 r.n5 f.n5) (plain-is s.n1 r.n1 f.n1) (plain-is s.n2 r.n2 f.n2) (plain-is s.n3 r.n3 f.n3) (plain_text-is s.b1 r.b1 f.b1) (plain_text-is s.b2 r.b2 f.b2)
 
 built-row_of : (e : Entry) (m : ℕ) (o : Bool) → IsBoundedEntry (record { maker = m; more = o; entry = e }) → built (kind_of e) (row_of (record { maker = m; more = o; entry = e })) ≡ e
 built-row_of (Named user role) m o h = ap (λ x. Named user x) (role_numbered-number role h.n2.0)
 built-row_of (PhaseSet phase) m o h = ap (λ x. PhaseSet x) (phase_numbered-number phase)
 built-row_of (ModeSet mode) m o h = ap (λ x. ModeSet x) (mode_numbered-number mode)
 built-row_of (Conflict paper user on) m o h = ap (λ x. Conflict paper user x) (bit-back on)
+built-row_of (Assigned paper user seat ordinal) m o h = ap (λ x. Assigned paper user x ordinal) (seat_numbered-number seat)
 built-row_of e m o h = refl
 
 restamp : (s : Stamped) (p : Bool) (f : Entry) → p ≡ s.more → f ≡ s.entry → ◌≡◌ {A = Stamped} (record { maker = s.maker; more = p; entry = f }) s

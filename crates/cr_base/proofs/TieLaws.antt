@@ -1,12 +1,12 @@
 -- What is there after a pair was switched on or off, who the authors of a paper are, and which papers have ties.
-use Rattle.std.proofs.Common.{ℕ, Bool, true, false, cond, ◌≡◌, ◌≤◌, ◌+◌, [], ◌∷◌, ◌++◌, length-append, eqb, refl, sym, ap, subst, ◌∙◌, arith, ◌||◌, ◌&&◌}
+use Rattle.std.proofs.Common.{ℕ, Bool, true, false, cond, ◌≡◌, ◌≤◌, ◌+◌, List, [], ◌∷◌, ◌++◌, length-append, eqb, refl, sym, ap, subst, ◌∙◌, arith, ◌||◌, ◌&&◌}
 use Rattle.std.specs.Prelude.{nat_le, nat_lt, not, map}
 use Rattle.std.specs.Cmp.Derive.{both_true}
 use Rattle.std.specs.List.{list_all}
 use Rattle.std.proofs.lemmas.Bool.{and_parts}
 use Rattle.std.proofs.lemmas.Bool.Decides.{nat_tests}
 use Rattle.cr_base.specs.declared.entry.Entry.{Entry}
-use Rattle.cr_base.specs.declared.entry.Entry.TheVariants.{Submitted, Coauthor, Revised, Withdrawn, Conflict}
+use Rattle.cr_base.specs.declared.entry.Entry.TheVariants.{Submitted, Coauthor, Revised, Withdrawn, Conflict, Bid}
 use Rattle.cr_base.specs.declared.pairs.Order.TheVariants.{ByPaper}
 use Rattle.cr_base.specs.declared.pairs.Pair.{Pair}
 use Rattle.cr_base.specs.declared.pairs.Tie.{Tie}
@@ -51,7 +51,7 @@ has_pair-push q (t ∷ ts) s = ap (λ b. is_tied q t || b) (has_pair-push q ts s
 
 -- ---- which papers have ties
 
-weaker : (f g : Tie (Unit {0}) → Bool) → ((t : Tie (Unit {0})) → f t ≡ true → g t ≡ true) → (ts : BareTies) → list_all f ts ≡ true → list_all g ts ≡ true
+weaker : {V : Type 0} (f g : Tie V → Bool) → ((t : Tie V) → f t ≡ true → g t ≡ true) → (ts : List (Tie V)) → list_all f ts ≡ true → list_all g ts ≡ true
 weaker f g each [] all = refl
 weaker f g each (t ∷ ts) all = let parts = and_parts (f t) (list_all f ts) all in both_true (each t parts.0) (weaker f g each ts parts.1)
 
@@ -60,7 +60,7 @@ all-push f [] s all one = both_true one refl
 all-push f (t ∷ ts) s all one = let parts = and_parts (f t) (list_all f ts) all in both_true parts.0 (all-push f ts s parts.1 one)
 
 -- they do among more papers
-within-more : (n m : ℕ) → n ≤ m → (ts : BareTies) → are_within n ts ≡ true → are_within m ts ≡ true
+pub within-more : {V : Type 0} (n m : ℕ) → n ≤ m → (ts : List (Tie V)) → are_within n ts ≡ true → are_within m ts ≡ true
 within-more n m h ts all = weaker _ _ (λ t. more n m t.pair.paper h) ts all
   where
     more : (n m p : ℕ) → n ≤ m → (nat_le 1 p && nat_le p n) ≡ true → (nat_le 1 p && nat_le p m) ≡ true
@@ -73,7 +73,7 @@ within-before n paper next ts all = weaker _ _ (λ t. less n paper t.pair.paper 
     less : (n paper p : ℕ) → paper ≡ n + 1 → (nat_le 1 p && nat_le p n) ≡ true → nat_lt p paper ≡ true
     less n paper p next is = grind (arith, nat_tests)
 
-in_range : (n p : ℕ) → 1 ≤ p → p ≤ n → (nat_le 1 p && nat_le p n) ≡ true
+pub in_range : (n p : ℕ) → 1 ≤ p → p ≤ n → (nat_le 1 p && nat_le p n) ≡ true
 in_range n p low high = grind (arith, nat_tests)
 
 within-push : (n paper user : ℕ) (ts : BareTies) → 1 ≤ paper → paper ≤ n → are_within n ts ≡ true → are_within n (ts ++ bare_tie paper user ∷ []) ≡ true
@@ -128,4 +128,5 @@ within-after state ties maker (Conflict paper user on) fits within = record {
   authors = within.authors;
   conflicts = within-switched (paper_count state) on paper user ties.conflicts fits.0 fits.1 within.conflicts;
 }
+within-after state ties maker (Bid paper value) fits within = record { authors = within.authors; conflicts = within.conflicts }
 within-after state ties maker e fits within = within

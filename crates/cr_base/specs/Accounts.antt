@@ -7,7 +7,7 @@ use Rattle.cr_base.specs.declared.words.Role.{Role}
 use Rattle.cr_base.specs.declared.words.Role.TheVariants as role
 use Rattle.cr_base.specs.declared.entry.Account.{Account}
 use Rattle.cr_base.specs.declared.entry.Entry.{Entry}
-use Rattle.cr_base.specs.declared.entry.Entry.TheVariants.{Registered, Named, Coauthor, Conflict}
+use Rattle.cr_base.specs.declared.entry.Entry.TheVariants.{Registered, Named, Coauthor, Conflict, Assigned, Unassigned}
 use Rattle.cr_base.specs.declared.reply.AccountLine.{AccountLine}
 use Rattle.cr_base.specs.Lists.{numbered}
 
@@ -66,4 +66,6 @@ AccountsFit accounts (Registered user name digest) = (user ≡ length accounts +
 AccountsFit accounts (Named user role) = (1 ≤ user) × (user ≤ length accounts)
 AccountsFit accounts (Coauthor paper user) = (1 ≤ user) × (user ≤ length accounts)
 AccountsFit accounts (Conflict paper user on) = (1 ≤ user) × (user ≤ length accounts)
+AccountsFit accounts (Assigned paper user kind ordinal) = (1 ≤ user) × (user ≤ length accounts)
+AccountsFit accounts (Unassigned paper user ordinal) = (1 ≤ user) × (user ≤ length accounts)
 AccountsFit accounts _ = Unit {0}

@@ -1,17 +1,22 @@
 -- The one answer to queries: filled with the facts of a view it is Answer, filled with those of the tables it is RoleAnswer.
 use Rattle.std.specs.Prelude.{ℕ, Bool, true, false, not, ◌&&◌, ◌==◌, List, [], length, map, Option, Some, None, is_some, filter, find, unwrap_or, Result, Ok, Err}
 use Rattle.std.specs.Option.{option_map, option_and_then}
+use Rattle.std.specs.List.{flat_map}
 use Rattle.cr_base.specs.declared.command.Query.{Query}
 use Rattle.cr_base.specs.declared.command.Query.TheVariants as queries
 use Rattle.cr_base.specs.declared.me.Me.{Me}
+use Rattle.cr_base.specs.declared.page.Bidder.{Bidder}
 use Rattle.cr_base.specs.declared.page.Page.{Page}
+use Rattle.cr_base.specs.declared.page.Reviewer.{Reviewer}
+use Rattle.cr_base.specs.declared.reply.AccountLine.{AccountLine}
 use Rattle.cr_base.specs.declared.reply.Reply.{Reply}
 use Rattle.cr_base.specs.declared.reply.Reply.TheVariants as replies
 use Rattle.cr_base.specs.declared.reply.Rule.{Rule}
+use Rattle.cr_base.specs.declared.standing.Standing.{Standing}
 use Rattle.cr_base.specs.Checks.{Check, judged, of_there, page_checks, content_checks}
-use Rattle.cr_base.specs.History.{Upload}
+use Rattle.cr_base.specs.History.{Upload, BidTold, SeatTold}
 use Rattle.cr_base.specs.Lists.{listed, last}
-use Rattle.cr_base.specs.Page.{page_of}
+use Rattle.cr_base.specs.Page.{is_clear_member, is_clear_chair, shows_reviewer, where_told, page_of}
 use Rattle.cr_base.specs.Sources.{Facts, Shown, names_in, name_in, has_paper, maker_of, facts_of_tables, shown_in_tables}
 use Rattle.cr_base.specs.Tables.{Tables}
 
@@ -45,6 +50,19 @@ query_checks facts shown (queries.Page paper) = page_checks (facts.standing pape
 query_checks facts shown (queries.Content paper) = content_asked facts shown paper None
 query_checks facts shown (queries.Version paper version) = content_asked facts shown paper (Some version)
 
+-- a bid with the name of whose it is, where she has one
+abbrev pub bidder_told : List AccountLine → BidTold → Option Bidder
+bidder_told accounts bid = option_map (λ (name : List ℕ). record { bid = bid.value; user = name }) (name_in accounts bid.user)
+
+-- a reviewer, as one who stands so to the paper is told of her; nobody has written a review yet
+abbrev pub reviewer_told : Standing → List AccountLine → SeatTold → Reviewer
+reviewer_told by accounts seat = record {
+  done = where_told (is_clear_chair by) (Some false);
+  kind = where_told (is_clear_member by) seat.kind;
+  label = seat.ordinal;
+  user = where_told (shows_reviewer by) (option_and_then (name_in accounts) seat.user);
+}
+
 -- the page of a paper that is there
 abbrev pub page_by : Facts → Shown → ℕ → Page
 page_by facts shown p =
@@ -52,8 +70,12 @@ page_by facts shown p =
       title = shown.title p;
       abstract_ = shown.abstract_ p;
       authors = names_in facts.accounts (shown.authors p);
+      bid = facts.own_bid p;
+      bids = flat_map (λ (bid : BidTold). listed (bidder_told facts.accounts bid)) (shown.bids p);
       conflicts = names_in facts.accounts (shown.conflicts p);
       declared = names_in facts.accounts (shown.declared p);
+      label = facts.own_seat p;
+      reviewers = map (reviewer_told (facts.standing (Some p)) facts.accounts) (shown.reviewers p);
       versions = map (λ (u : Upload). u.version) (uploads_told (facts.standing (Some p)).author (shown.uploads p));
       withdrawn = shown.withdrawn p;
     })
@@ -61,6 +83,7 @@ page_by facts shown p =
 -- what a user is told of herself: nobody is told anything
 abbrev pub me_by : Facts → ℕ → Me
 me_by facts user = record {
+  assigned = filter (λ p. (facts.standing (Some p)).reviewer) facts.papers;
   bytes = facts.own_bytes;
   conflicts = filter (λ p. (facts.standing (Some p)).conflicted && not (facts.standing (Some p)).author) facts.papers;
   name = unwrap_or (name_in facts.accounts user) [];

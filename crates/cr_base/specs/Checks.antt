@@ -40,11 +40,15 @@ of_there there = record { there = there; withdrawn = false }
 
 -- what is asked of a user, where no rule asks for more than her role
 abbrev pub of_role : Role → Target
-of_role role = record { role = role; herself = false; author = false }
+of_role role = record { role = role; herself = false; author = false; conflicted = false; reviewer = false }
 
 -- the role of the user named, and an account's where there is none
 abbrev pub target_role : Option Target → Role
 target_role target = option_map_or (λ (user : Target). user.role) target Account
+
+-- what is said of the user named, where there is one
+abbrev pub target_is : (Target → Bool) → Option Target → Bool
+target_is says target = option_map_or says target false
 
 -- the rules about the user named, where there is one
 abbrev pub about : Option Target → (Target → List Check) → List Check
@@ -157,14 +161,20 @@ late_checks =
     true breaks rules.WrongPhase
     ∷ []
 
--- off: clear chairs, of members who are no authors
-abbrev pub off_checks : Standing → Bool → Target → List Check
-off_checks by withdrawn target =
+-- what a clear chair does from bidding to discussion, of a paper that isn't withdrawn
+abbrev pub chair_checks : Standing → Bool → List Check
+chair_checks by withdrawn =
     not (is_chair by.role) breaks rules.NotChair
     ∷ by.conflicted breaks rules.Conflict
     ∷ not (is_in_committee by.phase) breaks rules.WrongPhase
     ∷ withdrawn breaks rules.Withdrawn
-    ∷ not (is_member target.role) breaks rules.NotAMember
+    ∷ []
+
+-- off: the same, of members who are no authors
+abbrev pub off_checks : Standing → Bool → Target → List Check
+off_checks by withdrawn target =
+    chair_checks by withdrawn
+    ++ not (is_member target.role) breaks rules.NotAMember
     ∷ target.author breaks rules.AuthorConflict
     ∷ []
 
@@ -185,3 +195,39 @@ conflict_checks by paper target on =
     not paper.there breaks rules.NoPaper
     ∷ is_none target breaks rules.NoUser
     ∷ about target (λ (user : Target). conflict_case on (is_from Bidding by.phase) (is_from Notification by.phase) by paper.withdrawn user)
+
+-- ---- bids and assignments
+
+-- bid: the caller's standing at the paper, and the paper
+abbrev pub bid_checks : Standing → NamedPaper → List Check
+bid_checks by paper =
+    not paper.there breaks rules.NoPaper
+    ∷ not (is_member by.role) breaks rules.NotMember
+    ∷ by.conflicted breaks rules.Conflict
+    ∷ not (is_phase by.phase Bidding) breaks rules.WrongPhase
+    ∷ paper.withdrawn breaks rules.Withdrawn
+    ∷ []
+
+-- both: the caller's standing at the paper, the paper, and the user named, if there is one
+abbrev pub reviewer_checks : Standing → NamedPaper → Option Target → List Check
+reviewer_checks by paper target =
+    not paper.there breaks rules.NoPaper
+    ∷ is_none target breaks rules.NoUser
+    ∷ chair_checks by paper.withdrawn
+
+-- assign: the same, and how many labels the paper's reviewers were given
+abbrev pub assign_checks : Standing → NamedPaper → Option Target → ℕ → List Check
+assign_checks by paper target labels =
+    reviewer_checks by paper target
+    ++ not (is_member (target_role target)) breaks rules.NotAMember
+    ∷ target_is (λ (user : Target). user.conflicted) target breaks rules.TargetConflict
+    ∷ target_is (λ (user : Target). user.reviewer) target breaks rules.AlreadyAssigned
+    ∷ nat_le 26 labels breaks rules.LabelsSpent
+    ∷ []
+
+-- unassign: the same
+abbrev pub unassign_checks : Standing → NamedPaper → Option Target → List Check
+unassign_checks by paper target =
+    reviewer_checks by paper target
+    ++ not (target_is (λ (user : Target). user.reviewer) target) breaks rules.NotAssigned
+    ∷ []

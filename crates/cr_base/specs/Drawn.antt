@@ -4,8 +4,10 @@ use Rattle.std.specs.List.{list_any}
 use Rattle.cr_base.specs.declared.entry.Entry.{Entry}
 use Rattle.cr_base.specs.declared.entry.Entry.TheVariants.{Registered, Named, PhaseSet, ModeSet, Submitted}
 use Rattle.cr_base.specs.declared.entry.Entry.TheVariants.{Coauthor, Revised, Uploaded, Withdrawn, Conflict}
+use Rattle.cr_base.specs.declared.entry.Entry.TheVariants.{Bid, Assigned, Unassigned}
 use Rattle.cr_base.specs.declared.reply.Receipt.{Receipt}
 use Rattle.cr_base.specs.declared.reply.Receipt.TheVariants as receipts
+use Rattle.cr_base.specs.declared.words.Kind.{Kind}
 use Rattle.cr_base.specs.declared.words.Mode.{Mode}
 use Rattle.cr_base.specs.declared.words.Phase.{Phase}
 use Rattle.cr_base.specs.declared.words.Role.{Role}
@@ -66,3 +68,15 @@ mode_drawn maker to = record { group = grouped maker (ModeSet to ∷ []); receip
 
 abbrev pub conflict_drawn : ℕ → ℕ → ℕ → Bool → Drawn
 conflict_drawn maker paper user on = record { group = grouped maker (Conflict paper user on ∷ []); receipt = receipts.Changed paper }
+
+abbrev pub bid_drawn : ℕ → ℕ → ℕ → Drawn
+bid_drawn maker paper value = record { group = grouped maker (Bid paper value ∷ []); receipt = receipts.Bid value }
+
+abbrev pub assignment_drawn : ℕ → ℕ → ℕ → Kind → ℕ → Drawn
+assignment_drawn maker paper user kind ordinal = record {
+  group = grouped maker (Assigned paper user kind ordinal ∷ []);
+  receipt = receipts.Label ordinal;
+}
+
+abbrev pub unassignment_drawn : ℕ → ℕ → ℕ → ℕ → Drawn
+unassignment_drawn maker paper user ordinal = record { group = grouped maker (Unassigned paper user ordinal ∷ []); receipt = receipts.Changed paper }

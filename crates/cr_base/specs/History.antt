@@ -1,12 +1,14 @@
 -- Histories, and what one entry tells: each definition gives the values that the entry adds to one fact, at
 -- most one.
-use Rattle.std.specs.Prelude.{ℕ, Bool, true, false, List, [], ◌∷◌, Option, ◌&&◌, ◌==◌, length}
+use Rattle.std.specs.Prelude.{ℕ, Bool, true, false, List, [], ◌∷◌, Option, Some, None, ◌&&◌, ◌==◌, length}
 use Rattle.std.specs.List.{flat_map}
 use Rattle.std.specs.Str.{bytes_eq}
 use Rattle.cr_base.specs.declared.entry.Entry.{Entry}
 use Rattle.cr_base.specs.declared.entry.Entry.TheVariants.{Registered, Named, PhaseSet, ModeSet, Submitted}
 use Rattle.cr_base.specs.declared.entry.Entry.TheVariants.{Coauthor, Revised, Uploaded, Withdrawn, Conflict}
+use Rattle.cr_base.specs.declared.entry.Entry.TheVariants.{Bid, Assigned, Unassigned}
 use Rattle.cr_base.specs.declared.entry.Stamped.{Stamped}
+use Rattle.cr_base.specs.declared.words.Kind.{Kind}
 use Rattle.cr_base.specs.declared.words.Phase.{Phase}
 use Rattle.cr_base.specs.declared.words.Mode.{Mode}
 use Rattle.cr_base.specs.declared.words.Role.{Role}
@@ -27,6 +29,17 @@ pub record Registration : Type 0 where
 pub record Upload : Type 0 where
   pub version : ℕ
   pub content : List ℕ
+
+-- a bid on a paper, kept plus 20, and whose it is
+pub record BidTold : Type 0 where
+  pub user : ℕ
+  pub value : ℕ
+
+-- a reviewer of a paper: the ordinal of her label, and what she is to it and who she is, where that is told
+pub record SeatTold : Type 0 where
+  pub ordinal : ℕ
+  pub kind : Option Kind
+  pub user : Option ℕ
 
 -- what each entry tells, in order
 abbrev pub all_told : {A : Type 0} → (Entry → List A) → History → List A
@@ -75,6 +88,26 @@ conflict_told u p _ = []
 abbrev pub declared_told : Bool → ℕ → Entry → List ℕ
 declared_told authors p (Conflict paper user on) = given (paper == p && authors) user
 declared_told authors p _ = []
+
+-- the user's bid on the paper, where `maker` made it
+abbrev pub bid_told : Option ℕ → ℕ → ℕ → Entry → List ℕ
+bid_told u p maker (Bid paper value) = given (paper == p && is_number u maker) value
+bid_told u p maker _ = []
+
+-- the ordinal under which the user reviews the paper from here on, none where she no longer does
+abbrev pub seat_told : Option ℕ → ℕ → Entry → List (Option ℕ)
+seat_told u p (Assigned paper user kind ordinal) = given (paper == p && is_number u user) (Some ordinal)
+seat_told u p (Unassigned paper user ordinal) = given (paper == p && is_number u user) None
+seat_told u p _ = []
+
+-- the reviewer whom it gives the paper, and the ordinal of the one whom it takes
+abbrev pub assigned_told : ℕ → Entry → List SeatTold
+assigned_told p (Assigned paper user kind ordinal) = given (paper == p) (record { ordinal = ordinal; kind = Some kind; user = Some user })
+assigned_told p _ = []
+
+abbrev pub unassigned_told : ℕ → Entry → List ℕ
+unassigned_told p (Unassigned paper user ordinal) = given (paper == p) ordinal
+unassigned_told p _ = []
 
 -- the title, the abstract that it gives the paper
 abbrev pub title_told : ℕ → Entry → List (List ℕ)

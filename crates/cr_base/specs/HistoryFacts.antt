@@ -1,5 +1,5 @@
 -- Facts of a history: what it says of the conference, of its papers, and of a user.
-use Rattle.std.specs.Prelude.{ℕ, Bool, false, ◌||◌, List, Option, length, map, Some}
+use Rattle.std.specs.Prelude.{ℕ, Bool, false, not, ◌||◌, ◌==◌, List, Option, length, map, Some, None, is_some, filter}
 use Rattle.std.specs.List.{flat_map, list_any}
 use Rattle.cr_base.specs.declared.entry.Stamped.{Stamped}
 use Rattle.cr_base.specs.declared.words.Phase.{Phase}
@@ -11,8 +11,9 @@ use Rattle.cr_base.specs.declared.words.Role.TheVariants.{Account}
 use Rattle.cr_base.specs.declared.reply.AccountLine.{AccountLine}
 use Rattle.cr_base.specs.declared.standing.Standing.{Standing}
 use Rattle.cr_base.specs.Lists.{last, last_or, total, is_number, at_some}
-use Rattle.cr_base.specs.History.{History, Registration, Upload, all_told, all_told_by, phase_told, mode_told, paper_told}
+use Rattle.cr_base.specs.History.{History, Registration, Upload, SeatTold, all_told, all_told_by, phase_told, mode_told, paper_told}
 use Rattle.cr_base.specs.History.{own_paper_told, author_told, conflict_told, declared_told, title_told}
+use Rattle.cr_base.specs.History.{bid_told, seat_told, assigned_told, unassigned_told}
 use Rattle.cr_base.specs.History.{abstract_told, upload_told, own_bytes_told, withdrawal_told, registration_told, role_told, number_told, caller_told}
 
 -- ---- PublicFacts
@@ -66,6 +67,14 @@ is_conflicted u p H = is_author u p H || is_conflict_on u p H
 abbrev pub declared_by_authors : ℕ → History → List ℕ
 declared_by_authors p H = flat_map (λ (e : Stamped). declared_told (is_author (Some e.maker) p H) p e.entry) H
 
+-- the ordinal under which the user reviews the paper: none where the last entry on the two takes her off it, or none puts
+-- her on it
+abbrev pub seat_of : Option ℕ → ℕ → History → Option ℕ
+seat_of u p H = last_or None (all_told (seat_told u p) H)
+
+abbrev pub is_reviewer : Option ℕ → ℕ → History → Bool
+is_reviewer u p H = is_some (seat_of u p H)
+
 -- Standing: what a user is to the conference, and to a paper, if one is named
 abbrev pub standing_of : Option ℕ → Option ℕ → History → Standing
 standing_of u paper H = record {
@@ -74,7 +83,26 @@ standing_of u paper H = record {
   role = role_of u H;
   author = at_some (λ p. is_author u p H) paper;
   conflicted = at_some (λ p. is_conflicted u p H) paper;
+  reviewer = at_some (λ p. is_reviewer u p H) paper;
 }
+
+-- ---- bids and assignments
+
+-- the user's last bid on the paper
+abbrev pub bid_of : Option ℕ → ℕ → History → Option ℕ
+bid_of u p H = last (all_told_by (bid_told u p) H)
+
+-- whoever was assigned to the paper, in order, so by label
+abbrev pub seats_of : ℕ → History → List SeatTold
+seats_of p H = all_told (assigned_told p) H
+
+-- those of the seats whose ordinal none of these has
+abbrev pub seats_left : List ℕ → List SeatTold → List SeatTold
+seats_left gone seats = filter (λ (seat : SeatTold). not (list_any (λ o. o == seat.ordinal) gone)) seats
+
+-- the paper's reviewers: the assigned whose ordinal has no unassigned
+abbrev pub reviewers_of : ℕ → History → List SeatTold
+reviewers_of p H = seats_left (all_told (unassigned_told p) H) (seats_of p H)
 
 -- ---- papers
 

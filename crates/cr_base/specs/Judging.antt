@@ -3,13 +3,14 @@ use Rattle.std.specs.Prelude.{ℕ, Bool, ◌+◌, List, [], length, Option, None
 use Rattle.std.specs.List.{flat_map, list_any}
 use Rattle.std.specs.Option.{option_map}
 use Rattle.cr_base.specs.declared.command.Command.{Command}
-use Rattle.cr_base.specs.declared.command.Command.TheVariants.{Register, SetPhase, Submit, Revise, Upload, Withdraw, Name, SetMode, SetConflict}
+use Rattle.cr_base.specs.declared.command.Command.TheVariants.{Register, SetPhase, Submit, Revise, Upload, Withdraw, Name, SetMode, SetConflict, Bid, Assign, Unassign}
 use Rattle.cr_base.specs.declared.reply.Rule.{Rule}
+use Rattle.cr_base.specs.declared.words.Kind.{Kind}
 use Rattle.cr_base.specs.declared.words.Role.{Role}
 use Rattle.cr_base.specs.Checks.{judged, of_role, register_checks, phase_checks, submit_checks, revise_checks, upload_checks}
-use Rattle.cr_base.specs.Checks.{name_checks, mode_checks, conflict_checks}
+use Rattle.cr_base.specs.Checks.{name_checks, mode_checks, conflict_checks, bid_checks, assign_checks, unassign_checks}
 use Rattle.cr_base.specs.Drawn.{Drawn, registration_drawn, phase_drawn, submission_drawn, revision_drawn, upload_drawn}
-use Rattle.cr_base.specs.Drawn.{withdrawal_drawn, naming_drawn, mode_drawn, conflict_drawn}
+use Rattle.cr_base.specs.Drawn.{withdrawal_drawn, naming_drawn, mode_drawn, conflict_drawn, bid_drawn, assignment_drawn, unassignment_drawn}
 use Rattle.cr_base.specs.Lists.{listed}
 use Rattle.cr_base.specs.Sources.{Facts, Shown, number_in, user_among, users_among, role_among, paper_named, target_named, maker_of, facts_of_tables, shown_in_tables}
 use Rattle.cr_base.specs.Tables.{Tables}
@@ -35,6 +36,20 @@ conflict_judged facts shown caller paper target on =
     (conflict_checks (facts.standing paper) (paper_named facts shown paper) (target_named facts shown caller paper target) on)
     (conflict_drawn (maker_of caller) (unwrap_or paper 0) (unwrap_or target 0) on)
 
+-- assigning this user, if there is one, to a paper, and taking her off it
+abbrev pub assignment_judged : Facts → Shown → Option ℕ → Option ℕ → Option ℕ → Kind → Result Drawn Rule
+assignment_judged facts shown caller paper target kind =
+    let labels = shown.labels (unwrap_or paper 0) in
+    judged
+    (assign_checks (facts.standing paper) (paper_named facts shown paper) (target_named facts shown caller paper target) labels)
+    (assignment_drawn (maker_of caller) (unwrap_or paper 0) (unwrap_or target 0) kind (labels + 1))
+
+abbrev pub unassignment_judged : Facts → Shown → Option ℕ → Option ℕ → Option ℕ → Result Drawn Rule
+unassignment_judged facts shown caller paper target =
+    judged
+    (unassign_checks (facts.standing paper) (paper_named facts shown paper) (target_named facts shown caller paper target))
+    (unassignment_drawn (maker_of caller) (unwrap_or paper 0) (unwrap_or target 0) (unwrap_or (shown.seat target (unwrap_or paper 0)) 0))
+
 -- the first broken rule of a command's list, or what it adds and its receipt
 abbrev pub judge_by : Facts → Shown → Option ℕ → Command → Result Drawn Rule
 judge_by facts shown caller (Register name digest) =
@@ -59,6 +74,12 @@ judge_by facts shown caller (SetMode to) =
     judged (mode_checks (facts.standing None) (facts.standing None).phase) (mode_drawn (maker_of caller) to)
 judge_by facts shown caller (SetConflict paper name on) =
     conflict_judged facts shown caller paper (user_among facts.accounts name) on
+judge_by facts shown caller (Bid paper value) =
+    judged (bid_checks (facts.standing paper) (paper_named facts shown paper)) (bid_drawn (maker_of caller) (unwrap_or paper 0) value)
+judge_by facts shown caller (Assign paper name kind) =
+    assignment_judged facts shown caller paper (user_among facts.accounts name) kind
+judge_by facts shown caller (Unassign paper name) =
+    unassignment_judged facts shown caller paper (user_among facts.accounts name)
 
 -- RoleAnswer of a command: the same by checks on the tables
 abbrev pub judge_by_role : Tables → Option ℕ → Command → Result Drawn Rule

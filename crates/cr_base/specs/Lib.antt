@@ -13,6 +13,7 @@ pub mod Pairs
 pub mod Papers
 pub mod Phases
 pub mod Rows
+pub mod Seats
 pub mod Shapes
 pub mod Short
 pub mod Sources

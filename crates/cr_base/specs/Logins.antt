@@ -25,6 +25,9 @@ ask_wants_login asks.Upload = true
 ask_wants_login asks.Content = true
 ask_wants_login asks.Version = true
 ask_wants_login asks.SetConflict = true
+ask_wants_login asks.Bid = true
+ask_wants_login asks.Assign = true
+ask_wants_login asks.Unassign = true
 ask_wants_login asks.Me = true
 
 -- whether a request for this reads the field Authorization: a table of its own, since a request may be told who calls
@@ -44,6 +47,9 @@ ask_reads_credentials asks.Upload = true
 ask_reads_credentials asks.Content = true
 ask_reads_credentials asks.Version = true
 ask_reads_credentials asks.SetConflict = true
+ask_reads_credentials asks.Bid = true
+ask_reads_credentials asks.Assign = true
+ask_reads_credentials asks.Unassign = true
 ask_reads_credentials asks.Me = true
 
 -- ---- commands and queries
@@ -59,6 +65,9 @@ command_ask (commands.Withdraw paper) = asks.Withdraw
 command_ask (commands.Name user role) = asks.Name
 command_ask (commands.SetMode mode) = asks.SetMode
 command_ask (commands.SetConflict paper user on) = asks.SetConflict
+command_ask (commands.Bid paper value) = asks.Bid
+command_ask (commands.Assign paper user kind) = asks.Assign
+command_ask (commands.Unassign paper user) = asks.Unassign
 
 abbrev pub query_ask : Query → Ask
 query_ask queries.Me = asks.Me

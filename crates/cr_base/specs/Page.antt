@@ -1,12 +1,15 @@
 -- A paper's page: which keys a caller is told, by her standing at the paper, and what they hold. When she is told them
--- follows CoCon's phases; title, abstract, authors and conflicts of a submission are the HotCRP manual's.
-use Rattle.std.specs.Prelude.{ℕ, Bool, false, not, ◌||◌, ◌&&◌, List, Option, Some, None, if◌then◌else◌}
+-- follows CoCon's phases; title, abstract, authors, conflicts and review preferences are the HotCRP
+-- manual's, and so are its kinds of review.
+use Rattle.std.specs.Prelude.{ℕ, Bool, false, not, ◌||◌, ◌&&◌, List, Option, Some, None, unwrap_or, if◌then◌else◌}
 use Rattle.cr_base.specs.declared.page.BareKeys.{BareKeys}
+use Rattle.cr_base.specs.declared.page.Bidder.{Bidder}
 use Rattle.cr_base.specs.declared.page.Page.{Page}
+use Rattle.cr_base.specs.declared.page.Reviewer.{Reviewer}
 use Rattle.cr_base.specs.declared.standing.Standing.{Standing}
 use Rattle.cr_base.specs.declared.words.Phase.TheVariants.{Bidding, Discussion, Notification}
 use Rattle.cr_base.specs.Phases.{is_from}
-use Rattle.cr_base.specs.Words.{is_anonymous, is_overt, is_member, is_chair}
+use Rattle.cr_base.specs.Words.{is_anonymous, is_overt, is_member, is_chair, no_bid}
 
 -- ---- who is told
 
@@ -54,16 +57,38 @@ gets_versions by = by.author || (is_clear_member by && is_from Bidding by.phase)
 abbrev pub gets_withdrawn : Standing → Bool
 gets_withdrawn by = by.author || (is_member by.role && is_from Bidding by.phase)
 
+-- her own bid: clear members from bidding
+abbrev pub gets_bid : Standing → Bool
+gets_bid by = is_clear_member by && is_from Bidding by.phase
+
+-- all bids: clear chairs from bidding
+abbrev pub gets_bids : Standing → Bool
+gets_bids by = is_clear_chair by && is_from Bidding by.phase
+
+-- her own label: clear members who review the paper
+abbrev pub gets_label : Standing → Bool
+gets_label by = is_clear_member by && by.reviewer
+
+-- who reviews the paper by name: clear chairs from bidding; clear members from discussion unless anonymous; authors from
+-- notification in the open mode
+abbrev pub shows_reviewer : Standing → Bool
+shows_reviewer by =
+    (is_clear_chair by && is_from Bidding by.phase)
+    || (is_clear_member by && not (is_anonymous by.mode) && is_from Discussion by.phase)
+    || (by.author && is_overt by.mode && is_from Notification by.phase)
+
+-- the reviewers, each by her label at least: the same, and clear members from discussion
+abbrev pub gets_reviewers : Standing → Bool
+gets_reviewers by = shows_reviewer by || (is_clear_member by && is_from Discussion by.phase)
+
+-- who wrote a comment, by name: from discussion clear chairs, and clear members unless anonymous
+abbrev pub shows_writer : Standing → Bool
+shows_writer by = is_clear_member by && (is_chair by.role || not (is_anonymous by.mode)) && is_from Discussion by.phase
+
 -- the keys that have nothing to tell yet
 abbrev pub bare_keys : Standing → BareKeys
 bare_keys by = record {
-  bid = is_clear_member by && is_from Bidding by.phase;
-  bids = is_clear_chair by && is_from Bidding by.phase;
   decision = (is_clear_member by && is_from Discussion by.phase) || (by.author && is_from Notification by.phase);
-  reviewers =
-      (is_clear_chair by && is_from Bidding by.phase)
-      || (is_clear_member by && is_from Discussion by.phase)
-      || (by.author && is_overt by.mode && is_from Notification by.phase);
   tags = is_clear_member by && is_from Bidding by.phase;
 }
 
@@ -74,8 +99,12 @@ pub record PaperTexts : Type 0 where
   pub title : Option (List ℕ)
   pub abstract_ : Option (List ℕ)
   pub authors : List (List ℕ)
+  pub bid : Option ℕ
+  pub bids : List Bidder
   pub conflicts : List (List ℕ)
   pub declared : List (List ℕ)
+  pub label : Option ℕ
+  pub reviewers : List Reviewer
   pub versions : List ℕ
   pub withdrawn : Bool
 
@@ -89,9 +118,13 @@ page_of by paper texts = record {
   paper = paper;
   abstract_ = where_told (gets_abstract by) texts.abstract_;
   authors = where_told (shows_author by false) (Some texts.authors);
+  bid = where_told (gets_bid by) (Some (unwrap_or texts.bid no_bid));
+  bids = where_told (gets_bids by) (Some texts.bids);
   conflict = where_told (gets_conflict by) (Some by.conflicted);
   conflicts = where_told (gets_conflicts by) (Some texts.conflicts);
   declared = where_told (gets_declared by) (Some texts.declared);
+  label = where_told (gets_label by) texts.label;
+  reviewers = where_told (gets_reviewers by) (Some texts.reviewers);
   title = where_told (gets_title by) texts.title;
   versions = where_told (gets_versions by) (Some texts.versions);
   withdrawn = where_told (gets_withdrawn by) (Some texts.withdrawn);

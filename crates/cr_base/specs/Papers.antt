@@ -5,6 +5,7 @@ use Rattle.std.specs.List.{flat_map}
 use Rattle.std.specs.Option.{option_map, option_map_or}
 use Rattle.cr_base.specs.declared.entry.Entry.{Entry}
 use Rattle.cr_base.specs.declared.entry.Entry.TheVariants.{Submitted, Coauthor, Revised, Uploaded, Withdrawn, Conflict}
+use Rattle.cr_base.specs.declared.entry.Entry.TheVariants.{Bid, Assigned, Unassigned}
 use Rattle.cr_base.specs.declared.paper.Paper.{Paper}
 use Rattle.cr_base.specs.History.{Upload}
 use Rattle.cr_base.specs.Lists.{given, numbered, numbers_from}
@@ -116,4 +117,7 @@ PapersFit state maker (Uploaded paper version content) =
     IsPaper state paper × (version ≡ length (uploads_at state paper) + 1) × (own_bytes state (Some maker) + length content ≤ 67108864)
 PapersFit state maker (Withdrawn paper) = IsPaper state paper
 PapersFit state maker (Conflict paper user on) = IsPaper state paper
+PapersFit state maker (Bid paper value) = IsPaper state paper
+PapersFit state maker (Assigned paper user kind ordinal) = IsPaper state paper
+PapersFit state maker (Unassigned paper user ordinal) = IsPaper state paper
 PapersFit state maker _ = Unit {0}

@@ -5,12 +5,14 @@ use Rattle.cr_base.specs.declared.entry.EntryKind.TheVariants as kind
 use Rattle.cr_base.specs.declared.entry.Entry.{Entry}
 use Rattle.cr_base.specs.declared.entry.Entry.TheVariants.{Registered, Named, PhaseSet, ModeSet, Submitted}
 use Rattle.cr_base.specs.declared.entry.Entry.TheVariants.{Coauthor, Revised, Uploaded, Withdrawn, Conflict}
+use Rattle.cr_base.specs.declared.entry.Entry.TheVariants.{Bid, Assigned, Unassigned}
 use Rattle.cr_base.specs.declared.entry.Stamped.{Stamped}
 use Rattle.cr_base.specs.declared.row.Row.{Row}
-use Rattle.cr_base.specs.Words.{phase_number, phase_numbered, mode_number, mode_numbered, role_number, role_numbered}
+use Rattle.cr_base.specs.Words.{phase_number, phase_numbered, mode_number, mode_numbered, role_number, role_numbered, seat_number, seat_numbered}
 use Rattle.cr_base.specs.declared.shape.Shape.{Shape}
 use Rattle.cr_base.specs.declared.shape.TextKind.TheVariants.{Nothing, Name, Digest, Title, Abstract, Content}
-use Rattle.cr_base.specs.Shapes.{user_range, paper_range, phase_range, mode_range, bit, role_range, version_range, unused, shape, FitsShape}
+use Rattle.cr_base.specs.Shapes.{user_range, paper_range, phase_range, mode_range, bit, role_range, version_range, bid_range, seat_range, ordinal_range}
+use Rattle.cr_base.specs.Shapes.{unused, shape, with_fourth, FitsShape}
 
 -- the number by which rows tell the kind
 abbrev pub kind_number : EntryKind → ℕ
@@ -24,6 +26,9 @@ kind_number kind.Revised = 7
 kind_number kind.Uploaded = 8
 kind_number kind.Withdrawn = 9
 kind_number kind.Conflict = 10
+kind_number kind.Bid = 11
+kind_number kind.Assigned = 12
+kind_number kind.Unassigned = 13
 
 -- the word for the kind: its name in lower case
 abbrev pub kind_name : EntryKind → List ℕ
@@ -37,6 +42,9 @@ kind_name kind.Revised = codes "revised"
 kind_name kind.Uploaded = codes "uploaded"
 kind_name kind.Withdrawn = codes "withdrawn"
 kind_name kind.Conflict = codes "conflict"
+kind_name kind.Bid = codes "bid"
+kind_name kind.Assigned = codes "assigned"
+kind_name kind.Unassigned = codes "unassigned"
 
 -- the fields of each kind, a line a kind
 abbrev pub shape_of : EntryKind → Shape
@@ -50,6 +58,9 @@ shape_of kind.Revised = shape paper_range unused unused Title Abstract
 shape_of kind.Uploaded = shape paper_range version_range unused Content Nothing
 shape_of kind.Withdrawn = shape paper_range unused unused Nothing Nothing
 shape_of kind.Conflict = shape paper_range user_range bit Nothing Nothing
+shape_of kind.Bid = shape paper_range bid_range unused Nothing Nothing
+shape_of kind.Assigned = with_fourth ordinal_range (shape paper_range user_range seat_range Nothing Nothing)
+shape_of kind.Unassigned = shape paper_range user_range ordinal_range Nothing Nothing
 
 -- the kind of an entry
 abbrev pub kind_of : Entry → EntryKind
@@ -63,6 +74,9 @@ kind_of (Revised paper title abstract) = kind.Revised
 kind_of (Uploaded paper version content) = kind.Uploaded
 kind_of (Withdrawn paper) = kind.Withdrawn
 kind_of (Conflict paper user on) = kind.Conflict
+kind_of (Bid paper value) = kind.Bid
+kind_of (Assigned paper user seat ordinal) = kind.Assigned
+kind_of (Unassigned paper user ordinal) = kind.Unassigned
 
 -- what a row tells of an entry beside its kind, its maker and the mark
 pub record Fields : Type 0 where
@@ -93,6 +107,9 @@ fields_of (Revised paper title abstract) = fields paper 0 0 title abstract
 fields_of (Uploaded paper version content) = fields paper version 0 content []
 fields_of (Withdrawn paper) = fields paper 0 0 [] []
 fields_of (Conflict paper user on) = fields paper user (bit_number on) [] []
+fields_of (Bid paper value) = fields paper value 0 [] []
+fields_of (Assigned paper user seat ordinal) = record (fields paper user (seat_number seat) [] []) { n4 = ordinal }
+fields_of (Unassigned paper user ordinal) = fields paper user ordinal [] []
 
 -- the row of an entry
 abbrev pub row_of : Stamped → Row
@@ -131,6 +148,9 @@ built kind.Revised r = Revised r.n1 r.b1 r.b2
 built kind.Uploaded r = Uploaded r.n1 r.n2 r.b1
 built kind.Withdrawn r = Withdrawn r.n1
 built kind.Conflict r = Conflict r.n1 r.n2 (r.n3 == 1)
+built kind.Bid r = Bid r.n1 r.n2
+built kind.Assigned r = Assigned r.n1 r.n2 (seat_numbered r.n3) r.n4
+built kind.Unassigned r = Unassigned r.n1 r.n2 r.n3
 
 abbrev pub stamped : EntryKind → Row → Stamped
 stamped k r = record { maker = r.maker; more = r.more == 1; entry = built k r }

@@ -38,12 +38,28 @@ role_range = range 1 2
 abbrev pub version_range : Range
 version_range = record { low = 1; high = None }
 
+-- bids, each plus 20: -20 to 20
+abbrev pub bid_range : Range
+bid_range = range 0 40
+
+-- primary, secondary and pc
+abbrev pub seat_range : Range
+seat_range = range 1 3
+
+-- the ordinals of labels: A to Z
+abbrev pub ordinal_range : Range
+ordinal_range = range 1 26
+
 -- an unused number is 0
 abbrev pub unused : Range
 unused = range 0 0
 
 abbrev pub shape : Range → Range → Range → TextKind → TextKind → Shape
 shape n1 n2 n3 b1 b2 = record { n1 = n1; n2 = n2; n3 = n3; n4 = unused; n5 = unused; b1 = b1; b2 = b2 }
+
+-- the same with these numbers in the fourth field
+abbrev pub with_fourth : Range → Shape → Shape
+with_fourth n4 s = record { n1 = s.n1; n2 = s.n2; n3 = s.n3; n4 = n4; n5 = s.n5; b1 = s.b1; b2 = s.b2 }
 
 -- a number is no more than the greatest, where there is one
 abbrev pub IsAtMost : Option ℕ → ℕ → Type 0

@@ -1,6 +1,6 @@
 -- What rules and answers read, over a record of facts and one of what is shown of a paper: filled by a view they make
 -- Judge and Answer, filled by the tables they make RoleAnswer.
-use Rattle.std.specs.Prelude.{ℕ, Bool, ◌==◌, List, Option, find, map, unwrap_or}
+use Rattle.std.specs.Prelude.{ℕ, Bool, ◌||◌, ◌==◌, List, Option, is_some, find, map, unwrap_or}
 use Rattle.std.specs.Option.{option_map, option_and_then}
 use Rattle.std.specs.List.{flat_map, list_any}
 use Rattle.std.specs.Str.{bytes_eq}
@@ -12,23 +12,28 @@ use Rattle.cr_base.specs.Accounts.{lines_of, role_in}
 use Rattle.cr_base.specs.Checks.{NamedPaper}
 use Rattle.cr_base.specs.Lists.{listed, is_number, at_some}
 use Rattle.cr_base.specs.Pairs.{users_tied_to}
-use Rattle.cr_base.specs.History.{Upload}
+use Rattle.cr_base.specs.History.{Upload, BidTold, SeatTold}
 use Rattle.cr_base.specs.Papers.{paper_numbers, title_at, abstract_at, is_withdrawn_at, uploads_at, own_count, own_bytes}
 use Rattle.cr_base.specs.Tables.{Tables}
-use Rattle.cr_base.specs.Ties.{authors_in, is_author_in, is_conflicted_in}
+use Rattle.cr_base.specs.Seats.{labels_in, reviewers_in, seat_in}
+use Rattle.cr_base.specs.Ties.{authors_in, is_author_in, is_conflicted_in, bid_in, bids_in}
 
 -- what rules and drawn numbers read: how the caller stands, to a paper if one is named; who has registered; the papers;
--- how many of them are the caller's, and how many bytes she has uploaded
+-- how many of them are the caller's, and how many bytes she has uploaded; her last bid on each, and the ordinal under which
+-- she reviews it
 pub record Facts : Type 0 where
   pub standing : Option ℕ → Standing
   pub accounts : List AccountLine
   pub papers : List ℕ
   pub own_papers : ℕ
   pub own_bytes : ℕ
+  pub own_bid : ℕ → Option ℕ
+  pub own_seat : ℕ → Option ℕ
 
 -- what pages, contents and some rules tell of a paper beside the standing: its texts, its authors, who is declared in
--- conflict with it, and whom its authors declared, both by user number; what was uploaded to it, in order; and whether it is
--- withdrawn
+-- conflict with it, and whom its authors declared, both by user number; what was uploaded to it, in order; whether it is
+-- withdrawn; the last bids on it, by user number; its reviewers, by label, under which ordinal a user reviews it, and how many
+-- labels were given
 pub record Shown : Type 0 where
   pub title : ℕ → Option (List ℕ)
   pub abstract_ : ℕ → Option (List ℕ)
@@ -37,6 +42,10 @@ pub record Shown : Type 0 where
   pub declared : ℕ → List ℕ
   pub uploads : ℕ → List Upload
   pub withdrawn : ℕ → Bool
+  pub bids : ℕ → List BidTold
+  pub reviewers : ℕ → List SeatTold
+  pub seat : Option ℕ → ℕ → Option ℕ
+  pub labels : ℕ → ℕ
 
 -- how a user stands, by the tables
 abbrev pub standing_at : Tables → Option ℕ → Option ℕ → Standing
@@ -46,6 +55,7 @@ standing_at t u paper = record {
   role = role_in t.accounts u;
   author = at_some (is_author_in t.ties u) paper;
   conflicted = at_some (is_conflicted_in t.ties u) paper;
+  reviewer = at_some (λ p. is_some (seat_in t.seats u p)) paper;
 }
 
 -- the facts of the tables
@@ -56,6 +66,8 @@ facts_of_tables t u = record {
   papers = paper_numbers t.papers;
   own_papers = own_count t.papers u;
   own_bytes = own_bytes t.papers u;
+  own_bid = bid_in t.ties u;
+  own_seat = seat_in t.seats u;
 }
 
 abbrev pub shown_in_tables : Tables → Shown
@@ -67,6 +79,10 @@ shown_in_tables t = record {
   declared = λ p. users_tied_to p t.ties.declared;
   uploads = uploads_at t.papers;
   withdrawn = is_withdrawn_at t.papers;
+  bids = bids_in t.ties;
+  reviewers = reviewers_in t.seats;
+  seat = seat_in t.seats;
+  labels = labels_in t.seats;
 }
 
 -- who makes the entries of a caller's command: nobody makes any but a registration
@@ -106,4 +122,8 @@ paper_named facts shown paper = record { there = has_paper facts paper; withdraw
 abbrev pub target_named : Facts → Shown → Option ℕ → Option ℕ → Option ℕ → Option Target
 target_named facts shown caller paper user =
     let wrote = at_some (λ p. list_any (is_number user) (shown.authors p)) paper in
-    option_map (λ (role : Role). record { role = role; herself = is_number user (maker_of caller); author = wrote }) (role_among facts.accounts user)
+    let declared = at_some (λ p. list_any (is_number user) (shown.conflicts p)) paper in
+    let reviews = at_some (λ p. is_some (shown.seat user p)) paper in
+    option_map
+    (λ (role : Role). record { role = role; herself = is_number user (maker_of caller); author = wrote; conflicted = wrote || declared; reviewer = reviews })
+    (role_among facts.accounts user)

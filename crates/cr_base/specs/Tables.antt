@@ -6,18 +6,20 @@ use Rattle.cr_base.specs.History.{History}
 use Rattle.cr_base.specs.Accounts.{accounts_after, AccountsFit}
 use Rattle.cr_base.specs.Stage.{StageState, first_stage, stage_after}
 use Rattle.cr_base.specs.Papers.{PapersState, no_papers, papers_after, PapersFit}
+use Rattle.cr_base.specs.Seats.{SeatsState, no_seats, seats_after, SeatsFit}
 use Rattle.cr_base.specs.Ties.{TiesState, no_ties, ties_after, TiesFit}
 
--- the tables: the stage, the accounts by user number, the papers, and who is tied to them
+-- the tables: the stage, the accounts by user number, the papers, who is tied to them, and who reviews them
 pub record Tables : Type 0 where
   pub stage : StageState
   pub accounts : List Account
   pub papers : PapersState
   pub ties : TiesState
+  pub seats : SeatsState
 
 -- the tables of no entries
 abbrev pub no_tables : Tables
-no_tables = record { stage = first_stage; accounts = []; papers = no_papers; ties = no_ties }
+no_tables = record { stage = first_stage; accounts = []; papers = no_papers; ties = no_ties; seats = no_seats }
 
 -- the tables after one more entry
 abbrev pub tables_after : Tables → Stamped → Tables
@@ -26,6 +28,7 @@ tables_after t s = record {
   accounts = accounts_after t.accounts s.entry;
   papers = papers_after t.papers s.maker s.entry;
   ties = ties_after t.ties s.maker s.entry;
+  seats = seats_after t.seats s.entry;
 }
 
 -- the tables after these entries
@@ -41,6 +44,7 @@ pub record Fits (t : Tables) (s : Stamped) : Type 0 where
   pub accounts : AccountsFit t.accounts s.entry
   pub papers : PapersFit t.papers s.maker s.entry
   pub ties : TiesFit t.ties s.entry
+  pub seats : SeatsFit t.seats s.entry
 
 -- each of these entries may come next in its turn
 abbrev pub FitInTurn : Tables → History → Type 0

@@ -1,13 +1,15 @@
--- The table of ties: who is an author of which paper, and who is declared in conflict with it.
-use Rattle.std.specs.Prelude.{ℕ, Bool, ◌||◌, ◌&&◌, nat_le, nat_lt, IsTrue, IsFalse, List, [], ◌∷◌, ◌++◌, Option, Some, None, false, if◌then◌else◌}
+-- The table of ties: who is an author of which paper, who is declared in conflict with it, and who has bid on it.
+use Rattle.std.specs.Prelude.{ℕ, Bool, fold, map, ◌||◌, ◌&&◌, nat_le, nat_lt, IsTrue, IsFalse, List, [], ◌∷◌, ◌++◌, Option, Some, None, false, if◌then◌else◌}
 use Rattle.std.specs.List.{list_any, list_all}
 use Rattle.cr_base.specs.declared.entry.Entry.{Entry}
-use Rattle.cr_base.specs.declared.entry.Entry.TheVariants.{Submitted, Coauthor, Conflict}
+use Rattle.cr_base.specs.declared.entry.Entry.TheVariants.{Submitted, Coauthor, Conflict, Bid}
+use Rattle.cr_base.specs.declared.entry.Stamped.{Stamped}
 use Rattle.cr_base.specs.declared.pairs.Order.TheVariants.{ByPaper}
 use Rattle.cr_base.specs.declared.pairs.Pair.{Pair}
 use Rattle.cr_base.specs.declared.pairs.Tie.{Tie}
+use Rattle.cr_base.specs.History.{History, BidTold}
 use Rattle.cr_base.specs.Lists.{is_number}
-use Rattle.cr_base.specs.Pairs.{with_tie, without_pair, has_pair, users_tied_to}
+use Rattle.cr_base.specs.Pairs.{with_tie, without_pair, has_pair, value_of, ties_of, users_tied_to}
 
 -- ---- the state
 
@@ -16,15 +18,17 @@ abbrev pub BareTies : Type 0
 BareTies = List (Tie (Unit {0}))
 
 -- papers and their authors, in the order in which they were told; in ascending order, papers and the users in declared
--- conflict with them, and papers and those whom an author named in one
+-- conflict with them, papers and those whom an author named in one, and papers and the users who bid on them with their last
+-- bids, each kept plus 20
 pub record TiesState : Type 0 where
   pub authors : BareTies
   pub conflicts : BareTies
   pub declared : BareTies
+  pub bids : List (Tie ℕ)
 
 -- no ties
 abbrev pub no_ties : TiesState
-no_ties = record { authors = []; conflicts = []; declared = [] }
+no_ties = record { authors = []; conflicts = []; declared = []; bids = [] }
 
 -- a paper and a user; and their tie
 abbrev pub pair_of : ℕ → ℕ → Pair
@@ -32,6 +36,10 @@ pair_of paper user = record { paper = paper; user = user }
 
 abbrev pub bare_tie : ℕ → ℕ → Tie (Unit {0})
 bare_tie paper user = record { pair = pair_of paper user; value = tt }
+
+-- a paper and a user who bids so on it
+abbrev pub bid_tie : ℕ → ℕ → ℕ → Tie ℕ
+bid_tie paper user value = record { pair = pair_of paper user; value = value }
 
 -- the paper's authors, the submitter first, the others in the order in which they were told
 abbrev pub authors_in : TiesState → ℕ → List ℕ
@@ -53,7 +61,12 @@ ties_after ties maker (Conflict paper user on) = record ties {
   conflicts = switched on paper user ties.conflicts;
   declared = if is_author_in ties (Some maker) paper then with_tie ByPaper (bare_tie paper user) ties.declared else ties.declared;
 }
+ties_after ties maker (Bid paper value) = record ties { bids = with_tie ByPaper (bid_tie paper maker value) ties.bids }
 ties_after ties maker _ = ties
+
+-- the ties after these entries
+abbrev pub ties_from : TiesState → History → TiesState
+ties_from ties entries = fold (λ (t : TiesState) (e : Stamped). ties_after t e.maker e.entry) ties entries
 
 -- ---- what is read
 
@@ -66,6 +79,15 @@ is_conflict_on_in ties (Some user) p = has_pair (pair_of p user) ties.conflicts
 abbrev pub is_conflicted_in : TiesState → Option ℕ → ℕ → Bool
 is_conflicted_in ties u p = is_author_in ties u p || is_conflict_on_in ties u p
 
+-- the user's last bid on the paper
+abbrev pub bid_in : TiesState → Option ℕ → ℕ → Option ℕ
+bid_in ties None p = None
+bid_in ties (Some user) p = value_of (pair_of p user) ties.bids
+
+-- the last bids on the paper, by user number
+abbrev pub bids_in : TiesState → ℕ → List BidTold
+bids_in ties p = map (λ (t : Tie ℕ). record { user = t.pair.user; value = t.value }) (ties_of ByPaper p ties.bids)
+
 -- ---- which entry may come next
 
 -- the papers of all these ties have lower numbers
@@ -77,8 +99,8 @@ abbrev pub are_up_to : ℕ → BareTies → Bool
 are_up_to paper ties = list_all (λ (t : Tie (Unit {0})). nat_le t.pair.paper paper) ties
 
 -- the papers of all these ties have one of the first n numbers
-abbrev pub are_within : ℕ → BareTies → Bool
-are_within n ties = list_all (λ (t : Tie (Unit {0})). nat_le 1 t.pair.paper && nat_le t.pair.paper n) ties
+abbrev pub are_within : {V : Type 0} → ℕ → List (Tie V) → Bool
+are_within {V} n ties = list_all (λ (t : Tie V). nat_le 1 t.pair.paper && nat_le t.pair.paper n) ties
 
 -- each paper with an author, or with a declared conflict, has one of the first n numbers
 pub record AreWithin (n : ℕ) (ties : TiesState) : Type 0 where

@@ -1,10 +1,13 @@
--- The words and the numbers of phases, modes and roles: CoCon's phases and roles, the HotCRP manual's anonymity.
-use Rattle.std.specs.Prelude.{ℕ, Bool, true, false, List, [], ◌∷◌, Option, find, codes, ◌==◌, if◌then◌else◌}
+-- The words and the numbers of phases, modes, roles and assignments, and of bids: CoCon's phases and roles, the HotCRP
+-- manual's anonymity, its kinds of review (primary, secondary, pc) and its review preferences.
+use Rattle.std.specs.Prelude.{ℕ, ℤ, pos, negsuc, Bool, true, false, List, [], ◌∷◌, Option, Some, None, find, codes, ◌==◌, ◌+◌, ◌-◌, nat_le, nat_lt, if◌then◌else◌}
 use Rattle.std.specs.Str.{bytes_eq}
 use Rattle.cr_base.specs.declared.words.Phase.{Phase}
 use Rattle.cr_base.specs.declared.words.Phase.TheVariants.{Setup, Submission, Bidding, Reviewing, Discussion, Notification, Closed}
 use Rattle.cr_base.specs.declared.words.Mode.{Mode}
 use Rattle.cr_base.specs.declared.words.Mode.TheVariants.{Overt, Blind, Anonymous}
+use Rattle.cr_base.specs.declared.words.Kind.{Kind}
+use Rattle.cr_base.specs.declared.words.Kind.TheVariants.{Primary, Secondary, Pc}
 use Rattle.cr_base.specs.declared.words.Role.{Role}
 use Rattle.cr_base.specs.declared.words.Role.TheVariants.{Account, Member, Chair}
 
@@ -86,6 +89,45 @@ abbrev pub is_overt : Mode → Bool
 is_overt Overt = true
 is_overt Blind = false
 is_overt Anonymous = false
+
+-- ---- assignments and bids
+
+-- the word for a kind of assignment
+abbrev pub seat_name : Kind → List ℕ
+seat_name Primary = codes "primary"
+seat_name Secondary = codes "secondary"
+seat_name Pc = codes "pc"
+
+-- the kinds of assignment
+abbrev pub seat_kinds : List Kind
+seat_kinds = Primary ∷ Secondary ∷ Pc ∷ []
+
+-- the kind of assignment of a word
+abbrev pub seat_named : List ℕ → Option Kind
+seat_named name = find (λ kind. bytes_eq name (seat_name kind)) seat_kinds
+
+-- a kind of assignment by its number in rows
+abbrev pub seat_number : Kind → ℕ
+seat_number Primary = 1
+seat_number Secondary = 2
+seat_number Pc = 3
+
+-- the kind of assignment of a number in rows, from 1 to 3
+abbrev pub seat_numbered : ℕ → Kind
+seat_numbered n = if n == 1 then Primary else (if n == 2 then Secondary else Pc)
+
+-- a bid is kept plus 20; who has told none has bid 0
+abbrev pub no_bid : ℕ
+no_bid = 20
+
+-- the bid that a whole number is: one from -20 to 20; `negsuc n` is the number less than 0 that n + 1 is with a minus
+abbrev pub bid_of_value : ℤ → Option ℕ
+bid_of_value (pos n) = if nat_le n 20 then Some (n + 20) else None
+bid_of_value (negsuc n) = if nat_lt n 20 then Some (19 - n) else None
+
+-- a bid without its sign
+abbrev pub bid_size : ℕ → ℕ
+bid_size raised = if nat_lt raised no_bid then no_bid - raised else raised - no_bid
 
 -- ---- roles
 

@@ -33,6 +33,12 @@ pub enum Ask {
     Version,
     /// Whether a user is in conflict with a paper: POST of `/papers/{p}/conflicts`.
     SetConflict,
+    /// The caller's bid on a paper: PUT of `/papers/{p}/bid`.
+    Bid,
+    /// One more reviewer of a paper: POST of `/papers/{p}/reviewers`.
+    Assign,
+    /// One reviewer less: DELETE of `/papers/{p}/reviewers/{u}`.
+    Unassign,
     /// What the caller is to the conference: GET or HEAD of `/me`.
     Me,
 }
@@ -47,6 +53,7 @@ impl Ask {
             Ask::Register | Ask::Accounts | Ask::Phase => false,
             Ask::Name | Ask::SetMode | Ask::SetPhase | Ask::SetConflict => true,
             Ask::Submit | Ask::Revise | Ask::Upload | Ask::Withdraw => true,
+            Ask::Bid | Ask::Assign | Ask::Unassign => true,
             Ask::Me | Ask::Page | Ask::Content | Ask::Version => true,
         }
     }
@@ -61,6 +68,7 @@ impl Ask {
             Ask::Me | Ask::Page | Ask::Content | Ask::Version => true,
             Ask::Name | Ask::SetMode | Ask::SetPhase | Ask::SetConflict => true,
             Ask::Submit | Ask::Revise | Ask::Upload | Ask::Withdraw => true,
+            Ask::Bid | Ask::Assign | Ask::Unassign => true,
         }
     }
 }

@@ -3,11 +3,12 @@ ghost use Rattle.std.specs.Prelude.{◌≡◌};
 ghost use Rattle.cr_base.specs.Logins.{command_ask, command_wants_login, query_ask, query_wants_login};
 
 use crate::ask::Ask;
+use crate::bid::Bid;
 use crate::entry::Digest;
 use crate::numbers::PaperNo;
 use crate::texts::{Blob, Short, Text};
 use crate::told::ToldNames;
-use crate::words::{Mode, Phase, Role};
+use crate::words::{Kind, Mode, Phase, Role};
 
 /// What a request may change.
 #[derive(Drop, Debug)]
@@ -75,6 +76,29 @@ pub enum Command {
         /// Whether she is.
         on: bool,
     },
+    /// The caller tells how much she wants to review a paper.
+    Bid {
+        /// The paper told; None where what was told is no number of a paper.
+        paper: Option<PaperNo>,
+        /// The bid told.
+        value: Bid,
+    },
+    /// Somebody reviews a paper.
+    Assign {
+        /// The paper told; None where what was told is no number of a paper.
+        paper: Option<PaperNo>,
+        /// The name told of her; None where what was told is no name.
+        user: Option<Short>,
+        /// What she is to the paper.
+        kind: Kind,
+    },
+    /// Somebody no longer reviews a paper.
+    Unassign {
+        /// The paper told; None where what was told is no number of a paper.
+        paper: Option<PaperNo>,
+        /// The name told of her; None where what was told is no name.
+        user: Option<Short>,
+    },
 }
 
 /// What a request may ask.
@@ -120,6 +144,9 @@ impl Command {
             Command::Name { .. } => Ask::Name,
             Command::SetMode { .. } => Ask::SetMode,
             Command::SetConflict { .. } => Ask::SetConflict,
+            Command::Bid { .. } => Ask::Bid,
+            Command::Assign { .. } => Ask::Assign,
+            Command::Unassign { .. } => Ask::Unassign,
         }
     }
 

@@ -2,9 +2,10 @@
 ghost use Rattle.std.specs.Prelude.{◌≡◌, IfOk};
 ghost use Rattle.cr_base.specs.Rows.{kind_of};
 
-use crate::numbers::{PaperNo, UserNo};
+use crate::bid::Bid;
+use crate::numbers::{Ordinal, PaperNo, UserNo};
 use crate::texts::{Blob, Short, Text};
-use crate::words::{Mode, Phase, Role};
+use crate::words::{Kind, Mode, Phase, Role};
 use std::alloc::AllocError;
 
 /// The SHA-256 digest of a secret (FIPS 180-4): 32 bytes.
@@ -87,6 +88,33 @@ pub enum Entry {
         /// Whether she is.
         on: bool,
     },
+    /// A member has told how much she wants to review a paper. Her last bid on it counts.
+    Bid {
+        /// The paper.
+        paper: PaperNo,
+        /// How much.
+        value: Bid,
+    },
+    /// A member reviews a paper from here on, under a label of her own.
+    Assigned {
+        /// The paper.
+        paper: PaperNo,
+        /// Who reviews it: a member who is in no conflict with it.
+        user: UserNo,
+        /// What she is to it.
+        kind: Kind,
+        /// Her label's ordinal: the count of the paper's assignments before it plus 1.
+        ordinal: Ordinal,
+    },
+    /// A reviewer no longer reviews a paper from here on. Her label isn't used again.
+    Unassigned {
+        /// The paper.
+        paper: PaperNo,
+        /// Who reviewed it.
+        user: UserNo,
+        /// The ordinal of the label under which she did.
+        ordinal: Ordinal,
+    },
 }
 
 /// The kind of an entry.
@@ -112,6 +140,12 @@ pub enum EntryKind {
     Withdrawn,
     /// An [`Entry::Conflict`].
     Conflict,
+    /// An [`Entry::Bid`].
+    Bid,
+    /// An [`Entry::Assigned`].
+    Assigned,
+    /// An [`Entry::Unassigned`].
+    Unassigned,
 }
 
 /// An entry with its maker, and whether another entry of the same command follows.
@@ -152,6 +186,9 @@ impl Entry {
             Entry::Uploaded { .. } => EntryKind::Uploaded,
             Entry::Withdrawn { .. } => EntryKind::Withdrawn,
             Entry::Conflict { .. } => EntryKind::Conflict,
+            Entry::Bid { .. } => EntryKind::Bid,
+            Entry::Assigned { .. } => EntryKind::Assigned,
+            Entry::Unassigned { .. } => EntryKind::Unassigned,
         }
     }
 
@@ -207,6 +244,30 @@ impl Entry {
                 paper: *paper,
                 user: *user,
                 on: *on,
+            }),
+            Entry::Bid { paper, value } => Ok(Entry::Bid {
+                paper: *paper,
+                value: *value,
+            }),
+            Entry::Assigned {
+                paper,
+                user,
+                kind,
+                ordinal,
+            } => Ok(Entry::Assigned {
+                paper: *paper,
+                user: *user,
+                kind: *kind,
+                ordinal: *ordinal,
+            }),
+            Entry::Unassigned {
+                paper,
+                user,
+                ordinal,
+            } => Ok(Entry::Unassigned {
+                paper: *paper,
+                user: *user,
+                ordinal: *ordinal,
             }),
         }
     }

@@ -3,8 +3,10 @@
 #![tactic(auto)]
 
 mod ask;
+mod bid;
 mod command;
 mod entry;
+mod items;
 mod me;
 mod numbers;
 mod page;
@@ -12,6 +14,7 @@ mod pairs;
 mod paper;
 mod reply;
 mod row;
+mod seat;
 mod shape;
 mod spelling;
 mod standing;
@@ -21,17 +24,20 @@ mod told;
 mod words;
 
 pub use ask::Ask;
+pub use bid::Bid;
 pub use command::{Command, Query};
 pub use entry::{Account, Digest, Entry, EntryKind, Stamped};
+pub use items::Items;
 pub use me::{Me, PaperNos};
-pub use numbers::{LAST_NUMBER, PaperNo, UserNo};
-pub use page::{BareKeys, Names, Page, Versions};
+pub use numbers::{LAST_NUMBER, MOST_LABELS, Ordinal, PaperNo, UserNo};
+pub use page::{BareKeys, Bidder, Bids, Names, Page, Reviewer, Reviewers, Versions};
 pub use pairs::{Order, Pair, Tie};
 pub use paper::Paper;
 pub use reply::{AccountLine, AccountLines, Conference, Receipt, Reply, Rule};
 pub use row::Row;
+pub use seat::Seat;
 pub use standing::Standing;
 pub use target::Target;
 pub use texts::{Blob, Short, Text, is_abstract, is_content, is_name, is_title};
 pub use told::{Coauthors, MOST_COAUTHORS, ToldNames};
-pub use words::{Mode, Phase, Role};
+pub use words::{Kind, Mode, Phase, Role};

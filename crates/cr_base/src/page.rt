@@ -1,82 +1,51 @@
 //! A paper's page: what a caller is told of one paper.
-ghost use Rattle.std.specs.Prelude.{◌≡◌};
 
-use crate::numbers::PaperNo;
+use crate::bid::Bid;
+use crate::items::Items;
+use crate::numbers::{Ordinal, PaperNo};
 use crate::texts::{Short, Text};
-use std::marker::Model;
+use crate::words::Kind;
 
-/// Names of users, in an order that their place says. Contracts see the list.
-#[derive(Drop, Debug)]
-pub struct Names {
-    names: Vec<Short>,
+/// Names of users, in an order that their place says.
+pub type Names = Items<Short>;
+
+/// Numbers of versions, in ascending order.
+pub type Versions = Items<u64>;
+
+/// Bids on a paper, by user number.
+pub type Bids = Items<Bidder>;
+
+/// Who reviews a paper, by label.
+pub type Reviewers = Items<Reviewer>;
+
+/// A bid on a paper, and whose it is.
+#[derive(Clone, Copy, Debug)]
+pub struct Bidder {
+    /// Her last bid.
+    pub bid: Bid,
+    /// Her name.
+    pub user: Short,
 }
 
-impl Model for Names {
-    ghost use Rattle.std.specs.Prelude.{List, ℕ};
-
-    ghost Value = { List (List ℕ) };
-
-    ghost view = { λ n. n.names.items };
-}
-
-impl Names {
-    /// The names of a vector; takes no memory.
-    pub fn from_vec(names: Vec<Short>) -> Names
-        ensures { result ≡ names.items }
-    {
-        Names { names }
-    }
-
-    /// The names.
-    pub fn as_slice(&self) -> &[Short]
-        ensures { result.now ≡ self.now }
-    {
-        self.names.as_slice()
-    }
-}
-
-/// Numbers of versions, in ascending order. Contracts see the list.
-#[derive(Drop, Debug)]
-pub struct Versions {
-    numbers: Vec<u64>,
-}
-
-impl Model for Versions {
-    ghost use Rattle.std.specs.Prelude.{List, ℕ};
-
-    ghost Value = { List ℕ };
-
-    ghost view = { λ v. v.numbers.items };
-}
-
-impl Versions {
-    /// The numbers of a vector; takes no memory.
-    pub fn from_vec(numbers: Vec<u64>) -> Versions
-        ensures { result ≡ numbers.items }
-    {
-        Versions { numbers }
-    }
-
-    /// The numbers.
-    pub fn as_slice(&self) -> &[u64]
-        ensures { result.now ≡ self.now }
-    {
-        self.numbers.as_slice()
-    }
+/// A reviewer of a paper: each but her label is there only where the caller may be told it.
+#[derive(Clone, Copy, Debug)]
+pub struct Reviewer {
+    /// Whether she has written a review: nobody has yet.
+    pub done: Option<bool>,
+    /// What she is to the paper.
+    pub kind: Option<Kind>,
+    /// The ordinal of her label.
+    pub label: Ordinal,
+    /// Her name.
+    pub user: Option<Short>,
 }
 
 /// Which of those keys of a page are there that have nothing to tell yet, since no entry says it: no
-/// bid, no decision, no reviewer, no tag.
+/// decision, no tag.
 #[derive(Clone, Copy, Debug, PartialEq, Eq)]
 pub struct BareKeys {
-    /// The caller's own bid: 0.
-    pub bid: bool,
-    /// Everybody's bids: none.
-    pub bids: bool,
     /// The decision: `none`.
     pub decision: bool,
-    /// Who reviews: nobody.
-    pub reviewers: bool,
     /// The tags: none.
     pub tags: bool,
 }
@@ -90,12 +59,20 @@ pub struct Page {
     pub abstract_: Option<Text>,
     /// Its authors, the submitter first.
     pub authors: Option<Names>,
+    /// The caller's own last bid; 0 where she has told none.
+    pub bid: Option<Bid>,
+    /// The last bids on it, by user number.
+    pub bids: Option<Bids>,
     /// Whether the caller is in conflict with it.
     pub conflict: Option<bool>,
     /// Who is declared in conflict with it, by user number.
     pub conflicts: Option<Names>,
     /// Whom the authors declared in conflict with it, by user number.
     pub declared: Option<Names>,
+    /// The ordinal of the label under which the caller reviews it.
+    pub label: Option<Ordinal>,
+    /// Who reviews it, by label.
+    pub reviewers: Option<Reviewers>,
     /// Its title.
     pub title: Option<Text>,
     /// The numbers of its versions: all for its authors, the last alone for others.

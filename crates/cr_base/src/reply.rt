@@ -1,12 +1,12 @@
 //! Rules, receipts and replies: what a command or a query is answered.
-ghost use Rattle.std.specs.Prelude.{◌≡◌};
 
+use crate::bid::Bid;
+use crate::items::Items;
 use crate::me::Me;
-use crate::numbers::{PaperNo, UserNo};
+use crate::numbers::{Ordinal, PaperNo, UserNo};
 use crate::page::Page;
 use crate::texts::{Blob, Short};
 use crate::words::{Mode, Phase, Role};
-use std::marker::Model;
 
 /// A rule of the conference, broken by a command or a query.
 #[derive(Clone, Copy, Debug, PartialEq, Eq)]
@@ -33,8 +33,8 @@ pub enum Rule {
     NotAuthor,
     /// The user named is no member of the committee.
     NotAMember,
-    /// The caller is no member of the committee, and declares a conflict of her own; or she is no author
-    /// of the paper either, and asks for its page or its content.
+    /// The caller is no member of the committee, and bids or declares a conflict of her own; or she is no
+    /// author of the paper either, and asks for its page or its content.
     NotMember,
     /// The caller is in conflict with the paper.
     Conflict,
@@ -46,6 +46,14 @@ pub enum Rule {
     NoContent,
     /// The user named is an author of the paper, and stays in conflict with it.
     AuthorConflict,
+    /// The user named is in conflict with the paper, and can't review it.
+    TargetConflict,
+    /// The user named reviews the paper.
+    AlreadyAssigned,
+    /// The paper's 26 labels have been given.
+    LabelsSpent,
+    /// The user named doesn't review the paper.
+    NotAssigned,
 }
 
 /// What an accepted command is answered.
@@ -78,7 +86,7 @@ pub enum Receipt {
         /// The mode.
         mode: Mode,
     },
-    /// The paper that was revised or withdrawn, or with which a conflict was turned on or off.
+    /// The paper that was revised or withdrawn, with which a conflict was turned on or off, or that has lost a reviewer.
     Changed {
         /// Its number.
         paper: PaperNo,
@@ -87,6 +95,16 @@ pub enum Receipt {
     Version {
         /// Its number.
         version: u64,
+    },
+    /// The bid told.
+    Bid {
+        /// The bid.
+        bid: Bid,
+    },
+    /// The label of a new reviewer.
+    Label {
+        /// Its ordinal.
+        ordinal: Ordinal,
     },
 }
 
@@ -101,36 +119,8 @@ pub struct AccountLine {
     pub role: Role,
 }
 
-/// Accounts by user number. Contracts see the list.
-#[derive(Drop, Debug)]
-pub struct AccountLines {
-    lines: Vec<AccountLine>,
-}
-
-impl Model for AccountLines {
-    ghost use Rattle.std.specs.Prelude.{List};
-    ghost use Rattle.cr_base.specs.declared.reply.AccountLine.{AccountLine};
-
-    ghost Value = { List AccountLine };
-
-    ghost view = { λ l. l.lines.items };
-}
-
-impl AccountLines {
-    /// The lines of a vector; takes no memory.
-    pub fn from_vec(lines: Vec<AccountLine>) -> AccountLines
-        ensures { result ≡ lines.items }
-    {
-        AccountLines { lines }
-    }
-
-    /// The lines.
-    pub fn as_slice(&self) -> &[AccountLine]
-        ensures { result.now ≡ self.now }
-    {
-        self.lines.as_slice()
-    }
-}
+/// Accounts by user number.
+pub type AccountLines = Items<AccountLine>;
 
 /// What everyone may know of the conference.
 #[derive(Clone, Copy, Debug, PartialEq, Eq)]

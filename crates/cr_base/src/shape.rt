@@ -2,7 +2,8 @@
 ghost use Rattle.std.specs.Prelude.{◌≡◌, ◌↔◌, IsTrue};
 ghost use Rattle.cr_base.specs.Shapes.{FitsShape, HasText, InRange, IsAtMost};
 
-use crate::numbers::LAST_NUMBER;
+use crate::bid::HIGHEST_RAISED;
+use crate::numbers::{LAST_NUMBER, MOST_LABELS};
 use crate::row::Row;
 use crate::texts::{is_abstract, is_content, is_name, is_title};
 
@@ -78,6 +79,22 @@ pub(crate) const ROLES: Range = Range {
 
 pub(crate) const VERSIONS: Range = Range { low: 1, high: None };
 
+/// Bids, each plus 20.
+pub(crate) const BIDS: Range = Range {
+    low: 0,
+    high: Some(HIGHEST_RAISED),
+};
+
+pub(crate) const KINDS: Range = Range {
+    low: 1,
+    high: Some(3),
+};
+
+pub(crate) const ORDINALS: Range = Range {
+    low: 1,
+    high: Some(MOST_LABELS),
+};
+
 pub(crate) const BIT: Range = Range {
     low: 0,
     high: Some(1),
@@ -122,7 +139,7 @@ impl TextKind {
 }
 
 impl Shape {
-    ghost use Rattle.cr_base.specs.Shapes.{shape};
+    ghost use Rattle.cr_base.specs.Shapes.{shape, with_fourth};
 
     /// What may stand in rows that leave the last two numbers unused.
     pub(crate) fn of(n1: Range, n2: Range, n3: Range, b1: TextKind, b2: TextKind) -> Shape
@@ -144,6 +161,21 @@ impl Shape {
         ensures { result ≡ shape n1 n2 n3 TextKind.Nothing TextKind.Nothing }
     {
         Shape::of(n1, n2, n3, TextKind::Nothing, TextKind::Nothing)
+    }
+
+    /// The same with these numbers in the field `n4`.
+    pub(crate) fn with_fourth(self, n4: Range) -> Shape
+        ensures { result ≡ with_fourth n4 self }
+    {
+        Shape {
+            n1: self.n1,
+            n2: self.n2,
+            n3: self.n3,
+            n4,
+            n5: self.n5,
+            b1: self.b1,
+            b2: self.b2,
+        }
     }
 
     /// Whether a row has a maker, a mark and fields as they may be.

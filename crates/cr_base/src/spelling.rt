@@ -5,12 +5,16 @@ ghost use Rattle.cr_base.specs.Rows.{kind_name, kind_number, shape_of, row_of, b
 ghost use Rattle.cr_base.specs.declared.entry.EntryKind.{EntryKind};
 ghost use Rattle.cr_base.specs.declared.entry.Stamped.{Stamped};
 
+use crate::bid::Bid;
 use crate::entry::{Digest, Entry, EntryKind, Stamped};
-use crate::numbers::{PaperNo, UserNo};
+use crate::numbers::{Ordinal, PaperNo, UserNo};
 use crate::row::Row;
-use crate::shape::{BIT, MODES, PAPERS, PHASES, ROLES, Shape, TextKind, UNUSED, USERS, VERSIONS};
+use crate::shape::{
+    BIDS, BIT, KINDS, MODES, ORDINALS, PAPERS, PHASES, ROLES, Shape, TextKind, UNUSED, USERS,
+    VERSIONS,
+};
 use crate::texts::{Blob, Short, Text};
-use crate::words::{Mode, Phase, Role};
+use crate::words::{Kind, Mode, Phase, Role};
 use std::alloc::{AllocError, Global};
 
 impl EntryKind {
@@ -29,6 +33,9 @@ impl EntryKind {
             EntryKind::Uploaded => 8,
             EntryKind::Withdrawn => 9,
             EntryKind::Conflict => 10,
+            EntryKind::Bid => 11,
+            EntryKind::Assigned => 12,
+            EntryKind::Unassigned => 13,
         }
     }
 
@@ -49,6 +56,9 @@ impl EntryKind {
             8 => Some(EntryKind::Uploaded),
             9 => Some(EntryKind::Withdrawn),
             10 => Some(EntryKind::Conflict),
+            11 => Some(EntryKind::Bid),
+            12 => Some(EntryKind::Assigned),
+            13 => Some(EntryKind::Unassigned),
             _ => None,
         }
     }
@@ -68,6 +78,9 @@ impl EntryKind {
             EntryKind::Uploaded => "uploaded",
             EntryKind::Withdrawn => "withdrawn",
             EntryKind::Conflict => "conflict",
+            EntryKind::Bid => "bid",
+            EntryKind::Assigned => "assigned",
+            EntryKind::Unassigned => "unassigned",
         }
     }
 
@@ -95,6 +108,9 @@ impl EntryKind {
             ),
             EntryKind::Withdrawn => Shape::of_numbers(PAPERS, UNUSED, UNUSED),
             EntryKind::Conflict => Shape::of_numbers(PAPERS, USERS, BIT),
+            EntryKind::Bid => Shape::of_numbers(PAPERS, BIDS, UNUSED),
+            EntryKind::Assigned => Shape::of_numbers(PAPERS, USERS, KINDS).with_fourth(ORDINALS),
+            EntryKind::Unassigned => Shape::of_numbers(PAPERS, USERS, ORDINALS),
         }
     }
 }
@@ -150,6 +166,30 @@ impl Entry {
                 row.n1 = paper.number();
                 row.n2 = user.number();
                 row.n3 = u64::from(*on);
+            }
+            Entry::Bid { paper, value } => {
+                row.n1 = paper.number();
+                row.n2 = value.raised();
+            }
+            Entry::Assigned {
+                paper,
+                user,
+                kind,
+                ordinal,
+            } => {
+                row.n1 = paper.number();
+                row.n2 = user.number();
+                row.n3 = kind.number();
+                row.n4 = ordinal.number();
+            }
+            Entry::Unassigned {
+                paper,
+                user,
+                ordinal,
+            } => {
+                row.n1 = paper.number();
+                row.n2 = user.number();
+                row.n3 = ordinal.number();
             }
         }
         Ok(row)
@@ -233,6 +273,21 @@ fn entry_from(kind: EntryKind, row: &Row) -> Result<Entry, AllocError>
             paper: PaperNo::new(row.n1),
             user: UserNo::new(row.n2),
             on: row.n3 == 1,
+        }),
+        EntryKind::Bid => Ok(Entry::Bid {
+            paper: PaperNo::new(row.n1),
+            value: Bid::from_raised(row.n2),
+        }),
+        EntryKind::Assigned => Ok(Entry::Assigned {
+            paper: PaperNo::new(row.n1),
+            user: UserNo::new(row.n2),
+            kind: Kind::from_number(row.n3),
+            ordinal: Ordinal::new(row.n4),
+        }),
+        EntryKind::Unassigned => Ok(Entry::Unassigned {
+            paper: PaperNo::new(row.n1),
+            user: UserNo::new(row.n2),
+            ordinal: Ordinal::new(row.n3),
         }),
     }
 }

@@ -19,6 +19,8 @@ pub struct Standing {
     pub author: bool,
     /// Whether she is in conflict with the paper, as each author is.
     pub conflicted: bool,
+    /// Whether she reviews the paper.
+    pub reviewer: bool,
 }
 
 impl Standing {

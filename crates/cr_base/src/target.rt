@@ -11,4 +11,8 @@ pub struct Target {
     pub herself: bool,
     /// Whether she is an author of the paper named; false where none is.
     pub author: bool,
+    /// Whether she is in conflict with the paper named, as each author is; false where none is.
+    pub conflicted: bool,
+    /// Whether she reviews the paper named; false where none is.
+    pub reviewer: bool,
 }

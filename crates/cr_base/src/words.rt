@@ -1,7 +1,8 @@
-//! Phases, modes and roles, and the words by which requests and answers name them.
+//! Phases, modes, roles and kinds of assignment, and the words by which requests and answers name them.
 ghost use Rattle.std.specs.Prelude.{◌≡◌, ◌≤◌, length};
 ghost use Rattle.cr_base.specs.Words.{phase_name, phase_named, phase_number, phase_numbered};
 ghost use Rattle.cr_base.specs.Words.{mode_name, mode_named, mode_number, mode_numbered, is_anonymous, is_overt};
+ghost use Rattle.cr_base.specs.Words.{seat_name, seat_named, seat_number, seat_numbered};
 ghost use Rattle.cr_base.specs.Words.{role_name, role_named, role_number, role_numbered, is_member, is_chair};
 ghost use Rattle.cr_base.specs.Phases.{phase_place, is_from, is_phase, is_next};
 
@@ -35,6 +36,17 @@ pub enum Mode {
     /// Neither sees the other's names (double-anonymous). A chair who isn't in conflict with a paper
     /// sees both.
     Anonymous,
+}
+
+/// What a reviewer is to a paper.
+#[derive(Clone, Copy, Debug, PartialEq, Eq)]
+pub enum Kind {
+    /// She answers for its reviews first.
+    Primary,
+    /// She does where the primary reviewer can't.
+    Secondary,
+    /// She reviews it as a member of the programme committee.
+    Pc,
 }
 
 /// What a user is to the committee. A chair is a member.
@@ -213,6 +225,54 @@ impl Mode {
         match self {
             Mode::Overt => true,
             Mode::Blind | Mode::Anonymous => false,
+        }
+    }
+}
+
+impl Kind {
+    /// The word for it in requests and answers, at most 9 bytes.
+    pub fn name(self) -> &'static str
+        ensures value { result.now ≡ seat_name self }
+        ensures short { length result.now ≤ 9 }
+    {
+        match self {
+            Kind::Primary => "primary",
+            Kind::Secondary => "secondary",
+            Kind::Pc => "pc",
+        }
+    }
+
+    /// The kind of a word, and none where no kind is called so.
+    pub fn from_name(name: &str) -> Option<Kind>
+        ensures { result ≡ seat_named name.now }
+    {
+        match name {
+            "primary" => Some(Kind::Primary),
+            "secondary" => Some(Kind::Secondary),
+            "pc" => Some(Kind::Pc),
+            _ => None,
+        }
+    }
+
+    /// Its number in rows: 1 for primary, 2 for secondary, 3 for pc.
+    pub fn number(self) -> u64
+        ensures { result ≡ seat_number self }
+    {
+        match self {
+            Kind::Primary => 1,
+            Kind::Secondary => 2,
+            Kind::Pc => 3,
+        }
+    }
+
+    /// The kind of a number in rows, from 1 to 3.
+    pub(crate) fn from_number(number: u64) -> Kind
+        ensures { result ≡ seat_numbered number }
+    {
+        match number {
+            1 => Kind::Primary,
+            2 => Kind::Secondary,
+            _ => Kind::Pc,
         }
     }
 }

@@ -4,9 +4,11 @@ use Rattle.std.specs.List.{All, AllByRecursion, list_any}
 use Rattle.cr_base.specs.declared.entry.Entry.{Entry}
 use Rattle.cr_base.specs.declared.entry.Entry.TheVariants.{Registered, Named, PhaseSet, ModeSet, Submitted}
 use Rattle.cr_base.specs.declared.entry.Entry.TheVariants.{Coauthor, Revised, Uploaded, Withdrawn, Conflict}
+use Rattle.cr_base.specs.declared.entry.Entry.TheVariants.{Bid, Assigned, Unassigned}
 use Rattle.cr_base.specs.declared.entry.Stamped.{Stamped}
 use Rattle.cr_base.specs.declared.words.Phase.TheVariants.{Setup, Submission, Bidding, Notification}
-use Rattle.cr_base.specs.HistoryFacts.{phase_of, role_of, accounts_of, papers_of, uploads_of, number_of, is_author, is_conflicted}
+use Rattle.cr_base.specs.Checks.{is_in_committee}
+use Rattle.cr_base.specs.HistoryFacts.{phase_of, role_of, accounts_of, papers_of, uploads_of, number_of, is_author, is_conflicted, seat_of, seats_of}
 use Rattle.cr_base.specs.History.{History, Registration, all_told, registration_told, opens}
 use Rattle.cr_base.specs.Lists.{until, since}
 use Rattle.cr_base.specs.Phases.{is_from, is_phase, is_next}
@@ -32,6 +34,9 @@ IsMadeByUser H maker (Revised paper title abstract) = IsRegistered H maker
 IsMadeByUser H maker (Uploaded paper version content) = IsRegistered H maker
 IsMadeByUser H maker (Withdrawn paper) = IsRegistered H maker
 IsMadeByUser H maker (Conflict paper user on) = IsRegistered H maker
+IsMadeByUser H maker (Bid paper value) = IsRegistered H maker
+IsMadeByUser H maker (Assigned paper user kind ordinal) = IsRegistered H maker
+IsMadeByUser H maker (Unassigned paper user ordinal) = IsRegistered H maker
 
 -- of the entries that commands add, the first user's registration has another of its command behind it, and a submission
 -- and its co-authors may have one
@@ -41,11 +46,13 @@ IsMarked more (Submitted paper title abstract) = Unit {0}
 IsMarked more (Coauthor paper user) = Unit {0}
 IsMarked more _ = IsFalse more
 
--- users are numbered from 1 as they register, papers as they are submitted, and the versions of each paper as they are uploaded
+-- users are numbered from 1 as they register, papers as they are submitted, the versions of each paper as they are uploaded, and
+-- its labels as reviewers are assigned to it
 abbrev pub HasNextNumber : History → Entry → Type 0
 HasNextNumber H (Registered user name digest) = user ≡ length (accounts_of H) + 1
 HasNextNumber H (Submitted paper title abstract) = paper ≡ length (papers_of H) + 1
 HasNextNumber H (Uploaded paper version content) = version ≡ length (uploads_of paper H) + 1
+HasNextNumber H (Assigned paper user kind ordinal) = ordinal ≡ length (seats_of paper H) + 1
 HasNextNumber H _ = Unit {0}
 
 -- nobody has registered under the name before
@@ -65,10 +72,14 @@ IsAboutThose H (Revised paper title abstract) = IsSubmitted H paper
 IsAboutThose H (Uploaded paper version content) = IsSubmitted H paper
 IsAboutThose H (Withdrawn paper) = IsSubmitted H paper
 IsAboutThose H (Conflict paper user on) = IsSubmitted H paper × IsRegistered H user
+IsAboutThose H (Bid paper value) = IsSubmitted H paper
+IsAboutThose H (Assigned paper user kind ordinal) = IsSubmitted H paper × IsRegistered H user
+IsAboutThose H (Unassigned paper user ordinal) = IsSubmitted H paper × IsRegistered H user
 IsAboutThose H _ = Unit {0}
 
 -- the phase goes on by one; the mode is set in setup; papers are submitted, changed and withdrawn in submission; from the notification on
--- nobody is named a member or a chair, and no conflict is turned on or off
+-- nobody is named a member or a chair, and no conflict is turned on or off; bids are told in bidding; and reviewers are assigned
+-- and unassigned from bidding to discussion
 abbrev pub IsInPhase : History → Entry → Type 0
 IsInPhase H (Registered user name digest) = Unit {0}
 IsInPhase H (Named user role) = IsFalse (is_from Notification (phase_of H))
@@ -80,13 +91,18 @@ IsInPhase H (Revised paper title abstract) = IsTrue (is_phase (phase_of H) Submi
 IsInPhase H (Uploaded paper version content) = IsTrue (is_phase (phase_of H) Submission)
 IsInPhase H (Withdrawn paper) = IsTrue (is_phase (phase_of H) Submission)
 IsInPhase H (Conflict paper user on) = IsFalse (is_from Notification (phase_of H))
+IsInPhase H (Bid paper value) = IsTrue (is_phase (phase_of H) Bidding)
+IsInPhase H (Assigned paper user kind ordinal) = IsTrue (is_in_committee (phase_of H))
+IsInPhase H (Unassigned paper user ordinal) = IsTrue (is_in_committee (phase_of H))
 
--- chairs set the phase and the mode, and name members and chairs; the first user alone is named otherwise, as she
--- registers, by the second entry of all
+-- chairs set the phase and the mode, name members and chairs, and assign and unassign reviewers; the first user alone is named
+-- otherwise, as she registers, by the second entry of all
 abbrev pub IsByChair : History → ℕ → Entry → Type 0
 IsByChair H maker (Named user role) = IsTrue (is_chair (role_of (Some maker) H) || length H == 1)
 IsByChair H maker (PhaseSet phase) = IsTrue (is_chair (role_of (Some maker) H))
 IsByChair H maker (ModeSet mode) = IsTrue (is_chair (role_of (Some maker) H))
+IsByChair H maker (Assigned paper user kind ordinal) = IsTrue (is_chair (role_of (Some maker) H))
+IsByChair H maker (Unassigned paper user ordinal) = IsTrue (is_chair (role_of (Some maker) H))
 IsByChair H maker _ = Unit {0}
 
 -- roles only rise
@@ -94,9 +110,10 @@ abbrev pub RaisesRole : History → Entry → Type 0
 RaisesRole H (Named user role) = role_number (role_of (Some user) H) < role_number role
 RaisesRole H _ = Unit {0}
 
--- only members are declared in conflict
+-- only members are declared in conflict, or assigned
 abbrev pub IsOfMember : History → Entry → Type 0
 IsOfMember H (Conflict paper user on) = IsTrue (is_member (role_of (Some user) H))
+IsOfMember H (Assigned paper user kind ordinal) = IsTrue (is_member (role_of (Some user) H))
 IsOfMember H _ = Unit {0}
 
 -- before the bidding authors alone declare conflicts with their paper, and turn none off; from the bidding on a user
@@ -107,14 +124,26 @@ may_turn H maker paper user on =
     then (user == maker && on) || (is_chair (role_of (Some maker) H) && not (is_conflicted (Some maker) paper H))
     else is_author (Some maker) paper H && on
 
--- and a paper's authors alone name its co-authors, revise it, upload its content and withdraw it
+-- and a paper's authors alone name its co-authors, revise it, upload its content and withdraw it; members in no conflict with it
+-- bid on it, and chairs in none assign and unassign its reviewers
 abbrev pub IsByRight : History → ℕ → Entry → Type 0
 IsByRight H maker (Coauthor paper user) = IsTrue (is_author (Some maker) paper H)
 IsByRight H maker (Revised paper title abstract) = IsTrue (is_author (Some maker) paper H)
 IsByRight H maker (Uploaded paper version content) = IsTrue (is_author (Some maker) paper H)
 IsByRight H maker (Withdrawn paper) = IsTrue (is_author (Some maker) paper H)
 IsByRight H maker (Conflict paper user on) = IsTrue (may_turn H maker paper user on)
+IsByRight H maker (Bid paper value) = IsTrue (is_member (role_of (Some maker) H) && not (is_conflicted (Some maker) paper H))
+IsByRight H maker (Assigned paper user kind ordinal) = IsFalse (is_conflicted (Some maker) paper H)
+IsByRight H maker (Unassigned paper user ordinal) = IsFalse (is_conflicted (Some maker) paper H)
 IsByRight H maker _ = Unit {0}
+
+-- whoever is assigned is in no conflict with the paper and doesn't review it, and it has a label left; whoever is unassigned
+-- reviews it under that label
+abbrev pub IsSeated : History → Entry → Type 0
+IsSeated H (Assigned paper user kind ordinal) =
+    IsFalse (is_conflicted (Some user) paper H) × (seat_of (Some user) paper H ≡ None) × (length (seats_of paper H) < 26)
+IsSeated H (Unassigned paper user ordinal) = seat_of (Some user) paper H ≡ Some ordinal
+IsSeated H _ = Unit {0}
 
 -- the entry turns a conflict with the paper on or off
 abbrev pub is_conflict_with : ℕ → Entry → Bool
@@ -138,6 +167,7 @@ pub record IsInOrder (H : History) (e : Stamped) : Type 0 where
   pub role : RaisesRole H e.entry
   pub member : IsOfMember H e.entry
   pub right : IsByRight H e.maker e.entry
+  pub seat : IsSeated H e.entry
   pub first : ComesFirst H e.entry
 
 -- it is so of each entry, on what stands before it
