@@ -11,7 +11,8 @@ ghost use Rattle.cr_history.specs.Laws.{TablesTell, GrowthKeeps};
 /// conflict with it: how any user stands to the conference and to any paper; the accounts with their roles, who has a name,
 /// and who has it with a digest; the papers with their titles, abstracts, authors and uploads, and which are withdrawn;
 /// how many of the papers, and how many uploaded bytes, are a user's own; whose conflict with a paper is on, and whom its
-/// authors declared.
+/// authors declared; each user's last bid on it; its reviewers, under which ordinal a user reviews it, and how many labels were
+/// given.
 pub fn law_tables()
     ensures { TablesTell }
 {}

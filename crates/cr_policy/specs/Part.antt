@@ -2,7 +2,8 @@
 use Rattle.std.specs.Prelude.{ℕ, Bool, true, false, List, ◌==◌, ◌||◌}
 use Rattle.std.specs.List.{list_any}
 
--- the parts that an entry may have beside its kind and its paper, which are never hidden; `by` is who made it
+-- the parts that an entry may have beside its kind and its paper, which are never hidden; `by` is who made it, `value` that of a
+-- bid, `seat` what a reviewer is to the paper
 pub data Part : Type 0 where
   user : Part
   name : Part
@@ -16,6 +17,9 @@ pub data Part : Type 0 where
   version : Part
   content : Part
   on : Part
+  value : Part
+  seat : Part
+  ordinal : Part
 
 -- a number of its own for each part
 abbrev pub part_number : Part → ℕ
@@ -31,6 +35,9 @@ part_number abstract = 8
 part_number version = 9
 part_number content = 10
 part_number on = 11
+part_number value = 12
+part_number seat = 13
+part_number ordinal = 14
 
 -- the part is one of these
 abbrev pub these : List Part → Part → Bool
@@ -50,6 +57,9 @@ whole abstract = true
 whole version = true
 whole content = true
 whole on = true
+whole value = true
+whole seat = true
+whole ordinal = true
 
 -- it does, or is one of these besides
 abbrev pub whole_and : List Part → Part → Bool

@@ -1,16 +1,18 @@
 -- Who is shown which part of an entry: a paragraph for each part, and in it a line for each kind of entry that has it. It
--- is the trigger table turned round and written anew, from what a committee wants: who sees titles, abstracts and authors
--- is the HotCRP manual's, from when they do follows CoCon's phases (CAV 2014). It rests on facts of the history (phase,
--- mode, roles, authors, declared conflicts) and on no other word of the trigger table or of a paper's page: who is on the
--- committee, who is in conflict, when the bidding begins and what a mode hides are said again, so that such a word,
--- changed there so that more is shown, is refused here.
+-- is the trigger table turned round and written anew, from what a committee wants: who sees titles, abstracts, authors,
+-- review preferences and reviewers is the HotCRP manual's, from when they do follows CoCon's phases (CAV 2014). It rests on
+-- facts of the history (phase, mode, roles, authors, declared conflicts) and on no other word of the trigger table or of a
+-- paper's page: who is on the committee, who is in conflict, when the bidding begins and what a mode hides are said again, so
+-- that such a word, changed there so that more is shown, is refused here.
 use Rattle.std.specs.Prelude.{ℕ, Bool, true, false, not, List, [], ◌∷◌, ◌++◌, Option, Some, None, ◌&&◌, ◌||◌, ◌==◌, if◌then◌else◌}
 use Rattle.std.specs.List.{list_any}
 use Rattle.cr_base.specs.declared.entry.Entry.{Entry}
 use Rattle.cr_base.specs.declared.entry.Entry.TheVariants.{Registered, Named, PhaseSet, ModeSet, Submitted}
 use Rattle.cr_base.specs.declared.entry.Entry.TheVariants.{Coauthor, Revised, Uploaded, Withdrawn, Conflict}
+use Rattle.cr_base.specs.declared.entry.Entry.TheVariants.{Bid, Assigned, Unassigned}
 use Rattle.cr_base.specs.declared.entry.EntryKind.{EntryKind}
 use Rattle.cr_base.specs.declared.entry.Stamped.{Stamped}
+use Rattle.cr_base.specs.declared.words.Kind.{Kind}
 use Rattle.cr_base.specs.declared.words.Phase.{Phase}
 use Rattle.cr_base.specs.declared.words.Phase.TheVariants.{Setup, Submission, Bidding, Reviewing, Discussion, Notification, Closed}
 use Rattle.cr_base.specs.declared.words.Mode.{Mode}
@@ -45,11 +47,42 @@ is_past_submission Discussion = true
 is_past_submission Notification = true
 is_past_submission Closed = true
 
+-- it is the discussion, or later
+abbrev pub is_past_reviewing : Phase → Bool
+is_past_reviewing Setup = false
+is_past_reviewing Submission = false
+is_past_reviewing Bidding = false
+is_past_reviewing Reviewing = false
+is_past_reviewing Discussion = true
+is_past_reviewing Notification = true
+is_past_reviewing Closed = true
+
+-- it is the notification, or later
+abbrev pub is_past_discussion : Phase → Bool
+is_past_discussion Setup = false
+is_past_discussion Submission = false
+is_past_discussion Bidding = false
+is_past_discussion Reviewing = false
+is_past_discussion Discussion = false
+is_past_discussion Notification = true
+is_past_discussion Closed = true
+
 -- authors are hidden from members
 abbrev pub hides_authors : Mode → Bool
 hides_authors Overt = false
 hides_authors Blind = false
 hides_authors Anonymous = true
+
+-- reviewers are hidden from members, and are named to authors
+abbrev pub hides_reviewers : Mode → Bool
+hides_reviewers Overt = false
+hides_reviewers Blind = false
+hides_reviewers Anonymous = true
+
+abbrev pub names_reviewers : Mode → Bool
+names_reviewers Overt = true
+names_reviewers Blind = false
+names_reviewers Anonymous = false
 
 -- she wrote the paper, or is declared in conflict with it
 abbrev pub has_conflict : Option ℕ → ℕ → History → Bool
@@ -66,6 +99,18 @@ handles u p H = serves u H && not (has_conflict u p H)
 -- she handles the paper, and is a chair
 abbrev pub oversees : Option ℕ → ℕ → History → Bool
 oversees u p H = handles u p H && leads_committee (role_of u H)
+
+-- she is a chair in no conflict with the paper, in whatever phase
+abbrev pub leads : Option ℕ → ℕ → History → Bool
+leads u p H = leads_committee (role_of u H) && not (has_conflict u p H)
+
+-- she handles the paper, and it is the discussion or later
+abbrev pub discusses : Option ℕ → ℕ → History → Bool
+discusses u p H = handles u p H && is_past_reviewing (phase_of H)
+
+-- she wrote the paper and is named its reviewers: in the open mode, from the notification on
+abbrev pub is_answered : Option ℕ → ℕ → History → Bool
+is_answered u p H = is_author u p H && names_reviewers (mode_of H) && is_past_discussion (phase_of H)
 
 -- ---- which entries she is told of
 
@@ -90,10 +135,16 @@ is_superseded p later = list_any (λ (e : Stamped). gives_content p e.entry) lat
 abbrev pub owns : Option ℕ → History → ℕ → ℕ → Bool
 owns u H maker paper = is_number u maker || is_author u paper H
 
+-- she is told all of an assignment in every phase: she is assigned, made the entry, or leads the paper
+abbrev pub is_party : Option ℕ → History → ℕ → ℕ → ℕ → Bool
+is_party u H maker paper user = is_number u user || is_number u maker || leads u paper H
+
 -- accounts, roles, phases, modes and submissions, all of them. Of a paper's other entries her own and, as an author, all but
 -- conflicts that no author made; co-authors where she oversees the paper, and where she handles it unless authors are hidden;
 -- a revision that none has replaced where she serves, an upload that none has superseded where she handles the paper; a
--- withdrawal where she serves; and of conflicts the ones that name her, and all where she oversees the paper
+-- withdrawal where she serves; of conflicts the ones that name her, and all where she oversees the paper; of bids her own, and all
+-- where she oversees the paper; and of assignments those that she is a party to, all where she discusses the paper, and those to
+-- her own paper where she is named its reviewers
 abbrev pub is_told : Option ℕ → History → History → ℕ → Entry → Bool
 is_told u H later maker (Registered user name digest) = true
 is_told u H later maker (Named user role) = true
@@ -109,6 +160,9 @@ is_told u H later maker (Conflict paper user on) =
     || is_number u maker
     || (is_author u paper H && is_author (Some maker) paper H)
     || oversees u paper H
+is_told u H later maker (Bid paper value) = is_number u maker || oversees u paper H
+is_told u H later maker (Assigned paper user seat ordinal) = is_party u H maker paper user || discusses u paper H || is_answered u paper H
+is_told u H later maker (Unassigned paper user ordinal) = is_party u H maker paper user || discusses u paper H || is_answered u paper H
 
 -- ---- the parts of an entry that she is told of
 
@@ -135,14 +189,25 @@ paper_for u H later maker (Revised paper title abstract) = Some paper
 paper_for u H later maker (Uploaded paper version content) = Some paper
 paper_for u H later maker (Withdrawn paper) = Some paper
 paper_for u H later maker (Conflict paper user on) = Some paper
+paper_for u H later maker (Bid paper value) = Some paper
+paper_for u H later maker (Assigned paper user seat ordinal) = Some paper
+paper_for u H later maker (Unassigned paper user ordinal) = Some paper
 paper_for u H later maker _ = None
 
--- the user registered, named to a role, named as a co-author or in a conflict: always
+-- who reviews a paper: to the parties of the assignment, to authors who are named the reviewers, and to those who discuss the
+-- paper unless reviewers are hidden
+abbrev pub reviewer_for : Option ℕ → History → ℕ → ℕ → ℕ → Option ℕ
+reviewer_for u H maker paper user =
+    where_known (is_party u H maker paper user || (discusses u paper H && not (hides_reviewers (mode_of H))) || is_answered u paper H) user
+
+-- the user registered, named to a role, named as a co-author or in a conflict: always; and one who is assigned or unassigned
 abbrev pub user_for : PartFor (Option ℕ)
 user_for u H later maker (Registered user name digest) = Some user
 user_for u H later maker (Named user role) = Some user
 user_for u H later maker (Coauthor paper user) = Some user
 user_for u H later maker (Conflict paper user on) = Some user
+user_for u H later maker (Assigned paper user seat ordinal) = reviewer_for u H maker paper user
+user_for u H later maker (Unassigned paper user ordinal) = reviewer_for u H maker paper user
 user_for u H later maker _ = None
 
 -- a user's name: always
@@ -171,10 +236,11 @@ mode_for u H later maker (ModeSet mode) = Some mode
 mode_for u H later maker _ = None
 
 -- who submitted a paper: to its authors, to those who oversee it, and to those who handle it unless authors are hidden;
--- who made any other entry: to nobody
+-- who made a bid: to those who oversee the paper; who made any other entry: to nobody
 abbrev pub maker_for : PartFor (Option ℕ)
 maker_for u H later maker (Submitted paper title abstract) =
     where_known (is_author u paper H || oversees u paper H || (handles u paper H && not (hides_authors (mode_of H)))) maker
+maker_for u H later maker (Bid paper value) = where_known (oversees u paper H) maker
 maker_for u H later maker _ = None
 
 -- a title: to the paper's authors and to whoever made the entry, and the last one to those who serve
@@ -208,6 +274,22 @@ content_for u H later maker _ = None
 abbrev pub switch_for : PartFor (Option Bool)
 switch_for u H later maker (Conflict paper user on) = Some on
 switch_for u H later maker _ = None
+
+-- a bid: always
+abbrev pub value_for : PartFor (Option ℕ)
+value_for u H later maker (Bid paper value) = Some value
+value_for u H later maker _ = None
+
+-- what a reviewer is to the paper: to the parties of the assignment, and to those who discuss the paper
+abbrev pub seat_for : PartFor (Option Kind)
+seat_for u H later maker (Assigned paper user seat ordinal) = where_known (is_party u H maker paper user || discusses u paper H) seat
+seat_for u H later maker _ = None
+
+-- the ordinal of her label: always
+abbrev pub ordinal_for : PartFor (Option ℕ)
+ordinal_for u H later maker (Assigned paper user seat ordinal) = Some ordinal
+ordinal_for u H later maker (Unassigned paper user ordinal) = Some ordinal
+ordinal_for u H later maker _ = None
 
 -- ---- all entries
 

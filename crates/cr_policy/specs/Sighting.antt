@@ -5,7 +5,9 @@ use Rattle.cr_base.specs.declared.entry.EntryKind.TheVariants as kinds
 use Rattle.cr_base.specs.declared.entry.Entry.{Entry}
 use Rattle.cr_base.specs.declared.entry.Entry.TheVariants.{Registered, Named, PhaseSet, ModeSet, Submitted}
 use Rattle.cr_base.specs.declared.entry.Entry.TheVariants.{Coauthor, Revised, Uploaded, Withdrawn, Conflict}
+use Rattle.cr_base.specs.declared.entry.Entry.TheVariants.{Bid, Assigned, Unassigned}
 use Rattle.cr_base.specs.declared.entry.Stamped.{Stamped}
+use Rattle.cr_base.specs.declared.words.Kind.{Kind}
 use Rattle.cr_base.specs.declared.words.Phase.{Phase}
 use Rattle.cr_base.specs.declared.words.Mode.{Mode}
 use Rattle.cr_base.specs.declared.words.Role.{Role}
@@ -30,6 +32,9 @@ pub record Sighting : Type 0 where
   pub version : Option ℕ
   pub content : Option (List ℕ)
   pub on : Option Bool
+  pub value : Option ℕ
+  pub seat : Option Kind
+  pub ordinal : Option ℕ
 
 -- ---- an entry with all its parts
 
@@ -51,6 +56,9 @@ blank kind = record {
   version = None;
   content = None;
   on = None;
+  value = None;
+  seat = None;
+  ordinal = None;
 }
 
 -- the parts that each kind of entry has; `by` is its maker
@@ -65,6 +73,9 @@ entire by (Revised paper title abstract) = record (blank kinds.Revised) { paper 
 entire by (Uploaded paper version content) = record (blank kinds.Uploaded) { paper = Some paper; version = Some version; content = Some content }
 entire by (Withdrawn paper) = record (blank kinds.Withdrawn) { paper = Some paper }
 entire by (Conflict paper user on) = record (blank kinds.Conflict) { paper = Some paper; user = Some user; on = Some on }
+entire by (Bid paper value) = record (blank kinds.Bid) { paper = Some paper; by = Some by; value = Some value }
+entire by (Assigned paper user seat ordinal) = record (blank kinds.Assigned) { paper = Some paper; user = Some user; seat = Some seat; ordinal = Some ordinal }
+entire by (Unassigned paper user ordinal) = record (blank kinds.Unassigned) { paper = Some paper; user = Some user; ordinal = Some ordinal }
 
 -- ---- the parts that are shown
 
@@ -91,6 +102,9 @@ masked shows mine s = record {
   version = where_shown (shows part.version) s.version;
   content = where_shown (shows part.content) s.content;
   on = where_shown (shows part.on) s.on;
+  value = where_shown (shows part.value) s.value;
+  seat = where_shown (shows part.seat) s.seat;
+  ordinal = where_shown (shows part.ordinal) s.ordinal;
 }
 
 -- the entry with those parts alone

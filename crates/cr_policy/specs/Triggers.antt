@@ -1,14 +1,15 @@
 -- The trigger table: which parts of an entry a reader sees, judged at the end of the history (the triggers and
 -- bounds of CoCon, CAV 2014).
-use Rattle.std.specs.Prelude.{ℕ, Bool, true, not, List, [], ◌∷◌, Option, Some, ◌&&◌}
+use Rattle.std.specs.Prelude.{ℕ, Bool, true, false, not, List, [], ◌∷◌, Option, Some, ◌&&◌}
 use Rattle.std.specs.List.{list_any}
 use Rattle.cr_base.specs.declared.entry.Entry.{Entry}
 use Rattle.cr_base.specs.declared.entry.Entry.TheVariants.{Registered, Named, PhaseSet, ModeSet, Submitted}
 use Rattle.cr_base.specs.declared.entry.Entry.TheVariants.{Coauthor, Revised, Uploaded, Withdrawn, Conflict}
+use Rattle.cr_base.specs.declared.entry.Entry.TheVariants.{Bid, Assigned, Unassigned}
 use Rattle.cr_base.specs.declared.words.Phase.{Phase}
 use Rattle.cr_base.specs.declared.entry.Stamped.{Stamped}
 use Rattle.cr_base.specs.declared.standing.Standing.{Standing}
-use Rattle.cr_base.specs.declared.words.Phase.TheVariants.{Bidding, Discussion}
+use Rattle.cr_base.specs.declared.words.Phase.TheVariants.{Bidding, Discussion, Notification}
 use Rattle.cr_base.specs.declared.words.Mode.{Mode}
 use Rattle.cr_base.specs.declared.words.Role.{Role}
 use Rattle.cr_base.specs.Lists.{is_nothing, is_number, until}
@@ -16,7 +17,7 @@ use Rattle.cr_base.specs.History.{History, all_told, opens, title_told, upload_t
 use Rattle.cr_base.specs.HistoryFacts.{phase_of, mode_of, role_of, is_author, is_conflicted}
 use Rattle.cr_base.specs.Page.{is_clear_member, is_clear_chair}
 use Rattle.cr_base.specs.Phases.{is_from}
-use Rattle.cr_base.specs.Words.{is_anonymous, is_member}
+use Rattle.cr_base.specs.Words.{is_anonymous, is_overt, is_member}
 use Rattle.cr_policy.specs.Part as part
 use Rattle.cr_policy.specs.Part.{Part, these, whole, whole_and}
 
@@ -43,9 +44,9 @@ reader u H = record {
   wrote = λ v p. is_author (Some v) p H;
 }
 
--- how the reader stands to a paper
+-- how the reader stands to a paper; no row asks whether she reviews it
 abbrev pub standing_to : Reader → ℕ → Standing
-standing_to r p = record { phase = r.now; mode = r.mode; role = r.rank; author = r.author p; conflicted = r.conflicted p }
+standing_to r p = record { phase = r.now; mode = r.mode; role = r.rank; author = r.author p; conflicted = r.conflicted p; reviewer = false }
 
 -- what stands around an entry: the history before it, and what follows it
 pub record Around : Type 0 where
@@ -73,6 +74,10 @@ members r = is_member r.rank
 abbrev pub unless_anonymous : Reader → Bool
 unless_anonymous r = not (is_anonymous r.mode)
 
+-- the mode shows authors who reviewed their paper
+abbrev pub in_open_mode : Reader → Bool
+in_open_mode r = is_overt r.mode
+
 -- ---- which entry of its matter
 
 -- none of the entries tells of it
@@ -91,6 +96,9 @@ none_alike (Revised paper title abstract) H = none_in (title_told paper) H
 none_alike (Uploaded paper version content) H = none_in (upload_told paper) H
 none_alike (Withdrawn paper) H = true
 none_alike (Conflict paper user on) H = true
+none_alike (Bid paper value) H = true
+none_alike (Assigned paper user seat ordinal) H = true
+none_alike (Unassigned paper user ordinal) H = true
 
 -- what a row may ask of where an entry stands: whether it is the first of its matter; the last; the last of those before the
 -- discussion was opened; and whether it was made when the discussion was opened already
@@ -127,6 +135,16 @@ applies see parts = record { applies = applies; parts = parts }
 -- no part beside the kind and the paper
 abbrev pub paper_alone : Part → Bool
 paper_alone = these []
+
+-- the rows for a reviewer who is assigned to the paper or unassigned from it
+abbrev pub seat_rows : Reader → ℕ → ℕ → List TriggerRow
+seat_rows r paper user =
+    user_named r user see whole
+    ∷ is_clear_chair (standing_to r paper) see whole
+    ∷ (is_clear_member (standing_to r paper) && is_from Discussion r.now) see these (part.seat ∷ part.ordinal ∷ [])
+    ∷ (is_clear_member (standing_to r paper) && unless_anonymous r && is_from Discussion r.now) see these (part.user ∷ [])
+    ∷ (authors r paper && in_open_mode r && is_from Notification r.now) see these (part.user ∷ part.ordinal ∷ [])
+    ∷ []
 
 -- the rows for each kind of entry; `by` is its maker
 abbrev pub rows : Reader → Position → ℕ → Entry → List TriggerRow
@@ -173,6 +191,11 @@ rows r at by (Conflict paper user on) =
     ∷ (r.wrote by paper && authors r paper) see whole
     ∷ (is_clear_chair (standing_to r paper) && is_from Bidding r.now) see whole
     ∷ []
+rows r at by (Bid paper value) =
+    (is_clear_chair (standing_to r paper) && is_from Bidding r.now) see these (part.value ∷ part.by ∷ [])
+    ∷ []
+rows r at by (Assigned paper user seat ordinal) = seat_rows r paper user
+rows r at by (Unassigned paper user ordinal) = seat_rows r paper user
 
 -- whether a row applies
 abbrev pub applies_any : List TriggerRow → Bool

@@ -1,20 +1,21 @@
 -- The bounds of a view: of each part of the entries who is shown it, neither more nor less, and what that leaves for those
 -- who should know little. They hold of every history, legal or not, of every user and of nobody.
-use Rattle.std.specs.Prelude.{ℕ, Bool, false, ◌≡◌, ◌≤◌, ◌||◌, ◌&&◌, not, List, length, map, Option, None, All, IsTrue, IsFalse, if◌then◌else◌}
+use Rattle.std.specs.Prelude.{ℕ, Bool, true, false, ◌≡◌, ◌≤◌, ◌||◌, ◌&&◌, not, List, length, map, Option, None, All, IsTrue, IsFalse, if◌then◌else◌}
 use Rattle.std.specs.List.{flat_map, list_any}
 use Rattle.cr_base.specs.declared.entry.Entry.{Entry}
-use Rattle.cr_base.specs.declared.entry.Entry.TheVariants.{Coauthor, Conflict}
+use Rattle.cr_base.specs.declared.entry.Entry.TheVariants.{Coauthor, Conflict, Assigned, Unassigned}
 use Rattle.cr_base.specs.declared.entry.EntryKind.{EntryKind}
 use Rattle.cr_base.specs.declared.entry.EntryKind.TheVariants as kinds
 use Rattle.cr_base.specs.declared.entry.Stamped.{Stamped}
 use Rattle.cr_base.specs.Lists.{listed, is_number}
 use Rattle.cr_base.specs.History.{History}
-use Rattle.cr_base.specs.HistoryFacts.{is_author}
+use Rattle.cr_base.specs.HistoryFacts.{phase_of, mode_of, role_of, is_author}
 use Rattle.cr_policy.specs.Sighting.{Sighting, blank}
 use Rattle.cr_policy.specs.View.{view}
-use Rattle.cr_policy.specs.ViewFacts.{only, is_user}
-use Rattle.cr_policy.specs.ShownTo.{PartFor, each_told, serves, handles, kind_for, mark_for, paper_for, user_for, name_for}
-use Rattle.cr_policy.specs.ShownTo.{digest_for, role_for, phase_for, mode_for, maker_for, title_for, abstract_for, version_for, content_for, switch_for}
+use Rattle.cr_policy.specs.ViewFacts.{only, is_user, is_kind}
+use Rattle.cr_policy.specs.ShownTo.{PartFor, each_told, leads_committee, is_past_reviewing, is_past_discussion, hides_reviewers, names_reviewers}
+use Rattle.cr_policy.specs.ShownTo.{serves, handles, oversees, leads, kind_for, mark_for, paper_for, user_for, name_for}
+use Rattle.cr_policy.specs.ShownTo.{digest_for, role_for, phase_for, mode_for, maker_for, title_for, abstract_for, version_for, content_for, switch_for, value_for, seat_for, ordinal_for}
 
 -- ---- each part
 
@@ -70,6 +71,46 @@ ContentsShown = Shows (λ (s : Sighting). s.content) content_for
 abbrev pub SwitchesShown : Type 0
 SwitchesShown = Shows (λ (s : Sighting). s.on) switch_for
 
+-- bids, what reviewers are to papers, and the ordinals of their labels
+abbrev pub ValuesShown : Type 0
+ValuesShown = Shows (λ (s : Sighting). s.value) value_for
+
+abbrev pub SeatsShown : Type 0
+SeatsShown = Shows (λ (s : Sighting). s.seat) seat_for
+
+abbrev pub OrdinalsShown : Type 0
+OrdinalsShown = Shows (λ (s : Sighting). s.ordinal) ordinal_for
+
+-- ---- bids, and who reviews
+
+-- the sighting is on the paper, of an entry that assigns or unassigns another than the reader, and isn't her own
+abbrev pub is_of_other : Option ℕ → ℕ → Sighting → Bool
+is_of_other u p s = (is_kind kinds.Assigned s || is_kind kinds.Unassigned s) && is_number s.paper p && not (s.mine || is_user u s.user)
+
+-- of the bids on a paper who doesn't oversee it is shown none but her own
+abbrev pub BidsAreOwn : Type 0
+BidsAreOwn =
+    (u : Option ℕ) (p : ℕ) (H : History) → IsFalse (oversees u p H)
+    → All (λ (s : Sighting). IsTrue (is_kind kinds.Bid s && is_number s.paper p) → IsTrue s.mine) (view u H)
+
+-- of who reviews a paper its authors are shown nothing, but in the open mode from the notification on
+abbrev pub ReviewersFromAuthors : Type 0
+ReviewersFromAuthors =
+    (u : Option ℕ) (p : ℕ) (H : History) → IsTrue (is_author u p H) → IsFalse (names_reviewers (mode_of H) && is_past_discussion (phase_of H))
+    → All (λ (s : Sighting). IsFalse (is_of_other u p s)) (view u H)
+
+-- nor is anybody before the discussion, but chairs in no conflict with the paper
+abbrev pub ReviewersEarly : Type 0
+ReviewersEarly =
+    (u : Option ℕ) (p : ℕ) (H : History) → IsFalse (leads u p H) → IsFalse (is_past_reviewing (phase_of H))
+    → All (λ (s : Sighting). IsFalse (is_of_other u p s)) (view u H)
+
+-- and in the anonymous mode nobody but such a chair is ever shown who it is
+abbrev pub ReviewersUnnamed : Type 0
+ReviewersUnnamed =
+    (u : Option ℕ) (p : ℕ) (H : History) → IsFalse (leads u p H) → IsTrue (hides_reviewers (mode_of H))
+    → All (λ (s : Sighting). IsTrue (is_of_other u p s) → s.user ≡ None) (view u H)
+
 -- ---- earlier texts and contents
 
 -- the text that a sighting shows of the paper, whatever kind of entry it is of, where another than the reader made it
@@ -90,28 +131,36 @@ OneContent = (u : Option ℕ) (p : ℕ) (H : History) → IsFalse (is_author u p
 -- ---- who neither wrote a paper nor handles it
 
 -- all that a sighting on a paper has for one who neither wrote nor handles it: the number, the title and that it is withdrawn
--- where she serves, the whole of a conflict that names her, and the whole of what she made
-abbrev pub IsLeft : Option ℕ → Bool → EntryKind → Sighting → Type 0
-IsLeft u titled kinds.Registered s = ⊥
-IsLeft u titled kinds.Named s = ⊥
-IsLeft u titled kinds.PhaseSet s = ⊥
-IsLeft u titled kinds.ModeSet s = ⊥
-IsLeft u titled kinds.Submitted s = s ≡ record (blank kinds.Submitted) { paper = s.paper; title = if titled then s.title else None }
-IsLeft u titled kinds.Coauthor s = IsTrue s.mine × (s ≡ record (blank kinds.Coauthor) { mine = s.mine; paper = s.paper; user = s.user })
-IsLeft u titled kinds.Revised s =
+-- where she serves, the whole of a conflict or an assignment that names her, the whole of what she made, and where she leads the
+-- paper before the bidding the whole of each assignment
+abbrev pub IsLeft : Option ℕ → Bool → Bool → EntryKind → Sighting → Type 0
+IsLeft u titled leading kinds.Registered s = ⊥
+IsLeft u titled leading kinds.Named s = ⊥
+IsLeft u titled leading kinds.PhaseSet s = ⊥
+IsLeft u titled leading kinds.ModeSet s = ⊥
+IsLeft u titled leading kinds.Submitted s = s ≡ record (blank kinds.Submitted) { paper = s.paper; title = if titled then s.title else None }
+IsLeft u titled leading kinds.Coauthor s = IsTrue s.mine × (s ≡ record (blank kinds.Coauthor) { mine = s.mine; paper = s.paper; user = s.user })
+IsLeft u titled leading kinds.Revised s =
     IsTrue (s.mine || titled)
     × (s ≡ record (blank kinds.Revised) { mine = s.mine; paper = s.paper; title = s.title; abstract = if s.mine then s.abstract else None })
-IsLeft u titled kinds.Uploaded s =
+IsLeft u titled leading kinds.Uploaded s =
     IsTrue s.mine × (s ≡ record (blank kinds.Uploaded) { mine = s.mine; paper = s.paper; version = s.version; content = s.content })
-IsLeft u titled kinds.Withdrawn s = IsTrue (s.mine || titled) × (s ≡ record (blank kinds.Withdrawn) { mine = s.mine; paper = s.paper })
-IsLeft u titled kinds.Conflict s =
+IsLeft u titled leading kinds.Withdrawn s = IsTrue (s.mine || titled) × (s ≡ record (blank kinds.Withdrawn) { mine = s.mine; paper = s.paper })
+IsLeft u titled leading kinds.Conflict s =
     IsTrue (s.mine || is_user u s.user) × (s ≡ record (blank kinds.Conflict) { mine = s.mine; paper = s.paper; user = s.user; on = s.on })
+IsLeft u titled leading kinds.Bid s = IsTrue s.mine × (s ≡ record (blank kinds.Bid) { mine = s.mine; paper = s.paper; value = s.value })
+IsLeft u titled leading kinds.Assigned s =
+    IsTrue (s.mine || is_user u s.user || leading)
+    × (s ≡ record (blank kinds.Assigned) { mine = s.mine; paper = s.paper; user = s.user; seat = s.seat; ordinal = s.ordinal })
+IsLeft u titled leading kinds.Unassigned s =
+    IsTrue (s.mine || is_user u s.user || leading)
+    × (s ≡ record (blank kinds.Unassigned) { mine = s.mine; paper = s.paper; user = s.user; ordinal = s.ordinal })
 
 -- so of any other than an author: one in conflict, one who isn't on the committee, and all before the bidding
 abbrev pub OutsidersShown : Type 0
 OutsidersShown =
     (u : Option ℕ) (p : ℕ) (H : History) → IsFalse (is_author u p H || handles u p H)
-    → All (λ (s : Sighting). IsTrue (is_number s.paper p) → IsLeft u (serves u H) s.kind s) (view u H)
+    → All (λ (s : Sighting). IsTrue (is_number s.paper p) → IsLeft u (serves u H) (leads u p H) s.kind s) (view u H)
 
 -- ---- strangers, and nobody
 
@@ -127,18 +176,30 @@ IsPublic kinds.Revised s = ⊥
 IsPublic kinds.Uploaded s = ⊥
 IsPublic kinds.Withdrawn s = ⊥
 IsPublic kinds.Conflict s = ⊥
+IsPublic kinds.Bid s = ⊥
+IsPublic kinds.Assigned s = ⊥
+IsPublic kinds.Unassigned s = ⊥
 
 -- the entry is on a paper, and names her
 abbrev pub names_her : Option ℕ → Entry → Bool
 names_her u (Coauthor paper user) = is_number u user
 names_her u (Conflict paper user on) = is_number u user
+names_her u (Assigned paper user seat ordinal) = is_number u user
+names_her u (Unassigned paper user ordinal) = is_number u user
 names_her u _ = false
 
--- she wrote nothing, doesn't serve, and no entry on a paper names her
+-- the entry assigns a reviewer, or unassigns one
+abbrev pub is_assignment : Entry → Bool
+is_assignment (Assigned paper user seat ordinal) = true
+is_assignment (Unassigned paper user ordinal) = true
+is_assignment _ = false
+
+-- she wrote nothing, doesn't serve, no entry on a paper names her, and she is no chair where somebody was assigned
 pub record IsStranger (u : Option ℕ) (H : History) : Type 0 where
   pub author : (p : ℕ) → IsFalse (is_author u p H)
   pub serving : IsFalse (serves u H)
   pub named : IsFalse (list_any (λ (e : Stamped). names_her u e.entry) H)
+  pub leading : IsFalse (leads_committee (role_of u H) && list_any (λ (e : Stamped). is_assignment e.entry) H)
 
 -- strangers are shown what is public, and their own entries
 abbrev pub StrangersShown : Type 0

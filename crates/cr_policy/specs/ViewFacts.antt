@@ -1,5 +1,5 @@
 -- ViewFacts and Quotas: what a view says of the conference, of its papers and of its reader, folds over the view alone.
-use Rattle.std.specs.Prelude.{ℕ, Bool, true, false, List, [], ◌∷◌, Option, Some, None, length, map, filter, not, ◌==◌, ◌&&◌, ◌||◌, ◌++◌, if◌then◌else◌}
+use Rattle.std.specs.Prelude.{ℕ, Bool, true, false, List, [], ◌∷◌, Option, Some, None, is_some, length, map, filter, not, ◌==◌, ◌&&◌, ◌||◌, ◌++◌, if◌then◌else◌}
 use Rattle.std.specs.List.{flat_map, list_any}
 use Rattle.std.specs.Str.{bytes_eq}
 use Rattle.cr_base.specs.declared.entry.EntryKind.{EntryKind}
@@ -15,7 +15,8 @@ use Rattle.cr_base.specs.declared.standing.Standing.{Standing}
 use Rattle.cr_base.specs.Lists.{listed, last, last_or, total, is_number, at_some, until, since}
 use Rattle.cr_base.specs.Phases.{is_phase}
 use Rattle.cr_base.specs.Rows.{kind_number}
-use Rattle.cr_base.specs.History.{Registration, Upload}
+use Rattle.cr_base.specs.History.{Registration, Upload, BidTold, SeatTold}
+use Rattle.cr_base.specs.HistoryFacts.{seats_left}
 use Rattle.cr_base.specs.Sources.{Facts, Shown}
 use Rattle.cr_policy.specs.Sighting.{Sighting}
 use Rattle.cr_policy.specs.View.{View}
@@ -62,6 +63,12 @@ abbrev pub upload_shown : Option ℕ → Option (List ℕ) → List Upload
 upload_shown (Some version) (Some content) = record { version = version; content = content } ∷ []
 upload_shown _ _ = []
 
+-- the seat that is shown, of the kinds of entry that give a user hers: the ordinal of an assignment, and that it is gone
+abbrev pub seat_by_kind : EntryKind → Option ℕ → List (Option ℕ)
+seat_by_kind kinds.Assigned ordinal = map (λ (o : ℕ). Some o) (listed ordinal)
+seat_by_kind kinds.Unassigned ordinal = map (λ (o : ℕ). None) (listed ordinal)
+seat_by_kind _ ordinal = []
+
 -- ---- what one sighting tells: each tells the facts of its kind of entry, and nothing of others
 
 -- the entry is of this kind
@@ -102,6 +109,25 @@ conflict_user_seen p s = only (is_number s.paper p) (of_kind kinds.Conflict s (l
 -- the same, where it is the reader's own or names another than her
 abbrev pub own_or_other_seen : Option ℕ → ℕ → Sighting → List ℕ
 own_or_other_seen u p s = only (is_number s.paper p && (s.mine || not (is_user u s.user))) (of_kind kinds.Conflict s (listed s.user))
+
+-- the user's bid on the paper; and the reader's own
+abbrev pub bid_seen : Option ℕ → ℕ → Sighting → List ℕ
+bid_seen u p s = only (is_number s.paper p && is_user u s.by) (of_kind kinds.Bid s (listed s.value))
+
+abbrev pub own_bid_seen : ℕ → Sighting → List ℕ
+own_bid_seen p s = only (is_number s.paper p && s.mine) (of_kind kinds.Bid s (listed s.value))
+
+-- the ordinal under which the user reviews the paper from here on, none where she no longer does
+abbrev pub seat_seen : Option ℕ → ℕ → Sighting → List (Option ℕ)
+seat_seen u p s = only (is_number s.paper p && is_user u s.user) (seat_by_kind s.kind s.ordinal)
+
+-- the reviewer whom it gives the paper, and the ordinal of the one whom it takes
+abbrev pub assigned_seen : ℕ → Sighting → List SeatTold
+assigned_seen p s =
+    only (is_number s.paper p) (of_kind kinds.Assigned s (map (λ (o : ℕ). record { ordinal = o; kind = s.seat; user = s.user }) (listed s.ordinal)))
+
+abbrev pub unassigned_seen : ℕ → Sighting → List ℕ
+unassigned_seen p s = only (is_number s.paper p) (of_kind kinds.Unassigned s (listed s.ordinal))
 
 -- whether it opens the bidding
 abbrev pub bidding_seen : Sighting → Bool
@@ -185,6 +211,10 @@ is_conflicted_in_view u p V = is_author_in_view u p V || is_conflict_on_in_view 
 abbrev pub declared_in_view : Option ℕ → ℕ → View → List ℕ
 declared_in_view u p V = flat_map (conflict_user_seen p) (until bidding_seen V) ++ flat_map (own_or_other_seen u p) (since bidding_seen V)
 
+-- the ordinal under which the user reviews the paper: the last entry shown on the two tells it, or that there is none
+abbrev pub seat_in_view : Option ℕ → ℕ → View → Option ℕ
+seat_in_view u p V = last_or None (flat_map (seat_seen u p) V)
+
 -- StandingOf: what a view says of how its reader stands to the conference, and to a paper, if one is named
 abbrev pub standing_in_view : Option ℕ → Option ℕ → View → Standing
 standing_in_view u paper V = record {
@@ -193,7 +223,29 @@ standing_in_view u paper V = record {
   role = role_in_view u V;
   author = at_some (λ p. is_author_in_view u p V) paper;
   conflicted = at_some (λ p. is_conflicted_in_view u p V) paper;
+  reviewer = at_some (λ p. is_some (seat_in_view u p V)) paper;
 }
+
+-- ---- bids and assignments
+
+-- BidsOf: the user's last bid on the paper that is shown; the reader's own last bid; and the last bids by user number
+abbrev pub bid_in_view : Option ℕ → ℕ → View → Option ℕ
+bid_in_view u p V = last (flat_map (bid_seen u p) V)
+
+abbrev pub own_bid_in_view : ℕ → View → Option ℕ
+own_bid_in_view p V = last (flat_map (own_bid_seen p) V)
+
+abbrev pub bids_in_view : ℕ → View → List BidTold
+bids_in_view p V =
+    flat_map (λ (a : AccountLine). map (λ (value : ℕ). record { user = a.user; value = value }) (listed (bid_in_view (Some a.user) p V))) (accounts_in_view V)
+
+-- whoever was assigned to the paper, as far as that is shown, by label
+abbrev pub seats_in_view : ℕ → View → List SeatTold
+seats_in_view p V = flat_map (assigned_seen p) V
+
+-- ReviewersOf: the assigned that are shown whose ordinal has no unassigned shown
+abbrev pub reviewers_in_view : ℕ → View → List SeatTold
+reviewers_in_view p V = seats_left (flat_map (unassigned_seen p) V) (seats_in_view p V)
 
 -- ---- papers
 
@@ -232,6 +284,8 @@ facts_in_view u V = record {
   papers = papers_in_view V;
   own_papers = own_papers_in_view V;
   own_bytes = own_bytes_in_view V;
+  own_bid = λ p. own_bid_in_view p V;
+  own_seat = λ p. seat_in_view u p V;
 }
 
 -- of the users who have registered, those of whom this holds, by number
@@ -247,4 +301,8 @@ shown_in_view u V = record {
   declared = λ p. users_where (λ v. list_any (λ w. w == v) (declared_in_view u p V)) V;
   uploads = λ p. uploads_in_view p V;
   withdrawn = λ p. is_withdrawn_in_view p V;
+  bids = λ p. bids_in_view p V;
+  reviewers = λ p. reviewers_in_view p V;
+  seat = λ v p. seat_in_view v p V;
+  labels = λ p. length (seats_in_view p V);
 }

@@ -13,13 +13,14 @@ ghost use Rattle.cr_policy.specs.Laws.{StandingFromView, PublicFactsFromView, Vi
 ghost use Rattle.cr_policy.specs.Laws.{DigestsAreOwn, TwoRegistrations, DigestsHidden, OneSubmission, OneConflict};
 ghost use Rattle.cr_policy.specs.ViewBounds.{EntriesShown, MarksShown, PapersShown, UsersShown, NamesShown, DigestsShown};
 ghost use Rattle.cr_policy.specs.ViewBounds.{RolesShown, PhasesShown, ModesShown, MakersShown, TitlesShown, AbstractsShown};
-ghost use Rattle.cr_policy.specs.ViewBounds.{VersionsShown, ContentsShown, SwitchesShown, OneTitle, OneAbstract, OneContent};
-ghost use Rattle.cr_policy.specs.ViewBounds.{OutsidersShown, StrangersShown, NobodyShown};
+ghost use Rattle.cr_policy.specs.ViewBounds.{VersionsShown, ContentsShown, SwitchesShown, ValuesShown, SeatsShown, OrdinalsShown};
+ghost use Rattle.cr_policy.specs.ViewBounds.{BidsAreOwn, ReviewersFromAuthors, ReviewersEarly, ReviewersUnnamed};
+ghost use Rattle.cr_policy.specs.ViewBounds.{OneTitle, OneAbstract, OneContent, OutsidersShown, StrangersShown, NobodyShown};
 
 /// How a user stands can be read off what she sees: phase, mode, role and her ties to any paper, of
 /// every history and for every user, nobody among them. An author sees all authors of her paper, and
-/// whoever is none is told so by what she sees; each entry on a conflict of hers is shown her, so she
-/// is told whether she is in conflict. What is public can be read off any view, the accounts,
+/// whoever is none is told so by what she sees; each entry on a conflict of hers is shown her, and each by
+/// which she is assigned or unassigned, so she is told whether she is in conflict and whether she reviews. What is public can be read off any view, the accounts,
 /// their names and roles, and the papers; and so can how many of the papers are the reader's own, and how many
 /// bytes she has uploaded.
 pub fn law_standing()
@@ -31,7 +32,8 @@ pub fn law_standing()
 /// of every command its broken rule or the entries that it adds and its receipt, of every query its
 /// answer, for every registered user, and for nobody where no login is wanted. A paper's page and its content are
 /// among the answers: what the caller's standing lets her have, its texts, its authors, its versions, whether it is
-/// withdrawn, who is declared in conflict with it and whom its authors declared, is in her view, and no more is needed.
+/// withdrawn, who is declared in conflict with it and whom its authors declared, her own bid and label, all bids and who
+/// reviews it, is in her view, and no more is needed.
 pub fn law_view_suffices()
     ensures { ViewSuffices }
 {}
@@ -79,8 +81,8 @@ pub fn law_views()
 /// What a view shows, neither more nor less, of every history, legal or not, for every user and for
 /// nobody. The first clauses go part by part: a view has one sighting of each entry that the user is
 /// told of, and of each part exactly what she may know, by who wrote the paper, who is on the
-/// committee, who is declared in conflict, phase and mode. The last say what that leaves: of a paper's
-/// titles, abstracts and contents the last one, for all but its authors; little of a paper for outsiders, who
+/// committee, who is declared in conflict, phase and mode. The last say what that leaves: of bids and of who
+/// reviews a paper little, for all but the chairs in no conflict with it; of a paper's titles, abstracts and contents the last one, for all but its authors; little of a paper for outsiders, who
 /// neither wrote nor handle it, so in conflict, or on no committee, or before the bidding; for strangers
 /// what is public and their own entries; and for nobody what is public.
 pub fn law_bounds()
@@ -99,6 +101,13 @@ pub fn law_bounds()
     ensures versions { VersionsShown }
     ensures contents { ContentsShown }
     ensures switches { SwitchesShown }
+    ensures values { ValuesShown }
+    ensures seats { SeatsShown }
+    ensures ordinals { OrdinalsShown }
+    ensures own_bids { BidsAreOwn }
+    ensures reviewers_from_authors { ReviewersFromAuthors }
+    ensures reviewers_early { ReviewersEarly }
+    ensures reviewers_unnamed { ReviewersUnnamed }
     ensures one_title { OneTitle }
     ensures one_abstract { OneAbstract }
     ensures one_content { OneContent }
