@@ -1,5 +1,6 @@
 -- The table of seats: who is assigned to which paper, under which label, and who has left.
-use Rattle.std.specs.Prelude.{ℕ, Bool, true, false, not, ◌≡◌, ◌≤◌, ◌+◌, ◌==◌, ◌&&◌, nat_le, List, [], ◌∷◌, ◌++◌, length, map, filter, find, fold, Option, Some, None, if◌then◌else◌}
+use Rattle.std.specs.Prelude.{ℕ, Bool, true, false, not, ◌≡◌, ◌≤◌, ◌+◌, ◌==◌, ◌&&◌, nat_le, List, [], ◌∷◌, ◌++◌, length, map, filter, find, fold, Option, Some, None, IsFalse, if◌then◌else◌}
+use Rattle.std.specs.List.{list_any}
 use Rattle.std.specs.Option.{option_map}
 use Rattle.cr_base.specs.declared.entry.Entry.{Entry}
 use Rattle.cr_base.specs.declared.entry.Entry.TheVariants.{Assigned, Unassigned}
@@ -9,7 +10,7 @@ use Rattle.cr_base.specs.declared.pairs.Tie.{Tie}
 use Rattle.cr_base.specs.declared.seat.Seat.{Seat}
 use Rattle.cr_base.specs.declared.words.Kind.{Kind}
 use Rattle.cr_base.specs.History.{History, SeatTold}
-use Rattle.cr_base.specs.Lists.{is_number}
+use Rattle.cr_base.specs.Lists.{is_number, numbers_from}
 use Rattle.cr_base.specs.Pairs.{ties_of}
 use Rattle.cr_base.specs.Ties.{pair_of}
 
@@ -84,6 +85,17 @@ abbrev pub SeatsFit : SeatsState → Entry → Type 0
 SeatsFit seats (Assigned paper user kind ordinal) = (ordinal ≡ labels_in seats paper + 1) × (ordinal ≤ 26) × (seat_in seats (Some user) paper ≡ None)
 SeatsFit seats (Unassigned paper user ordinal) = seat_in seats (Some user) paper ≡ Some ordinal
 SeatsFit seats _ = Unit {0}
+
+-- no two of these seats are the same user's
+abbrev pub AreOfDifferentUsers : List (Tie Seat) → Type 0
+AreOfDifferentUsers [] = Unit {0}
+AreOfDifferentUsers (t ∷ ts) = IsFalse (list_any (λ (s : Tie Seat). s.pair.user == t.pair.user) ts) × AreOfDifferentUsers ts
+
+-- the seats come of entries that fit: each paper's labels are numbered from 1, and of its seats that nobody has left no two are
+-- the same user's
+pub record SeatsInOrder (seats : SeatsState) : Type 0 where
+  pub numbered : (p : ℕ) → map (λ (t : Tie Seat). t.value.ordinal) (ties_of ByPaper p seats) ≡ numbers_from 1 (ties_of ByPaper p seats)
+  pub single : (p : ℕ) → AreOfDifferentUsers (seats_taken seats p)
 
 -- each of these entries fits in its turn
 abbrev pub SeatsFitInTurn : SeatsState → History → Type 0
