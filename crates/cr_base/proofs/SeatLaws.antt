@@ -1,16 +1,30 @@
 -- The seats of papers, after one more entry.
-use Rattle.std.proofs.Common.{ℕ, Bool, true, false, cond, ◌≡◌, ◌≤◌, [], ◌∷◌, ◌++◌, length-append, refl, sym, subst, arith, ◌&&◌}
-use Rattle.std.specs.Prelude.{nat_le, not, filter}
+use Rattle.std.proofs.Common.{ℕ, Bool, true, false, cond, ◌≡◌, ◌≤◌, ◌+◌, List, [], ◌∷◌, ◌++◌, length, length-append, eqb, refl, sym, ap, subst, ◌∙◌, arith, ◌&&◌, ◌||◌, Option, Some, None}
+use Rattle.std.specs.Prelude.{◌==◌, nat_le, nat_lt, not, map, filter, find}
 use Rattle.std.specs.Cmp.Derive.{both_true}
-use Rattle.std.proofs.lemmas.Bool.{and_parts}
+use Rattle.std.specs.List.{list_all, list_any}
+use Rattle.std.specs.Option.{option_map, option_or}
+use Rattle.std.proofs.lemmas.Bool.{and_parts, or_parts, eqb-true, eq-eqb, true≢false}
+use Rattle.std.proofs.lemmas.Bool.Decides.{nat_tests}
+use Rattle.std.proofs.lemmas.List.{append-nil, length-map, map-append}
+use Rattle.std.proofs.lemmas.List.Elements.{filter-append}
+use Rattle.std.proofs.lemmas.List.Folds.{find-append}
 use Rattle.cr_base.specs.declared.entry.Entry.{Entry}
 use Rattle.cr_base.specs.declared.entry.Entry.TheVariants.{Submitted, Revised, Withdrawn, Assigned, Unassigned}
+use Rattle.cr_base.specs.declared.pairs.Order.TheVariants.{ByPaper}
+use Rattle.cr_base.specs.declared.pairs.Pair.{Pair}
 use Rattle.cr_base.specs.declared.pairs.Tie.{Tie}
 use Rattle.cr_base.specs.declared.seat.Seat.{Seat}
+use Rattle.cr_base.specs.declared.words.Kind.{Kind}
+use Rattle.cr_base.specs.History.{SeatTold, seat_told, assigned_told}
+use Rattle.cr_base.specs.Lists.{given, is_number, last_or, numbers_from, IsRising}
+use Rattle.cr_base.specs.Pairs.{ties_of}
 use Rattle.cr_base.specs.Papers.{PapersState, new_paper, with_texts, as_withdrawn, papers_after, paper_count, PapersFit}
-use Rattle.cr_base.specs.Seats.{SeatsState, seat_tie, with_seat, vacated, is_seat, without_seat, seats_after}
+use Rattle.cr_base.specs.Seats.{SeatsState, seat_tie, with_seat, vacated, is_seat, without_seat, seats_after, labels_in, seats_taken, seat_in, SeatsFit, AreOfDifferentUsers, SeatsInOrder}
 use Rattle.cr_base.specs.Ties.{are_within}
+use Rattle.cr_base.proofs.ListLaws.{turned, numbers_from-push}
 use Rattle.cr_base.proofs.PaperLaws.{length-with_paper}
+use Rattle.cr_base.proofs.RisingLists.{rising-numbers_from}
 use Rattle.cr_base.proofs.TieLaws.{within-more, in_range}
 
 -- ---- which papers have seats
@@ -61,3 +75,424 @@ seats-within state seats maker (Assigned paper user kind ordinal) fits within =
     within-with_seat (paper_count state) (seat_tie paper user kind ordinal) seats fits.0 fits.1 within
 seats-within state seats maker (Unassigned paper user ordinal) fits within = within-without_seat (paper_count state) paper ordinal seats within
 seats-within state seats maker e fits within = within
+
+-- ---- the seats of one paper
+
+-- of a paper's seats those stay that pass a test which they pass alike, or none
+of-filter : (p : ℕ) (test : Tie Seat → Bool) (c : Bool) (ts : SeatsState) → ((t : Tie Seat) → eqb p t.pair.paper ≡ true → test t ≡ c) → ties_of ByPaper p (filter test ts) ≡ cond c (ties_of ByPaper p ts) []
+of-filter p test true [] alike = refl
+of-filter p test false [] alike = refl
+of-filter p test c (t ∷ ts) alike =
+    split (test t) (filter test ts) ∙ by (test t) (eqb p t.pair.paper) c (ties_of ByPaper p (filter test ts)) (ties_of ByPaper p ts) (alike t) (of-filter p test c ts alike)
+  where
+    split : (a : Bool) (us : SeatsState) → ties_of ByPaper p (cond a (t ∷ us) us) ≡ cond a (cond (eqb p t.pair.paper) (t ∷ ties_of ByPaper p us) (ties_of ByPaper p us)) (ties_of ByPaper p us)
+    split true us = refl
+    split false us = refl
+
+    by : (a b c : Bool) (us vs : SeatsState) → (b ≡ true → a ≡ c) → us ≡ cond c vs [] → cond a (cond b (t ∷ us) us) us ≡ cond c (cond b (t ∷ vs) vs) []
+    by true true true us vs same rest = ap (λ (xs : SeatsState). t ∷ xs) rest
+    by true true false us vs same rest = absurd (true≢false (same refl))
+    by true false true us vs same rest = rest
+    by true false false us vs same rest = rest
+    by false true true us vs same rest = absurd (true≢false (sym (same refl)))
+    by false true false us vs same rest = rest
+    by false false true us vs same rest = rest
+    by false false false us vs same rest = rest
+
+-- with one seat more, it comes last among those of its paper
+pub ties_of-with_seat : (p : ℕ) (s : Tie Seat) (ts : SeatsState) → ties_of ByPaper p (with_seat s ts) ≡ ties_of ByPaper p ts ++ given (eqb p s.pair.paper) s
+ties_of-with_seat p s ts =
+    let q : ℕ = s.pair.paper in
+    let upto : Tie Seat → Bool = λ t. nat_le t.pair.paper q in
+    let behind : Tie Seat → Bool = λ t. not (nat_le t.pair.paper q) in
+    let of : Tie Seat → Bool = λ t. eqb p t.pair.paper in
+    filter-append of (filter upto ts) (s ∷ filter behind ts)
+    ∙ ap (λ (us : SeatsState). us ++ ties_of ByPaper p (s ∷ filter behind ts)) (of-filter p upto (nat_le p q) ts (λ t same. ap (λ n. nat_le n q) (sym (eqb-true p t.pair.paper same))))
+    ∙ by (nat_le p q) (eqb p q) refl refl (ties_of ByPaper p ts) (ties_of ByPaper p (filter behind ts))
+    (of-filter p behind (not (nat_le p q)) ts (λ t same. ap (λ n. not (nat_le n q)) (sym (eqb-true p t.pair.paper same))))
+  where
+    by : (le is : Bool) → nat_le p s.pair.paper ≡ le → eqb p s.pair.paper ≡ is → (us vs : SeatsState) → vs ≡ cond (not le) us [] → cond le us [] ++ cond is (s ∷ vs) vs ≡ us ++ given is s
+    by true true hle his us vs e = ap (λ (xs : SeatsState). us ++ s ∷ xs) e
+    by true false hle his us vs e = ap (λ (xs : SeatsState). us ++ xs) e
+    by false true hle his us vs e = absurd (true≢false (sym (not-less p s.pair.paper his) ∙ hle))
+      where
+        not-less : (p q : ℕ) → eqb p q ≡ true → nat_le p q ≡ true
+        not-less p q h = grind (arith, nat_tests, h)
+    by false false hle his us vs e = e ∙ sym (append-nil us)
+
+-- a seat as it stands where that one is left
+abbrev pub left_at : ℕ → ℕ → Tie Seat → Tie Seat
+left_at paper ordinal t = cond (is_seat paper ordinal t) (vacated t) t
+
+left-pair : (paper ordinal : ℕ) (t : Tie Seat) → (left_at paper ordinal t).pair ≡ t.pair
+left-pair paper ordinal t = by (is_seat paper ordinal t)
+  where
+    by : (b : Bool) → (cond b (vacated t) t).pair ≡ t.pair
+    by true = refl
+    by false = refl
+
+left-ordinal : (paper ordinal : ℕ) (t : Tie Seat) → (left_at paper ordinal t).value.ordinal ≡ t.value.ordinal
+left-ordinal paper ordinal t = by (is_seat paper ordinal t)
+  where
+    by : (b : Bool) → (cond b (vacated t) t).value.ordinal ≡ t.value.ordinal
+    by true = refl
+    by false = refl
+
+-- where one is left, it stays in its place
+pub ties_of-without_seat : (p paper ordinal : ℕ) (ts : SeatsState) → ties_of ByPaper p (without_seat paper ordinal ts) ≡ without_seat paper ordinal (ties_of ByPaper p ts)
+ties_of-without_seat p paper ordinal [] = refl
+ties_of-without_seat p paper ordinal (t ∷ ts) =
+    ap (λ (b : Bool). cond b (left_at paper ordinal t ∷ ties_of ByPaper p (without_seat paper ordinal ts)) (ties_of ByPaper p (without_seat paper ordinal ts))) (ap (λ (q : Pair). eqb p q.paper) (left-pair paper ordinal t))
+    ∙ by (eqb p t.pair.paper) (ties_of-without_seat p paper ordinal ts)
+  where
+    by : (b : Bool) → ties_of ByPaper p (without_seat paper ordinal ts) ≡ without_seat paper ordinal (ties_of ByPaper p ts)
+        → cond b (left_at paper ordinal t ∷ ties_of ByPaper p (without_seat paper ordinal ts)) (ties_of ByPaper p (without_seat paper ordinal ts)) ≡ without_seat paper ordinal (cond b (t ∷ ties_of ByPaper p ts) (ties_of ByPaper p ts))
+    by true rest = ap (λ (us : SeatsState). left_at paper ordinal t ∷ us) rest
+    by false rest = rest
+
+-- seats of another paper than this one stay as they are
+without-other : (p paper ordinal : ℕ) (ts : SeatsState) → eqb p paper ≡ false → without_seat paper ordinal (ties_of ByPaper p ts) ≡ ties_of ByPaper p ts
+without-other p paper ordinal [] other = refl
+without-other p paper ordinal (t ∷ ts) other = by (eqb p t.pair.paper) refl (without-other p paper ordinal ts other)
+  where
+    unlike : (p paper q ordinal o : ℕ) → eqb p paper ≡ false → eqb p q ≡ true → (paper == q && ordinal == o) ≡ false
+    unlike p paper q ordinal o other same = ap (λ b. b && eqb ordinal o) (ap (λ n. eqb paper n) (sym (eqb-true p q same)) ∙ turned paper p ∙ other)
+
+    by : (b : Bool) → eqb p t.pair.paper ≡ b → without_seat paper ordinal (ties_of ByPaper p ts) ≡ ties_of ByPaper p ts → without_seat paper ordinal (cond b (t ∷ ties_of ByPaper p ts) (ties_of ByPaper p ts)) ≡ cond b (t ∷ ties_of ByPaper p ts) (ties_of ByPaper p ts)
+    by true is rest =
+        ap (λ (b : Bool). cond b (vacated t) t ∷ without_seat paper ordinal (ties_of ByPaper p ts)) (unlike p paper t.pair.paper ordinal t.value.ordinal other is)
+        ∙ ap (λ (us : SeatsState). t ∷ us) rest
+    by false is rest = rest
+
+-- how many labels the paper's reviewers were given
+pub labels_in-after : (seats : SeatsState) (e : Entry) (p : ℕ) → labels_in (seats_after seats e) p ≡ labels_in seats p + length (assigned_told p e)
+labels_in-after seats (Assigned paper user kind ordinal) p =
+    ap length (ties_of-with_seat p (seat_tie paper user kind ordinal) seats) ∙ length-append (ties_of ByPaper p seats) (given (eqb p paper) (seat_tie paper user kind ordinal))
+    ∙ ap (λ n. labels_in seats p + n) (by (eqb p paper) (eqb paper p) (turned p paper))
+  where
+    by : (b c : Bool) → b ≡ c → length (given b (seat_tie paper user kind ordinal)) ≡ length {A = SeatTold} (given c (record { ordinal = ordinal; kind = Some kind; user = Some user }))
+    by true true e = refl
+    by true false e = absurd (true≢false e)
+    by false true e = absurd (true≢false (sym e))
+    by false false e = refl
+labels_in-after seats (Unassigned paper user ordinal) p =
+    let n : length (ties_of ByPaper p (without_seat paper ordinal seats)) ≡ length (ties_of ByPaper p seats) = ap length (ties_of-without_seat p paper ordinal seats) ∙ length-map (ties_of ByPaper p seats) (left_at paper ordinal) in
+    omega (arith, n)
+labels_in-after seats e p = omega arith
+
+-- ---- the seats that nobody has left
+
+abbrev stays : Tie Seat → Bool
+stays t = not t.value.vacated
+
+taken-with_seat : (seats : SeatsState) (paper user : ℕ) (kind : Kind) (ordinal p : ℕ) → seats_taken (with_seat (seat_tie paper user kind ordinal) seats) p ≡ seats_taken seats p ++ given (eqb p paper) (seat_tie paper user kind ordinal)
+taken-with_seat seats paper user kind ordinal p =
+    let s : Tie Seat = seat_tie paper user kind ordinal in
+    ap (filter stays) (ties_of-with_seat p s seats) ∙ filter-append stays (ties_of ByPaper p seats) (given (eqb p paper) s) ∙ ap (λ (us : SeatsState). seats_taken seats p ++ us) (by (eqb p paper))
+  where
+    by : (b : Bool) → filter stays (given b (seat_tie paper user kind ordinal)) ≡ given b (seat_tie paper user kind ordinal)
+    by true = refl
+    by false = refl
+
+-- where one is left, those that stay are the ones of other ordinals
+taken-left : (p paper ordinal : ℕ) (ts : SeatsState) → eqb p paper ≡ true → filter stays (without_seat paper ordinal (ties_of ByPaper p ts)) ≡ filter (λ (t : Tie Seat). not (eqb ordinal t.value.ordinal)) (filter stays (ties_of ByPaper p ts))
+taken-left p paper ordinal [] same = refl
+taken-left p paper ordinal (t ∷ ts) same = by (eqb p t.pair.paper) refl (taken-left p paper ordinal ts same)
+  where
+    others : Tie Seat → Bool
+    others t = not (eqb ordinal t.value.ordinal)
+
+    old : SeatsState
+    old = filter stays (ties_of ByPaper p ts)
+
+    new : SeatsState
+    new = filter stays (without_seat paper ordinal (ties_of ByPaper p ts))
+
+    is : (p paper q ordinal o : ℕ) → eqb p paper ≡ true → eqb p q ≡ true → (paper == q && ordinal == o) ≡ eqb ordinal o
+    is p paper q ordinal o same at = ap (λ b. b && eqb ordinal o) (eq-eqb paper q (sym (eqb-true p paper same) ∙ eqb-true p q at))
+
+    left : (m : Bool) → cond (not (cond m (vacated t) t).value.vacated) (cond m (vacated t) t ∷ new) new ≡ cond (not (cond m true t.value.vacated)) (cond m (vacated t) t ∷ new) new
+    left true = refl
+    left false = refl
+
+    right : (v : Bool) → filter others (cond (not v) (t ∷ old) old) ≡ cond (not v) (cond (not (eqb ordinal t.value.ordinal)) (t ∷ filter others old) (filter others old)) (filter others old)
+    right true = refl
+    right false = refl
+
+    alike : (m v : Bool) → new ≡ filter others old → cond (not (cond m true v)) (cond m (vacated t) t ∷ new) new ≡ cond (not v) (cond (not m) (t ∷ filter others old) (filter others old)) (filter others old)
+    alike true true rest = rest
+    alike true false rest = rest
+    alike false true rest = rest
+    alike false false rest = ap (λ (us : SeatsState). t ∷ us) rest
+
+    by : (b : Bool) → eqb p t.pair.paper ≡ b → new ≡ filter others old → filter stays (without_seat paper ordinal (cond b (t ∷ ties_of ByPaper p ts) (ties_of ByPaper p ts))) ≡ filter others (filter stays (cond b (t ∷ ties_of ByPaper p ts) (ties_of ByPaper p ts)))
+    by true at rest =
+        ap (λ (m : Bool). cond (not (cond m (vacated t) t).value.vacated) (cond m (vacated t) t ∷ new) new) (is p paper t.pair.paper ordinal t.value.ordinal same at)
+        ∙ left (eqb ordinal t.value.ordinal)
+        ∙ alike (eqb ordinal t.value.ordinal) t.value.vacated rest
+        ∙ sym (right t.value.vacated)
+    by false at rest = rest
+
+-- ---- whose seats they are
+
+-- of these seats those of the user are the ones of this ordinal
+abbrev AreHers : ℕ → ℕ → List (Tie Seat) → Type 0
+AreHers user ordinal [] = Unit {0}
+AreHers user ordinal (t ∷ ts) = (eqb ordinal t.value.ordinal ≡ eqb user t.pair.user) × AreHers user ordinal ts
+
+abbrev ordinals : List (Tie Seat) → List ℕ
+ordinals ts = map (λ (t : Tie Seat). t.value.ordinal) ts
+
+-- the ordinal of the user's seat among these
+abbrev found : Option ℕ → List (Tie Seat) → Option ℕ
+found u ts = option_map (λ (t : Tie Seat). t.value.ordinal) (find (λ (t : Tie Seat). is_number u t.pair.user) ts)
+
+-- seats behind hers are neither hers nor of her ordinal
+hers-behind : (user ordinal : ℕ) (ts : List (Tie Seat)) → list_all (nat_lt ordinal) (ordinals ts) ≡ true → list_any (λ (s : Tie Seat). eqb s.pair.user user) ts ≡ false → AreHers user ordinal ts
+hers-behind user ordinal [] above none = tt
+hers-behind user ordinal (t ∷ ts) above none =
+    let parts = and_parts (nat_lt ordinal t.value.ordinal) (list_all (nat_lt ordinal) (ordinals ts)) above in
+    let nones = or_parts (eqb t.pair.user user) (list_any (λ (s : Tie Seat). eqb s.pair.user user) ts) none in
+    (other ordinal t.value.ordinal parts.0 ∙ sym (turned user t.pair.user ∙ nones.0), hers-behind user ordinal ts parts.1 nones.1)
+  where
+    other : (n m : ℕ) → nat_lt n m ≡ true → eqb n m ≡ false
+    other n m h = grind (arith, nat_tests, h)
+
+-- a seat that is found behind others has a greater ordinal
+found-above : (n user ordinal : ℕ) (ts : List (Tie Seat)) → list_all (nat_lt n) (ordinals ts) ≡ true → found (Some user) ts ≡ Some ordinal → nat_lt n ordinal ≡ true
+found-above n user ordinal [] above is = cc
+found-above n user ordinal (t ∷ ts) above is =
+    let parts = and_parts (nat_lt n t.value.ordinal) (list_all (nat_lt n) (ordinals ts)) above in
+    by (eqb user t.pair.user) is (found-above n user ordinal ts parts.1) parts.0
+  where
+    by : (b : Bool) → option_map (λ (t : Tie Seat). t.value.ordinal) (cond b (Some t) (find (λ (t : Tie Seat). eqb user t.pair.user) ts)) ≡ Some ordinal
+        → (found (Some user) ts ≡ Some ordinal → nat_lt n ordinal ≡ true) → nat_lt n t.value.ordinal ≡ true → nat_lt n ordinal ≡ true
+    by true is rest first = let e : t.value.ordinal ≡ ordinal = cc in subst (λ (m : ℕ). nat_lt n m ≡ true) e first
+    by false is rest first = rest is
+
+-- the seats of a user are the ones of the ordinal that is found
+are_hers : (user ordinal : ℕ) (ts : List (Tie Seat)) → IsRising (ordinals ts) → AreOfDifferentUsers ts → found (Some user) ts ≡ Some ordinal → AreHers user ordinal ts
+are_hers user ordinal [] rising different is = cc
+are_hers user ordinal (t ∷ ts) rising different is = by (eqb user t.pair.user) refl is (are_hers user ordinal ts rising.1 different.1)
+  where
+    other : (n m : ℕ) → nat_lt m n ≡ true → eqb n m ≡ false
+    other n m h = grind (arith, nat_tests, h)
+
+    by : (b : Bool) → eqb user t.pair.user ≡ b → option_map (λ (t : Tie Seat). t.value.ordinal) (cond b (Some t) (find (λ (t : Tie Seat). eqb user t.pair.user) ts)) ≡ Some ordinal
+        → (found (Some user) ts ≡ Some ordinal → AreHers user ordinal ts) → (eqb ordinal t.value.ordinal ≡ eqb user t.pair.user) × AreHers user ordinal ts
+    by true at is rest =
+        let e : t.value.ordinal ≡ ordinal = cc in
+        let same : t.pair.user ≡ user = sym (eqb-true user t.pair.user at) in
+        (eq-eqb ordinal t.value.ordinal (sym e) ∙ sym at,
+        hers-behind user ordinal ts (subst (λ (n : ℕ). list_all (nat_lt n) (ordinals ts) ≡ true) e rising.0) (subst (λ (n : ℕ). list_any (λ (s : Tie Seat). eqb s.pair.user n) ts ≡ false) same different.0))
+    by false at is rest = (other ordinal t.value.ordinal (found-above t.value.ordinal user ordinal ts rising.0 is) ∙ sym at, rest is)
+
+-- without them, she has none and everybody else has hers
+found-left : (user ordinal : ℕ) (ts : List (Tie Seat)) → AreHers user ordinal ts → (u : Option ℕ)
+    → found u (filter (λ (t : Tie Seat). not (eqb ordinal t.value.ordinal)) ts) ≡ cond (is_number u user) None (found u ts)
+found-left user ordinal [] hers u = by (is_number u user)
+  where
+    by : (b : Bool) → ◌≡◌ {A = Option ℕ} None (cond b None None)
+    by true = refl
+    by false = refl
+found-left user ordinal (t ∷ ts) hers u =
+    before (eqb ordinal t.value.ordinal) ∙ by (eqb ordinal t.value.ordinal) (is_number u t.pair.user) (is_number u user)
+    (λ at. ap (is_number u) (sym (eqb-true user t.pair.user (sym hers.0 ∙ at)))) (apart u) (found-left user ordinal ts hers.1 u)
+    ∙ after (is_number u t.pair.user) (is_number u user)
+  where
+    kept : List (Tie Seat)
+    kept = filter (λ (t : Tie Seat). not (eqb ordinal t.value.ordinal)) ts
+
+    before : (m : Bool) → found u (cond (not m) (t ∷ kept) kept) ≡ cond m (found u kept) (cond (is_number u t.pair.user) (Some t.value.ordinal) (found u kept))
+    before true = refl
+    before false = first (is_number u t.pair.user)
+      where
+        first : (b : Bool) → option_map (λ (t : Tie Seat). t.value.ordinal) (cond b (Some t) (find (λ (t : Tie Seat). is_number u t.pair.user) kept)) ≡ cond b (Some t.value.ordinal) (found u kept)
+        first true = refl
+        first false = refl
+
+    after : (b c : Bool) → cond c None (cond b (Some t.value.ordinal) (found u ts)) ≡ cond c None (option_map (λ (t : Tie Seat). t.value.ordinal) (cond b (Some t) (find (λ (t : Tie Seat). is_number u t.pair.user) ts)))
+    after true c = refl
+    after false c = refl
+
+    -- who is found by another seat isn't she
+    apart : (u : Option ℕ) → eqb ordinal t.value.ordinal ≡ false → is_number u t.pair.user ≡ true → is_number u user ≡ false
+    apart None other at = refl
+    apart (Some v) other at = unlike v t.pair.user user (sym hers.0 ∙ other) at
+      where
+        unlike : (v w user : ℕ) → eqb user w ≡ false → eqb v w ≡ true → eqb v user ≡ false
+        unlike v w user h at = subst (λ (n : ℕ). eqb n user ≡ false) (sym (eqb-true v w at)) (turned w user ∙ h)
+
+    by : (m b c : Bool) → (m ≡ true → b ≡ c) → (m ≡ false → b ≡ true → c ≡ false) → found u kept ≡ cond c None (found u ts)
+        → cond m (found u kept) (cond b (Some t.value.ordinal) (found u kept)) ≡ cond c None (cond b (Some t.value.ordinal) (found u ts))
+    by true true true same other rest = rest
+    by true true false same other rest = absurd (true≢false (same refl))
+    by true false true same other rest = rest
+    by true false false same other rest = rest
+    by false true true same other rest = absurd (true≢false (other refl refl))
+    by false true false same other rest = refl
+    by false false true same other rest = rest
+    by false false false same other rest = rest
+
+-- ---- seats in order
+
+all-filter : (n : ℕ) (test : Tie Seat → Bool) (ts : List (Tie Seat)) → list_all (nat_lt n) (ordinals ts) ≡ true → list_all (nat_lt n) (ordinals (filter test ts)) ≡ true
+all-filter n test [] all = refl
+all-filter n test (t ∷ ts) all =
+    let parts = and_parts (nat_lt n t.value.ordinal) (list_all (nat_lt n) (ordinals ts)) all in by (test t) parts.0 (all-filter n test ts parts.1)
+  where
+    by : (b : Bool) → nat_lt n t.value.ordinal ≡ true → list_all (nat_lt n) (ordinals (filter test ts)) ≡ true → list_all (nat_lt n) (ordinals (cond b (t ∷ filter test ts) (filter test ts))) ≡ true
+    by true first rest = both_true first rest
+    by false first rest = rest
+
+rising-seats : (test : Tie Seat → Bool) (ts : List (Tie Seat)) → IsRising (ordinals ts) → IsRising (ordinals (filter test ts))
+rising-seats test [] rising = tt
+rising-seats test (t ∷ ts) rising = by (test t) (all-filter t.value.ordinal test ts rising.0) (rising-seats test ts rising.1)
+  where
+    by : (b : Bool) → list_all (nat_lt t.value.ordinal) (ordinals (filter test ts)) ≡ true → IsRising (ordinals (filter test ts)) → IsRising (ordinals (cond b (t ∷ filter test ts) (filter test ts)))
+    by true first rest = (first, rest)
+    by false first rest = rest
+
+none-filter : (user : ℕ) (test : Tie Seat → Bool) (ts : List (Tie Seat)) → list_any (λ (s : Tie Seat). eqb s.pair.user user) ts ≡ false → list_any (λ (s : Tie Seat). eqb s.pair.user user) (filter test ts) ≡ false
+none-filter user test [] none = refl
+none-filter user test (t ∷ ts) none =
+    let parts = or_parts (eqb t.pair.user user) (list_any (λ (s : Tie Seat). eqb s.pair.user user) ts) none in by (test t) parts.0 (none-filter user test ts parts.1)
+  where
+    by : (b : Bool) → eqb t.pair.user user ≡ false → list_any (λ (s : Tie Seat). eqb s.pair.user user) (filter test ts) ≡ false → list_any (λ (s : Tie Seat). eqb s.pair.user user) (cond b (t ∷ filter test ts) (filter test ts)) ≡ false
+    by true first rest = ap (λ b. b || list_any (λ (s : Tie Seat). eqb s.pair.user user) (filter test ts)) first ∙ rest
+    by false first rest = rest
+
+different-filter : (test : Tie Seat → Bool) (ts : List (Tie Seat)) → AreOfDifferentUsers ts → AreOfDifferentUsers (filter test ts)
+different-filter test [] different = tt
+different-filter test (t ∷ ts) different = by (test t) (none-filter t.pair.user test ts different.0) (different-filter test ts different.1)
+  where
+    by : (b : Bool) → list_any (λ (s : Tie Seat). eqb s.pair.user t.pair.user) (filter test ts) ≡ false → AreOfDifferentUsers (filter test ts) → AreOfDifferentUsers (cond b (t ∷ filter test ts) (filter test ts))
+    by true first rest = (first, rest)
+    by false first rest = rest
+
+-- one more seat is another user's where none of them is hers
+different-push : (s : Tie Seat) (ts : List (Tie Seat)) → found (Some s.pair.user) ts ≡ None → AreOfDifferentUsers ts → AreOfDifferentUsers (ts ++ s ∷ [])
+different-push s [] none different = (refl, tt)
+different-push s (t ∷ ts) none different = by (eqb s.pair.user t.pair.user) refl none (λ is. different-push s ts is different.1)
+  where
+    behind : (us : List (Tie Seat)) → list_any (λ (r : Tie Seat). eqb r.pair.user t.pair.user) us ≡ false → eqb s.pair.user t.pair.user ≡ false → list_any (λ (r : Tie Seat). eqb r.pair.user t.pair.user) (us ++ s ∷ []) ≡ false
+    behind [] all one = ap (λ b. b || false) one
+    behind (u ∷ us) all one =
+        let parts = or_parts (eqb u.pair.user t.pair.user) (list_any (λ (r : Tie Seat). eqb r.pair.user t.pair.user) us) all in
+        ap (λ b. b || list_any (λ (r : Tie Seat). eqb r.pair.user t.pair.user) (us ++ s ∷ [])) parts.0 ∙ behind us parts.1 one
+
+    by : (b : Bool) → eqb s.pair.user t.pair.user ≡ b → option_map (λ (t : Tie Seat). t.value.ordinal) (cond b (Some t) (find (λ (t : Tie Seat). eqb s.pair.user t.pair.user) ts)) ≡ None
+        → (found (Some s.pair.user) ts ≡ None → AreOfDifferentUsers (ts ++ s ∷ [])) → AreOfDifferentUsers (t ∷ ts ++ s ∷ [])
+    by true at is rest = cc
+    by false at is rest = (behind ts different.0 at, rest is)
+
+numbers_from-map : (n : ℕ) (f : Tie Seat → Tie Seat) (ts : List (Tie Seat)) → numbers_from n (map f ts) ≡ numbers_from n ts
+numbers_from-map n f [] = refl
+numbers_from-map n f (t ∷ ts) = ap (λ ns. n ∷ ns) (numbers_from-map (n + 1) f ts)
+
+ordinals-left : (paper ordinal : ℕ) (ts : List (Tie Seat)) → ordinals (without_seat paper ordinal ts) ≡ ordinals ts
+ordinals-left paper ordinal [] = refl
+ordinals-left paper ordinal (t ∷ ts) = ap (λ n. n ∷ ordinals (without_seat paper ordinal ts)) (left-ordinal paper ordinal t) ∙ ap (λ ns. t.value.ordinal ∷ ns) (ordinals-left paper ordinal ts)
+
+-- the seats that nobody has left, in the order of their labels
+pub rising-taken : (seats : SeatsState) → SeatsInOrder seats → (p : ℕ) → IsRising (ordinals (seats_taken seats p))
+rising-taken seats order p =
+    rising-seats stays (ties_of ByPaper p seats) (subst IsRising (sym (order.numbered p)) (rising-numbers_from 1 (ties_of ByPaper p seats)))
+
+-- they are in order after an entry that fits
+pub seats-in_order-after : (seats : SeatsState) (e : Entry) → SeatsFit seats e → SeatsInOrder seats → SeatsInOrder (seats_after seats e)
+seats-in_order-after seats (Assigned paper user kind ordinal) fits order = record { numbered = numbered; single = single }
+  where
+    s : Tie Seat
+    s = seat_tie paper user kind ordinal
+
+    numbered : (p : ℕ) → ordinals (ties_of ByPaper p (with_seat s seats)) ≡ numbers_from 1 (ties_of ByPaper p (with_seat s seats))
+    numbered p =
+        subst (λ (ts : SeatsState). ordinals ts ≡ numbers_from 1 ts) (sym (ties_of-with_seat p s seats)) (by (eqb p paper) refl)
+      where
+        last : eqb p paper ≡ true → ordinal ≡ 1 + length (ties_of ByPaper p seats)
+        last at = let next : ordinal ≡ length (ties_of ByPaper p seats) + 1 = subst (λ (n : ℕ). ordinal ≡ length (ties_of ByPaper n seats) + 1) (sym (eqb-true p paper at)) fits.0 in omega (arith, next)
+
+        by : (b : Bool) → eqb p paper ≡ b → ordinals (ties_of ByPaper p seats ++ given b s) ≡ numbers_from 1 (ties_of ByPaper p seats ++ given b s)
+        by true at =
+            map-append (λ (t : Tie Seat). t.value.ordinal) (ties_of ByPaper p seats) (s ∷ [])
+            ∙ ap (λ (ns : List ℕ). ns ++ ordinal ∷ []) (order.numbered p)
+            ∙ sym (numbers_from-push 1 ordinal (ties_of ByPaper p seats) s (last at))
+        by false at = subst (λ (ts : SeatsState). ordinals ts ≡ numbers_from 1 ts) (sym (append-nil (ties_of ByPaper p seats))) (order.numbered p)
+
+    single : (p : ℕ) → AreOfDifferentUsers (seats_taken (with_seat s seats) p)
+    single p = subst AreOfDifferentUsers (sym (taken-with_seat seats paper user kind ordinal p)) (by (eqb p paper) refl)
+      where
+        by : (b : Bool) → eqb p paper ≡ b → AreOfDifferentUsers (seats_taken seats p ++ given b s)
+        by true at = different-push s (seats_taken seats p) (ap (λ n. seat_in seats (Some user) n) (eqb-true p paper at) ∙ fits.2) (order.single p)
+        by false at = subst AreOfDifferentUsers (sym (append-nil (seats_taken seats p))) (order.single p)
+seats-in_order-after seats (Unassigned paper user ordinal) fits order = record { numbered = numbered; single = single }
+  where
+    numbered : (p : ℕ) → ordinals (ties_of ByPaper p (without_seat paper ordinal seats)) ≡ numbers_from 1 (ties_of ByPaper p (without_seat paper ordinal seats))
+    numbered p =
+        ap ordinals (ties_of-without_seat p paper ordinal seats) ∙ ordinals-left paper ordinal (ties_of ByPaper p seats) ∙ order.numbered p
+        ∙ sym (numbers_from-map 1 (left_at paper ordinal) (ties_of ByPaper p seats)) ∙ ap (numbers_from 1) (sym (ties_of-without_seat p paper ordinal seats))
+
+    single : (p : ℕ) → AreOfDifferentUsers (seats_taken (without_seat paper ordinal seats) p)
+    single p = subst AreOfDifferentUsers (ap (filter stays) (sym (ties_of-without_seat p paper ordinal seats))) (by (eqb p paper) refl)
+      where
+        by : (b : Bool) → eqb p paper ≡ b → AreOfDifferentUsers (filter stays (without_seat paper ordinal (ties_of ByPaper p seats)))
+        by true at = subst AreOfDifferentUsers (sym (taken-left p paper ordinal seats at)) (different-filter _ (seats_taken seats p) (order.single p))
+        by false at = subst AreOfDifferentUsers (ap (filter stays) (sym (without-other p paper ordinal seats at))) (order.single p)
+seats-in_order-after seats e fits order = order
+
+-- and under which ordinal a user reviews a paper is what that entry tells, else what it was
+pub seat_in-after : (seats : SeatsState) (e : Entry) → SeatsInOrder seats → SeatsFit seats e → (u : Option ℕ) (p : ℕ) → seat_in (seats_after seats e) u p ≡ last_or (seat_in seats u p) (seat_told u p e)
+seat_in-after seats (Assigned paper user kind ordinal) order fits u p =
+    ap (found u) (taken-with_seat seats paper user kind ordinal p) ∙ by (eqb p paper) (is_number u user) refl refl ∙ ap (λ b. last_or (seat_in seats u p) (given (b && is_number u user) (Some ordinal))) (turned p paper)
+  where
+    s : Tie Seat
+    s = seat_tie paper user kind ordinal
+
+    test : Tie Seat → Bool
+    test t = is_number u t.pair.user
+
+    user-is : (u : Option ℕ) → is_number u user ≡ true → u ≡ Some user
+    user-is None at = absurd (true≢false (sym at))
+    user-is (Some v) at = ap (λ n. Some n) (eqb-true v user at)
+
+    free : eqb p paper ≡ true → is_number u user ≡ true → seat_in seats u p ≡ None
+    free at is = ap (λ (v : Option ℕ). seat_in seats v p) (user-is u is) ∙ ap (λ n. seat_in seats (Some user) n) (eqb-true p paper at) ∙ fits.2
+
+    none : (o : Option (Tie Seat)) → option_map (λ (t : Tie Seat). t.value.ordinal) (option_or o None) ≡ option_map (λ (t : Tie Seat). t.value.ordinal) o
+    none None = refl
+    none (Some t) = refl
+
+    none-then : (o : Option (Tie Seat)) → option_map (λ (t : Tie Seat). t.value.ordinal) o ≡ None → option_map (λ (t : Tie Seat). t.value.ordinal) (option_or o (Some s)) ≡ Some ordinal
+    none-then None is = refl
+    none-then (Some t) is = cc
+
+    taken : List (Tie Seat)
+    taken = seats_taken seats p
+
+    by : (b c : Bool) → eqb p paper ≡ b → is_number u user ≡ c → found u (taken ++ given b s) ≡ last_or (seat_in seats u p) (given (b && c) (Some ordinal))
+    by true true at is =
+        ap (option_map (λ (t : Tie Seat). t.value.ordinal)) (find-append test taken (s ∷ []) ∙ ap (λ (b : Bool). option_or (find test taken) (cond b (Some s) None)) is)
+        ∙ none-then (find test taken) (free at is)
+    by true false at is =
+        ap (option_map (λ (t : Tie Seat). t.value.ordinal)) (find-append test taken (s ∷ []) ∙ ap (λ (b : Bool). option_or (find test taken) (cond b (Some s) None)) is)
+        ∙ none (find test taken)
+    by false c at is = ap (found u) (append-nil taken)
+seat_in-after seats (Unassigned paper user ordinal) order fits u p =
+    ap (λ (ts : SeatsState). found u (filter stays ts)) (ties_of-without_seat p paper ordinal seats) ∙ by (eqb p paper) refl ∙ ap (λ b. last_or (seat_in seats u p) (given (b && is_number u user) None)) (turned p paper)
+  where
+    hers : eqb p paper ≡ true → AreHers user ordinal (seats_taken seats p)
+    hers at = are_hers user ordinal (seats_taken seats p) (rising-taken seats order p) (order.single p) (ap (λ n. seat_in seats (Some user) n) (eqb-true p paper at) ∙ fits)
+
+    gone : (c : Bool) → cond c None (seat_in seats u p) ≡ last_or (seat_in seats u p) (given c None)
+    gone true = refl
+    gone false = refl
+
+    by : (b : Bool) → eqb p paper ≡ b → found u (filter stays (without_seat paper ordinal (ties_of ByPaper p seats))) ≡ last_or (seat_in seats u p) (given (b && is_number u user) None)
+    by true at = ap (found u) (taken-left p paper ordinal seats at) ∙ found-left user ordinal (seats_taken seats p) (hers at) u ∙ gone (is_number u user)
+    by false at = ap (λ (ts : SeatsState). found u (filter stays ts)) (without-other p paper ordinal seats at)
+seat_in-after seats e order fits u p = refl
+
+-- no assignments are in order
+pub seats-in_order-nil : SeatsInOrder []
+seats-in_order-nil = record { numbered = λ p. refl; single = λ p. tt }
