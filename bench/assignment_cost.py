@@ -1,0 +1,155 @@
+#!/usr/bin/env python3
+"""What pages, bids and assignments cost in a large conference, beside the same in a small one.
+
+    python3 bench/assignment_cost.py [PROGRAM] [PAGES]
+
+PROGRAM is `confd` as `rt run` builds it (crates/confd/out/confd where none is named). Python 3 alone is needed. The large
+conference has 9,999 papers by 500 authors, 500 members, 5,000 bids and 5,000 assignments; the small one a paper, two
+members, their bids and their assignments. Each figure is one run of `confd pipe` over requests made here, of which a run
+without what is measured is taken off; the least of five. Beside it SQLite, in memory and through Python's module, is asked
+the same of tables with the same rows and an index for each question. Nothing is kept.
+"""
+
+import json
+import os
+import sqlite3
+import subprocess
+import sys
+import time
+
+RUNS = 5
+AUTHORS, MEMBERS, PAPERS = 500, 500, 9_999
+EACH = 10  # bids, and assignments, a member
+
+
+def request(method, path, who=None, body=None):
+    """One request as bytes; `who` is a name, whose secret is made of it."""
+    lines = [f"{method} {path} HTTP/1.1", "Host: c"]
+    if who is not None:
+        lines.append(f"Authorization: Bearer {who}.{who}-secret-0123456789")
+    content = b""
+    if body is not None:
+        content = json.dumps(body, separators=(",", ":")).encode()
+        lines.append(f"Content-Length: {len(content)}")
+    return "\r\n".join(lines).encode() + b"\r\n\r\n" + content
+
+
+def register(name):
+    return request("POST", "/register", body={"name": name, "secret": f"{name}-secret-0123456789"})
+
+
+def paper_of(member, turn):
+    """The paper that a member bids on, and reviews, in her turn: two members a paper, from the first on."""
+    return member // 2 * EACH + turn + 1
+
+
+def conference(authors, members, papers, each):
+    """The requests that lead to it, but for bids and assignments; these; and those."""
+    opening = [register("alice")]
+    opening += [register(f"author-{n}") for n in range(authors)] + [register(f"member-{n}") for n in range(members)]
+    opening += [request("POST", "/members", "alice", {"name": f"member-{n}", "role": "member"}) for n in range(members)]
+    opening.append(request("POST", "/phase", "alice", {"phase": "submission"}))
+    opening += [request("POST", "/papers", f"author-{p % authors}", {"abstract": "We prove.", "title": "Proofs"}) for p in range(papers)]
+    opening.append(request("POST", "/phase", "alice", {"phase": "bidding"}))
+    turns = [(n, paper_of(n, t)) for n in range(members) for t in range(each)]
+    bids = [request("PUT", f"/papers/{p}/bid", f"member-{n}", {"bid": n % 41 - 20}) for n, p in turns]
+    seats = [request("POST", f"/papers/{p}/reviewers", "alice", {"kind": "pc", "user": f"member-{n}"}) for n, p in turns]
+    return b"".join(opening), b"".join(bids), b"".join(seats), len(turns)
+
+
+def run(program, text):
+    """The seconds that one run over these bytes takes."""
+    with open(os.devnull, "wb") as nowhere:
+        began = time.perf_counter()
+        child = subprocess.Popen([program, "pipe"], stdin=subprocess.PIPE, stdout=nowhere)
+        child.communicate(text)
+        spent = time.perf_counter() - began
+    if child.returncode != 0:
+        sys.exit(f"{program} pipe ended with {child.returncode}")
+    return spent
+
+
+def least(program, text):
+    return min(run(program, text) for _ in range(RUNS))
+
+
+def last_answer(program, text):
+    told = subprocess.run([program, "pipe"], input=text, stdout=subprocess.PIPE, check=True).stdout
+    return json.loads(told[told.rindex(b"\r\n\r\n") + 4 :])
+
+
+def each_cost(program, base, without, asked, count):
+    """Microseconds that one of these requests takes."""
+    return (least(program, base + asked * count) - without) / count * 1e6
+
+
+def measure(program, name, shape, count):
+    opening, bids, seats, turns = conference(*shape)
+    whole = opening + bids + seats
+    page = last_answer(program, whole + request("GET", "/papers/1", "alice"))
+    if len(page["bids"]) != 2 or len(page["reviewers"]) != 2:
+        sys.exit("the page tells other bids or reviewers than there are")
+    without = least(program, whole)
+    chair = each_cost(program, whole, without, request("GET", "/papers/1", "alice"), count)
+    member = each_cost(program, whole, without, request("GET", "/papers/1", "member-0"), count)
+    me = each_cost(program, whole, without, request("GET", "/me", "member-0"), count)
+    rule = each_cost(program, whole, without, request("POST", "/papers/1/reviewers", "alice", {"kind": "pc", "user": "member-0"}), count)
+    print(f"{name}: a page to a chair {chair:.2f} us, to a reviewer {member:.2f}; /me {me:.2f}; an assignment refused {rule:.2f}")
+    if turns > 2:
+        before = least(program, opening)
+        then = least(program, opening + bids)
+        print(f"{name}: a bid {(then - before) / turns * 1e6:.2f} us, an assignment {(without - then) / turns * 1e6:.2f}")
+    return chair, member, me
+
+
+def peer(count):
+    """Microseconds in which SQLite tells the bids and reviewers of a paper, and the papers of a reviewer."""
+    tables = sqlite3.connect(":memory:")
+    tables.execute("create table users (user integer primary key, name text)")
+    tables.execute("create table bids (paper integer, user integer, bid integer, primary key (paper, user)) without rowid")
+    tables.execute("create table seats (paper integer, ordinal integer, user integer, kind integer, primary key (paper, ordinal)) without rowid")
+    tables.execute("create index by_user on seats (user, paper)")
+    tables.executemany("insert into users values (?, ?)", [(n, f"member-{n}") for n in range(MEMBERS)])
+    turns = [(n, paper_of(n, t)) for n in range(MEMBERS) for t in range(EACH)]
+    tables.executemany("insert into bids values (?, ?, ?)", [(p, n, n % 41 - 20) for n, p in turns])
+    drawn = {}
+    for n, p in turns:
+        drawn[p] = drawn.get(p, 0) + 1
+        tables.execute("insert into seats values (?, ?, ?, 3)", (p, drawn[p], n))
+    spent = {"page": None, "me": None}
+    for _ in range(RUNS):
+        began = time.perf_counter()
+        for _ in range(count):
+            tables.execute("select name, bid from bids join users using (user) where paper = 1 order by user").fetchall()
+            tables.execute("select name, kind, ordinal from seats join users using (user) where paper = 1 order by ordinal").fetchall()
+        middle = time.perf_counter()
+        for _ in range(count):
+            tables.execute("select paper from seats where user = 0 order by paper").fetchall()
+        end = time.perf_counter()
+        for key, took in (("page", middle - began), ("me", end - middle)):
+            spent[key] = took if spent[key] is None else min(spent[key], took)
+    return spent["page"] / count * 1e6, spent["me"] / count * 1e6
+
+
+def model():
+    with open("/proc/cpuinfo") as lines:
+        names = [line.split(":", 1)[1].strip() for line in lines if line.startswith("model name")]
+    return names[0] if names else "unknown"
+
+
+def main():
+    here = os.path.dirname(os.path.abspath(__file__))
+    program = sys.argv[1] if len(sys.argv) > 1 else f"{here}/../crates/confd/out/confd"
+    count = int(sys.argv[2]) if len(sys.argv) > 2 else 40_000
+    if not os.access(program, os.X_OK):
+        sys.exit(f"{program} isn't there: run `rt run` in crates/confd, or name a program")
+    print(f"{time.strftime('%Y-%m-%d')}, {os.cpu_count()} processors, {model()}")
+    small = measure(program, "small", (1, 2, 1, 1), count)
+    large = measure(program, "large", (AUTHORS, MEMBERS, PAPERS, EACH), count)
+    ratios = [f"{one / other:.2f}" for one, other in zip(large, small)]
+    print(f"large to small: a page to a chair {ratios[0]}, to a reviewer {ratios[1]}, /me {ratios[2]} (10 papers assigned, not 1)")
+    page, me = peer(count // 10)
+    print(f"SQLite: the bids and reviewers of a paper {page:.2f} us, the papers of a reviewer {me:.2f}")
+
+
+main()
