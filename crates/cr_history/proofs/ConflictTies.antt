@@ -23,7 +23,7 @@ use Rattle.cr_base.proofs.PairLaws.{has_pair-with_tie}
 use Rattle.cr_base.proofs.TieLaws.{has_pair-switched, users_tied_to-push}
 use Rattle.cr_history.specs.Invariants.{InTurn, ComesFirst, is_conflict_with}
 use Rattle.cr_history.proofs.PaperTies.{is_author-tables}
-use Rattle.cr_history.proofs.Folds.{told-always}
+use Rattle.cr_history.proofs.Folds.{told-always, each-silent}
 
 -- ---- declared conflicts
 
@@ -53,13 +53,9 @@ nobody-entry p (Conflict paper user on) = by (eqb paper p)
     by false = refl
 nobody-entry p e = refl
 
-nobody-told : (p : ℕ) (H : History) → all_told (conflict_told None p) H ≡ []
-nobody-told p [] = refl
-nobody-told p (s ∷ H) = ap (λ xs. xs ++ all_told (conflict_told None p) H) (nobody-entry p s.entry) ∙ nobody-told p H
-
 -- a user's declared conflicts are those of the table
 pub is_conflict_on-tables : (u : Option ℕ) (p : ℕ) (H : History) → is_conflict_on u p H ≡ is_conflict_on_in (tables_of H).ties u p
-is_conflict_on-tables None p H = ap (last_or false) (nobody-told p H)
+is_conflict_on-tables None p H = ap (last_or false) (each-silent (λ (s : Stamped). conflict_told None p s.entry) (λ s. nobody-entry p s.entry) H)
 is_conflict_on-tables (Some v) p H = told-always last_or (λ _. refl) (λ (t : Tables). has_pair (pair_of p v) t.ties.conflicts) (λ (s : Stamped). conflict_told (Some v) p s.entry) (λ t s. conflict-entry p v t.ties s.maker s.entry) no_tables H
 
 pub is_conflicted-tables : (u : Option ℕ) (p : ℕ) (H : History) → is_conflicted u p H ≡ is_conflicted_in (tables_of H).ties u p

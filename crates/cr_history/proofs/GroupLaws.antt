@@ -7,7 +7,7 @@ use Rattle.std.proofs.lemmas.Bool.Decides.{nat_tests}
 use Rattle.std.proofs.lemmas.List.Elements.{All-from_recursion}
 use Rattle.cr_base.specs.declared.entry.Account.{Account}
 use Rattle.cr_base.specs.declared.entry.Entry.{Entry}
-use Rattle.cr_base.specs.declared.entry.Entry.TheVariants.{Registered, Named, PhaseSet, ModeSet, Submitted, Coauthor, Revised, Uploaded, Withdrawn, Conflict}
+use Rattle.cr_base.specs.declared.entry.Entry.TheVariants.{Registered, Named, PhaseSet, ModeSet, Submitted, Coauthor, Revised, Uploaded, Withdrawn, Conflict, Bid, Assigned, Unassigned}
 use Rattle.cr_base.specs.declared.entry.Stamped.{Stamped}
 use Rattle.cr_base.specs.declared.reply.AccountLine.{AccountLine}
 use Rattle.cr_base.specs.declared.words.Phase.{Phase}
@@ -15,6 +15,8 @@ use Rattle.cr_base.specs.declared.words.Phase.TheVariants.{Setup, Submission, Bi
 use Rattle.cr_base.specs.declared.words.Mode.{Mode}
 use Rattle.cr_base.specs.declared.words.Mode.TheVariants.{Overt, Blind, Anonymous}
 use Rattle.cr_base.specs.declared.words.Role.{Role}
+use Rattle.cr_base.specs.declared.words.Kind.{Kind}
+use Rattle.cr_base.specs.declared.words.Kind.TheVariants as kind
 use Rattle.cr_base.specs.declared.words.Role.TheVariants as role
 use Rattle.cr_base.specs.Accounts.{lines_from}
 use Rattle.cr_base.specs.Drawn.{grouped, submission}
@@ -23,9 +25,9 @@ use Rattle.cr_base.specs.History.{History, Registration, all_told, registration_
 use Rattle.cr_base.specs.Lists.{numbers_from}
 use Rattle.cr_base.specs.Papers.{IsPaper}
 use Rattle.cr_base.specs.Rows.{IsBoundedEntry}
-use Rattle.cr_base.specs.Shapes.{InRange, user_range, paper_range, role_range, unused}
+use Rattle.cr_base.specs.Shapes.{InRange, user_range, paper_range, role_range, seat_range, unused}
 use Rattle.cr_base.specs.Tables.{no_tables, tables_of, Fits, FitInTurn}
-use Rattle.cr_base.specs.Words.{phase_number, mode_number, role_number}
+use Rattle.cr_base.specs.Words.{phase_number, mode_number, role_number, seat_number}
 use Rattle.cr_base.proofs.AccountLaws.{length-lines_of}
 use Rattle.cr_base.proofs.ListLaws.{length-numbers_from, list_any-numbers_from}
 use Rattle.cr_history.specs.Groups.{IsRuled, Adds, single, submitted, first_user}
@@ -35,6 +37,7 @@ use Rattle.cr_history.proofs.SizeTies.{IsSized, sized-tables}
 use Rattle.cr_history.proofs.LineTies.{stamp, accounts_of-tables}
 use Rattle.cr_history.proofs.NumberTies.{number_of-tables}
 use Rattle.cr_history.proofs.PaperTies.{papers_of-tables, uploads_of-tables}
+use Rattle.cr_history.proofs.SeatTies.{labels-tables, seat-drawn}
 use Rattle.cr_history.proofs.SubmissionLaws.{submission-in_turn}
 
 -- ---- numbers, names, and what is named
@@ -72,6 +75,7 @@ module _ (H : History) (fits : FitInTurn no_tables H) where
   fits-number maker more (Registered user name digest) fit = fit.accounts.0 ∙ ap (λ n. n + 1) accounts-counted
   fits-number maker more (Submitted paper title abstract) fit = fit.papers.0 ∙ ap (λ n. n + 1) (sym (ap length (papers_of-tables H fits) ∙ length-numbers_from 1 (tables_of H).papers.papers))
   fits-number maker more (Uploaded paper version content) fit = fit.papers.1 ∙ ap (λ n. n + 1) (sym (ap length (uploads_of-tables paper H)))
+  fits-number maker more (Assigned paper user kind ordinal) fit = fit.seats.0 ∙ ap (λ n. n + 1) (sym (labels-tables paper H))
   fits-number maker more e fit = tt
 
   pub fits-name : (maker : ℕ) (more : Bool) (e : Entry) → Fits (tables_of H) (record { maker = maker; more = more; entry = e }) → HasNewName H e
@@ -85,6 +89,9 @@ module _ (H : History) (fits : FitInTurn no_tables H) where
   fits-about maker more (Uploaded paper version content) fit = submitted-within paper fit.papers.0.0 fit.papers.0.1
   fits-about maker more (Withdrawn paper) fit = submitted-within paper fit.papers.0 fit.papers.1
   fits-about maker more (Conflict paper user on) fit = (submitted-within paper fit.papers.0 fit.papers.1, registered-within user fit.accounts.0 fit.accounts.1)
+  fits-about maker more (Bid paper value) fit = submitted-within paper fit.papers.0 fit.papers.1
+  fits-about maker more (Assigned paper user kind ordinal) fit = (submitted-within paper fit.papers.0 fit.papers.1, registered-within user fit.accounts.0 fit.accounts.1)
+  fits-about maker more (Unassigned paper user ordinal) fit = (submitted-within paper fit.papers.0 fit.papers.1, registered-within user fit.accounts.0 fit.accounts.1)
   fits-about maker more e fit = tt
 
 -- ---- numbers of fields
@@ -111,6 +118,11 @@ mode_number-few Overt = omega arith
 mode_number-few Blind = omega arith
 mode_number-few Anonymous = omega arith
 
+seat_number-few : (kind : Kind) → InRange seat_range (seat_number kind)
+seat_number-few kind.Primary = (omega arith, omega arith)
+seat_number-few kind.Secondary = (omega arith, omega arith)
+seat_number-few kind.Pc = (omega arith, omega arith)
+
 -- the role to which a user rises is a member's or a chair's
 raised_number : (before to : Role) → role_number before < role_number to → InRange role_range (role_number to)
 raised_number before role.Account h = (omega (arith, h), omega (arith, h))
@@ -127,16 +139,17 @@ module _ (H : History) (fits : FitInTurn no_tables H) where
   numbered : (user : ℕ) → IsRegistered H user → InRange user_range user
   numbered user registered = registered-from no_tables H user fits registered
 
-  -- and so has a paper that is there
+  -- and so has one of the accounts, and a paper that is there
+  account_numbered : (user : ℕ) → (1 ≤ user) × (user ≤ length (tables_of H).accounts) → InRange user_range user
+  account_numbered user there = let high = there.1 in let few = sized.accounts in (there.0, omega (arith, high, few))
+
   paper_numbered : (paper : ℕ) → IsPaper (tables_of H).papers paper → InRange paper_range paper
   paper_numbered paper there = let high = there.1 in let few = sized.papers in (there.0, omega (arith, high, few))
 
   bounded-coauthor : (maker : ℕ) (more : Bool) (paper user : ℕ) → IsRegistered H maker → Fits (tables_of H) (stamp maker more (Coauthor paper user)) → IsBoundedEntry (stamp maker more (Coauthor paper user))
   bounded-coauthor maker more paper user registered fit =
       let last = fit.papers.1 in
-      let high = fit.accounts.1 in
-      let few = sized.accounts in
-      record { maker = numbered maker registered; more = bit_few more; n1 = paper_numbered paper (fit.papers.0, omega (arith, last)); n2 = (fit.accounts.0, omega (arith, high, few)); n3 = zero_in; n4 = zero_in; n5 = zero_in; b1 = refl; b2 = refl }
+      record { maker = numbered maker registered; more = bit_few more; n1 = paper_numbered paper (fit.papers.0, omega (arith, last)); n2 = account_numbered user fit.accounts; n3 = zero_in; n4 = zero_in; n5 = zero_in; b1 = refl; b2 = refl }
 
   bounded-entry : (maker : ℕ) (more : Bool) (e : Entry) → IsMadeByUser H maker e → IsRuled H maker e → Fits (tables_of H) (stamp maker more e) → IsBoundedEntry (stamp maker more e)
   bounded-entry maker more (Registered user name digest) made ruled fit =
@@ -144,9 +157,7 @@ module _ (H : History) (fits : FitInTurn no_tables H) where
       let few = fit.accounts.1 in
       record { maker = (omega (arith, made, next), omega (arith, made, few)); more = bit_few more; n1 = (omega (arith, next), few); n2 = zero_in; n3 = zero_in; n4 = zero_in; n5 = zero_in; b1 = ruled.texts.0; b2 = ruled.texts.1 }
   bounded-entry maker more (Named user to) made ruled fit =
-      let high = fit.accounts.1 in
-      let few = sized.accounts in
-      record { maker = numbered maker made; more = bit_few more; n1 = (fit.accounts.0, omega (arith, high, few)); n2 = raised_number _ to ruled.role; n3 = zero_in; n4 = zero_in; n5 = zero_in; b1 = refl; b2 = refl }
+      record { maker = numbered maker made; more = bit_few more; n1 = account_numbered user fit.accounts; n2 = raised_number _ to ruled.role; n3 = zero_in; n4 = zero_in; n5 = zero_in; b1 = refl; b2 = refl }
   bounded-entry maker more (PhaseSet phase) made ruled fit = record { maker = numbered maker made; more = bit_few more; n1 = (omega arith, phase_number-few phase); n2 = zero_in; n3 = zero_in; n4 = zero_in; n5 = zero_in; b1 = refl; b2 = refl }
   bounded-entry maker more (ModeSet mode) made ruled fit = record { maker = numbered maker made; more = bit_few more; n1 = (omega arith, mode_number-few mode); n2 = zero_in; n3 = zero_in; n4 = zero_in; n5 = zero_in; b1 = refl; b2 = refl }
   bounded-entry maker more (Submitted paper title abstract) made ruled fit =
@@ -159,9 +170,14 @@ module _ (H : History) (fits : FitInTurn no_tables H) where
       record { maker = numbered maker made; more = bit_few more; n1 = paper_numbered paper fit.papers.0; n2 = (omega (arith, next), tt); n3 = zero_in; n4 = zero_in; n5 = zero_in; b1 = ruled.texts; b2 = refl }
   bounded-entry maker more (Withdrawn paper) made ruled fit = record { maker = numbered maker made; more = bit_few more; n1 = paper_numbered paper fit.papers; n2 = zero_in; n3 = zero_in; n4 = zero_in; n5 = zero_in; b1 = refl; b2 = refl }
   bounded-entry maker more (Conflict paper user on) made ruled fit =
-      let high = fit.accounts.1 in
-      let few = sized.accounts in
-      record { maker = numbered maker made; more = bit_few more; n1 = paper_numbered paper fit.papers; n2 = (fit.accounts.0, omega (arith, high, few)); n3 = (omega arith, bit_few on); n4 = zero_in; n5 = zero_in; b1 = refl; b2 = refl }
+      record { maker = numbered maker made; more = bit_few more; n1 = paper_numbered paper fit.papers; n2 = account_numbered user fit.accounts; n3 = (omega arith, bit_few on); n4 = zero_in; n5 = zero_in; b1 = refl; b2 = refl }
+  bounded-entry maker more (Bid paper value) made ruled fit = record { maker = numbered maker made; more = bit_few more; n1 = paper_numbered paper fit.papers; n2 = (omega arith, ruled.texts); n3 = zero_in; n4 = zero_in; n5 = zero_in; b1 = refl; b2 = refl }
+  bounded-entry maker more (Assigned paper user kind' ordinal) made ruled fit =
+      let next = fit.seats.0 in
+      record { maker = numbered maker made; more = bit_few more; n1 = paper_numbered paper fit.papers; n2 = account_numbered user fit.accounts; n3 = seat_number-few kind'; n4 = (omega (arith, next), fit.seats.1); n5 = zero_in; b1 = refl; b2 = refl }
+  bounded-entry maker more (Unassigned paper user ordinal) made ruled fit =
+      let drawn = seat-drawn H fits user paper ordinal fit.seats in
+      record { maker = numbered maker made; more = bit_few more; n1 = paper_numbered paper fit.papers; n2 = account_numbered user fit.accounts; n3 = drawn; n4 = zero_in; n5 = zero_in; b1 = refl; b2 = refl }
 
   bounded_chair : (user : ℕ) → user ≡ 1 → IsBoundedEntry (stamp user false (Named user role.Chair))
   bounded_chair user is = record { maker = (omega (arith, is), omega (arith, is)); more = omega arith; n1 = (omega (arith, is), omega (arith, is)); n2 = (omega arith, omega arith); n3 = zero_in; n4 = zero_in; n5 = zero_in; b1 = refl; b2 = refl }
@@ -180,6 +196,6 @@ added-bounded H fits g (submitted maker paper title abstract users made ruled re
     (submission-in_turn maker paper (λ _ e. IsBoundedEntry e) (λ G more user before fit. bounded-coauthor G before.fits maker more paper user before.registered fit)
     H title abstract users fits made ruled.phase (λ more fit. bounded-entry H fits maker more (Submitted paper title abstract) made ruled fit) fit))
 added-bounded H fits g (first_user user name digest is texts) fit =
-    let ruled : IsRuled H user (Registered user name digest) = record { phase = tt; chair = tt; role = tt; member = tt; right = tt; texts = texts } in
+    let ruled : IsRuled H user (Registered user name digest) = record { phase = tt; chair = tt; role = tt; member = tt; right = tt; seat = tt; texts = texts } in
     All-from_recursion IsBoundedEntry (grouped user (Registered user name digest ∷ Named user role.Chair ∷ []))
     (bounded-entry H fits user true (Registered user name digest) refl ruled fit.0, (bounded_chair H fits user is, tt))

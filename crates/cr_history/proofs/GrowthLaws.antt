@@ -6,6 +6,7 @@ use Rattle.cr_base.specs.Rows.{IsBoundedEntry}
 use Rattle.cr_base.specs.Tables.{no_tables}
 use Rattle.cr_base.proofs.RowLaws.{stamped-row_of}
 use Rattle.cr_history.specs.Laws.{TablesTell, GrowthKeeps}
+use Rattle.cr_history.proofs.BidTies.{bid_of-tables}
 use Rattle.cr_history.proofs.ConflictTies.{is_conflict_on-tables, declared_by_authors-tables}
 use Rattle.cr_history.proofs.GroupLaws.{added-bounded}
 use Rattle.cr_history.proofs.InOrder.{in_order-append, whole-added}
@@ -13,6 +14,7 @@ use Rattle.cr_history.proofs.InTime.{in_time-nil, in_time-append}
 use Rattle.cr_history.proofs.LineTies.{accounts_of-tables}
 use Rattle.cr_history.proofs.NumberTies.{number_of-tables, caller_of-tables}
 use Rattle.cr_history.proofs.PaperTies.{papers_of-tables, own_papers_of-tables, own_bytes_of-tables, title_of-tables, abstract_of-tables, uploads_of-tables, is_withdrawn-tables, authors_of-tables}
+use Rattle.cr_history.proofs.SeatTies.{seat_of-tables, labels-tables, reviewers_of-tables}
 use Rattle.cr_history.proofs.TableTies.{FitInTurn-append, standing_of-tables}
 
 pub tables_tell : TablesTell
@@ -31,6 +33,10 @@ tables_tell H fits first = record {
   authors = λ p. authors_of-tables p H;
   conflict = λ u p. is_conflict_on-tables u p H;
   declared = λ p v. declared_by_authors-tables p v H fits first;
+  bid = λ u p. bid_of-tables u p H;
+  seat = λ u p. seat_of-tables u p H fits;
+  labels = λ p. labels-tables p H;
+  reviewers = λ p. reviewers_of-tables p H fits;
 }
 
 pub growth_keeps : GrowthKeeps

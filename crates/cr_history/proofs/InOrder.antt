@@ -34,8 +34,8 @@ first_group user name digest = grouped user (Registered user name digest ∷ Nam
 
 first-in_order : (name digest : List ℕ) → InTurn IsInOrder [] (first_group 1 name digest)
 first-in_order name digest = (
-  record { maker = refl; mark = refl; number = refl; name = refl; about = tt; phase = tt; chair = tt; role = tt; member = tt; right = tt; first = tt },
-  (record { maker = refl; mark = refl; number = tt; name = tt; about = refl; phase = refl; chair = refl; role = omega arith; member = tt; right = tt; first = tt }, tt),
+  record { maker = refl; mark = refl; number = refl; name = refl; about = tt; phase = tt; chair = tt; role = tt; member = tt; right = tt; seat = tt; first = tt },
+  (record { maker = refl; mark = refl; number = tt; name = tt; about = refl; phase = refl; chair = refl; role = omega arith; member = tt; right = tt; seat = tt; first = tt }, tt),
 )
 
 -- ---- a group
@@ -64,6 +64,7 @@ coauthor-in_order maker paper H more user before fit = record {
   role = tt;
   member = tt;
   right = before.author;
+  seat = tt;
   first = before.first;
 }
 
@@ -81,6 +82,7 @@ added-in_order H g fits kept (single maker e made alone ruled) fit = (
     role = ruled.role;
     member = ruled.member;
     right = ruled.right;
+    seat = ruled.seat;
     first = alone-first H e alone;
   },
   tt,
@@ -98,6 +100,7 @@ added-in_order H g fits kept (submitted maker paper title abstract users made ru
       role = tt;
       member = tt;
       right = tt;
+      seat = tt;
       first = tt;
     }) fit
 added-in_order H g fits kept (first_user user name digest is texts) fit =

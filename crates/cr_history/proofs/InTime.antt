@@ -16,7 +16,7 @@ use Rattle.cr_base.specs.History.{History, all_told, opens, phase_told, author_t
 use Rattle.cr_base.specs.HistoryFacts.{phase_of, authors_of, is_author}
 use Rattle.cr_base.specs.Phases.{phase_place, is_from, is_phase}
 use Rattle.cr_base.specs.Drawn.{grouped, submission}
-use Rattle.cr_base.proofs.LastLaws.{last_or-cons}
+use Rattle.cr_history.proofs.Folds.{last_or-append}
 use Rattle.cr_history.specs.Invariants.{is_opening, ByAuthor, ByHerselfOrOther, Early, Late, DeclaresInTime, IsInPhase, IsByRight}
 use Rattle.cr_history.proofs.ListCuts.{AllByRecursion-append, AllByRecursion-map, AllByRecursion-until, until-none, since-none, until-append, since-append, until-before, since-before}
 use Rattle.cr_history.specs.Groups.{IsRuled, Adds, single, submitted, first_user}
@@ -154,10 +154,6 @@ phase-append : (H g : History) → phase_of (H ++ g) ≡ last_or (phase_of H) (a
 phase-append H g =
     ap (last_or Setup) (flat_map-append (λ (e : Stamped). phase_told e.entry) H g)
     ∙ last_or-append Setup (all_told phase_told H) (all_told phase_told g)
-  where
-    last_or-append : (a : Phase) (xs ys : List Phase) → last_or a (xs ++ ys) ≡ last_or (last_or a xs) ys
-    last_or-append a [] ys = refl
-    last_or-append a (x ∷ xs) ys = last_or-cons a x (xs ++ ys) ∙ last_or-append x xs ys ∙ ap (λ b. last_or b ys) (sym (last_or-cons a x xs))
 
 pub phase_stays : (H g : History) → all_told phase_told g ≡ [] → phase_of (H ++ g) ≡ phase_of H
 phase_stays H g h = phase-append H g ∙ ap (last_or (phase_of H)) h

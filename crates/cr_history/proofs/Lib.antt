@@ -1,3 +1,4 @@
+pub mod BidTies
 pub mod CallerLaws
 pub mod ConflictTies
 pub mod Folds
@@ -13,6 +14,7 @@ pub mod OrderTies
 pub mod PaperTies
 pub mod RoleTies
 pub mod RuleLaws
+pub mod SeatTies
 pub mod SizeTies
 pub mod StageTies
 pub mod SubmissionLaws

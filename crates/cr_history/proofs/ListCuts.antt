@@ -1,6 +1,6 @@
 -- The part of a list before the element at which a test first passes, and the part after it.
 use Rattle.std.proofs.Common.{◌≡◌, ◌||◌, Bool, true, false, cond, List, [], ◌∷◌, ◌++◌, refl, ap, ◌∙◌}
-use Rattle.std.specs.List.{AllByRecursion, list_any}
+use Rattle.std.specs.List.{AllByRecursion, list_any, filter}
 use Rattle.std.proofs.lemmas.Bool.{or_parts, false≢true}
 use Rattle.cr_base.specs.Lists.{until, since}
 
@@ -58,6 +58,14 @@ AllByRecursion-append P (x ∷ xs) ys hx hy = (hx.0, AllByRecursion-append P xs 
 pub AllByRecursion-map : {A : Type 0} (P Q : A → Type 0) → ((x : A) → P x → Q x) → (xs : List A) → AllByRecursion P xs → AllByRecursion Q xs
 AllByRecursion-map P Q f [] h = tt
 AllByRecursion-map P Q f (x ∷ xs) h = (f x h.0, AllByRecursion-map P Q f xs h.1)
+
+pub AllByRecursion-filter : {A : Type 0} (P : A → Type 0) (test : A → Bool) (xs : List A) → AllByRecursion P xs → AllByRecursion P (filter test xs)
+AllByRecursion-filter P test [] h = tt
+AllByRecursion-filter P test (x ∷ xs) h = by (test x) (AllByRecursion-filter P test xs h.1)
+  where
+    by : (b : Bool) → AllByRecursion P (filter test xs) → AllByRecursion P (cond b (x ∷ filter test xs) (filter test xs))
+    by true k = (h.0, k)
+    by false k = k
 
 pub AllByRecursion-until : {A : Type 0} (P : A → Type 0) (test : A → Bool) (xs : List A) → AllByRecursion P xs → AllByRecursion P (until test xs)
 AllByRecursion-until P test [] h = tt

@@ -6,7 +6,7 @@ use Rattle.std.specs.List.{filter}
 use Rattle.std.proofs.lemmas.Bool.{and_parts}
 use Rattle.cr_base.specs.declared.entry.Account.{Account}
 use Rattle.cr_base.specs.declared.entry.Entry.{Entry}
-use Rattle.cr_base.specs.declared.entry.Entry.TheVariants.{Submitted, Coauthor, Conflict}
+use Rattle.cr_base.specs.declared.entry.Entry.TheVariants.{Submitted, Coauthor, Conflict, Bid}
 use Rattle.cr_base.specs.declared.pairs.Order.TheVariants.{ByPaper}
 use Rattle.cr_base.specs.declared.pairs.Pair.{Pair}
 use Rattle.cr_base.specs.declared.reply.AccountLine.{AccountLine}
@@ -76,6 +76,7 @@ order-entry accounts ties maker (Conflict paper user on) fits order = record {
     by false = order.declared
 order-entry accounts ties maker (Submitted paper title abstract) fits order = record { conflicts = order.conflicts; declared = order.declared }
 order-entry accounts ties maker (Coauthor paper user) fits order = record { conflicts = order.conflicts; declared = order.declared }
+order-entry accounts ties maker (Bid paper value) fits order = record { conflicts = order.conflicts; declared = order.declared }
 order-entry accounts ties maker e fits order = order-stays accounts ties e order
 
 order-from : (t : Tables) (H : History) → FitInTurn t H → HasOrder t.accounts t.ties → HasOrder (tables_from t H).accounts (tables_from t H).ties

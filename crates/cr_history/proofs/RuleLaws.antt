@@ -1,29 +1,32 @@
 -- What an accepted command adds, by the rules on the history before it.
-use Rattle.std.proofs.Common.{ℕ, Bool, true, false, cond, ◌≡◌, ◌<◌, ◌+◌, List, [], ◌∷◌, length, eqb, refl, sym, ap, subst, ◌∙◌, ◌||◌, ◌&&◌, Option, Some, None, Ok}
+use Rattle.std.proofs.Common.{ℕ, Bool, true, false, cond, ◌≡◌, ◌≤◌, ◌<◌, ◌+◌, arith, List, [], ◌∷◌, length, eqb, refl, sym, ap, subst, ◌∙◌, ◌||◌, ◌&&◌, Option, Some, None, Ok}
 use Rattle.std.specs.Prelude.{not, is_some, is_none, unwrap_or, map}
 use Rattle.std.specs.List.{AllByRecursion, list_any, find, flat_map}
 use Rattle.std.specs.Option.{option_map}
 use Rattle.std.specs.Str.{bytes_eq}
 use Rattle.std.proofs.lemmas.Bool.{eqb-true, eq-eqb, leb-false, true≢false, and_parts, not-true, not-false, or_left, or_right}
 use Rattle.cr_base.specs.declared.command.Command.{Command}
-use Rattle.cr_base.specs.declared.command.Command.TheVariants.{Register, SetPhase, Submit, Revise, Upload, Withdraw, Name, SetMode, SetConflict}
-use Rattle.cr_base.specs.declared.entry.Entry.TheVariants.{Registered, Named, PhaseSet, ModeSet, Revised, Uploaded, Withdrawn, Conflict}
+use Rattle.cr_base.specs.declared.command.Command.TheVariants.{Register, SetPhase, Submit, Revise, Upload, Withdraw, Name, SetMode, SetConflict, Bid, Assign, Unassign}
+use Rattle.cr_base.specs.declared.entry.Entry.TheVariants as entries
+use Rattle.cr_base.specs.declared.entry.Entry.TheVariants.{Registered, Named, PhaseSet, ModeSet, Revised, Uploaded, Withdrawn, Conflict, Assigned, Unassigned}
 use Rattle.cr_base.specs.declared.reply.AccountLine.{AccountLine}
 use Rattle.cr_base.specs.declared.standing.Standing.{Standing}
 use Rattle.cr_base.specs.declared.target.Target.{Target}
+use Rattle.cr_base.specs.declared.words.Kind.{Kind}
 use Rattle.cr_base.specs.declared.words.Phase.{Phase}
 use Rattle.cr_base.specs.declared.words.Phase.TheVariants.{Setup, Submission, Bidding, Reviewing, Discussion, Notification, Closed}
 use Rattle.cr_base.specs.declared.words.Role.{Role}
 use Rattle.cr_base.specs.declared.words.Role.TheVariants.{Account, Chair}
 use Rattle.cr_base.specs.Lists.{at_some, is_number, listed}
 use Rattle.cr_base.specs.History.{History, Registration, all_told, registration_told}
-use Rattle.cr_base.specs.HistoryFacts.{phase_of, role_of, accounts_of, papers_of, own_papers_of, own_bytes_of, is_author, standing_of}
+use Rattle.cr_base.specs.HistoryFacts.{phase_of, role_of, accounts_of, papers_of, own_papers_of, own_bytes_of, is_author, is_conflicted, bid_of, seat_of, seats_of, standing_of}
+use Rattle.cr_base.specs.Page.{gets_conflicts}
 use Rattle.cr_base.specs.Phases.{is_from, is_phase, is_next}
 use Rattle.cr_base.specs.Words.{role_number, is_member, is_chair}
 use Rattle.cr_base.specs.Bounds.{IsBoundedCommand}
 use Rattle.cr_base.specs.Texts.{IsName}
-use Rattle.cr_base.specs.Checks.{Check, of_role, target_role, register_checks, phase_checks, submit_checks, revise_checks, upload_checks, name_checks, mode_checks, conflict_case, conflict_checks}
-use Rattle.cr_base.specs.Drawn.{Drawn, grouped, registration_drawn, phase_drawn, submission_drawn, revision_drawn, upload_drawn, withdrawal_drawn, naming_drawn, mode_drawn, conflict_drawn}
+use Rattle.cr_base.specs.Checks.{Check, of_role, target_role, register_checks, phase_checks, submit_checks, revise_checks, upload_checks, name_checks, mode_checks, is_in_committee, chair_checks, conflict_case, conflict_checks, bid_checks, assign_checks, unassign_checks}
+use Rattle.cr_base.specs.Drawn.{Drawn, grouped, registration_drawn, phase_drawn, submission_drawn, revision_drawn, upload_drawn, withdrawal_drawn, naming_drawn, mode_drawn, conflict_drawn, bid_drawn, assignment_drawn, unassignment_drawn}
 use Rattle.cr_base.specs.Judging.{judge_by}
 use Rattle.cr_base.specs.Sources.{Facts, Shown, number_in, user_among, users_among, role_among, paper_named, target_named}
 use Rattle.cr_base.proofs.CheckLaws.{NoneBroken, judged-Ok}
@@ -35,9 +38,9 @@ use Rattle.cr_history.specs.Groups.{IsRuled, Adds, single, submitted, first_user
 -- ---- the facts of a history
 
 abbrev pub facts_of : Option ℕ → History → Facts
-facts_of u H = record { standing = λ paper. standing_of u paper H; accounts = accounts_of H; papers = papers_of H; own_papers = own_papers_of u H; own_bytes = own_bytes_of u H }
+facts_of u H = record { standing = λ paper. standing_of u paper H; accounts = accounts_of H; papers = papers_of H; own_papers = own_papers_of u H; own_bytes = own_bytes_of u H; own_bid = λ p. bid_of u p H; own_seat = λ p. seat_of u p H }
 
--- the role of a user named, if there is one, is the one that the history tells
+-- a user named, if there is one, has registered, and her role is the one that the history tells
 module _ (H : History) where
   abbrev line : Registration → AccountLine
   line r = record { user = r.user; name = r.name; role = role_of (Some r.user) H }
@@ -45,18 +48,24 @@ module _ (H : History) where
   abbrev role_found : ℕ → List Registration → Option Role
   role_found v rs = option_map (λ (a : AccountLine). a.role) (find (λ (a : AccountLine). eqb a.user v) (map line rs))
 
-  role-found : (v : ℕ) (rs : List Registration) → is_none (role_found v rs) ≡ false → unwrap_or (role_found v rs) Account ≡ role_of (Some v) H
+  role-found : (v : ℕ) (rs : List Registration) → is_none (role_found v rs) ≡ false
+      → (unwrap_or (role_found v rs) Account ≡ role_of (Some v) H) × (list_any (λ (r : Registration). eqb r.user v) rs ≡ true)
   role-found v [] h = absurd (true≢false h)
   role-found v (r ∷ rs) h = by (eqb r.user v) refl h (role-found v rs)
     where
       found : Bool → Option Role
       found b = option_map (λ (a : AccountLine). a.role) (cond b (Some (line r)) (find (λ (a : AccountLine). eqb a.user v) (map line rs)))
 
-      by : (b : Bool) → eqb r.user v ≡ b → is_none (found b) ≡ false → (is_none (role_found v rs) ≡ false → unwrap_or (role_found v rs) Account ≡ role_of (Some v) H) → unwrap_or (found b) Account ≡ role_of (Some v) H
-      by true same h rest = ap (λ n. role_of (Some n) H) (eqb-true r.user v same)
-      by false same h rest = rest h
+      others : Bool
+      others = list_any (λ (r : Registration). eqb r.user v) rs
 
-  role-among : (target : Option ℕ) → is_none (role_among (accounts_of H) target) ≡ false → unwrap_or (role_among (accounts_of H) target) Account ≡ role_of (Some (unwrap_or target 0)) H
+      by : (b : Bool) → eqb r.user v ≡ b → is_none (found b) ≡ false → (is_none (role_found v rs) ≡ false → (unwrap_or (role_found v rs) Account ≡ role_of (Some v) H) × (others ≡ true))
+          → (unwrap_or (found b) Account ≡ role_of (Some v) H) × ((eqb r.user v || others) ≡ true)
+      by true same h rest = (ap (λ n. role_of (Some n) H) (eqb-true r.user v same), or_left (eqb r.user v) others same)
+      by false same h rest = let k = rest h in (k.0, or_right (eqb r.user v) others k.1)
+
+  role-among : (target : Option ℕ) → is_none (role_among (accounts_of H) target) ≡ false
+      → (unwrap_or (role_among (accounts_of H) target) Account ≡ role_of (Some (unwrap_or target 0)) H) × IsRegistered H (unwrap_or target 0)
   role-among None h = absurd (true≢false h)
   role-among (Some v) h = role-found v (all_told registration_told H) h
 
@@ -135,27 +144,48 @@ module _ (H : History) (maker paper user : ℕ) where
   by_maker = standing_of (Some maker) (Some paper) H
 
   conflict-ruled : (on : Bool) → late ≡ false → is_member (role_of (Some user) H) ≡ true → IsByRight H maker (Conflict paper user on) → IsRuled H maker (Conflict paper user on)
-  conflict-ruled on early member right = record { phase = early; chair = tt; role = tt; member = member; right = right; texts = tt }
+  conflict-ruled on early member right = record { phase = early; chair = tt; role = tt; member = member; right = right; seat = tt; texts = tt }
 
-  abbrev named : Role → Bool → Bool → Target
-  named role herself author = record { role = role; herself = herself; author = author }
+  abbrev named : Role → Bool → Bool → Bool → Bool → Target
+  named role herself author conflicted reviewer = record { role = role; herself = herself; author = author; conflicted = conflicted; reviewer = reviewer }
 
-  case-ruled : (on bidding after withdrawn : Bool) (role : Role) (herself author : Bool) → begun ≡ bidding → late ≡ after → role ≡ role_of (Some user) H → eqb user maker ≡ herself
-      → NoneBroken (conflict_case on bidding after by_maker withdrawn (named role herself author)) → IsRuled H maker (Conflict paper user on)
-  case-ruled false bidding after withdrawn role herself author b l r h none =
+  case-ruled : (on bidding after withdrawn : Bool) (role : Role) (herself author conflicted reviewer : Bool) → begun ≡ bidding → late ≡ after → role ≡ role_of (Some user) H → eqb user maker ≡ herself
+      → NoneBroken (conflict_case on bidding after by_maker withdrawn (named role herself author conflicted reviewer)) → IsRuled H maker (Conflict paper user on)
+  case-ruled false bidding after withdrawn role herself author conflicted reviewer b l r h none =
       let now = and_parts begun (not late) (not-false (begun && not late) none.1.1.0) in
       conflict-ruled false (not-true late now.1) (ap is_member (sym r) ∙ not-false (is_member role) none.1.1.1.1.0)
       (clear-right begun (eqb user maker) false (is_chair by_maker.role) by_maker.conflicted by_maker.author now.0 (not-false (is_chair by_maker.role) none.0) none.1.0)
-  case-ruled true false after withdrawn role herself author b l r h none =
+  case-ruled true false after withdrawn role herself author conflicted reviewer b l r h none =
       conflict-ruled true (not_late (phase_of H) b) (ap is_member (sym r) ∙ not-false (is_member role) none.1.1.0)
       (author-right begun (eqb user maker) (is_chair by_maker.role) by_maker.conflicted by_maker.author b (not-false by_maker.author none.0))
-  case-ruled true true true withdrawn role herself author b l r h none = absurd (true≢false none.0)
-  case-ruled true true false withdrawn role true author b l r h none =
+  case-ruled true true true withdrawn role herself author conflicted reviewer b l r h none = absurd (true≢false none.0)
+  case-ruled true true false withdrawn role true author conflicted reviewer b l r h none =
       conflict-ruled true l (ap (λ n. is_member (role_of (Some n) H)) (eqb-true user maker h) ∙ not-false (is_member by_maker.role) none.0)
       (own-right begun (eqb user maker) (is_chair by_maker.role) by_maker.conflicted by_maker.author b h)
-  case-ruled true true false withdrawn role false author b l r h none =
+  case-ruled true true false withdrawn role false author conflicted reviewer b l r h none =
       conflict-ruled true l (ap is_member (sym r) ∙ not-false (is_member role) none.1.1.1.0)
       (clear-right begun (eqb user maker) true (is_chair by_maker.role) by_maker.conflicted by_maker.author b (not-false (is_chair by_maker.role) none.0) none.1.0)
+
+-- ---- seats
+
+none-where : (seat : Option ℕ) → is_some seat ≡ false → seat ≡ None
+none-where None h = refl
+none-where (Some ordinal) h = absurd (true≢false h)
+
+some-where : (seat : Option ℕ) → is_some seat ≡ true → seat ≡ Some (unwrap_or seat 0)
+some-where None h = absurd (true≢false (sym h))
+some-where (Some ordinal) h = refl
+
+-- the user is a chair in no conflict with the paper, and it is the bidding or later
+abbrev pub is_told_all : History → ℕ → ℕ → Bool
+is_told_all H maker p = gets_conflicts (standing_of (Some maker) (Some p) H)
+
+-- where the maker is such a chair, she is shown of a user and of a paper's labels what the history tells
+pub record TellsSeats (H : History) (maker : ℕ) (shown : Shown) : Type 0 where
+  pub conflicted : (p v : ℕ) → IsRegistered H v → is_told_all H maker p ≡ true
+      → (list_any (is_number (Some v)) (shown.authors p) || list_any (is_number (Some v)) (shown.conflicts p)) ≡ is_conflicted (Some v) p H
+  pub seat : (p v : ℕ) → is_told_all H maker p ≡ true → shown.seat (Some v) p ≡ seat_of (Some v) p H
+  pub labels : (p : ℕ) → is_told_all H maker p ≡ true → shown.labels p ≡ length (seats_of p H)
 
 -- ---- all commands
 
@@ -167,9 +197,9 @@ registration-adds H caller facts shown name digest drawn bounded accepted =
   where
     by : (user : ℕ) (b : Bool) → eqb user 1 ≡ b → Adds H (grouped user (cond b (Registered user name digest ∷ Named user Chair ∷ []) (Registered user name digest ∷ [])))
     by user true is = first_user user name digest (eqb-true user 1 is) bounded
-    by user false is = single user (Registered user name digest) refl is (record { phase = tt; chair = tt; role = tt; member = tt; right = tt; texts = bounded })
+    by user false is = single user (Registered user name digest) refl is (record { phase = tt; chair = tt; role = tt; member = tt; right = tt; seat = tt; texts = bounded })
 
-module _ (H : History) (maker : ℕ) (shown : Shown) (registered : IsRegistered H maker) where
+module _ (H : History) (maker : ℕ) (shown : Shown) (registered : IsRegistered H maker) (tells : TellsSeats H maker shown) where
   abbrev facts : Facts
   facts = facts_of (Some maker) H
 
@@ -179,49 +209,139 @@ module _ (H : History) (maker : ℕ) (shown : Shown) (registered : IsRegistered 
   abbrev checks : Option ℕ → Option ℕ → Bool → List Check
   checks paper target on = conflict_checks (standing_of (Some maker) paper H) (paper_named facts shown paper) (target_named facts shown (Some maker) paper target) on
 
+  -- the user named, as the rules ask of her
+  abbrev asked : Option ℕ → Option ℕ → Option Target
+  asked paper target = target_named facts shown (Some maker) paper target
+
+  abbrev wrote : ℕ → ℕ → Bool
+  wrote p v = list_any (is_number (Some v)) (shown.authors p)
+
+  abbrev declared : ℕ → ℕ → Bool
+  declared p v = list_any (is_number (Some v)) (shown.conflicts p)
+
+  abbrev asked_in : ℕ → ℕ → Role → Target
+  asked_in p v role = named H maker p v role (eqb v maker) (wrote p v) (wrote p v || declared p v) (is_some (shown.seat (Some v) p))
+
+  -- what holds of a user named who is there
+  record HoldsOf (P : Option Target → Type 0) (p v : ℕ) : Type 0 where
+    role : Role
+    held : role ≡ role_of (Some v) H
+    there : IsRegistered H v
+    holds : P (Some (asked_in p v role))
+
+  asked-there : (P : Option Target → Type 0) (p v : ℕ) → is_none (asked (Some p) (Some v)) ≡ false → P (asked (Some p) (Some v)) → HoldsOf P p v
+  asked-there P p v there holds = by (role_among facts.accounts (Some v)) refl there holds
+    where
+      by : (role : Option Role) → role_among facts.accounts (Some v) ≡ role → is_none (option_map (asked_in p v) role) ≡ false → P (option_map (asked_in p v) role) → HoldsOf P p v
+      by None is there holds = absurd (true≢false there)
+      by (Some role) is there holds =
+          let k = role-among H (Some v) (ap is_none is) in
+          record { role = role; held = ap (λ (o : Option Role). unwrap_or o Account) (sym is) ∙ k.0; there = k.1; holds = holds }
+
   conflict-ruled_for : (paper target : Option ℕ) (on : Bool) → NoneBroken (checks paper target on) → IsRuled H maker (Conflict (unwrap_or paper 0) (unwrap_or target 0) on)
   conflict-ruled_for None target on none = absurd (true≢false none.0)
   conflict-ruled_for (Some p) None on none = absurd (true≢false none.1.0)
-  conflict-ruled_for (Some p) (Some v) on none = by (role_among facts.accounts (Some v)) refl none
+  conflict-ruled_for (Some p) (Some v) on none =
+      let k = asked-there (λ target. NoneBroken (conflict_checks (standing_of (Some maker) (Some p) H) (paper_named facts shown (Some p)) target on)) p v none.1.0 none in
+      case-ruled H maker p v on (is_from Bidding (phase_of H)) (is_from Notification (phase_of H)) (shown.withdrawn p) k.role (eqb v maker) (wrote p v) (wrote p v || declared p v) (is_some (shown.seat (Some v) p)) refl refl k.held refl k.holds.1.1
+
+  -- ---- bids and assignments
+
+  bid-ruled : (paper : Option ℕ) (value : ℕ) → value ≤ 40 → NoneBroken (bid_checks (standing_of (Some maker) paper H) (paper_named facts shown paper)) → IsRuled H maker (entries.Bid (unwrap_or paper 0) value)
+  bid-ruled None value bounded none = absurd (true≢false none.0)
+  bid-ruled (Some p) value bounded none =
+      let by = standing_of (Some maker) (Some p) H in
+      record {
+        phase = not-false (is_phase by.phase Bidding) none.1.1.1.0;
+        chair = tt;
+        role = tt;
+        member = tt;
+        right = clear (is_member by.role) by.conflicted (not-false (is_member by.role) none.1.0) none.1.1.0;
+        seat = tt;
+        texts = bounded;
+      }
     where
-      author : Bool
-      author = list_any (is_number (Some v)) (shown.authors p)
+      clear : (member conflicted : Bool) → member ≡ true → conflicted ≡ false → (member && not conflicted) ≡ true
+      clear member conflicted hm hf = grind arith
 
-      found : Option Role → Option Target
-      found role = option_map (λ (r : Role). record { role = r; herself = eqb v maker; author = author }) role
+  -- a chair who assigns or unassigns is told all of the paper's conflicts and reviewers
+  chair-told : (p : ℕ) (withdrawn : Bool) → NoneBroken (chair_checks (standing_of (Some maker) (Some p) H) withdrawn) → is_told_all H maker p ≡ true
+  chair-told p withdrawn none =
+      let by = standing_of (Some maker) (Some p) H in
+      all (is_chair by.role) by.conflicted (is_from Bidding by.phase) (is_from Notification by.phase) (not-false (is_chair by.role) none.0) none.1.0 (not-false (is_in_committee by.phase) none.1.1.0)
+    where
+      all : (chair conflicted begun late : Bool) → chair ≡ true → conflicted ≡ false → (begun && not late) ≡ true → ((chair && not conflicted) && begun) ≡ true
+      all chair conflicted begun late hc hf hb = grind arith
 
-      by : (role : Option Role) → role_among facts.accounts (Some v) ≡ role → NoneBroken (conflict_checks (standing_of (Some maker) (Some p) H) (paper_named facts shown (Some p)) (found role) on) → IsRuled H maker (Conflict p v on)
-      by None is none = absurd (true≢false none.1.0)
-      by (Some role) is none =
-          let held : role ≡ role_of (Some v) H = ap (λ (o : Option Role). unwrap_or o Account) (sym is) ∙ role-among H (Some v) (ap is_none is) in
-          case-ruled H maker p v on (is_from Bidding (phase_of H)) (is_from Notification (phase_of H)) (shown.withdrawn p) role (eqb v maker) author refl refl held refl none.1.1
+  assigned-ruled : (paper target : Option ℕ) (kind : Kind) (ordinal : ℕ) → NoneBroken (assign_checks (standing_of (Some maker) paper H) (paper_named facts shown paper) (asked paper target) (shown.labels (unwrap_or paper 0)))
+      → IsRuled H maker (Assigned (unwrap_or paper 0) (unwrap_or target 0) kind ordinal)
+  assigned-ruled None target kind ordinal none = absurd (true≢false none.0)
+  assigned-ruled (Some p) None kind ordinal none = absurd (true≢false none.1.0)
+  assigned-ruled (Some p) (Some v) kind ordinal none =
+      let by = standing_of (Some maker) (Some p) H in
+      let k = asked-there (λ target. NoneBroken (assign_checks by (paper_named facts shown (Some p)) target (shown.labels p))) p v none.1.0 none in
+      let of_chair = k.holds.1.1 in
+      let of_target = of_chair.1.1.1.1 in
+      let all = chair-told p (shown.withdrawn p) (of_chair.0, (of_chair.1.0, (of_chair.1.1.0, (of_chair.1.1.1.0, tt)))) in
+      record {
+        phase = not-false (is_in_committee by.phase) of_chair.1.1.0;
+        chair = not-false (is_chair by.role) of_chair.0;
+        role = tt;
+        member = ap is_member (sym k.held) ∙ not-false (is_member k.role) of_target.0;
+        right = of_chair.1.0;
+        seat = (
+          sym (tells.conflicted p v k.there all) ∙ of_target.1.0,
+          sym (tells.seat p v all) ∙ none-where (shown.seat (Some v) p) of_target.1.1.0,
+          subst (λ n. n < 26) (tells.labels p all) (leb-false 26 (shown.labels p) of_target.1.1.1.0),
+        );
+        texts = tt;
+      }
+
+  unassigned-ruled : (paper target : Option ℕ) → NoneBroken (unassign_checks (standing_of (Some maker) paper H) (paper_named facts shown paper) (asked paper target))
+      → IsRuled H maker (Unassigned (unwrap_or paper 0) (unwrap_or target 0) (unwrap_or (shown.seat target (unwrap_or paper 0)) 0))
+  unassigned-ruled None target none = absurd (true≢false none.0)
+  unassigned-ruled (Some p) None none = absurd (true≢false none.1.0)
+  unassigned-ruled (Some p) (Some v) none =
+      let by = standing_of (Some maker) (Some p) H in
+      let k = asked-there (λ target. NoneBroken (unassign_checks by (paper_named facts shown (Some p)) target)) p v none.1.0 none in
+      let of_chair = k.holds.1.1 in
+      let all = chair-told p (shown.withdrawn p) (of_chair.0, (of_chair.1.0, (of_chair.1.1.0, (of_chair.1.1.1.0, tt)))) in
+      record {
+        phase = not-false (is_in_committee by.phase) of_chair.1.1.0;
+        chair = not-false (is_chair by.role) of_chair.0;
+        role = tt;
+        member = tt;
+        right = of_chair.1.0;
+        seat = sym (tells.seat p v all) ∙ some-where (shown.seat (Some v) p) (not-false (is_some (shown.seat (Some v) p)) of_chair.1.1.1.1.0);
+        texts = tt;
+      }
 
   pub command-adds : (command : Command) (drawn : Drawn) → IsBoundedCommand command → judge_by facts shown (Some maker) command ≡ Ok drawn → Adds H drawn.group
   command-adds (Register name digest) drawn bounded accepted = registration-adds H (Some maker) facts shown name digest drawn bounded accepted
   command-adds (SetPhase to) drawn bounded accepted =
       let k = judged-Ok (phase_checks standing (phase_of H) to) (phase_drawn maker to) drawn accepted in
       subst (λ (d : Drawn). Adds H d.group) k.1
-      (single maker (PhaseSet to) registered tt (record { phase = not-false (is_next (phase_of H) to) k.0.1.0; chair = not-false (is_chair standing.role) k.0.0; role = tt; member = tt; right = tt; texts = tt }))
+      (single maker (PhaseSet to) registered tt (record { phase = not-false (is_next (phase_of H) to) k.0.1.0; chair = not-false (is_chair standing.role) k.0.0; role = tt; member = tt; right = tt; seat = tt; texts = tt }))
   command-adds (Submit title abstract names) drawn bounded accepted =
       let n : ℕ = length facts.papers in
       let users : List (Option ℕ) = users_among facts.accounts names in
-      let told : List ℕ = flat_map listed users in
-      let k = judged-Ok (submit_checks (list_any is_none users) standing n facts.own_papers) (submission_drawn maker (n + 1) title abstract told) drawn accepted in
+      let others : List ℕ = flat_map listed users in
+      let k = judged-Ok (submit_checks (list_any is_none users) standing n facts.own_papers) (submission_drawn maker (n + 1) title abstract others) drawn accepted in
       subst (λ (d : Drawn). Adds H d.group) k.1
-      (submitted maker (n + 1) title abstract told registered (record { phase = submitting H maker k.0.1.0; chair = tt; role = tt; member = tt; right = tt; texts = (bounded.0, bounded.1) }) (users-registered H names))
+      (submitted maker (n + 1) title abstract others registered (record { phase = submitting H maker k.0.1.0; chair = tt; role = tt; member = tt; right = tt; seat = tt; texts = (bounded.0, bounded.1) }) (users-registered H names))
   command-adds (Revise paper title abstract) drawn bounded accepted =
       let k = judged-Ok (revise_checks (standing_of (Some maker) paper H) (paper_named facts shown paper)) (revision_drawn maker (unwrap_or paper 0) title abstract) drawn accepted in
       subst (λ (d : Drawn). Adds H d.group) k.1
-      (single maker (Revised (unwrap_or paper 0) title abstract) registered tt (record { phase = submitting H maker k.0.1.1.0; chair = tt; role = tt; member = tt; right = author-named H maker paper k.0.1.0; texts = bounded }))
+      (single maker (Revised (unwrap_or paper 0) title abstract) registered tt (record { phase = submitting H maker k.0.1.1.0; chair = tt; role = tt; member = tt; right = author-named H maker paper k.0.1.0; seat = tt; texts = bounded }))
   command-adds (Upload paper content) drawn bounded accepted =
       let version : ℕ = length (shown.uploads (unwrap_or paper 0)) + 1 in
       let k = judged-Ok (upload_checks (standing_of (Some maker) paper H) (paper_named facts shown paper) facts.own_bytes (length content)) (upload_drawn maker (unwrap_or paper 0) version content) drawn accepted in
       subst (λ (d : Drawn). Adds H d.group) k.1
-      (single maker (Uploaded (unwrap_or paper 0) version content) registered tt (record { phase = submitting H maker k.0.1.1.0; chair = tt; role = tt; member = tt; right = author-named H maker paper k.0.1.0; texts = bounded }))
+      (single maker (Uploaded (unwrap_or paper 0) version content) registered tt (record { phase = submitting H maker k.0.1.1.0; chair = tt; role = tt; member = tt; right = author-named H maker paper k.0.1.0; seat = tt; texts = bounded }))
   command-adds (Withdraw paper) drawn bounded accepted =
       let k = judged-Ok (revise_checks (standing_of (Some maker) paper H) (paper_named facts shown paper)) (withdrawal_drawn maker (unwrap_or paper 0)) drawn accepted in
       subst (λ (d : Drawn). Adds H d.group) k.1
-      (single maker (Withdrawn (unwrap_or paper 0)) registered tt (record { phase = submitting H maker k.0.1.1.0; chair = tt; role = tt; member = tt; right = author-named H maker paper k.0.1.0; texts = tt }))
+      (single maker (Withdrawn (unwrap_or paper 0)) registered tt (record { phase = submitting H maker k.0.1.1.0; chair = tt; role = tt; member = tt; right = author-named H maker paper k.0.1.0; seat = tt; texts = tt }))
   command-adds (Name name role) drawn bounded accepted =
       let target : Option ℕ = user_among facts.accounts name in
       let before : Option Role = role_among facts.accounts target in
@@ -233,16 +353,31 @@ module _ (H : History) (maker : ℕ) (shown : Shown) (registered : IsRegistered 
       (single maker (Named (unwrap_or target 0) role) registered tt (record {
         phase = k.0.1.1.0;
         chair = or_left (is_chair standing.role) (eqb (length H) 1) (not-false (is_chair standing.role) k.0.1.0);
-        role = subst (λ (r : Role). role_number r < role_number role) (target_role-of before ∙ role-among H target there) rises;
+        role = subst (λ (r : Role). role_number r < role_number role) (target_role-of before ∙ (role-among H target there).0) rises;
         member = tt;
         right = tt;
+        seat = tt;
         texts = tt;
       }))
   command-adds (SetMode to) drawn bounded accepted =
       let k = judged-Ok (mode_checks standing (phase_of H)) (mode_drawn maker to) drawn accepted in
       subst (λ (d : Drawn). Adds H d.group) k.1
-      (single maker (ModeSet to) registered tt (record { phase = not-false (is_phase (phase_of H) Setup) k.0.1.0; chair = not-false (is_chair standing.role) k.0.0; role = tt; member = tt; right = tt; texts = tt }))
+      (single maker (ModeSet to) registered tt (record { phase = not-false (is_phase (phase_of H) Setup) k.0.1.0; chair = not-false (is_chair standing.role) k.0.0; role = tt; member = tt; right = tt; seat = tt; texts = tt }))
   command-adds (SetConflict paper name on) drawn bounded accepted =
       let target : Option ℕ = user_among facts.accounts name in
       let k = judged-Ok (checks paper target on) (conflict_drawn maker (unwrap_or paper 0) (unwrap_or target 0) on) drawn accepted in
       subst (λ (d : Drawn). Adds H d.group) k.1 (single maker (Conflict (unwrap_or paper 0) (unwrap_or target 0) on) registered tt (conflict-ruled_for paper target on k.0))
+  command-adds (Bid paper value) drawn bounded accepted =
+      let k = judged-Ok (bid_checks (standing_of (Some maker) paper H) (paper_named facts shown paper)) (bid_drawn maker (unwrap_or paper 0) value) drawn accepted in
+      subst (λ (d : Drawn). Adds H d.group) k.1 (single maker (entries.Bid (unwrap_or paper 0) value) registered tt (bid-ruled paper value bounded k.0))
+  command-adds (Assign paper name kind) drawn bounded accepted =
+      let target : Option ℕ = user_among facts.accounts name in
+      let labels : ℕ = shown.labels (unwrap_or paper 0) in
+      let k = judged-Ok (assign_checks (standing_of (Some maker) paper H) (paper_named facts shown paper) (asked paper target) labels) (assignment_drawn maker (unwrap_or paper 0) (unwrap_or target 0) kind (labels + 1)) drawn accepted in
+      subst (λ (d : Drawn). Adds H d.group) k.1 (single maker (Assigned (unwrap_or paper 0) (unwrap_or target 0) kind (labels + 1)) registered tt (assigned-ruled paper target kind (labels + 1) k.0))
+  command-adds (Unassign paper name) drawn bounded accepted =
+      let target : Option ℕ = user_among facts.accounts name in
+      let p : ℕ = unwrap_or paper 0 in
+      let ordinal : ℕ = unwrap_or (shown.seat target p) 0 in
+      let k = judged-Ok (unassign_checks (standing_of (Some maker) paper H) (paper_named facts shown paper) (asked paper target)) (unassignment_drawn maker p (unwrap_or target 0) ordinal) drawn accepted in
+      subst (λ (d : Drawn). Adds H d.group) k.1 (single maker (Unassigned p (unwrap_or target 0) ordinal) registered tt (unassigned-ruled paper target k.0))

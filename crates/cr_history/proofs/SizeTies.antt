@@ -1,24 +1,26 @@
--- Where each entry fits in its turn, the tables hold no more accounts and papers than rows can number, and ties to no
+-- Where each entry fits in its turn, the tables hold no more accounts and papers than rows can number, and ties and seats at no
 -- others.
-use Rattle.std.proofs.Common.{ℕ, ◌≤◌, ◌-◌, List, [], ◌∷◌, length, refl, arith, length-append}
+use Rattle.std.proofs.Common.{ℕ, ◌≤◌, ◌-◌, List, [], ◌∷◌, length, refl, arith, length-append, IsTrue}
 use Rattle.cr_base.specs.declared.entry.Account.{Account}
 use Rattle.cr_base.specs.declared.entry.Entry.{Entry}
 use Rattle.cr_base.specs.declared.entry.Entry.TheVariants.{Registered, Named, Submitted, Revised, Withdrawn}
 use Rattle.cr_base.specs.declared.words.Role.TheVariants as role
 use Rattle.cr_base.specs.Accounts.{accounts_after, AccountsFit}
 use Rattle.cr_base.specs.Papers.{PapersState, new_paper, with_texts, as_withdrawn, papers_after, paper_count, PapersFit}
-use Rattle.cr_base.specs.Ties.{AreWithin}
+use Rattle.cr_base.specs.Ties.{are_within, AreWithin}
 use Rattle.cr_base.specs.History.{History}
 use Rattle.cr_base.specs.Tables.{Tables, no_tables, tables_after, tables_from, tables_of, FitInTurn}
 use Rattle.cr_base.proofs.AccountLaws.{length-with_role}
 use Rattle.cr_base.proofs.PaperLaws.{length-with_paper}
+use Rattle.cr_base.proofs.SeatLaws.{seats-within}
 use Rattle.cr_base.proofs.TieLaws.{within-after}
 
--- accounts and papers are few, and what users are tied to is one of the papers
+-- accounts and papers are few, and what users are tied to, or assigned to, is one of the papers
 pub record IsSized (t : Tables) : Type 0 where
   pub accounts : length t.accounts ≤ 9999
   pub papers : paper_count t.papers ≤ 9999
   pub ties : AreWithin (paper_count t.papers) t.ties
+  pub seats : IsTrue (are_within (paper_count t.papers) t.seats)
 
 accounts-few : (accounts : List Account) (e : Entry) → AccountsFit accounts e → length accounts ≤ 9999 → length (accounts_after accounts e) ≤ 9999
 accounts-few accounts (Registered user name digest) fits h =
@@ -47,7 +49,8 @@ sized-from t (s ∷ H) fits sized =
       accounts = accounts-few t.accounts s.entry fits.0.accounts sized.accounts;
       papers = papers-few t.papers s.maker s.entry fits.0.papers sized.papers;
       ties = within-after t.papers t.ties s.maker s.entry fits.0.papers sized.ties;
+      seats = seats-within t.papers t.seats s.maker s.entry fits.0.papers sized.seats;
     })
 
 pub sized-tables : (H : History) → FitInTurn no_tables H → IsSized (tables_of H)
-sized-tables H fits = sized-from no_tables H fits (record { accounts = omega arith; papers = omega arith; ties = record { authors = refl; conflicts = refl } })
+sized-tables H fits = sized-from no_tables H fits (record { accounts = omega arith; papers = omega arith; ties = record { authors = refl; conflicts = refl }; seats = refl })

@@ -1,6 +1,7 @@
 -- The tables and rows of more entries; and where each fits in its turn, how a user stands by a history is how she stands by
 -- its tables.
 use Rattle.std.proofs.Common.{ℕ, Bool, ◌≡◌, [], ◌∷◌, ◌++◌, ap, Option}
+use Rattle.std.specs.Prelude.{is_some}
 use Rattle.std.proofs.lemmas.List.{map-append}
 use Rattle.std.proofs.lemmas.List.Sums.{fold-append}
 use Rattle.cr_base.specs.Lists.{at_some}
@@ -13,6 +14,7 @@ use Rattle.cr_history.proofs.ConflictTies.{is_conflicted-tables}
 use Rattle.cr_history.proofs.StageTies.{phase_of-tables, mode_of-tables}
 use Rattle.cr_history.proofs.RoleTies.{role_of-tables}
 use Rattle.cr_history.proofs.PaperTies.{is_author-tables}
+use Rattle.cr_history.proofs.SeatTies.{seat_of-tables}
 
 -- ---- more entries
 
@@ -36,4 +38,12 @@ pub standing_of-tables : (u paper : Option ℕ) (H : History) → FitInTurn no_t
 standing_of-tables u paper H fits =
     let author = ap (λ (says : ℕ → Bool). at_some says paper) (λ i p. is_author-tables u p H i) in
     let conflicted = ap (λ (says : ℕ → Bool). at_some says paper) (λ i p. is_conflicted-tables u p H i) in
-    λ i. record { phase = phase_of-tables H i; mode = mode_of-tables H i; role = role_of-tables u H fits i; author = author i; conflicted = conflicted i }
+    let reviewer = ap (λ (says : ℕ → Bool). at_some says paper) (λ i p. is_some (seat_of-tables u p H fits i)) in
+    λ i. record {
+      phase = phase_of-tables H i;
+      mode = mode_of-tables H i;
+      role = role_of-tables u H fits i;
+      author = author i;
+      conflicted = conflicted i;
+      reviewer = reviewer i;
+    }
