@@ -10,7 +10,7 @@ use Rattle.cr_base.specs.declared.entry.Stamped.{Stamped}
 use Rattle.cr_base.specs.declared.pairs.Order.TheVariants.{ByPaper}
 use Rattle.cr_base.specs.declared.pairs.Pair.{Pair}
 use Rattle.cr_base.specs.Lists.{given, last_or, is_number}
-use Rattle.cr_base.specs.History.{History, all_told, conflict_told, declared_told}
+use Rattle.cr_base.specs.History.{History, conflict_told, declared_told}
 use Rattle.cr_base.specs.HistoryFacts.{is_conflict_on, is_conflicted, declared_by_authors}
 use Rattle.cr_base.specs.Pairs.{same_pair, with_tie, has_pair}
 use Rattle.cr_base.specs.Papers.{PapersState, new_paper, with_texts, as_withdrawn, papers_after, paper_count, PapersFit}

@@ -1,5 +1,5 @@
 -- Where each entry fits in its turn, what a history tells of a paper's reviewers is what the table of seats has.
-use Rattle.std.proofs.Common.{ℕ, Bool, true, false, cond, ◌≡◌, ◌≤◌, ◌+◌, List, [], ◌∷◌, ◌++◌, length, eqb, refl, sym, ap, subst, ◌∙◌, ◌&&◌, ◌||◌, arith, append_assoc, append-nil, Option, Some, None}
+use Rattle.std.proofs.Common.{ℕ, Bool, true, false, cond, ◌≡◌, ◌≤◌, ◌+◌, List, [], ◌∷◌, ◌++◌, length, eqb, refl, sym, ap, subst, ◌∙◌, ◌&&◌, ◌||◌, arith, append_assoc, append-nil, Option, Some}
 use Rattle.std.specs.Prelude.{nat_le, not, map, filter, find}
 use Rattle.std.specs.List.{AllByRecursion, list_any}
 use Rattle.std.specs.Option.{option_map}
