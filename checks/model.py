@@ -1,0 +1,516 @@
+"""A small model of confd, written from docs/SPEC.md and from nothing else.
+
+A conference is a list of entries; each answer, each rule and each line of a view is read off that list anew, with no table
+beside it. It is slow and short, and stands against the program in `random_runs.py` and behind the cases that
+`write_cases.py` writes. It answers requests whose bodies are well formed; what is wrong with a body or a head stands in cases.
+"""
+import hashlib
+import json
+import re
+
+PHASES = ["setup", "submission", "bidding", "reviewing", "discussion", "notification", "closed"]
+NAME = re.compile(r"^[a-z0-9-]{1,32}$")
+
+
+def dump(x):
+    return json.dumps(x, separators=(",", ":"), sort_keys=True, ensure_ascii=False)
+
+
+def err(code, name):
+    return code, dump({"error": name})
+
+
+CODE = {"no_user": 404, "no_paper": 404, "no_content": 404, "not_chair": 403, "not_member": 403, "not_author": 403,
+        "conflict": 403, "not_reviewer": 403}
+
+
+class Conference:
+    def __init__(self):
+        self.history = []  # (maker, kind, fields)
+
+    # ---- facts
+    def entries_of(self, kind):
+        return [(m, f) for m, k, f in self.history if k == kind]
+
+    @property
+    def phase(self):
+        ps = self.entries_of("phase")
+        return ps[-1][1] if ps else "setup"
+
+    @property
+    def mode(self):
+        ms = self.entries_of("mode")
+        return ms[-1][1] if ms else "blind"
+
+    def is_from(self, phase):
+        return PHASES.index(self.phase) >= PHASES.index(phase)
+
+    def users(self):
+        return [f for m, f in self.entries_of("registered")]
+
+    def number_of(self, name):
+        for u, n in self.users():
+            if n == name:
+                return u
+        return None
+
+    def name_of(self, user):
+        return self.users()[user - 1][1]
+
+    def role_of(self, u):
+        r = "account"
+        for m, (v, role) in self.entries_of("named"):
+            if v == u:
+                r = role
+        return r
+
+    def papers(self):
+        return [f[0] for m, f in self.entries_of("submitted")]
+
+    def authors(self, p):
+        out = []
+        for m, k, f in self.history:
+            if k == "submitted" and f[0] == p:
+                out.append(m)
+            if k == "coauthor" and f[0] == p:
+                out.append(f[1])
+        return out
+
+    def declared_on(self, u, p):
+        on = False
+        for m, (q, v, o) in self.entries_of("conflict"):
+            if (q, v) == (p, u):
+                on = o
+        return on
+
+    def conflicted(self, u, p):
+        return u in self.authors(p) or self.declared_on(u, p)
+
+    def seat_of(self, u, p):
+        s = None
+        for m, k, f in self.history:
+            if k == "assigned" and f[:2] == (p, u):
+                s = f[3]
+            if k == "unassigned" and f[:2] == (p, u):
+                s = None
+        return s
+
+    def labels(self, p):
+        return len([1 for m, f in self.entries_of("assigned") if f[0] == p])
+
+    def reviewers(self, p):
+        gone = [f[2] for m, f in self.entries_of("unassigned") if f[0] == p]
+        return [f for m, f in self.entries_of("assigned") if f[0] == p and f[3] not in gone]
+
+    def withdrawn(self, p):
+        return any(f == p for m, f in self.entries_of("withdrawn"))
+
+    def uploads(self, p):
+        return [f for m, f in self.entries_of("uploaded") if f[0] == p]
+
+    def last_texts(self, p):
+        t = None
+        for m, k, f in self.history:
+            if k in ("submitted", "revised") and f[0] == p:
+                t = f[1:]
+        return t
+
+    def bid_of(self, u, p):
+        b = None
+        for m, (q, v) in self.entries_of("bid"):
+            if (m, q) == (u, p):
+                b = v
+        return b
+
+    # ---- one request
+    def ask(self, who, method, path, body=None):
+        """who: a registered name, or '-' for nobody."""
+        u = self.number_of(who) if who != "-" else None
+        parts = path.strip("/").split("/")
+        key = parts[0]
+        if path == "/register":
+            return self.register(body)
+        if path == "/accounts":
+            return 200, dump({"accounts": [{"name": n, "role": self.role_of(v), "user": v} for v, n in self.users()]})
+        if path == "/phase" and method == "GET":
+            return 200, dump({"mode": self.mode, "papers": len(self.papers()), "phase": self.phase})
+        if u is None:
+            return err(401, "unauthorized")
+        if path == "/phase":
+            return self.set_phase(u, body["phase"])
+        if path == "/mode":
+            return self.set_mode(u, body["mode"])
+        if path == "/members":
+            return self.member(u, body)
+        if path == "/me":
+            return self.me(u)
+        if path == "/papers":
+            return self.submit(u, body)
+        p = int(parts[1]) if re.match(r"^[1-9][0-9]*$", parts[1]) and int(parts[1]) <= 9999 else None
+        rest = parts[2:]
+        if not rest:
+            if method == "GET":
+                return self.page(u, p)
+            if method == "DELETE":
+                return self.withdraw(u, p)
+            return self.revise(u, p, body)
+        if rest == ["content"]:
+            if method == "GET":
+                return self.content(u, p, None)
+            return self.upload(u, p, body)
+        if rest[0] == "content":
+            return self.content(u, p, int(rest[1]))
+        if rest == ["conflicts"]:
+            return self.conflict(u, p, body)
+        if rest == ["bid"]:
+            return self.set_bid(u, p, body)
+        if rest == ["reviewers"]:
+            return self.assign(u, p, body)
+        if rest[0] == "reviewers":
+            return self.unassign(u, p, rest[1])
+        raise ValueError(path)
+
+    def first(self, *rules):
+        for broken, rule in rules:
+            if broken:
+                return err(CODE.get(rule, 409), rule)
+        return None
+
+    def register(self, body):
+        if self.number_of(body["name"]):
+            return err(409, "name_taken")
+        u = len(self.users()) + 1
+        self.history.append((u, "registered", (u, body["name"])))
+        if u == 1:
+            self.history.append((u, "named", (u, "chair")))
+        return 201, dump({"user": u})
+
+    def set_phase(self, u, to):
+        r = self.first((self.role_of(u) != "chair", "not_chair"),
+                       (PHASES.index(to) != PHASES.index(self.phase) + 1, "wrong_phase"))
+        if r:
+            return r
+        self.history.append((u, "phase", to))
+        return 200, dump({"phase": to})
+
+    def set_mode(self, u, to):
+        r = self.first((self.role_of(u) != "chair", "not_chair"), (self.phase != "setup", "wrong_phase"))
+        if r:
+            return r
+        self.history.append((u, "mode", to))
+        return 200, dump({"mode": to})
+
+    def member(self, u, body):
+        t = self.number_of(body["name"])
+        rank = {"account": 0, "member": 1, "chair": 2}
+        r = self.first((t is None, "no_user"), (self.role_of(u) != "chair", "not_chair"), (self.is_from("notification"), "wrong_phase"),
+                       (t and rank[self.role_of(t)] >= rank[body["role"]], "already_named"))
+        if r:
+            return r
+        self.history.append((u, "named", (t, body["role"])))
+        return 200, dump({"name": body["name"], "role": body["role"]})
+
+    def submit(self, u, body):
+        co = [self.number_of(n) for n in body.get("authors", [])]
+        r = self.first((None in co, "no_user"), (self.phase != "submission", "wrong_phase"))
+        if r:
+            return r
+        p = len(self.papers()) + 1
+        self.history.append((u, "submitted", (p, body["title"], body["abstract"])))
+        seen = [u]
+        for v in co:
+            if v not in seen:
+                seen.append(v)
+                self.history.append((u, "coauthor", (p, v)))
+        return 201, dump({"paper": p})
+
+    def is_there(self, p):
+        return p in self.papers()
+
+    def own(self, u, p):
+        return ((not self.is_there(p), "no_paper"), (u not in self.authors(p), "not_author"), (self.phase != "submission", "wrong_phase"),
+                (self.withdrawn(p), "withdrawn"))
+
+    def revise(self, u, p, body):
+        r = self.first(*self.own(u, p))
+        if r:
+            return r
+        self.history.append((u, "revised", (p, body["title"], body["abstract"])))
+        return 200, dump({"paper": p})
+
+    def withdraw(self, u, p):
+        r = self.first(*self.own(u, p))
+        if r:
+            return r
+        self.history.append((u, "withdrawn", p))
+        return 200, dump({"paper": p})
+
+    def upload(self, u, p, body):
+        r = self.first(*self.own(u, p))
+        if r:
+            return r
+        v = len(self.uploads(p)) + 1
+        self.history.append((u, "uploaded", (p, v, body)))
+        return 200, dump({"version": v})
+
+    def content(self, u, p, v):
+        author = u in self.authors(p)
+        member = self.role_of(u) != "account"
+        ups = self.uploads(p)
+        told = ups if author else ups[-1:]
+        got = told[-1:] if v is None else [x for x in told if x[1] == v]
+        r = self.first((not self.is_there(p), "no_paper"), (not author and not member, "not_member"),
+                       (not author and self.conflicted(u, p), "conflict"),
+                       (not author and not self.is_from("bidding"), "wrong_phase"), (not got, "no_content"))
+        return r if r else (200, "bytes: " + got[0][2])
+
+    def committee(self):
+        return self.is_from("bidding") and not self.is_from("notification")
+
+    def conflict(self, u, p, body):
+        t, on = self.number_of(body["user"]), body["on"]
+        rules = [(not self.is_there(p), "no_paper"), (t is None, "no_user")]
+        r = self.first(*rules)
+        if r:
+            return r
+        chair, wd = self.role_of(u) == "chair", (self.withdrawn(p), "withdrawn")
+        nam = (self.role_of(t) == "account", "not_a_member")
+        if on and not self.is_from("bidding"):
+            rules = [(u not in self.authors(p), "not_author"), wd, nam]
+        elif on and self.committee() and t == u:
+            rules = [(self.role_of(u) == "account", "not_member"), wd]
+        elif on and self.committee():
+            rules = [(not chair, "not_chair"), (self.conflicted(u, p), "conflict"), wd, nam]
+        elif on:
+            rules = [(True, "wrong_phase")]
+        else:
+            rules = [(not chair, "not_chair"), (self.conflicted(u, p), "conflict"), (not self.committee(), "wrong_phase"), wd, nam,
+                     (t in self.authors(p), "author_conflict")]
+        r = self.first(*rules)
+        if r:
+            return r
+        self.history.append((u, "conflict", (p, t, on)))
+        return 200, dump({"paper": p})
+
+    def set_bid(self, u, p, body):
+        r = self.first((not self.is_there(p), "no_paper"), (self.role_of(u) == "account", "not_member"), (self.conflicted(u, p), "conflict"),
+                       (self.phase != "bidding", "wrong_phase"), (self.withdrawn(p), "withdrawn"))
+        if r:
+            return r
+        self.history.append((u, "bid", (p, body["bid"])))
+        return 200, dump({"bid": body["bid"]})
+
+    def chairs_rules(self, u, p, t):
+        return [(not self.is_there(p), "no_paper"), (t is None, "no_user"), (self.role_of(u) != "chair", "not_chair"),
+                (self.conflicted(u, p), "conflict"), (not self.committee(), "wrong_phase"), (self.withdrawn(p), "withdrawn")]
+
+    def assign(self, u, p, body):
+        t = self.number_of(body["user"])
+        r = self.first(*self.chairs_rules(u, p, t))
+        r = r or self.first((self.role_of(t) == "account", "not_a_member"), (self.conflicted(t, p), "target_conflict"),
+                            (self.seat_of(t, p) is not None, "already_assigned"), (self.labels(p) >= 26, "labels_spent"))
+        if r:
+            return r
+        o = self.labels(p) + 1
+        self.history.append((u, "assigned", (p, t, body["kind"], o)))
+        return 201, dump({"label": chr(64 + o)})
+
+    def unassign(self, u, p, name):
+        t = self.number_of(name)
+        r = self.first(*self.chairs_rules(u, p, t))
+        r = r or self.first((self.seat_of(t, p) is None, "not_assigned"),)
+        if r:
+            return r
+        self.history.append((u, "unassigned", (p, t, self.seat_of(t, p))))
+        return 200, dump({"paper": p})
+
+    def me(self, u):
+        ps = self.papers()
+        return 200, dump({
+            "assigned": [p for p in ps if self.seat_of(u, p) is not None],
+            "bytes": sum(len(f[2]) for m, f in self.entries_of("uploaded") if m == u), "comments": 0,
+            "conflicts": [p for p in ps if self.conflicted(u, p) and u not in self.authors(p)], "name": self.name_of(u),
+            "papers": [p for p in ps if u in self.authors(p)], "role": self.role_of(u), "user": u})
+
+    def page(self, u, p):
+        author = p in self.papers() and u in self.authors(p)
+        member, chair = self.role_of(u) != "account", self.role_of(u) == "chair"
+        r = self.first((not self.is_there(p), "no_paper"), (not member and not author, "not_member"))
+        if r:
+            return r
+        clear = not self.conflicted(u, p)
+        cm, cc = member and clear, chair and clear
+        bidding, disc, notif = self.is_from("bidding"), self.is_from("discussion"), self.is_from("notification")
+        anon = self.mode == "anonymous"
+        out = {"paper": p}
+        title, abstract = self.last_texts(p)
+        if author or (cm and bidding):
+            out["abstract"] = abstract
+        if author or (cc and bidding) or (cm and bidding and not anon):
+            out["authors"] = [self.name_of(v) for v in self.authors(p)]
+        if cm and bidding:
+            out["bid"] = self.bid_of(u, p) or 0
+        if cc and bidding:
+            out["bids"] = [{"bid": self.bid_of(v, p), "user": n} for v, n in self.users() if self.bid_of(v, p) is not None]
+        if member or author:
+            out["conflict"] = self.conflicted(u, p)
+        if cc and bidding:
+            out["conflicts"] = [n for v, n in self.users() if self.declared_on(v, p)]
+        if (cm and disc) or (author and notif):
+            out["decision"] = "none"
+        if author:
+            by = [f[1] for m, f in self.entries_of("conflict") if f[0] == p and m in self.authors(p)]
+            out["declared"] = [n for v, n in self.users() if v in by]
+        if cm and self.seat_of(u, p) is not None:
+            out["label"] = chr(64 + self.seat_of(u, p))
+        lab = lambda f: chr(64 + f[3])
+        if cc and bidding:
+            out["reviewers"] = [{"done": False, "kind": f[2], "label": lab(f), "user": self.name_of(f[1])} for f in self.reviewers(p)]
+        elif cm and disc:
+            out["reviewers"] = [{"kind": f[2], "label": lab(f), **({} if anon else {"user": self.name_of(f[1])})} for f in self.reviewers(p)]
+        elif author and notif and self.mode == "open":
+            out["reviewers"] = [{"label": lab(f), "user": self.name_of(f[1])} for f in self.reviewers(p)]
+        if cm and bidding:
+            out["tags"] = []
+        if author or (member and bidding):
+            out["title"] = title
+        ups = [f[1] for f in self.uploads(p)]
+        if author:
+            out["versions"] = ups
+        elif cm and bidding:
+            out["versions"] = ups[-1:]
+        if author or (member and bidding):
+            out["withdrawn"] = self.withdrawn(p)
+        return 200, dump(out)
+
+
+def view_lines(c, who):
+    """What `confd view` prints for a user, line by line, by the table of who sees what."""
+    u = c.number_of(who)
+    role = c.role_of(u)
+    member, chair = role != "account", role == "chair"
+    bidding, disc, notif = c.is_from("bidding"), c.is_from("discussion"), c.is_from("notification")
+    anon, overt = c.mode == "anonymous", c.mode == "open"
+    out = []
+
+    def last_text(i, p):
+        return not any(k in ("submitted", "revised") and f[0] == p for m, k, f in c.history[i + 1:])
+
+    def last_upload(i, p):
+        return not any(k == "uploaded" and f[0] == p for m, k, f in c.history[i + 1:])
+
+    for i, (m, k, f) in enumerate(c.history):
+        mine = m == u
+        shown = {}
+        seen = mine
+
+        def row(test, parts):
+            nonlocal seen
+            if test:
+                seen = True
+                shown.update(parts)
+
+        if k == "registered":
+            digest = hashlib.sha256(f"{f[1]}-secret-000001".encode()).hexdigest()
+            row(True, {"user": f[0], "name": f[1]})
+            row(mine, {"user": f[0], "name": f[1], "digest": digest})
+            kind = "registered"
+        elif k == "named":
+            row(True, {"user": f[0], "role": f[1]})
+            kind = "named"
+        elif k == "phase":
+            row(True, {"phase": f})
+            kind = "phaseset"
+        elif k == "mode":
+            row(True, {"mode": f})
+            kind = "modeset"
+        else:
+            p = f if k == "withdrawn" else f[0]
+            author, clear = u in c.authors(p), not c.conflicted(u, p)
+            cm, cc = member and clear, chair and clear
+            kind = k
+            if k == "submitted":
+                whole = {"paper": p, "title": f[1], "abstract": f[2]}
+                row(True, {"paper": p})
+                row(author, {**whole, "by": m})
+                row(mine, whole)
+                row(last_text(i, p) and member and bidding, {"title": f[1]})
+                row(last_text(i, p) and cm and bidding, {"abstract": f[2]})
+                row((cc or (cm and not anon)) and bidding, {"by": m})
+            if k == "coauthor":
+                whole = {"paper": p, "user": f[1]}
+                row(author or mine or ((cc or (cm and not anon)) and bidding), whole)
+            if k == "revised":
+                whole = {"paper": p, "title": f[1], "abstract": f[2]}
+                row(author or mine, whole)
+                row(last_text(i, p) and member and bidding, {"paper": p, "title": f[1]})
+                row(last_text(i, p) and cm and bidding, {"abstract": f[2]})
+            if k == "uploaded":
+                whole = {"paper": p, "version": f[1], "bytes": len(f[2])}
+                row(author or mine or (last_upload(i, p) and cm and bidding), whole)
+            if k == "withdrawn":
+                row(author or mine or (member and bidding), {"paper": p})
+            if k == "conflict":
+                whole = {"paper": p, "user": f[1], "on": f[2]}
+                row(f[1] == u or mine or (m in c.authors(p) and author) or (cc and bidding), whole)
+            if k == "bid":
+                row(mine, {"paper": p, "value": f[1]})
+                row(cc and bidding, {"paper": p, "value": f[1], "user": m})
+            if k in ("assigned", "unassigned"):
+                whole = {"paper": p, "user": f[1], "ordinal": f[-1]}
+                if k == "assigned":
+                    whole["seat"] = f[2]
+                row(mine or f[1] == u or cc, whole)
+                row(cm and disc, {x: y for x, y in whole.items() if x != "user"})
+                row(cm and disc and not anon, {"paper": p, "user": f[1]})
+                row(author and overt and notif, {"paper": p, "user": f[1], "ordinal": f[-1]})
+        if seen:
+            out.append(dump({"kind": kind, **({"mine": True} if mine else {}), **shown}))
+    return out
+
+
+def rows(c):
+    """The rows of the entries, as a case of stores tells them; a submission's entries and its co-authors are one command."""
+    out = []
+    modes = {"open": 0, "blind": 1, "anonymous": 2}
+    roles = {"member": 1, "chair": 2}
+    seats = {"primary": 1, "secondary": 2, "pc": 3}
+    esc = lambda t: t.replace("\\", "\\\\").replace(" ", "\\x20") if t else "-"
+    for i, (m, k, f) in enumerate(c.history):
+        nxt = c.history[i + 1] if i + 1 < len(c.history) else None
+        more = 0
+        if k == "registered" and f[0] == 1:
+            more = 1
+        if k in ("submitted", "coauthor") and nxt and nxt[1] == "coauthor":
+            more = 1
+        b1 = b2 = "-"
+        n = [0, 0, 0, 0, 0]
+        if k == "registered":
+            kind, n[0], b1 = 1, f[0], f[1]
+            b2 = "#" + hashlib.sha256(f"{f[1]}-secret-000001".encode()).hexdigest()
+        if k == "named":
+            kind, n[0], n[1] = 2, f[0], roles[f[1]]
+        if k == "phase":
+            kind, n[0] = 3, PHASES.index(f)
+        if k == "mode":
+            kind, n[0] = 4, modes[f]
+        if k == "submitted":
+            kind, n[0], b1, b2 = 5, f[0], esc(f[1]), esc(f[2])
+        if k == "coauthor":
+            kind, n[0], n[1] = 6, f[0], f[1]
+        if k == "revised":
+            kind, n[0], b1, b2 = 7, f[0], esc(f[1]), esc(f[2])
+        if k == "uploaded":
+            kind, n[0], n[1], b1 = 8, f[0], f[1], esc(f[2])
+        if k == "withdrawn":
+            kind, n[0] = 9, f
+        if k == "conflict":
+            kind, n[0], n[1], n[2] = 10, f[0], f[1], int(f[2])
+        if k == "bid":
+            kind, n[0], n[1] = 11, f[0], f[1] + 20
+        if k == "assigned":
+            kind, n[0], n[1], n[2], n[3] = 12, f[0], f[1], seats[f[2]], f[3]
+        if k == "unassigned":
+            kind, n[0], n[1], n[2] = 13, f[0], f[1], f[2]
+        out.append(f"{kind} {m} {more} {n[0]} {n[1]} {n[2]} {n[3]} {n[4]} {b1} {b2}")
+    return out

@@ -1,0 +1,168 @@
+#!/usr/bin/env python3
+"""Random conferences, against a small model of the server.
+
+    checks/random_runs.py [RUNS] [SEED]        20 runs from seed 1 where none are told
+
+Each run makes up a conference of nine users from its seed and asks a few hundred requests of `confd pipe` with a store:
+every command and query by every kind of caller, in and out of its phase, most of them refused. Each answer, and then what
+`confd view` prints for each user, has to be what `model.py` gives, which is written from docs/SPEC.md and knows no tables.
+Ends with status 0 where all of it is, and else tells the seed, the request, what came and what was due.
+"""
+import os
+import random
+import subprocess
+import sys
+import tempfile
+
+from model import Conference, PHASES, dump, view_lines
+
+TOP = os.path.dirname(os.path.dirname(os.path.abspath(__file__)))
+CONFD = os.path.join(TOP, "crates/confd/out/confd")
+NAMES = ["alice", "bob", "carol", "dave", "erin", "fay", "gus", "hal", "ivy"]
+STRANGERS = ["zoe", "Bob!", ""]
+
+
+def secret(name):
+    return f"{name}-secret-000001"
+
+
+class Run:
+    """The requests of one conference, with the answers that the model gives."""
+
+    def __init__(self, seed):
+        self.random = random.Random(seed)
+        self.model = Conference()
+        self.asked = []
+        for name in NAMES:
+            self.ask("-", "POST", "/register", {"name": name, "secret": secret(name)})
+        for name in NAMES[1:]:
+            role = self.random.choice(["account", "member", "member", "chair"])
+            if role != "account":
+                self.ask("alice", "POST", "/members", {"name": name, "role": role})
+        if self.random.random() < 0.7:
+            self.ask("alice", "POST", "/mode", {"mode": self.random.choice(["open", "blind", "anonymous"])})
+        steps = {"setup": 5, "submission": 60, "bidding": 90, "reviewing": 50, "discussion": 70, "notification": 50, "closed": 25}
+        for phase in PHASES:
+            if phase != "setup":
+                self.ask("alice", "POST", "/phase", {"phase": phase})
+            for _ in range(self.random.randint(steps[phase] // 2, steps[phase])):
+                self.step()
+
+    def ask(self, who, method, path, body=None):
+        code, content = self.model.ask(who, method, path, body)
+        self.asked.append((who, method, path, body, code, content))
+
+    def paper(self):
+        count = len(self.model.papers())
+        return self.random.choice([str(self.random.randint(1, max(1, count)))] * 30 + [str(count + 1), "0", "01", "zoe", "10000"])
+
+    def name(self):
+        return self.random.choice(NAMES * 4 + STRANGERS[:2])
+
+    def step(self):
+        choose = self.random
+        who, p = choose.choice(NAMES * 6 + ["-"]), self.paper()
+        title = choose.choice(["Proofs", "Types", "A paper, \"quoted\"", "Übung"])
+        texts = {"title": title, "abstract": choose.choice(["", "We prove.", "Two\nlines.\t\\"])}
+        deed = choose.choice(["page"] * 5 + ["me"] * 2 + ["bid", "assign", "assign", "unassign", "conflict", "conflict"] * 2 +
+                             ["submit", "revise", "withdraw", "upload", "content", "version", "member", "accounts", "phase", "back"])
+        if deed == "page":
+            self.ask(who, "GET", f"/papers/{p}")
+        elif deed == "me":
+            self.ask(who, "GET", "/me")
+        elif deed == "bid":
+            self.ask(who, "PUT", f"/papers/{p}/bid", {"bid": choose.randint(-20, 20)})
+        elif deed == "assign":
+            self.ask(who, "POST", f"/papers/{p}/reviewers", {"kind": choose.choice(["primary", "secondary", "pc"]), "user": self.name()})
+        elif deed == "unassign":
+            self.ask(who, "DELETE", f"/papers/{p}/reviewers/{self.name()}")
+        elif deed == "conflict":
+            self.ask(who, "POST", f"/papers/{p}/conflicts", {"on": choose.random() < 0.6, "user": self.name()})
+        elif deed == "submit":
+            told = [self.name() for _ in range(choose.choice([0, 0, 0, 1, 3]))]
+            self.ask(who, "POST", "/papers", {**texts, "authors": told})
+        elif deed == "revise":
+            self.ask(who, "PUT", f"/papers/{p}", texts)
+        elif deed == "withdraw":
+            if choose.random() < 0.3:
+                self.ask(who, "DELETE", f"/papers/{p}")
+        elif deed == "upload":
+            self.ask(who, "PUT", f"/papers/{p}/content", "x" * choose.randint(0, 9))
+        elif deed == "content":
+            self.ask(who, "GET", f"/papers/{p}/content")
+        elif deed == "version":
+            self.ask(who, "GET", f"/papers/{p}/content/{choose.randint(1, 3)}")
+        elif deed == "member":
+            self.ask(who, "POST", "/members", {"name": self.name(), "role": choose.choice(["member", "chair"])})
+        elif deed == "accounts":
+            self.ask(who, "GET", "/accounts")
+        elif deed == "phase":
+            self.ask(who, "GET", "/phase")
+        else:
+            self.ask(who, "POST", "/phase", {"phase": "setup"})
+
+
+def spelled(who, method, path, body):
+    """A request's bytes."""
+    lines = [f"{method} {path} HTTP/1.1", "Host: c"]
+    if who != "-":
+        lines.append(f"Authorization: Bearer {who}.{secret(who)}")
+    content = b"" if body is None else (body if isinstance(body, str) else dump(body)).encode()
+    lines.append(f"Content-Length: {len(content)}")
+    return "\r\n".join(lines).encode() + b"\r\n\r\n" + content
+
+
+def answers(text):
+    """The status and the content of each answer in these bytes."""
+    told = []
+    while text:
+        head, _, rest = text.partition(b"\r\n\r\n")
+        lines = head.decode().split("\r\n")
+        length = int(next(line.split(": ")[1] for line in lines if line.startswith("Content-Length")))
+        content = rest[:length].decode()
+        if "Content-Type: application/octet-stream" in lines:
+            content = "bytes: " + content
+        told.append((int(lines[0].split()[1]), content))
+        text = rest[length:]
+    return told
+
+
+def tried(seed):
+    """What is not as due in the run of this seed, if anything is, and how many answers and lines were compared."""
+    run = Run(seed)
+    with tempfile.TemporaryDirectory(prefix="random-run-") as room:
+        store = os.path.join(room, "store")
+        text = b"".join(spelled(*asked[:4]) for asked in run.asked)
+        child = subprocess.run([CONFD, "pipe", "--store", store], input=text, stdout=subprocess.PIPE, check=True)
+        told = answers(child.stdout)
+        for asked, answer in zip(run.asked, told):
+            if asked[4:] != answer:
+                return f"{' '.join(str(part) for part in asked[:4])}: came {answer}, due {asked[4:]}", 0
+        if len(told) != len(run.asked):
+            return f"{len(told)} answers to {len(run.asked)} requests", 0
+        count = len(told)
+        for name in NAMES:
+            lines = subprocess.run([CONFD, "view", "--store", store, "--user", name], stdout=subprocess.PIPE, check=True).stdout.decode().splitlines()
+            due = view_lines(run.model, name)
+            if lines != due:
+                unlike = next((pair for pair in zip(lines, due) if pair[0] != pair[1]), (f"{len(lines)} lines", f"{len(due)}"))
+                return f"the view of {name}: came {unlike[0]}, due {unlike[1]}", 0
+            count += len(lines)
+    return None, count
+
+
+def main():
+    runs = int(sys.argv[1]) if len(sys.argv) > 1 else 20
+    first = int(sys.argv[2]) if len(sys.argv) > 2 else 1
+    failed, compared = 0, 0
+    for seed in range(first, first + runs):
+        wrong, count = tried(seed)
+        compared += count
+        if wrong:
+            failed += 1
+            print(f"seed {seed}: {wrong}")
+    print(f"{runs - failed} runs passed, {failed} failed; {compared:,} answers and lines compared")
+    sys.exit(failed > 0)
+
+
+main()
