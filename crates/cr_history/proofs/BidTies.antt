@@ -44,7 +44,8 @@ module _ {V : Type 0} (order : Order) (q : Pair) (s : Tie V) where
       behind : Option V
       behind = value_of q ts
 
-      later : (is own : Bool) → (is ≡ true → own ≡ false) → cond is (Some t.value) (cond own (Some s.value) behind) ≡ cond own (Some s.value) (cond is (Some t.value) behind)
+      later : (is own : Bool) → (is ≡ true → own ≡ false)
+          → cond is (Some t.value) (cond own (Some s.value) behind) ≡ cond own (Some s.value) (cond is (Some t.value) behind)
       later true own h = sym (ap (λ b. cond b (Some s.value) (Some t.value)) (h refl))
       later false own h = refl
 
@@ -67,7 +68,8 @@ module _ {V : Type 0} (order : Order) (q : Pair) (s : Tie V) where
 
 -- ---- bids
 
-bid-entry : (p v : ℕ) (ties : TiesState) (maker : ℕ) (e : Entry) (rest : List ℕ) → last_from (bid_in ties (Some v) p) (bid_told (Some v) p maker e ++ rest) ≡ last_from (bid_in (ties_after ties maker e) (Some v) p) rest
+bid-entry : (p v : ℕ) (ties : TiesState) (maker : ℕ) (e : Entry) (rest : List ℕ)
+    → last_from (bid_in ties (Some v) p) (bid_told (Some v) p maker e ++ rest) ≡ last_from (bid_in (ties_after ties maker e) (Some v) p) rest
 bid-entry p v ties maker (Bid paper value) rest =
     let before : Option ℕ = bid_in ties (Some v) p in
     last_from-given (eqb paper p && eqb v maker) value before rest
@@ -87,4 +89,6 @@ nobody-entry p maker e = refl
 -- a user's last bid on a paper is the one that the table has
 pub bid_of-tables : (u : Option ℕ) (p : ℕ) (H : History) → bid_of u p H ≡ bid_in (tables_of H).ties u p
 bid_of-tables None p H = ap (last_from None) (each-silent (λ (s : Stamped). bid_told None p s.maker s.entry) (λ s. nobody-entry p s.maker s.entry) H)
-bid_of-tables (Some v) p H = told-always last_from (λ _. refl) (λ (t : Tables). bid_in t.ties (Some v) p) (λ (s : Stamped). bid_told (Some v) p s.maker s.entry) (λ t s. bid-entry p v t.ties s.maker s.entry) no_tables H
+bid_of-tables (Some v) p H =
+    told-always last_from (λ _. refl) (λ (t : Tables). bid_in t.ties (Some v) p) (λ (s : Stamped). bid_told (Some v) p s.maker s.entry)
+    (λ t s. bid-entry p v t.ties s.maker s.entry) no_tables H

@@ -29,7 +29,8 @@ module _ {A X : Type 0} (join : X → List A → X) (nothing : (x : X) → join 
   told-always one t (s ∷ H) = one t s (flat_map told H) ∙ told-always one (tables_after t s) H
 
   -- where it is so of entries that fit, and of tables of which more holds that stays so, they do after entries that fit in their turn
-  pub told-kept : (Holds : Tables → Type 0) → ((t : Tables) (s : Stamped) → Fits t s → Holds t → Holds (tables_after t s)) → ((t : Tables) (s : Stamped) → Fits t s → Holds t → Follows t s)
+  pub told-kept : (Holds : Tables → Type 0) → ((t : Tables) (s : Stamped) → Fits t s → Holds t → Holds (tables_after t s))
+      → ((t : Tables) (s : Stamped) → Fits t s → Holds t → Follows t s)
       → (t : Tables) (H : History) → FitInTurn t H → Holds t → join (get t) (flat_map told H) ≡ get (tables_from t H)
   told-kept Holds stays one t [] fits holds = nothing (get t)
   told-kept Holds stays one t (s ∷ H) fits holds =

@@ -7,7 +7,8 @@ use Rattle.std.proofs.lemmas.Bool.Decides.{nat_tests}
 use Rattle.std.proofs.lemmas.List.Elements.{All-from_recursion}
 use Rattle.cr_base.specs.declared.entry.Account.{Account}
 use Rattle.cr_base.specs.declared.entry.Entry.{Entry}
-use Rattle.cr_base.specs.declared.entry.Entry.TheVariants.{Registered, Named, PhaseSet, ModeSet, Submitted, Coauthor, Revised, Uploaded, Withdrawn, Conflict, Bid, Assigned, Unassigned}
+use Rattle.cr_base.specs.declared.entry.Entry.TheVariants.{Registered, Named, PhaseSet, ModeSet, Submitted, Coauthor, Revised, Uploaded, Withdrawn}
+use Rattle.cr_base.specs.declared.entry.Entry.TheVariants.{Conflict, Bid, Assigned, Unassigned}
 use Rattle.cr_base.specs.declared.entry.Stamped.{Stamped}
 use Rattle.cr_base.specs.declared.reply.AccountLine.{AccountLine}
 use Rattle.cr_base.specs.declared.words.Phase.{Phase}
@@ -90,8 +91,10 @@ module _ (H : History) (fits : FitInTurn no_tables H) where
   fits-about maker more (Withdrawn paper) fit = submitted-within paper fit.papers.0 fit.papers.1
   fits-about maker more (Conflict paper user on) fit = (submitted-within paper fit.papers.0 fit.papers.1, registered-within user fit.accounts.0 fit.accounts.1)
   fits-about maker more (Bid paper value) fit = submitted-within paper fit.papers.0 fit.papers.1
-  fits-about maker more (Assigned paper user kind ordinal) fit = (submitted-within paper fit.papers.0 fit.papers.1, registered-within user fit.accounts.0 fit.accounts.1)
-  fits-about maker more (Unassigned paper user ordinal) fit = (submitted-within paper fit.papers.0 fit.papers.1, registered-within user fit.accounts.0 fit.accounts.1)
+  fits-about maker more (Assigned paper user kind ordinal) fit =
+      (submitted-within paper fit.papers.0 fit.papers.1, registered-within user fit.accounts.0 fit.accounts.1)
+  fits-about maker more (Unassigned paper user ordinal) fit =
+      (submitted-within paper fit.papers.0 fit.papers.1, registered-within user fit.accounts.0 fit.accounts.1)
   fits-about maker more e fit = tt
 
 -- ---- numbers of fields
@@ -171,7 +174,8 @@ module _ (H : History) (fits : FitInTurn no_tables H) where
   bounded-entry maker more (Withdrawn paper) made ruled fit = record { maker = numbered maker made; more = bit_few more; n1 = paper_numbered paper fit.papers; n2 = zero_in; n3 = zero_in; n4 = zero_in; n5 = zero_in; b1 = refl; b2 = refl }
   bounded-entry maker more (Conflict paper user on) made ruled fit =
       record { maker = numbered maker made; more = bit_few more; n1 = paper_numbered paper fit.papers; n2 = account_numbered user fit.accounts; n3 = (omega arith, bit_few on); n4 = zero_in; n5 = zero_in; b1 = refl; b2 = refl }
-  bounded-entry maker more (Bid paper value) made ruled fit = record { maker = numbered maker made; more = bit_few more; n1 = paper_numbered paper fit.papers; n2 = (omega arith, ruled.texts); n3 = zero_in; n4 = zero_in; n5 = zero_in; b1 = refl; b2 = refl }
+  bounded-entry maker more (Bid paper value) made ruled fit =
+      record { maker = numbered maker made; more = bit_few more; n1 = paper_numbered paper fit.papers; n2 = (omega arith, ruled.texts); n3 = zero_in; n4 = zero_in; n5 = zero_in; b1 = refl; b2 = refl }
   bounded-entry maker more (Assigned paper user kind' ordinal) made ruled fit =
       let next = fit.seats.0 in
       record { maker = numbered maker made; more = bit_few more; n1 = paper_numbered paper fit.papers; n2 = account_numbered user fit.accounts; n3 = seat_number-few kind'; n4 = (omega (arith, next), fit.seats.1); n5 = zero_in; b1 = refl; b2 = refl }

@@ -11,7 +11,7 @@ use Rattle.cr_base.specs.declared.entry.Entry.TheVariants.{Submitted, Coauthor, 
 use Rattle.cr_base.specs.declared.entry.Stamped.{Stamped}
 use Rattle.cr_base.specs.declared.paper.Paper.{Paper}
 use Rattle.cr_base.specs.Lists.{given, last, last_from, last_or, total, is_number, numbered}
-use Rattle.cr_base.specs.History.{History, Upload, all_told, paper_told, own_paper_told, author_told, title_told, abstract_told, upload_told, own_bytes_told, withdrawal_told}
+use Rattle.cr_base.specs.History.{History, Upload, all_told, all_told_by, paper_told, own_paper_told, author_told, title_told, abstract_told, upload_told, own_bytes_told, withdrawal_told}
 use Rattle.cr_base.specs.HistoryFacts.{papers_of, own_papers_of, own_bytes_of, authors_of, is_author, title_of, abstract_of, uploads_of, is_withdrawn}
 use Rattle.cr_base.specs.Papers.{PapersState, PaperUpload, no_papers, with_more, new_paper, with_texts, as_withdrawn, papers_after, paper_numbers, text_at, title_at, abstract_at, is_withdrawn_at, uploads_at, own_count, own_bytes, PapersFit}
 use Rattle.cr_base.specs.Ties.{TiesState, ties_after, authors_in, is_author_in}
@@ -70,9 +70,17 @@ get-with_more (suc i) more (suc k) (n ∷ sums) = get-with_more i more k sums �
     step : (k i : ℕ) → eqb k i ≡ eqb (suc k) (suc i)
     step k i = grind (arith, nat_tests)
 
+-- a user's sum; nobody has any
+abbrev sum_at : List ℕ → Option ℕ → ℕ
+sum_at sums None = 0
+sum_at sums (Some v) = get_or sums v 0
+
 -- what is told, where it is the user's, comes to her sum
-sum-with_more : (v maker more told n : ℕ) (sums : List ℕ) → told ≡ cond (eqb v maker) more 0 → get_or sums v 0 + (told + n) ≡ get_or (with_more maker more sums) v 0 + n
-sum-with_more v maker more told n sums is = by (eqb v maker) (get_or sums v 0) is ∙ ap (λ m. m + n) (sym (get-with_more maker more v sums))
+sum-with_more : (u : Option ℕ) (maker more told n : ℕ) (sums : List ℕ) → told ≡ cond (is_number u maker) more 0
+    → sum_at sums u + (told + n) ≡ sum_at (with_more maker more sums) u + n
+sum-with_more None maker more told n sums is = omega (arith, is)
+sum-with_more (Some v) maker more told n sums is =
+    by (eqb v maker) (get_or sums v 0) is ∙ ap (λ m. m + n) (sym (get-with_more maker more v sums))
   where
     by : (b : Bool) (m : ℕ) → told ≡ cond b more 0 → m + (told + n) ≡ cond b (m + more) m + n
     by true m is = omega (arith, is)
@@ -81,33 +89,41 @@ sum-with_more v maker more told n sums is = by (eqb v maker) (get_or sums v 0) i
 plus_nothing : (n : ℕ) → n + 0 ≡ n
 plus_nothing n = omega arith
 
+-- where each entry adds to a user's sum what it tells of her, she has what all of them tell
+module _ (size : List ℕ → ℕ) (nil : size [] ≡ 0) (append : (xs ys : List ℕ) → size (xs ++ ys) ≡ size xs + size ys)
+    (sums : PapersState → List ℕ) (first : sums no_papers ≡ []) (u : Option ℕ) (told : ℕ → Entry → List ℕ) where
+  sum-tables : ((state : PapersState) (maker : ℕ) (e : Entry) (n : ℕ)
+      → sum_at (sums state) u + (size (told maker e) + n) ≡ sum_at (sums (papers_after state maker e)) u + n)
+      → (H : History) → size (all_told_by told H) ≡ sum_at (sums (tables_of H).papers) u
+  sum-tables one H =
+      none u (size (all_told_by told H)) ∙ ap (λ (ns : List ℕ). sum_at ns u + size (all_told_by told H)) (sym first)
+      ∙ told-always (λ n xs. n + size xs) (λ n. ap (λ m. n + m) nil ∙ plus_nothing n) (λ (t : Tables). sum_at (sums t.papers) u) (λ (s : Stamped). told s.maker s.entry)
+      (λ t s rest. ap (λ n. sum_at (sums t.papers) u + n) (append (told s.maker s.entry) rest) ∙ one t.papers s.maker s.entry (size rest)) no_tables H
+    where
+      none : (u : Option ℕ) (n : ℕ) → n ≡ sum_at [] u + n
+      none None n = omega arith
+      none (Some v) n = omega arith
+
 -- ---- how many papers are the user's own
 
-own-entry : (u : Option ℕ) (state : PapersState) (maker : ℕ) (e : Entry) (n : ℕ) → own_count state u + (length (own_paper_told u maker e) + n) ≡ own_count (papers_after state maker e) u + n
-own-entry None state maker (Submitted paper title abstract) n = omega arith
-own-entry (Some v) state maker (Submitted paper title abstract) n = sum-with_more v maker 1 (length (given (eqb v maker) paper)) n state.submitted (by (eqb v maker))
+own-entry : (u : Option ℕ) (state : PapersState) (maker : ℕ) (e : Entry) (n : ℕ)
+    → sum_at state.submitted u + (length (own_paper_told u maker e) + n) ≡ sum_at (papers_after state maker e).submitted u + n
+own-entry u state maker (Submitted paper title abstract) n =
+    sum-with_more u maker 1 (length (given (is_number u maker) paper)) n state.submitted (by (is_number u maker))
   where
     by : (b : Bool) → length (given b paper) ≡ cond b 1 0
     by true = refl
     by false = refl
-own-entry None state maker (Uploaded paper version content) n = omega arith
-own-entry (Some v) state maker (Uploaded paper version content) n = omega arith
-own-entry None state maker (Revised paper title abstract) n = omega arith
-own-entry (Some v) state maker (Revised paper title abstract) n = omega arith
-own-entry None state maker (Withdrawn paper) n = omega arith
-own-entry (Some v) state maker (Withdrawn paper) n = omega arith
 own-entry u state maker e n = omega arith
 
 -- a user's own papers are those that she submitted
 pub own_papers_of-tables : (u : Option ℕ) (H : History) → own_papers_of u H ≡ own_count (tables_of H).papers u
 own_papers_of-tables u H =
-    none u (own_papers_of u H)
-    ∙ told-always (λ n (papers : List ℕ). n + length papers) plus_nothing (λ (t : Tables). own_count t.papers u) (λ (s : Stamped). own_paper_told u s.maker s.entry)
-    (λ t s rest. ap (λ n. own_count t.papers u + n) (length-append (own_paper_told u s.maker s.entry) rest) ∙ own-entry u t.papers s.maker s.entry (length rest)) no_tables H
+    sum-tables length refl length-append (λ (state : PapersState). state.submitted) refl u (own_paper_told u) (own-entry u) H ∙ read u (tables_of H).papers
   where
-    none : (u : Option ℕ) (n : ℕ) → n ≡ own_count no_papers u + n
-    none None n = omega arith
-    none (Some v) n = omega arith
+    read : (u : Option ℕ) (state : PapersState) → sum_at state.submitted u ≡ own_count state u
+    read None state = refl
+    read (Some v) state = refl
 
 -- ---- how many bytes the user has uploaded
 
@@ -115,32 +131,24 @@ total-append : (ms ns : List ℕ) → total (ms ++ ns) ≡ total ms + total ns
 total-append [] ns = omega arith
 total-append (m ∷ ms) ns = let rest = total-append ms ns in omega (arith, rest)
 
-bytes-entry : (u : Option ℕ) (state : PapersState) (maker : ℕ) (e : Entry) (n : ℕ) → own_bytes state u + (total (own_bytes_told u maker e) + n) ≡ own_bytes (papers_after state maker e) u + n
-bytes-entry None state maker (Uploaded paper version content) n = omega arith
-bytes-entry (Some v) state maker (Uploaded paper version content) n =
-    sum-with_more v maker (length content) (total (given (eqb v maker) (length content))) n state.uploaded (by (eqb v maker))
+bytes-entry : (u : Option ℕ) (state : PapersState) (maker : ℕ) (e : Entry) (n : ℕ)
+    → sum_at state.uploaded u + (total (own_bytes_told u maker e) + n) ≡ sum_at (papers_after state maker e).uploaded u + n
+bytes-entry u state maker (Uploaded paper version content) n =
+    sum-with_more u maker (length content) (total (given (is_number u maker) (length content))) n state.uploaded (by (is_number u maker))
   where
     by : (b : Bool) → total (given b (length content)) ≡ cond b (length content) 0
     by true = plus_nothing (length content)
     by false = refl
-bytes-entry None state maker (Submitted paper title abstract) n = omega arith
-bytes-entry (Some v) state maker (Submitted paper title abstract) n = omega arith
-bytes-entry None state maker (Revised paper title abstract) n = omega arith
-bytes-entry (Some v) state maker (Revised paper title abstract) n = omega arith
-bytes-entry None state maker (Withdrawn paper) n = omega arith
-bytes-entry (Some v) state maker (Withdrawn paper) n = omega arith
 bytes-entry u state maker e n = omega arith
 
 -- a user's bytes are those of all that she uploaded
 pub own_bytes_of-tables : (u : Option ℕ) (H : History) → own_bytes_of u H ≡ own_bytes (tables_of H).papers u
 own_bytes_of-tables u H =
-    none u (own_bytes_of u H)
-    ∙ told-always (λ n (bytes : List ℕ). n + total bytes) plus_nothing (λ (t : Tables). own_bytes t.papers u) (λ (s : Stamped). own_bytes_told u s.maker s.entry)
-    (λ t s rest. ap (λ n. own_bytes t.papers u + n) (total-append (own_bytes_told u s.maker s.entry) rest) ∙ bytes-entry u t.papers s.maker s.entry (total rest)) no_tables H
+    sum-tables total refl total-append (λ (state : PapersState). state.uploaded) refl u (own_bytes_told u) (bytes-entry u) H ∙ read u (tables_of H).papers
   where
-    none : (u : Option ℕ) (n : ℕ) → n ≡ own_bytes no_papers u + n
-    none None n = omega arith
-    none (Some v) n = omega arith
+    read : (u : Option ℕ) (state : PapersState) → sum_at state.uploaded u ≡ own_bytes state u
+    read None state = refl
+    read (Some v) state = refl
 
 -- ---- the texts of a paper
 

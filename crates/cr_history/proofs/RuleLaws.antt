@@ -1,12 +1,14 @@
 -- What an accepted command adds, by the rules on the history before it.
-use Rattle.std.proofs.Common.{ℕ, Bool, true, false, cond, ◌≡◌, ◌≤◌, ◌<◌, ◌+◌, arith, List, [], ◌∷◌, length, eqb, refl, sym, ap, subst, ◌∙◌, ◌||◌, ◌&&◌, Option, Some, None, Ok}
+use Rattle.std.proofs.Common.{ℕ, Bool, true, false, cond, ◌≡◌, ◌≤◌, ◌<◌, ◌+◌, arith, List, [], ◌∷◌, length, eqb, refl}
+use Rattle.std.proofs.Common.{sym, ap, subst, ◌∙◌, ◌||◌, ◌&&◌, Option, Some, None, Ok}
 use Rattle.std.specs.Prelude.{not, is_some, is_none, unwrap_or, map}
 use Rattle.std.specs.List.{AllByRecursion, list_any, find, flat_map}
 use Rattle.std.specs.Option.{option_map}
 use Rattle.std.specs.Str.{bytes_eq}
 use Rattle.std.proofs.lemmas.Bool.{eqb-true, eq-eqb, leb-false, true≢false, and_parts, not-true, not-false, or_left, or_right}
 use Rattle.cr_base.specs.declared.command.Command.{Command}
-use Rattle.cr_base.specs.declared.command.Command.TheVariants.{Register, SetPhase, Submit, Revise, Upload, Withdraw, Name, SetMode, SetConflict, Bid, Assign, Unassign}
+use Rattle.cr_base.specs.declared.command.Command.TheVariants.{Register, SetPhase, Submit, Revise, Upload, Withdraw, Name, SetMode, SetConflict}
+use Rattle.cr_base.specs.declared.command.Command.TheVariants.{Bid, Assign, Unassign}
 use Rattle.cr_base.specs.declared.entry.Entry.TheVariants as entries
 use Rattle.cr_base.specs.declared.entry.Entry.TheVariants.{Registered, Named, PhaseSet, ModeSet, Revised, Uploaded, Withdrawn, Conflict, Assigned, Unassigned}
 use Rattle.cr_base.specs.declared.reply.AccountLine.{AccountLine}
@@ -19,14 +21,17 @@ use Rattle.cr_base.specs.declared.words.Role.{Role}
 use Rattle.cr_base.specs.declared.words.Role.TheVariants.{Account, Chair}
 use Rattle.cr_base.specs.Lists.{at_some, is_number, listed}
 use Rattle.cr_base.specs.History.{History, Registration, all_told, registration_told}
-use Rattle.cr_base.specs.HistoryFacts.{phase_of, role_of, accounts_of, papers_of, own_papers_of, own_bytes_of, is_author, is_conflicted, bid_of, seat_of, seats_of, standing_of}
+use Rattle.cr_base.specs.HistoryFacts.{phase_of, role_of, accounts_of, papers_of, own_papers_of, own_bytes_of}
+use Rattle.cr_base.specs.HistoryFacts.{is_author, is_conflicted, bid_of, seat_of, seats_of, standing_of}
 use Rattle.cr_base.specs.Page.{gets_conflicts}
 use Rattle.cr_base.specs.Phases.{is_from, is_phase, is_next}
 use Rattle.cr_base.specs.Words.{role_number, is_member, is_chair}
 use Rattle.cr_base.specs.Bounds.{IsBoundedCommand}
 use Rattle.cr_base.specs.Texts.{IsName}
-use Rattle.cr_base.specs.Checks.{Check, of_role, target_role, register_checks, phase_checks, submit_checks, revise_checks, upload_checks, name_checks, mode_checks, is_in_committee, chair_checks, conflict_case, conflict_checks, bid_checks, assign_checks, unassign_checks}
-use Rattle.cr_base.specs.Drawn.{Drawn, grouped, registration_drawn, phase_drawn, submission_drawn, revision_drawn, upload_drawn, withdrawal_drawn, naming_drawn, mode_drawn, conflict_drawn, bid_drawn, assignment_drawn, unassignment_drawn}
+use Rattle.cr_base.specs.Checks.{Check, of_role, target_role, register_checks, phase_checks, submit_checks, revise_checks, upload_checks, name_checks, mode_checks}
+use Rattle.cr_base.specs.Checks.{is_in_committee, chair_checks, conflict_case, conflict_checks, bid_checks, assign_checks, unassign_checks}
+use Rattle.cr_base.specs.Drawn.{Drawn, grouped, registration_drawn, phase_drawn, submission_drawn, revision_drawn, upload_drawn}
+use Rattle.cr_base.specs.Drawn.{withdrawal_drawn, naming_drawn, mode_drawn, conflict_drawn, bid_drawn, assignment_drawn, unassignment_drawn}
 use Rattle.cr_base.specs.Judging.{judge_by}
 use Rattle.cr_base.specs.Sources.{Facts, Shown, number_in, user_among, users_among, role_among, paper_named, target_named}
 use Rattle.cr_base.proofs.CheckLaws.{NoneBroken, judged-Ok}
@@ -38,7 +43,15 @@ use Rattle.cr_history.specs.Groups.{IsRuled, Adds, single, submitted, first_user
 -- ---- the facts of a history
 
 abbrev pub facts_of : Option ℕ → History → Facts
-facts_of u H = record { standing = λ paper. standing_of u paper H; accounts = accounts_of H; papers = papers_of H; own_papers = own_papers_of u H; own_bytes = own_bytes_of u H; own_bid = λ p. bid_of u p H; own_seat = λ p. seat_of u p H }
+facts_of u H = record {
+  standing = λ paper. standing_of u paper H;
+  accounts = accounts_of H;
+  papers = papers_of H;
+  own_papers = own_papers_of u H;
+  own_bytes = own_bytes_of u H;
+  own_bid = λ p. bid_of u p H;
+  own_seat = λ p. seat_of u p H;
+}
 
 -- a user named, if there is one, has registered, and her role is the one that the history tells
 module _ (H : History) where
@@ -59,7 +72,8 @@ module _ (H : History) where
       others : Bool
       others = list_any (λ (r : Registration). eqb r.user v) rs
 
-      by : (b : Bool) → eqb r.user v ≡ b → is_none (found b) ≡ false → (is_none (role_found v rs) ≡ false → (unwrap_or (role_found v rs) Account ≡ role_of (Some v) H) × (others ≡ true))
+      by : (b : Bool) → eqb r.user v ≡ b → is_none (found b) ≡ false
+          → (is_none (role_found v rs) ≡ false → (unwrap_or (role_found v rs) Account ≡ role_of (Some v) H) × (others ≡ true))
           → (unwrap_or (found b) Account ≡ role_of (Some v) H) × ((eqb r.user v || others) ≡ true)
       by true same h rest = (ap (λ n. role_of (Some n) H) (eqb-true r.user v same), or_left (eqb r.user v) others same)
       by false same h rest = let k = rest h in (k.0, or_right (eqb r.user v) others k.1)
@@ -149,7 +163,8 @@ module _ (H : History) (maker paper user : ℕ) where
   abbrev named : Role → Bool → Bool → Bool → Bool → Target
   named role herself author conflicted reviewer = record { role = role; herself = herself; author = author; conflicted = conflicted; reviewer = reviewer }
 
-  case-ruled : (on bidding after withdrawn : Bool) (role : Role) (herself author conflicted reviewer : Bool) → begun ≡ bidding → late ≡ after → role ≡ role_of (Some user) H → eqb user maker ≡ herself
+  case-ruled : (on bidding after withdrawn : Bool) (role : Role) (herself author conflicted reviewer : Bool) → begun ≡ bidding → late ≡ after
+      → role ≡ role_of (Some user) H → eqb user maker ≡ herself
       → NoneBroken (conflict_case on bidding after by_maker withdrawn (named role herself author conflicted reviewer)) → IsRuled H maker (Conflict paper user on)
   case-ruled false bidding after withdrawn role herself author conflicted reviewer b l r h none =
       let now = and_parts begun (not late) (not-false (begun && not late) none.1.1.0) in
@@ -232,7 +247,8 @@ module _ (H : History) (maker : ℕ) (shown : Shown) (registered : IsRegistered 
   asked-there : (P : Option Target → Type 0) (p v : ℕ) → is_none (asked (Some p) (Some v)) ≡ false → P (asked (Some p) (Some v)) → HoldsOf P p v
   asked-there P p v there holds = by (role_among facts.accounts (Some v)) refl there holds
     where
-      by : (role : Option Role) → role_among facts.accounts (Some v) ≡ role → is_none (option_map (asked_in p v) role) ≡ false → P (option_map (asked_in p v) role) → HoldsOf P p v
+      by : (role : Option Role) → role_among facts.accounts (Some v) ≡ role → is_none (option_map (asked_in p v) role) ≡ false
+          → P (option_map (asked_in p v) role) → HoldsOf P p v
       by None is there holds = absurd (true≢false there)
       by (Some role) is there holds =
           let k = role-among H (Some v) (ap is_none is) in
@@ -242,12 +258,15 @@ module _ (H : History) (maker : ℕ) (shown : Shown) (registered : IsRegistered 
   conflict-ruled_for None target on none = absurd (true≢false none.0)
   conflict-ruled_for (Some p) None on none = absurd (true≢false none.1.0)
   conflict-ruled_for (Some p) (Some v) on none =
-      let k = asked-there (λ target. NoneBroken (conflict_checks (standing_of (Some maker) (Some p) H) (paper_named facts shown (Some p)) target on)) p v none.1.0 none in
-      case-ruled H maker p v on (is_from Bidding (phase_of H)) (is_from Notification (phase_of H)) (shown.withdrawn p) k.role (eqb v maker) (wrote p v) (wrote p v || declared p v) (is_some (shown.seat (Some v) p)) refl refl k.held refl k.holds.1.1
+      let by = standing_of (Some maker) (Some p) H in
+      let k = asked-there (λ target. NoneBroken (conflict_checks by (paper_named facts shown (Some p)) target on)) p v none.1.0 none in
+      case-ruled H maker p v on (is_from Bidding (phase_of H)) (is_from Notification (phase_of H)) (shown.withdrawn p) k.role
+      (eqb v maker) (wrote p v) (wrote p v || declared p v) (is_some (shown.seat (Some v) p)) refl refl k.held refl k.holds.1.1
 
   -- ---- bids and assignments
 
-  bid-ruled : (paper : Option ℕ) (value : ℕ) → value ≤ 40 → NoneBroken (bid_checks (standing_of (Some maker) paper H) (paper_named facts shown paper)) → IsRuled H maker (entries.Bid (unwrap_or paper 0) value)
+  bid-ruled : (paper : Option ℕ) (value : ℕ) → value ≤ 40 → NoneBroken (bid_checks (standing_of (Some maker) paper H) (paper_named facts shown paper))
+      → IsRuled H maker (entries.Bid (unwrap_or paper 0) value)
   bid-ruled None value bounded none = absurd (true≢false none.0)
   bid-ruled (Some p) value bounded none =
       let by = standing_of (Some maker) (Some p) H in
@@ -268,12 +287,14 @@ module _ (H : History) (maker : ℕ) (shown : Shown) (registered : IsRegistered 
   chair-told : (p : ℕ) (withdrawn : Bool) → NoneBroken (chair_checks (standing_of (Some maker) (Some p) H) withdrawn) → is_told_all H maker p ≡ true
   chair-told p withdrawn none =
       let by = standing_of (Some maker) (Some p) H in
-      all (is_chair by.role) by.conflicted (is_from Bidding by.phase) (is_from Notification by.phase) (not-false (is_chair by.role) none.0) none.1.0 (not-false (is_in_committee by.phase) none.1.1.0)
+      all (is_chair by.role) by.conflicted (is_from Bidding by.phase) (is_from Notification by.phase)
+      (not-false (is_chair by.role) none.0) none.1.0 (not-false (is_in_committee by.phase) none.1.1.0)
     where
       all : (chair conflicted begun late : Bool) → chair ≡ true → conflicted ≡ false → (begun && not late) ≡ true → ((chair && not conflicted) && begun) ≡ true
       all chair conflicted begun late hc hf hb = grind arith
 
-  assigned-ruled : (paper target : Option ℕ) (kind : Kind) (ordinal : ℕ) → NoneBroken (assign_checks (standing_of (Some maker) paper H) (paper_named facts shown paper) (asked paper target) (shown.labels (unwrap_or paper 0)))
+  assigned-ruled : (paper target : Option ℕ) (kind : Kind) (ordinal : ℕ)
+      → NoneBroken (assign_checks (standing_of (Some maker) paper H) (paper_named facts shown paper) (asked paper target) (shown.labels (unwrap_or paper 0)))
       → IsRuled H maker (Assigned (unwrap_or paper 0) (unwrap_or target 0) kind ordinal)
   assigned-ruled None target kind ordinal none = absurd (true≢false none.0)
   assigned-ruled (Some p) None kind ordinal none = absurd (true≢false none.1.0)
@@ -297,7 +318,8 @@ module _ (H : History) (maker : ℕ) (shown : Shown) (registered : IsRegistered 
         texts = tt;
       }
 
-  unassigned-ruled : (paper target : Option ℕ) → NoneBroken (unassign_checks (standing_of (Some maker) paper H) (paper_named facts shown paper) (asked paper target))
+  unassigned-ruled : (paper target : Option ℕ)
+      → NoneBroken (unassign_checks (standing_of (Some maker) paper H) (paper_named facts shown paper) (asked paper target))
       → IsRuled H maker (Unassigned (unwrap_or paper 0) (unwrap_or target 0) (unwrap_or (shown.seat target (unwrap_or paper 0)) 0))
   unassigned-ruled None target none = absurd (true≢false none.0)
   unassigned-ruled (Some p) None none = absurd (true≢false none.1.0)
@@ -368,16 +390,21 @@ module _ (H : History) (maker : ℕ) (shown : Shown) (registered : IsRegistered 
       let k = judged-Ok (checks paper target on) (conflict_drawn maker (unwrap_or paper 0) (unwrap_or target 0) on) drawn accepted in
       subst (λ (d : Drawn). Adds H d.group) k.1 (single maker (Conflict (unwrap_or paper 0) (unwrap_or target 0) on) registered tt (conflict-ruled_for paper target on k.0))
   command-adds (Bid paper value) drawn bounded accepted =
-      let k = judged-Ok (bid_checks (standing_of (Some maker) paper H) (paper_named facts shown paper)) (bid_drawn maker (unwrap_or paper 0) value) drawn accepted in
+      let k = judged-Ok (bid_checks (standing_of (Some maker) paper H) (paper_named facts shown paper))
+      (bid_drawn maker (unwrap_or paper 0) value) drawn accepted in
       subst (λ (d : Drawn). Adds H d.group) k.1 (single maker (entries.Bid (unwrap_or paper 0) value) registered tt (bid-ruled paper value bounded k.0))
   command-adds (Assign paper name kind) drawn bounded accepted =
       let target : Option ℕ = user_among facts.accounts name in
       let labels : ℕ = shown.labels (unwrap_or paper 0) in
-      let k = judged-Ok (assign_checks (standing_of (Some maker) paper H) (paper_named facts shown paper) (asked paper target) labels) (assignment_drawn maker (unwrap_or paper 0) (unwrap_or target 0) kind (labels + 1)) drawn accepted in
-      subst (λ (d : Drawn). Adds H d.group) k.1 (single maker (Assigned (unwrap_or paper 0) (unwrap_or target 0) kind (labels + 1)) registered tt (assigned-ruled paper target kind (labels + 1) k.0))
+      let k = judged-Ok (assign_checks (standing_of (Some maker) paper H) (paper_named facts shown paper) (asked paper target) labels)
+      (assignment_drawn maker (unwrap_or paper 0) (unwrap_or target 0) kind (labels + 1)) drawn accepted in
+      subst (λ (d : Drawn). Adds H d.group) k.1
+      (single maker (Assigned (unwrap_or paper 0) (unwrap_or target 0) kind (labels + 1)) registered tt (assigned-ruled paper target kind (labels + 1) k.0))
   command-adds (Unassign paper name) drawn bounded accepted =
       let target : Option ℕ = user_among facts.accounts name in
       let p : ℕ = unwrap_or paper 0 in
       let ordinal : ℕ = unwrap_or (shown.seat target p) 0 in
-      let k = judged-Ok (unassign_checks (standing_of (Some maker) paper H) (paper_named facts shown paper) (asked paper target)) (unassignment_drawn maker p (unwrap_or target 0) ordinal) drawn accepted in
-      subst (λ (d : Drawn). Adds H d.group) k.1 (single maker (Unassigned p (unwrap_or target 0) ordinal) registered tt (unassigned-ruled paper target k.0))
+      let k = judged-Ok (unassign_checks (standing_of (Some maker) paper H) (paper_named facts shown paper) (asked paper target))
+      (unassignment_drawn maker p (unwrap_or target 0) ordinal) drawn accepted in
+      subst (λ (d : Drawn). Adds H d.group) k.1
+      (single maker (Unassigned p (unwrap_or target 0) ordinal) registered tt (unassigned-ruled paper target k.0))

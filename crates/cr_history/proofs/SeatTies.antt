@@ -1,5 +1,6 @@
 -- Where each entry fits in its turn, what a history tells of a paper's reviewers is what the table of seats has.
-use Rattle.std.proofs.Common.{ℕ, Bool, true, false, cond, ◌≡◌, ◌≤◌, ◌+◌, List, [], ◌∷◌, ◌++◌, length, eqb, refl, sym, ap, subst, ◌∙◌, ◌&&◌, ◌||◌, arith, append_assoc, append-nil, Option, Some}
+use Rattle.std.proofs.Common.{ℕ, Bool, true, false, cond, ◌≡◌, ◌≤◌, ◌+◌, List, [], ◌∷◌, ◌++◌, length, eqb, refl, sym, ap, subst, ◌∙◌}
+use Rattle.std.proofs.Common.{◌&&◌, ◌||◌, arith, append_assoc, append-nil, Option, Some}
 use Rattle.std.specs.Prelude.{nat_le, not, map, filter, find}
 use Rattle.std.specs.List.{AllByRecursion, list_any}
 use Rattle.std.specs.Option.{option_map}
@@ -16,7 +17,8 @@ use Rattle.cr_base.specs.Lists.{given, last_or}
 use Rattle.cr_base.specs.History.{History, SeatTold, all_told, seat_told, assigned_told, unassigned_told}
 use Rattle.cr_base.specs.HistoryFacts.{seat_of, seats_of, reviewers_of}
 use Rattle.cr_base.specs.Pairs.{ties_of}
-use Rattle.cr_base.specs.Seats.{SeatsState, seat_tie, vacated, is_seat, without_seat, seats_after, labels_in, told_of, reviewers_in, seat_in, SeatsFit, SeatsInOrder}
+use Rattle.cr_base.specs.Seats.{SeatsState, seat_tie, vacated, is_seat, without_seat, seats_after}
+use Rattle.cr_base.specs.Seats.{labels_in, told_of, reviewers_in, seat_in, SeatsFit, SeatsInOrder}
 use Rattle.cr_base.specs.Shapes.{InRange, ordinal_range}
 use Rattle.cr_base.specs.Tables.{Tables, no_tables, tables_after, tables_from, tables_of, FitInTurn}
 use Rattle.cr_base.proofs.ListLaws.{turned}
@@ -36,7 +38,8 @@ told-left paper ordinal (t ∷ ts) = by (is_seat paper ordinal t) ∙ ap (λ us.
     by true = refl
     by false = refl
 
-seats-entry : (p : ℕ) (seats : SeatsState) (e : Entry) → map told_of (ties_of ByPaper p seats) ++ assigned_told p e ≡ map told_of (ties_of ByPaper p (seats_after seats e))
+seats-entry : (p : ℕ) (seats : SeatsState) (e : Entry)
+    → map told_of (ties_of ByPaper p seats) ++ assigned_told p e ≡ map told_of (ties_of ByPaper p (seats_after seats e))
 seats-entry p seats (Assigned paper user kind ordinal) =
     let s : Tie Seat = seat_tie paper user kind ordinal in
     let before : List SeatTold = map told_of (ties_of ByPaper p seats) in
@@ -56,7 +59,9 @@ seats-entry p seats e = append-nil (map told_of (ties_of ByPaper p seats))
 seats_of-tables : (p : ℕ) (H : History) → seats_of p H ≡ map told_of (ties_of ByPaper p (tables_of H).seats)
 seats_of-tables p H =
     told-always ◌++◌ append-nil (λ (t : Tables). map told_of (ties_of ByPaper p t.seats)) (λ (s : Stamped). assigned_told p s.entry)
-    (λ t s rest. sym (append_assoc (map told_of (ties_of ByPaper p t.seats)) (assigned_told p s.entry) rest) ∙ ap (λ us. us ++ rest) (seats-entry p t.seats s.entry)) no_tables H
+    (λ t s rest.
+    sym (append_assoc (map told_of (ties_of ByPaper p t.seats)) (assigned_told p s.entry) rest)
+    ∙ ap (λ us. us ++ rest) (seats-entry p t.seats s.entry)) no_tables H
 
 -- so as many labels were given
 pub labels-tables : (p : ℕ) (H : History) → length (seats_of p H) ≡ labels_in (tables_of H).seats p
@@ -76,13 +81,16 @@ pub seat_of-tables : (u : Option ℕ) (p : ℕ) (H : History) → FitInTurn no_t
 seat_of-tables u p H fits =
     told-kept last_or (λ _. refl) (λ (t : Tables). seat_in t.seats u p) (λ (s : Stamped). seat_told u p s.entry) (λ (t : Tables). SeatsInOrder t.seats)
     (λ t s fit order. seats-in_order-after t.seats s.entry fit.seats order)
-    (λ t s fit order rest. last_or-append (seat_in t.seats u p) (seat_told u p s.entry) rest ∙ ap (λ o. last_or o rest) (sym (seat_in-after t.seats s.entry order fit.seats u p)))
+    (λ t s fit order rest.
+    last_or-append (seat_in t.seats u p) (seat_told u p s.entry) rest
+    ∙ ap (λ o. last_or o rest) (sym (seat_in-after t.seats s.entry order fit.seats u p)))
     no_tables H fits seats-in_order-nil
 
 -- ---- ordinals
 
 -- the ordinal of a seat that is found is one of theirs
-found-among : (test stays : Tie Seat → Bool) (ordinal : ℕ) (ts : List (Tie Seat)) → option_map (λ (t : Tie Seat). t.value.ordinal) (find test (filter stays ts)) ≡ Some ordinal
+found-among : (test stays : Tie Seat → Bool) (ordinal : ℕ) (ts : List (Tie Seat))
+    → option_map (λ (t : Tie Seat). t.value.ordinal) (find test (filter stays ts)) ≡ Some ordinal
     → list_any (λ n. eqb n ordinal) (map (λ (t : Tie Seat). t.value.ordinal) ts) ≡ true
 found-among test stays ordinal [] is = cc
 found-among test stays ordinal (t ∷ ts) is = by (stays t) is (found-among test stays ordinal ts)
@@ -96,16 +104,19 @@ found-among test stays ordinal (t ∷ ts) is = by (stays t) is (found-among test
     behind : List (Tie Seat)
     behind = filter stays ts
 
-    here : (b : Bool) → found (cond b (Some t) (find test behind)) ≡ Some ordinal → (found (find test behind) ≡ Some ordinal → among ≡ true) → (eqb t.value.ordinal ordinal || among) ≡ true
+    here : (b : Bool) → found (cond b (Some t) (find test behind)) ≡ Some ordinal → (found (find test behind) ≡ Some ordinal → among ≡ true)
+        → (eqb t.value.ordinal ordinal || among) ≡ true
     here true h rest = let e : t.value.ordinal ≡ ordinal = cc in ap (λ b. b || among) (eq-eqb t.value.ordinal ordinal e)
     here false h rest = or_right (eqb t.value.ordinal ordinal) among (rest h)
 
-    by : (b : Bool) → found (find test (cond b (t ∷ behind) behind)) ≡ Some ordinal → (found (find test behind) ≡ Some ordinal → among ≡ true) → (eqb t.value.ordinal ordinal || among) ≡ true
+    by : (b : Bool) → found (find test (cond b (t ∷ behind) behind)) ≡ Some ordinal → (found (find test behind) ≡ Some ordinal → among ≡ true)
+        → (eqb t.value.ordinal ordinal || among) ≡ true
     by true h rest = here (test t) h rest
     by false h rest = or_right (eqb t.value.ordinal ordinal) among (rest h)
 
 -- so it was drawn for the paper
-seat_in-drawn : (seats : SeatsState) → SeatsInOrder seats → (u : Option ℕ) (p ordinal : ℕ) → seat_in seats u p ≡ Some ordinal → (1 ≤ ordinal) × (ordinal ≤ labels_in seats p)
+seat_in-drawn : (seats : SeatsState) → SeatsInOrder seats → (u : Option ℕ) (p ordinal : ℕ) → seat_in seats u p ≡ Some ordinal
+    → (1 ≤ ordinal) × (ordinal ≤ labels_in seats p)
 seat_in-drawn seats order u p ordinal is =
     let ts : List (Tie Seat) = ties_of ByPaper p seats in
     paper_within ts (Some ordinal) (ap not (ap (list_any (λ n. eqb n ordinal)) (sym (order.numbered p)) ∙ found-among _ _ ordinal ts is))
@@ -118,7 +129,10 @@ labels-few p t (s ∷ H) fits few = labels-few p (tables_after t s) H fits.1 (on
     one : (seats : SeatsState) (e : Entry) → SeatsFit seats e → labels_in seats p ≤ 26 → labels_in (seats_after seats e) p ≤ 26
     one seats (Assigned paper user kind ordinal) fits few = by (eqb paper p) refl (labels_in-after seats (Assigned paper user kind ordinal) p)
       where
-        by : (b : Bool) → eqb paper p ≡ b → labels_in (seats_after seats (Assigned paper user kind ordinal)) p ≡ labels_in seats p + length (given b (told_of (seat_tie paper user kind ordinal))) → labels_in (seats_after seats (Assigned paper user kind ordinal)) p ≤ 26
+        now : ℕ
+        now = labels_in (seats_after seats (Assigned paper user kind ordinal)) p
+
+        by : (b : Bool) → eqb paper p ≡ b → now ≡ labels_in seats p + length (given b (told_of (seat_tie paper user kind ordinal))) → now ≤ 26
         by true at count =
             let next : ordinal ≡ labels_in seats p + 1 = subst (λ n. ordinal ≡ labels_in seats n + 1) (eqb-true paper p at) fits.0 in
             let last = fits.1 in
@@ -128,7 +142,8 @@ labels-few p t (s ∷ H) fits few = labels-few p (tables_after t s) H fits.1 (on
     one seats e fits few = few
 
 -- the ordinal under which a user reviews a paper is a letter's
-pub seat-drawn : (H : History) → FitInTurn no_tables H → (user paper ordinal : ℕ) → seat_in (tables_of H).seats (Some user) paper ≡ Some ordinal → InRange ordinal_range ordinal
+pub seat-drawn : (H : History) → FitInTurn no_tables H → (user paper ordinal : ℕ) → seat_in (tables_of H).seats (Some user) paper ≡ Some ordinal
+    → InRange ordinal_range ordinal
 seat-drawn H fits user paper ordinal is =
     let drawn = seat_in-drawn (tables_of H).seats (in_order-tables H fits) (Some user) paper ordinal is in
     let high = drawn.1 in
@@ -158,7 +173,8 @@ next-new n ordinal (o ∷ os) next all =
     ap (λ b. b || list_any (λ o. eqb o ordinal) os) (ne_eqb o ordinal (λ e. omega (arith, e, low, next))) ∙ next-new n ordinal os next all.1
 
 -- where one more is gone, its seat is marked, and every other as it was
-one-left : (gone : ℕ → List ℕ) (paper ordinal : ℕ) (t : Tie Seat) → IsMarkedBy gone t → IsMarkedBy (λ p. gone p ++ given (eqb paper p) ordinal) (left_at paper ordinal t)
+one-left : (gone : ℕ → List ℕ) (paper ordinal : ℕ) (t : Tie Seat) → IsMarkedBy gone t
+    → IsMarkedBy (λ p. gone p ++ given (eqb paper p) ordinal) (left_at paper ordinal t)
 one-left gone paper ordinal t mark = by (is_seat paper ordinal t) refl
   where
     was : Bool
@@ -186,16 +202,22 @@ one-left gone paper ordinal t mark = by (is_seat paper ordinal t) refl
     by true is = or_true was ∙ sym (among ∙ ap (λ b. was || b) is)
     by false is = mark ∙ or_false was ∙ sym (among ∙ ap (λ b. was || b) is)
 
-all-left : (gone : ℕ → List ℕ) (paper ordinal : ℕ) (ts : SeatsState) → AllByRecursion (IsMarkedBy gone) ts → AllByRecursion (IsMarkedBy (λ p. gone p ++ given (eqb paper p) ordinal)) (without_seat paper ordinal ts)
+all-left : (gone : ℕ → List ℕ) (paper ordinal : ℕ) (ts : SeatsState) → AllByRecursion (IsMarkedBy gone) ts
+    → AllByRecursion (IsMarkedBy (λ p. gone p ++ given (eqb paper p) ordinal)) (without_seat paper ordinal ts)
 all-left gone paper ordinal [] all = tt
 all-left gone paper ordinal (t ∷ ts) all = (one-left gone paper ordinal t all.0, all-left gone paper ordinal ts all.1)
 
-marked-entry : (gone : ℕ → List ℕ) (seats : SeatsState) (e : Entry) → SeatsFit seats e → SeatsInOrder seats → AreMarked gone seats → AreMarked (λ p. gone p ++ unassigned_told p e) (seats_after seats e)
+marked-entry : (gone : ℕ → List ℕ) (seats : SeatsState) (e : Entry) → SeatsFit seats e → SeatsInOrder seats → AreMarked gone seats
+    → AreMarked (λ p. gone p ++ unassigned_told p e) (seats_after seats e)
 marked-entry gone seats (Assigned paper user kind ordinal) fits order marked =
     subst (λ (gone : ℕ → List ℕ). AreMarked gone (seats_after seats (Assigned paper user kind ordinal))) (λ i p. sym (append-nil (gone p)) i)
     (record {
-      marks = AllByRecursion-append (IsMarkedBy gone) (filter upto seats) (s ∷ filter behind seats) (AllByRecursion-filter (IsMarkedBy gone) upto seats marked.marks)
-          (sym (next-new (labels_in seats paper) ordinal (gone paper) fits.0 (marked.drawn paper)), AllByRecursion-filter (IsMarkedBy gone) behind seats marked.marks);
+      marks =
+          AllByRecursion-append (IsMarkedBy gone) (filter upto seats) (s ∷ filter behind seats)
+          (AllByRecursion-filter (IsMarkedBy gone) upto seats marked.marks) (
+            sym (next-new (labels_in seats paper) ordinal (gone paper) fits.0 (marked.drawn paper)),
+            AllByRecursion-filter (IsMarkedBy gone) behind seats marked.marks,
+          );
       drawn = λ p.
           let count = labels_in-after seats (Assigned paper user kind ordinal) p in
           drawn-more (labels_in seats p) (labels_in (seats_after seats (Assigned paper user kind ordinal)) p) (gone p) (omega (arith, count)) (marked.drawn p);
@@ -220,16 +242,20 @@ marked-entry gone seats (Unassigned paper user ordinal) fits order marked = reco
   where
     by : (p now : ℕ) → labels_in seats p ≤ now → (b : Bool) → eqb paper p ≡ b → AllByRecursion (λ o. o ≤ now) (given b ordinal)
     by p now more true at =
-        let drawn : ordinal ≤ labels_in seats p = subst (λ n. ordinal ≤ labels_in seats n) (eqb-true paper p at) (seat_in-drawn seats order (Some user) paper ordinal fits).1 in
+        let there = seat_in-drawn seats order (Some user) paper ordinal fits in
+        let drawn : ordinal ≤ labels_in seats p = subst (λ n. ordinal ≤ labels_in seats n) (eqb-true paper p at) there.1 in
         (omega (arith, drawn, more), tt)
     by p now more false at = tt
 marked-entry gone seats e fits order marked = subst (λ (gone : ℕ → List ℕ). AreMarked gone seats) (λ i p. sym (append-nil (gone p)) i) marked
 
-marked-from : (gone : ℕ → List ℕ) (t : Tables) (H : History) → FitInTurn t H → SeatsInOrder t.seats → AreMarked gone t.seats → AreMarked (λ p. gone p ++ all_told (unassigned_told p) H) (tables_from t H).seats
+marked-from : (gone : ℕ → List ℕ) (t : Tables) (H : History) → FitInTurn t H → SeatsInOrder t.seats → AreMarked gone t.seats
+    → AreMarked (λ p. gone p ++ all_told (unassigned_told p) H) (tables_from t H).seats
 marked-from gone t [] fits order marked = subst (λ (gone : ℕ → List ℕ). AreMarked gone t.seats) (λ i p. sym (append-nil (gone p)) i) marked
 marked-from gone t (s ∷ H) fits order marked =
-    subst (λ (gone : ℕ → List ℕ). AreMarked gone (tables_from t (s ∷ H)).seats) (λ i p. append_assoc (gone p) (unassigned_told p s.entry) (all_told (unassigned_told p) H) i)
-    (marked-from (λ p. gone p ++ unassigned_told p s.entry) (tables_after t s) H fits.1 (seats-in_order-after t.seats s.entry fits.0.seats order) (marked-entry gone t.seats s.entry fits.0.seats order marked))
+    subst (λ (gone : ℕ → List ℕ). AreMarked gone (tables_from t (s ∷ H)).seats)
+    (λ i p. append_assoc (gone p) (unassigned_told p s.entry) (all_told (unassigned_told p) H) i)
+    (marked-from (λ p. gone p ++ unassigned_told p s.entry) (tables_after t s) H fits.1
+    (seats-in_order-after t.seats s.entry fits.0.seats order) (marked-entry gone t.seats s.entry fits.0.seats order marked))
 
 -- ---- reviewers
 
@@ -251,13 +277,16 @@ left-seats gone p (t ∷ ts) marks = by (eqb p t.pair.paper) refl (left-seats go
     told : List SeatTold
     told = filter (λ (seat : SeatTold). not (among seat)) (map told_of ours)
 
-    one : (gone left : Bool) → left ≡ gone → told ≡ map told_of (filter stays ours) → cond (not gone) (told_of t ∷ told) told ≡ map told_of (cond (not left) (t ∷ filter stays ours) (filter stays ours))
+    one : (gone left : Bool) → left ≡ gone → told ≡ map told_of (filter stays ours)
+        → cond (not gone) (told_of t ∷ told) told ≡ map told_of (cond (not left) (t ∷ filter stays ours) (filter stays ours))
     one gone true is rest = ap (λ b. cond (not b) (told_of t ∷ told) told) (sym is) ∙ rest
     one gone false is rest = ap (λ b. cond (not b) (told_of t ∷ told) told) (sym is) ∙ ap (λ us. told_of t ∷ us) rest
 
     by : (b : Bool) → eqb p t.pair.paper ≡ b → told ≡ map told_of (filter stays ours)
         → filter (λ (seat : SeatTold). not (among seat)) (map told_of (cond b (t ∷ ours) ours)) ≡ map told_of (filter stays (cond b (t ∷ ours) ours))
-    by true at rest = one (among (told_of t)) t.value.vacated (marks.0 ∙ ap (λ q. list_any (λ o. eqb o t.value.ordinal) (gone q)) (sym (eqb-true p t.pair.paper at))) rest
+    by true at rest =
+        one (among (told_of t)) t.value.vacated
+        (marks.0 ∙ ap (λ q. list_any (λ o. eqb o t.value.ordinal) (gone q)) (sym (eqb-true p t.pair.paper at))) rest
     by false at rest = rest
 
 -- a paper's reviewers are those who have a seat there that they haven't left
