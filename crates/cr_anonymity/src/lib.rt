@@ -1,6 +1,8 @@
-//! Who sees the names: of authors, until reviews and comments have names of their own.
+//! Who sees the names: of authors, of reviewers and of those who comment.
 #![tactic(auto)]
 
+mod label;
 mod shown;
 
-pub use shown::shows_author;
+pub use label::letter;
+pub use shown::{shows_author, shows_reviewer, shows_writer};

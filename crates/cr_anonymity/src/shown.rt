@@ -1,6 +1,6 @@
 //! Whom the names on a paper are shown to.
 ghost use Rattle.std.specs.Prelude.{◌≡◌};
-ghost use Rattle.cr_base.specs.Page.{shows_author};
+ghost use Rattle.cr_base.specs.Page.{shows_author, shows_reviewer, shows_writer};
 
 use cr_base::{Phase, Standing};
 
@@ -14,4 +14,26 @@ pub fn shows_author(by: &Standing, accepted: bool) -> bool
         || (by.is_clear_chair() && by.phase.is_from(Phase::Bidding))
         || (by.is_clear_member() && !by.mode.is_anonymous() && by.phase.is_from(Phase::Bidding))
         || accepted
+}
+
+/// Whether a caller is told who reviews a paper: from bidding on to chairs who aren't in conflict with
+/// it; from discussion to such members unless the mode is anonymous; from notification to authors in
+/// the open mode. `by` is the caller's standing at the paper. Takes no memory.
+pub fn shows_reviewer(by: &Standing) -> bool
+    ensures { result ≡ shows_reviewer by.now }
+{
+    (by.is_clear_chair() && by.phase.is_from(Phase::Bidding))
+        || (by.is_clear_member() && !by.mode.is_anonymous() && by.phase.is_from(Phase::Discussion))
+        || (by.author && by.mode.is_overt() && by.phase.is_from(Phase::Notification))
+}
+
+/// Whether a caller is told who wrote a comment on a paper: from discussion to chairs who aren't in
+/// conflict with it, and to such members unless the mode is anonymous. `by` is the caller's standing
+/// at the paper. Takes no memory.
+pub fn shows_writer(by: &Standing) -> bool
+    ensures { result ≡ shows_writer by.now }
+{
+    by.is_clear_member()
+        && (by.role.is_chair() || !by.mode.is_anonymous())
+        && by.phase.is_from(Phase::Discussion)
 }
