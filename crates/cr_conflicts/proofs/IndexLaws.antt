@@ -33,7 +33,7 @@ authors-rise authors told = leads-rise ByPaper is_told_before (λ p q h. least p
     least n m same h = grind (arith, nat_tests)
 
 -- a user's papers are the same by paper and by user
-module _ (authors : BareTies) (users : Order) (authored : BareTies) (declared : Order) (index : AuthorsIndexed authors users authored declared) (u : ℕ) where
+module _ (authors : BareTies) (users : Order) (authored : BareTies) (declared bids : Order) (index : AuthorsIndexed authors users authored declared bids) (u : ℕ) where
   rises : (p q : Pair) → eqb u (leads ByUser p) ≡ true → eqb u (leads ByUser q) ≡ true → is_told_before p q ≡ true → nat_lt (follows ByUser p) (follows ByUser q) ≡ true
   rises p q here there before = grind (arith, nat_tests)
 
@@ -75,8 +75,8 @@ told-besides paper user (t ∷ ts) all none =
     by true is h low rest = absurd (cc)
     by false is h low rest = both_true (another t.pair.paper t.pair.user paper user low is) (rest h)
 
-pub indexed-push : (authors : BareTies) (users : Order) (authored : BareTies) (declared : Order) (paper user : ℕ) (users' : Order) (authors' authored' : BareTies) → users' ≡ users → authors' ≡ authors ++ bare_tie paper user ∷ [] → authored' ≡ with_tie users (bare_tie paper user) authored → all_before (pair_of paper user) authors ≡ true → AuthorsIndexed authors users authored declared → AuthorsIndexed authors' users' authored' declared
-indexed-push authors users authored declared paper user users' authors' authored' same pushed put before index =
+pub indexed-push : (authors : BareTies) (users : Order) (authored : BareTies) (declared bids : Order) (paper user : ℕ) (users' : Order) (authors' authored' : BareTies) → users' ≡ users → authors' ≡ authors ++ bare_tie paper user ∷ [] → authored' ≡ with_tie users (bare_tie paper user) authored → all_before (pair_of paper user) authors ≡ true → AuthorsIndexed authors users authored declared bids → AuthorsIndexed authors' users' authored' declared bids
+indexed-push authors users authored declared bids paper user users' authors' authored' same pushed put before index =
     let put_so : authored' ≡ with_tie ByUser (bare_tie paper user) authored = put ∙ ap (λ (o : Order). with_tie o (bare_tie paper user) authored) index.by_user in
     record {
       told = subst (λ (ts : BareTies). IsSortedBy is_told_before ts) (sym pushed) (sorted-push is_told_before authors (bare_tie paper user) index.told before);
@@ -88,5 +88,6 @@ indexed-push authors users authored declared paper user users' authors' authored
           ∙ ap (λ b. same_pair q (pair_of paper user) || b) (index.same q)
           ∙ sym (has_pair-push q authors (bare_tie paper user))
           ∙ sym (ap (has_pair q) pushed);
-      by_paper = index.by_paper;
+      declared_by_paper = index.declared_by_paper;
+      bids_by_paper = index.bids_by_paper;
     }

@@ -1,8 +1,27 @@
-//! The rules of turning a conflict on and off, a function a list of checks.
-ghost use Rattle.std.specs.Prelude.{◌≡◌};
-ghost use Rattle.cr_base.specs.Checks.{judged, declare_checks, own_checks, other_checks, on_checks, off_checks};
+//! The rules of bidding, and of turning a conflict on and off, a function a list of checks.
+ghost use Rattle.std.specs.Prelude.{◌≡◌, true};
+ghost use Rattle.cr_base.specs.Checks.{judged, bid_checks, declare_checks, own_checks, other_checks, on_checks, off_checks};
 
 use cr_base::{Phase, Rule, Standing, Target};
+
+/// A clear member bids on a paper that is there, in the bidding.
+pub(crate) fn bid(by: &Standing, withdrawn: bool) -> Result<(), Rule>
+    ensures { result ≡ judged (bid_checks by.now (record { there = true; withdrawn = withdrawn })) tt }
+{
+    if !by.role.is_member() {
+        return Err(Rule::NotMember);
+    }
+    if by.conflicted {
+        return Err(Rule::Conflict);
+    }
+    if !by.phase.is(Phase::Bidding) {
+        return Err(Rule::WrongPhase);
+    }
+    if withdrawn {
+        return Err(Rule::Withdrawn);
+    }
+    Ok(())
+}
 
 /// In setup and submission: an author declares a member.
 fn declared(by: &Standing, withdrawn: bool, target: &Target) -> Result<(), Rule>

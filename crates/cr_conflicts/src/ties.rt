@@ -1,19 +1,24 @@
 //! The ties of users to papers, by paper and by user.
 ghost use Rattle.std.specs.Prelude.{◌≡◌, ◌≤◌, ◌<◌, ◌+◌, IsTrue, OnOk, Some, length, map, is_some, if◌then◌else◌};
-ghost use Rattle.cr_base.specs.Checks.{judged, conflict_checks};
+ghost use Rattle.cr_base.specs.Checks.{judged, bid_checks, conflict_checks};
 ghost use Rattle.cr_base.specs.Lists.{IsRising};
 ghost use Rattle.cr_base.specs.Pairs.{with_tie, users_tied_to, papers_tied_to};
-ghost use Rattle.cr_base.specs.Ties.{no_ties, ties_after, switched, pair_of, bare_tie, authors_in, is_author_in, is_conflicted_in, TiesFit};
+ghost use Rattle.cr_base.specs.Ties.{no_ties, ties_after, ties_from, switched, pair_of, bare_tie, authors_in, is_author_in, is_conflicted_in, TiesFit};
+ghost use Rattle.cr_base.specs.Ties.{is_conflict_on_in, bid_tie, bid_in, bids_in};
 ghost use Rattle.cr_conflicts.specs.Index.{all_before, with_author};
 ghost use Rattle.cr_conflicts.specs.Targets.{target_of};
 
+use crate::earlier::{declared_behind, give_author};
 use crate::judging;
-use cr_base::{Entry, Order, Pair, PaperNo, Role, Rule, Stamped, Standing, Target, Tie, UserNo};
+use cr_base::{
+    Bid, Entry, Order, Pair, PaperNo, Role, Rule, Stamped, Standing, Target, Tie, UserNo,
+};
 use cr_pairs::{IndexedPairs, PairMap, run_of};
 use std::alloc::{AllocError, Global};
 use std::marker::Model;
 
-/// Who is an author of which paper, who is declared in conflict with it, and whom its authors named so.
+/// Who is an author of which paper, who is declared in conflict with it, whom its authors named so, and who
+/// has bid on it.
 ///
 /// Contracts see these by paper, and for how many more entries there is room. Authors and conflicts
 /// are found by user too; that these agree is true of every table.
@@ -28,6 +33,8 @@ pub struct Ties {
     conflicts: IndexedPairs<()>,
     // Papers, and the users whom an author named in a conflict.
     declared: PairMap<()>,
+    // Papers, and the users who bid on them, with their last bids.
+    bids: PairMap<Bid>,
 }
 
 impl Model for Ties {
@@ -38,11 +45,11 @@ impl Model for Ties {
     ghost Value = { SeenTies };
 
     ghost view = { λ t. record {
-      ties = record { authors = t.authors.items; conflicts = t.conflicts.ties; declared = t.declared.ties };
-      room = min (vec_capacity t.authors - vec_len t.authors) (min t.authored.room (min t.conflicts.room t.declared.room));
+      ties = record { authors = t.authors.items; conflicts = t.conflicts.ties; declared = t.declared.ties; bids = t.bids.ties };
+      room = min (vec_capacity t.authors - vec_len t.authors) (min t.authored.room (min t.conflicts.room (min t.declared.room t.bids.room)));
     } };
 
-    ghost invariant = { λ t. AuthorsIndexed t.authors.items t.authored.order t.authored.ties t.declared.order };
+    ghost invariant = { λ t. AuthorsIndexed t.authors.items t.authored.order t.authored.ties t.declared.order t.bids.order };
 }
 
 /// A paper and a user who are tied.
@@ -52,6 +59,16 @@ fn bare(paper: PaperNo, user: UserNo) -> Tie<()>
     Tie {
         pair: Pair { paper, user },
         value: (),
+    }
+}
+
+/// A paper and a user who bids so on it.
+fn bid_by(paper: PaperNo, user: UserNo, value: Bid) -> Tie<Bid>
+    ensures { result ≡ bid_tie paper user value }
+{
+    Tie {
+        pair: Pair { paper, user },
+        value,
     }
 }
 
@@ -92,6 +109,7 @@ impl Ties {
             authored: PairMap::new(alloc, Order::ByUser),
             conflicts: IndexedPairs::new(alloc),
             declared: PairMap::new(alloc, Order::ByPaper),
+            bids: PairMap::new(alloc, Order::ByPaper),
         }
     }
 
@@ -111,12 +129,30 @@ impl Ties {
         self.authored.contains(&Pair { paper, user })
     }
 
-    /// Whether the user is in conflict with the paper, as an author or declared so. Two binary
-    /// searches.
-    pub fn is_conflicted(&self, user: UserNo, paper: PaperNo) -> bool
-        ensures { result ≡ is_conflicted_in self.now.ties (Some user) paper }
+    /// The same behind earlier entries of the same command. One binary search, and a walk over the
+    /// entries, of which there are none but in a command of many parts.
+    fn is_author_behind(&self, user: UserNo, paper: PaperNo, earlier: &[Stamped]) -> bool
+        ensures { result ≡ is_author_in (ties_from self.now.ties earlier.now) (Some user) paper }
     {
-        self.is_author(user, paper) || self.conflicts.contains(&Pair { paper, user })
+        self.is_author(user, paper) || give_author(earlier, user, paper)
+    }
+
+    /// Whether the user is declared in conflict with the paper, behind earlier entries of the same
+    /// command. One binary search, and a walk over the entries.
+    fn is_declared_behind(&self, user: UserNo, paper: PaperNo, earlier: &[Stamped]) -> bool
+        ensures { result ≡ is_conflict_on_in (ties_from self.now.ties earlier.now) (Some user) paper }
+    {
+        let on = self.conflicts.contains(&Pair { paper, user });
+        declared_behind(on, earlier, user, paper)
+    }
+
+    /// Whether the user is in conflict with the paper, as an author or declared so, behind earlier
+    /// entries of the same command, whatever these are. Two binary searches, and a walk over the
+    /// entries, of which there are none but in a command of many parts.
+    pub fn is_conflicted(&self, user: UserNo, paper: PaperNo, earlier: &[Stamped]) -> bool
+        ensures { result ≡ is_conflicted_in (ties_from self.now.ties earlier.now) (Some user) paper }
+    {
+        self.is_author_behind(user, paper, earlier) || self.is_declared_behind(user, paper, earlier)
     }
 
     /// Who is declared in conflict with the paper, in the order of user numbers. Two binary searches;
@@ -153,10 +189,46 @@ impl Ties {
         self.conflicts.of_user(user)
     }
 
+    /// The user's last bid on the paper, and none where she has told none. One binary search.
+    pub fn bid_of(&self, user: UserNo, paper: PaperNo) -> Option<Bid>
+        ensures { result ≡ bid_in self.now.ties (Some user) paper }
+    {
+        self.bids.value(&Pair { paper, user })
+    }
+
+    /// The last bids on the paper, in the order of user numbers. Two binary searches; takes no memory.
+    pub fn bids(&self, paper: PaperNo) -> &[Tie<Bid>]
+        ensures { map (λ t. record { user = t.pair.user; value = t.value }) result.now ≡ bids_in self.now.ties paper }
+    {
+        self.bids.of_paper(paper)
+    }
+
+    /// Whether the caller may bid on this paper, or the first broken rule. `by` is her standing at the
+    /// paper; `paper` is none where there is no such paper. Whether it is withdrawn stands in none of
+    /// the ties, and no rule asks of her bids. Takes no search.
+    ///
+    /// In this order: `NoPaper`, `NotMember`, `Conflict`, `WrongPhase` where it isn't the bidding,
+    /// `Withdrawn`.
+    pub fn judge_bid(
+        &self,
+        by: &Standing,
+        paper: &Option<PaperNo>,
+        withdrawn: bool,
+    ) -> Result<(), Rule>
+        ensures { result ≡ judged (bid_checks by.now (record { there = is_some paper.now; withdrawn = withdrawn })) tt }
+    {
+        if paper.is_none() {
+            return Err(Rule::NoPaper);
+        }
+        judging::bid(by, withdrawn)
+    }
+
     /// Whether the caller may turn this user's conflict with this paper on or off, or the first broken
-    /// rule. `by` is her standing at the paper, `maker` her number; `paper` is none where there is no
-    /// such paper, `target` none where there is no such user. Whether the paper is withdrawn stands in
-    /// none of the ties. One binary search at most.
+    /// rule, behind earlier entries of the same command, whatever these are. `by` is her standing at
+    /// the paper, `maker` her number; `paper` is none where there is no such paper, `target` none where
+    /// there is no such user. Whether the paper is withdrawn stands in none of the ties. Two binary
+    /// searches at most, and two walks over the earlier entries, of which there are none but in a
+    /// command of many parts.
     ///
     /// First come `NoPaper` and `NoUser`. On, before the bidding: `NotAuthor`, `Withdrawn`, `NotAMember`;
     /// from the bidding to the discussion, of herself: `NotMember`, `Withdrawn`, of another: `NotChair`,
@@ -171,8 +243,9 @@ impl Ties {
         target: &Option<(UserNo, Role)>,
         on: bool,
         withdrawn: bool,
+        earlier: &[Stamped],
     ) -> Result<(), Rule>
-        ensures { result ≡ judged (conflict_checks by.now (record { there = is_some paper.now; withdrawn = withdrawn }) (target_of self.now.ties maker paper.now target.now) on) tt }
+        ensures { result ≡ judged (conflict_checks by.now (record { there = is_some paper.now; withdrawn = withdrawn }) (target_of (ties_from self.now.ties earlier.now) maker paper.now target.now) on) tt }
     {
         let Some(paper) = paper else {
             return Err(Rule::NoPaper);
@@ -183,7 +256,9 @@ impl Ties {
         let target = Target {
             role: *role,
             herself: user.number() == maker.number(),
-            author: self.is_author(*user, *paper),
+            author: self.is_author_behind(*user, *paper, earlier),
+            conflicted: self.is_conflicted(*user, *paper, earlier),
+            reviewer: false,
         };
         if on {
             judging::on(by, withdrawn, &target)
@@ -205,7 +280,8 @@ impl Ties {
         self.authors.reserve(group.len())?;
         self.authored.room(group.len())?;
         self.conflicts.room(group.len())?;
-        self.declared.room(group.len())
+        self.declared.room(group.len())?;
+        self.bids.room(group.len())
     }
 
     /// One more author, who comes behind all that were told before; takes no memory. One binary
@@ -222,8 +298,8 @@ impl Ties {
 
     /// One more entry, for which there is room; takes no memory. The paper that it adds comes behind
     /// all that have authors, and a co-author's is the last of these, of which she is no author yet. A
-    /// submission or a co-author costs one binary search, a conflict four at most, and each a move of
-    /// the ties behind the place, of 4 bytes.
+    /// submission, a co-author or a bid costs one binary search, a conflict four at most, and each a
+    /// move of the ties behind the place, of 4 to 6 bytes.
     pub fn apply(&mut self, stamped: &Stamped)
         requires room { 0 < self.old.room }
         requires fits { TiesFit self.old.ties stamped.now.entry }
@@ -238,6 +314,7 @@ impl Ties {
                 insert_where(&mut self.declared, wrote, bare(*paper, *user));
                 switch(&mut self.conflicts, *paper, *user, *on);
             }
+            Entry::Bid { paper, value } => self.bids.insert(bid_by(*paper, stamped.maker, *value)),
             _ => {}
         }
     }
