@@ -1,0 +1,65 @@
+//! What earlier entries of the same command make of the seats of a paper.
+ghost use Rattle.std.specs.Prelude.{◌≡◌, Some, not, fold, count_by};
+ghost use Rattle.cr_base.specs.History.{assigned_told, seat_told};
+ghost use Rattle.cr_base.specs.Lists.{is_nothing, last_or};
+
+use cr_base::{Entry, Ordinal, PaperNo, Stamped, UserNo};
+
+/// The ordinal under which the user reviews the paper after the entry, where `held` is the one before.
+fn seat_after(
+    held: Option<Ordinal>,
+    stamped: &Stamped,
+    user: UserNo,
+    paper: PaperNo,
+) -> Option<Ordinal>
+    ensures { result ≡ last_or held (seat_told (Some user) paper stamped.now.entry) }
+{
+    match &stamped.entry {
+        Entry::Assigned {
+            paper: to,
+            user: who,
+            ordinal,
+            ..
+        } if to.number() == paper.number() && who.number() == user.number() => Some(*ordinal),
+        Entry::Unassigned {
+            paper: from,
+            user: who,
+            ..
+        } if from.number() == paper.number() && who.number() == user.number() => None,
+        _ => held,
+    }
+}
+
+/// The same after all of the entries. A walk over them.
+pub(crate) fn seat_behind(
+    held: Option<Ordinal>,
+    earlier: &[Stamped],
+    user: UserNo,
+    paper: PaperNo,
+) -> Option<Ordinal>
+    ensures { result ≡ fold (λ o e. last_or o (seat_told (Some user) paper e.entry)) held earlier.now }
+{
+    earlier.iter().fold(held, |last, stamped| {
+        seat_after(last, stamped, user, paper)
+    })
+}
+
+/// Whether the entry gives somebody a label of the paper.
+fn gives_label(stamped: &Stamped, paper: PaperNo) -> bool
+    ensures { result ≡ not (is_nothing (assigned_told paper stamped.now.entry)) }
+{
+    match &stamped.entry {
+        Entry::Assigned { paper: to, .. } => to.number() == paper.number(),
+        _ => false,
+    }
+}
+
+/// How many of the entries do. A walk over them.
+pub(crate) fn labels_given(earlier: &[Stamped], paper: PaperNo) -> usize
+    ensures { result ≡ count_by (λ e. not (is_nothing (assigned_told paper e.entry))) earlier.now }
+{
+    earlier
+        .iter()
+        .filter(|stamped| gives_label(stamped, paper))
+        .count()
+}

@@ -1,0 +1,74 @@
+//! The rules of assigning a reviewer and of taking one off a paper, a function a list of checks, each of a
+//! paper that is there and of a user who has registered.
+ghost use Rattle.std.specs.Prelude.{◌≡◌, ◌+◌, true, false, Some, unwrap_or};
+ghost use Rattle.cr_base.specs.declared.words.Role.TheVariants.{Account};
+ghost use Rattle.cr_base.specs.Checks.{judged, chair_checks, assign_checks, unassign_checks};
+ghost use Rattle.cr_assign.specs.Targets.{target_with};
+
+use cr_base::{MOST_LABELS, Ordinal, Phase, Rule, Standing, Target};
+
+/// A clear chair, from bidding to discussion, of a paper that isn't withdrawn.
+fn chair(by: &Standing, withdrawn: bool) -> Result<(), Rule>
+    ensures { result ≡ judged (chair_checks by.now withdrawn) tt }
+{
+    if !by.role.is_chair() {
+        return Err(Rule::NotChair);
+    }
+    if by.conflicted {
+        return Err(Rule::Conflict);
+    }
+    if !by.phase.is_from(Phase::Bidding) || by.phase.is_from(Phase::Notification) {
+        return Err(Rule::WrongPhase);
+    }
+    if withdrawn {
+        return Err(Rule::Withdrawn);
+    }
+    Ok(())
+}
+
+/// Assigning a member who is in no conflict with the paper and doesn't review it: the label behind the
+/// `labels` that were given.
+pub(crate) fn assign(
+    by: &Standing,
+    withdrawn: bool,
+    target: &Target,
+    labels: u64,
+) -> Result<Ordinal, Rule>
+    ensures { result ≡ judged (assign_checks by.now (record { there = true; withdrawn = withdrawn }) (Some target.now) labels) (labels + 1) }
+{
+    match chair(by, withdrawn) {
+        Ok(()) => {}
+        Err(rule) => return Err(rule),
+    }
+    if !target.role.is_member() {
+        return Err(Rule::NotAMember);
+    }
+    if target.conflicted {
+        return Err(Rule::TargetConflict);
+    }
+    if target.reviewer {
+        return Err(Rule::AlreadyAssigned);
+    }
+    if labels >= MOST_LABELS {
+        return Err(Rule::LabelsSpent);
+    }
+    Ok(Ordinal::new(labels + 1))
+}
+
+/// Taking off who reviews the paper under the ordinal `held`: that ordinal.
+pub(crate) fn unassign(
+    by: &Standing,
+    withdrawn: bool,
+    held: Option<Ordinal>,
+) -> Result<Ordinal, Rule>
+    ensures { result ≡ judged (unassign_checks by.now (record { there = true; withdrawn = withdrawn }) (Some (target_with Account false held))) (unwrap_or held 0) }
+{
+    match chair(by, withdrawn) {
+        Ok(()) => {}
+        Err(rule) => return Err(rule),
+    }
+    match held {
+        Some(ordinal) => Ok(ordinal),
+        None => Err(Rule::NotAssigned),
+    }
+}

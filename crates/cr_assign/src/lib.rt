@@ -1,0 +1,10 @@
+//! The table of seats: who is assigned to which paper, under which label, and who has left, found by the
+//! paper's number and by the user's.
+#![tactic(auto)]
+
+mod earlier;
+mod judging;
+mod places;
+mod seats;
+
+pub use seats::Seats;

@@ -1,0 +1,26 @@
+//! Where the seats of a paper stand among those of all papers.
+ghost use Rattle.std.specs.Prelude.{◌≡◌, ◌≤◌, length, take, drop, filter, not, nat_le, nat_lt};
+ghost use Rattle.cr_base.specs.declared.pairs.Order.TheVariants.{ByPaper};
+ghost use Rattle.cr_pairs.specs.Places.{RisesBy};
+
+use cr_base::{PaperNo, Seat, Tie};
+
+/// The place of the paper's first seat, of seats paper by paper, or where it would stand. A binary search.
+pub(crate) fn start_of(seats: &[Tie<Seat>], paper: PaperNo) -> usize
+    requires { RisesBy ByPaper seats.now }
+    ensures within { result ≤ length seats.now }
+    ensures before { take result seats.now ≡ filter (λ t. nat_lt t.pair.paper paper) seats.now }
+    ensures behind { drop result seats.now ≡ filter (λ t. not (nat_lt t.pair.paper paper)) seats.now }
+{
+    seats.partition_point(|seat| seat.pair.paper.number() < paper.number())
+}
+
+/// The place behind the paper's last seat, of seats paper by paper. A binary search.
+pub(crate) fn end_of(seats: &[Tie<Seat>], paper: PaperNo) -> usize
+    requires { RisesBy ByPaper seats.now }
+    ensures within { result ≤ length seats.now }
+    ensures before { take result seats.now ≡ filter (λ t. nat_le t.pair.paper paper) seats.now }
+    ensures behind { drop result seats.now ≡ filter (λ t. not (nat_le t.pair.paper paper)) seats.now }
+{
+    seats.partition_point(|seat| seat.pair.paper.number() <= paper.number())
+}
