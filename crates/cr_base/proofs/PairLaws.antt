@@ -1,14 +1,16 @@
--- What is there after a tie came into a list or a pair went out of it, and that the order stays.
-use Rattle.std.proofs.Common.{ℕ, Bool, true, false, cond, not, ◌||◌, ◌&&◌, ◌≡◌, List, [], ◌∷◌, map, eqb, refl, sym, ap, ◌∙◌, arith}
+-- What is there after a tie came into a list or a pair went out of it, what is kept of a pair, and that the order stays.
+use Rattle.std.proofs.Common.{ℕ, Bool, true, false, cond, not, ◌||◌, ◌&&◌, ◌≡◌, List, [], ◌∷◌, map, eqb, refl, sym, ap, ◌∙◌, arith, Option, Some, None}
+use Rattle.std.specs.Prelude.{find, is_some}
 use Rattle.std.specs.Cmp.Derive.{both_true}
 use Rattle.std.specs.List.{filter, list_any, list_all}
+use Rattle.std.specs.Option.{option_map}
 use Rattle.std.proofs.lemmas.Bool.{and_parts}
 use Rattle.std.proofs.lemmas.Bool.Decides.{nat_tests}
 use Rattle.cr_base.specs.declared.pairs.Order.{Order}
 use Rattle.cr_base.specs.declared.pairs.Order.TheVariants.{ByPaper, ByUser}
 use Rattle.cr_base.specs.declared.pairs.Pair.{Pair}
 use Rattle.cr_base.specs.declared.pairs.Tie.{Tie}
-use Rattle.cr_base.specs.Pairs.{same_pair, leads, follows, paired, comes_before, is_tied, stands, IsAscending, with_tie, without_pair, has_pair, ties_of, others_of}
+use Rattle.cr_base.specs.Pairs.{same_pair, leads, follows, paired, comes_before, is_tied, stands, IsAscending, with_tie, without_pair, has_pair, value_of, ties_of, others_of}
 
 -- ---- two pairs
 
@@ -159,3 +161,87 @@ module _ {V : Type 0} where
       by : (same : Bool) → list_any (λ k. eqb m k) (others_of order n ts) ≡ has_pair (paired order n m) ts → list_any (λ k. eqb m k) (map (λ (x : Tie V). follows order x.pair) (cond same (t ∷ ties_of order n ts) (ties_of order n ts))) ≡ ((same && eqb m (follows order t.pair)) || has_pair (paired order n m) ts)
       by true rest = ap (λ b. eqb m (follows order t.pair) || b) rest
       by false rest = rest
+
+-- ---- what is kept of a pair
+
+not_two : (q p r : Pair) → same_pair r p ≡ false → same_pair q p ≡ true → same_pair q r ≡ false
+not_two q p r other is = grind (arith, nat_tests, other, is)
+
+module _ {V : Type 0} (q : Pair) where
+  -- what is kept of the first tie, where it is the pair's, or else of those behind it
+  abbrev kept_first : Bool → Tie V → Option (Tie V) → Option V
+  kept_first is t behind = option_map (λ (x : Tie V). x.value) (cond is (Some t) behind)
+
+  kept-split : (is : Bool) (t : Tie V) (behind : Option (Tie V)) → kept_first is t behind ≡ cond is (Some t.value) (option_map (λ (x : Tie V). x.value) behind)
+  kept-split true t behind = refl
+  kept-split false t behind = refl
+
+  -- it is there where something is kept of it
+  pub value_of-has_pair : (ts : List (Tie V)) → is_some (value_of q ts) ≡ has_pair q ts
+  value_of-has_pair [] = refl
+  value_of-has_pair (t ∷ ts) = ap is_some (kept-split (is_tied q t) t (find (is_tied q) ts)) ∙ by (is_tied q t) (value_of-has_pair ts)
+    where
+      by : (is : Bool) → is_some (value_of q ts) ≡ has_pair q ts → is_some (cond is (Some t.value) (value_of q ts)) ≡ (is || has_pair q ts)
+      by true rest = refl
+      by false rest = rest
+
+  -- a tie came in: what is kept of its pair is its own, and of every other pair what was
+  pub value_of-with_tie : (order : Order) (s : Tie V) (ts : List (Tie V)) → value_of q (with_tie order s ts) ≡ cond (same_pair q s.pair) (Some s.value) (value_of q ts)
+  value_of-with_tie order s [] = kept-split (is_tied q s) s None
+  value_of-with_tie order s (t ∷ ts) = by (is_tied s.pair t) (stands (comes_before order) s.pair t) refl (value_of-with_tie order s ts)
+    where
+      behind : Option V
+      behind = value_of q ts
+
+      later : (is own : Bool) → (is ≡ true → own ≡ false) → cond is (Some t.value) (cond own (Some s.value) behind) ≡ cond own (Some s.value) (cond is (Some t.value) behind)
+      later true own h = sym (ap (λ b. cond b (Some s.value) (Some t.value)) (h refl))
+      later false own h = refl
+
+      instead : (is own : Bool) → is ≡ own → cond own (Some s.value) behind ≡ cond own (Some s.value) (cond is (Some t.value) behind)
+      instead is true h = refl
+      instead is false h = ap (λ b. cond b (Some t.value) behind) (sym h)
+
+      by : (same before : Bool) → is_tied s.pair t ≡ same → value_of q (with_tie order s ts) ≡ cond (same_pair q s.pair) (Some s.value) behind
+          → value_of q (cond same (s ∷ ts) (cond before (s ∷ t ∷ ts) (t ∷ with_tie order s ts))) ≡ cond (same_pair q s.pair) (Some s.value) (value_of q (t ∷ ts))
+      by true before same rest =
+          kept-split (is_tied q s) s (find (is_tied q) ts)
+          ∙ instead (is_tied q t) (is_tied q s) (ap (same_pair q) (sym (same_pair-is s.pair t.pair same)))
+          ∙ ap (cond (is_tied q s) (Some s.value)) (sym (kept-split (is_tied q t) t (find (is_tied q) ts)))
+      by false true same rest = kept-split (is_tied q s) s (find (is_tied q) (t ∷ ts))
+      by false false same rest =
+          kept-split (is_tied q t) t (find (is_tied q) (with_tie order s ts))
+          ∙ ap (cond (is_tied q t) (Some t.value)) rest
+          ∙ later (is_tied q t) (is_tied q s) (not_two q t.pair s.pair same)
+          ∙ ap (cond (is_tied q s) (Some s.value)) (sym (kept-split (is_tied q t) t (find (is_tied q) ts)))
+
+  -- a pair went out: nothing is kept of it, and of every other pair what was
+  pub value_of-without_pair : (r : Pair) (ts : List (Tie V)) → value_of q (without_pair r ts) ≡ cond (same_pair q r) None (value_of q ts)
+  value_of-without_pair r [] = none (same_pair q r)
+    where
+      none : (b : Bool) → ◌≡◌ {A = Option V} None (cond b None None)
+      none true = refl
+      none false = refl
+  value_of-without_pair r (t ∷ ts) = by (is_tied r t) refl (value_of-without_pair r ts)
+    where
+      behind : Option V
+      behind = value_of q ts
+
+      gone_too : (is own : Bool) → is ≡ own → cond own None behind ≡ cond own None (cond is (Some t.value) behind)
+      gone_too is true h = refl
+      gone_too is false h = ap (λ b. cond b (Some t.value) behind) (sym h)
+
+      stays_first : (is own : Bool) → (is ≡ true → own ≡ false) → cond is (Some t.value) (cond own None behind) ≡ cond own None (cond is (Some t.value) behind)
+      stays_first true own h = sym (ap (λ b. cond b None (Some t.value)) (h refl))
+      stays_first false own h = refl
+
+      by : (same : Bool) → is_tied r t ≡ same → value_of q (without_pair r ts) ≡ cond (same_pair q r) None behind
+          → value_of q (cond (not same) (t ∷ without_pair r ts) (without_pair r ts)) ≡ cond (same_pair q r) None (value_of q (t ∷ ts))
+      by true same rest =
+          rest
+          ∙ gone_too (is_tied q t) (same_pair q r) (ap (same_pair q) (sym (same_pair-is r t.pair same)))
+          ∙ ap (cond (same_pair q r) None) (sym (kept-split (is_tied q t) t (find (is_tied q) ts)))
+      by false same rest =
+          kept-split (is_tied q t) t (find (is_tied q) (without_pair r ts))
+          ∙ ap (cond (is_tied q t) (Some t.value)) rest
+          ∙ stays_first (is_tied q t) (same_pair q r) (not_two q t.pair r same)
+          ∙ ap (cond (same_pair q r) None) (sym (kept-split (is_tied q t) t (find (is_tied q) ts)))

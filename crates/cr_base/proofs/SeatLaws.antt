@@ -4,7 +4,7 @@ use Rattle.std.specs.Prelude.{◌==◌, nat_le, nat_lt, not, map, filter, find}
 use Rattle.std.specs.Cmp.Derive.{both_true}
 use Rattle.std.specs.List.{list_all, list_any}
 use Rattle.std.specs.Option.{option_map, option_or}
-use Rattle.std.proofs.lemmas.Bool.{and_parts, or_parts, eqb-true, eq-eqb, true≢false}
+use Rattle.std.proofs.lemmas.Bool.{and_parts, or_parts, or_right, eqb-true, eq-eqb, true≢false}
 use Rattle.std.proofs.lemmas.Bool.Decides.{nat_tests}
 use Rattle.std.proofs.lemmas.List.{append-nil, length-map, map-append}
 use Rattle.std.proofs.lemmas.List.Elements.{filter-append}
@@ -25,6 +25,7 @@ use Rattle.cr_base.specs.Ties.{are_within}
 use Rattle.cr_base.proofs.ListLaws.{turned, numbers_from-push}
 use Rattle.cr_base.proofs.PaperLaws.{length-with_paper}
 use Rattle.cr_base.proofs.RisingLists.{rising-numbers_from}
+use Rattle.cr_base.proofs.TargetLaws.{paper_within}
 use Rattle.cr_base.proofs.TieLaws.{within-more, in_range}
 
 -- ---- which papers have seats
@@ -496,3 +497,50 @@ seat_in-after seats e order fits u p = refl
 -- no assignments are in order
 pub seats-in_order-nil : SeatsInOrder []
 seats-in_order-nil = record { numbered = λ p. refl; single = λ p. tt }
+
+-- ---- which labels are given
+
+-- the ordinal of a seat that is found is one of theirs
+found-among : (test stays : Tie Seat → Bool) (ordinal : ℕ) (ts : List (Tie Seat)) → option_map (λ (t : Tie Seat). t.value.ordinal) (find test (filter stays ts)) ≡ Some ordinal
+    → list_any (λ n. eqb n ordinal) (ordinals ts) ≡ true
+found-among test stays ordinal [] is = cc
+found-among test stays ordinal (t ∷ ts) is = by (stays t) is (found-among test stays ordinal ts)
+  where
+    among : Bool
+    among = list_any (λ n. eqb n ordinal) (ordinals ts)
+
+    ordinal_of : Option (Tie Seat) → Option ℕ
+    ordinal_of o = option_map (λ (t : Tie Seat). t.value.ordinal) o
+
+    behind : List (Tie Seat)
+    behind = filter stays ts
+
+    here : (b : Bool) → ordinal_of (cond b (Some t) (find test behind)) ≡ Some ordinal → (ordinal_of (find test behind) ≡ Some ordinal → among ≡ true) → (eqb t.value.ordinal ordinal || among) ≡ true
+    here true h rest = let e : t.value.ordinal ≡ ordinal = cc in ap (λ b. b || among) (eq-eqb t.value.ordinal ordinal e)
+    here false h rest = or_right (eqb t.value.ordinal ordinal) among (rest h)
+
+    by : (b : Bool) → ordinal_of (find test (cond b (t ∷ behind) behind)) ≡ Some ordinal → (ordinal_of (find test behind) ≡ Some ordinal → among ≡ true) → (eqb t.value.ordinal ordinal || among) ≡ true
+    by true h rest = here (test t) h rest
+    by false h rest = or_right (eqb t.value.ordinal ordinal) among (rest h)
+
+-- so it was drawn for the paper
+pub seat_in-drawn : (seats : SeatsState) → SeatsInOrder seats → (u : Option ℕ) (p ordinal : ℕ) → seat_in seats u p ≡ Some ordinal → (1 ≤ ordinal) × (ordinal ≤ labels_in seats p)
+seat_in-drawn seats order u p ordinal is =
+    let ts : List (Tie Seat) = ties_of ByPaper p seats in
+    paper_within ts (Some ordinal) (ap not (ap (list_any (λ n. eqb n ordinal)) (sym (order.numbered p)) ∙ found-among _ _ ordinal ts is))
+
+-- and no paper's reviewers are given more labels than there are letters
+pub labels_in-few : (seats : SeatsState) (e : Entry) (p : ℕ) → SeatsFit seats e → labels_in seats p ≤ 26 → labels_in (seats_after seats e) p ≤ 26
+labels_in-few seats (Assigned paper user kind ordinal) p fits few = by (eqb paper p) refl (labels_in-after seats (Assigned paper user kind ordinal) p)
+  where
+    told : SeatTold
+    told = record { ordinal = ordinal; kind = Some kind; user = Some user }
+
+    by : (b : Bool) → eqb paper p ≡ b → labels_in (seats_after seats (Assigned paper user kind ordinal)) p ≡ labels_in seats p + length (given b told) → labels_in (seats_after seats (Assigned paper user kind ordinal)) p ≤ 26
+    by true at count =
+        let next : ordinal ≡ labels_in seats p + 1 = subst (λ n. ordinal ≡ labels_in seats n + 1) (eqb-true paper p at) fits.0 in
+        let last = fits.1 in
+        omega (arith, count, next, last)
+    by false at count = omega (arith, count, few)
+labels_in-few seats (Unassigned paper user ordinal) p fits few = let count = labels_in-after seats (Unassigned paper user ordinal) p in omega (arith, count, few)
+labels_in-few seats e p fits few = few

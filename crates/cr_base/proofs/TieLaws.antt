@@ -1,5 +1,5 @@
--- What is there after a pair was switched on or off, who the authors of a paper are, and which papers have ties.
-use Rattle.std.proofs.Common.{ℕ, Bool, true, false, cond, ◌≡◌, ◌≤◌, ◌+◌, List, [], ◌∷◌, ◌++◌, length-append, eqb, refl, sym, ap, subst, ◌∙◌, arith, ◌||◌, ◌&&◌}
+-- What is there after a pair was switched on or off, who the authors of a paper are, what one more entry tells, and which papers have ties.
+use Rattle.std.proofs.Common.{ℕ, Bool, true, false, cond, ◌≡◌, ◌≤◌, ◌+◌, List, [], ◌∷◌, ◌++◌, length-append, append-nil, eqb, refl, sym, ap, subst, ◌∙◌, arith, ◌||◌, ◌&&◌, Option, Some, None}
 use Rattle.std.specs.Prelude.{nat_le, nat_lt, not, map}
 use Rattle.std.specs.Cmp.Derive.{both_true}
 use Rattle.std.specs.List.{list_all}
@@ -10,10 +10,12 @@ use Rattle.cr_base.specs.declared.entry.Entry.TheVariants.{Submitted, Coauthor, 
 use Rattle.cr_base.specs.declared.pairs.Order.TheVariants.{ByPaper}
 use Rattle.cr_base.specs.declared.pairs.Pair.{Pair}
 use Rattle.cr_base.specs.declared.pairs.Tie.{Tie}
-use Rattle.cr_base.specs.Lists.{given}
+use Rattle.cr_base.specs.History.{author_told, conflict_told}
+use Rattle.cr_base.specs.Lists.{given, last_or}
 use Rattle.cr_base.specs.Pairs.{same_pair, is_tied, has_pair, ties_of, users_tied_to}
 use Rattle.cr_base.specs.Papers.{PapersState, new_paper, with_texts, as_withdrawn, papers_after, paper_count, PapersFit}
-use Rattle.cr_base.specs.Ties.{BareTies, TiesState, pair_of, bare_tie, switched, ties_after, are_before, are_within, AreWithin}
+use Rattle.cr_base.specs.Ties.{BareTies, TiesState, pair_of, bare_tie, switched, ties_after, authors_in, is_conflict_on_in, are_before, are_within, AreWithin}
+use Rattle.cr_base.proofs.ListLaws.{turned}
 use Rattle.cr_base.proofs.PaperLaws.{length-with_paper}
 use Rattle.cr_base.proofs.PairLaws.{same_pair-is, list_all-with_tie, list_all-filter, has_pair-with_tie, has_pair-without_pair}
 
@@ -48,6 +50,38 @@ has_pair-push q (t ∷ ts) s = ap (λ b. is_tied q t || b) (has_pair-push q ts s
     swap true true c = refl
     swap true false c = refl
     swap false b c = refl
+
+-- ---- what one more entry tells
+
+-- a paper's authors are those that were told, and who is told by it
+pub authors_in-after : (p : ℕ) (ties : TiesState) (maker : ℕ) (e : Entry) → authors_in (ties_after ties maker e) p ≡ authors_in ties p ++ author_told p maker e
+authors_in-after p ties maker (Submitted paper title abstract) = users_tied_to-push p ties.authors paper maker ∙ ap (λ b. authors_in ties p ++ given b maker) (turned p paper)
+authors_in-after p ties maker (Coauthor paper user) = users_tied_to-push p ties.authors paper user ∙ ap (λ b. authors_in ties p ++ given b user) (turned p paper)
+authors_in-after p ties maker (Conflict paper user on) = sym (append-nil (authors_in ties p))
+authors_in-after p ties maker e = sym (append-nil (authors_in ties p))
+
+-- and a user is declared in conflict as it tells, or else as she was
+pub is_conflict_on_in-after : (u : Option ℕ) (p : ℕ) (ties : TiesState) (maker : ℕ) (e : Entry) → is_conflict_on_in (ties_after ties maker e) u p ≡ last_or (is_conflict_on_in ties u p) (conflict_told u p e)
+is_conflict_on_in-after None p ties maker (Conflict paper user on) = by (eqb paper p)
+  where
+    by : (b : Bool) → false ≡ last_or false (given (b && false) on)
+    by true = refl
+    by false = refl
+is_conflict_on_in-after (Some v) p ties maker (Conflict paper user on) =
+    has_pair-switched on (pair_of p v) paper user ties.conflicts
+    ∙ ap (λ b. cond on ((b && eqb v user) || before) (not (b && eqb v user) && before)) (turned p paper)
+    ∙ by on (eqb paper p && eqb v user) before
+  where
+    before : Bool
+    before = has_pair (pair_of p v) ties.conflicts
+
+    by : (on same there : Bool) → cond on (same || there) (not same && there) ≡ last_or there (given same on)
+    by true true there = refl
+    by true false there = refl
+    by false true there = refl
+    by false false there = refl
+is_conflict_on_in-after None p ties maker e = refl
+is_conflict_on_in-after (Some v) p ties maker e = refl
 
 -- ---- which papers have ties
 
