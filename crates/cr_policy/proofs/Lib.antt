@@ -12,6 +12,7 @@ pub mod JudgeTies
 pub mod LegalLaws
 pub mod PageTells
 pub mod PageTies
+pub mod SeatTells
 pub mod StandingLaws
 pub mod Tells
 pub mod Walk

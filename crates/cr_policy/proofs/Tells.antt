@@ -3,7 +3,7 @@ use Rattle.std.proofs.Common.{◌≡◌, ℕ, Bool, true, false, List, [], ◌�
 use Rattle.std.specs.Prelude.{map}
 use Rattle.std.specs.List.{flat_map}
 use Rattle.std.specs.Str.{bytes_eq}
-use Rattle.std.proofs.lemmas.Bool.{eqb-true, or_parts, and_parts}
+use Rattle.std.proofs.lemmas.Bool.{eqb-true, or_parts, and_parts, or_left, or_right}
 use Rattle.cr_base.specs.declared.entry.Entry.{Entry}
 use Rattle.cr_base.specs.declared.entry.Entry.TheVariants.{Registered, Named, PhaseSet, ModeSet, Submitted}
 use Rattle.cr_base.specs.declared.entry.Entry.TheVariants.{Coauthor, Revised, Uploaded, Withdrawn, Conflict}
@@ -23,6 +23,10 @@ use Rattle.cr_policy.proofs.Walk.{only-true, only-false, flat_map-given, Tells, 
 -- whether a part of an entry is shown
 abbrev pub passes : Part → Reader → Around → Stamped → Bool
 passes p r at e = shows (rows_at r at e) p
+
+-- whether two are
+abbrev pub passes_both : Part → Part → Reader → Around → Stamped → Bool
+passes_both p q r at e = passes p r at e && passes q r at e
 
 -- the part that names the author whom an entry gives a paper: who made a submission, or else the user
 abbrev pub author_part : Entry → Part
@@ -47,28 +51,44 @@ upload_pair true false version content = refl
 upload_pair false true version content = refl
 upload_pair false false version content = refl
 
--- how many bytes the reader uploaded: her own upload is shown her whole, whether the rows for authors (a) and members (m) apply or not
-own_value : (a m own : Bool) (content : List ℕ) → only (a || (m || (own || false))) (only own (map length (listed (where_shown (a || (m || (own || false))) (Some content))))) ≡ given own (length content)
-own_value true m true content = refl
-own_value true m false content = refl
-own_value false true true content = refl
-own_value false true false content = refl
-own_value false false true content = refl
-own_value false false false content = refl
+-- what the reader's own entry tells of a paper, or of nothing but herself: where it is hers it is shown her whole
+pub own_value : {A : Type 0} (seen same own : Bool) (x : A) (shown : Bool → List A) → shown true ≡ x ∷ [] → (own ≡ true → seen ≡ true)
+    → only seen (only (same && own) (shown seen)) ≡ given (same && own) x
+own_value seen same true x shown is hers =
+    ap (λ b. only b (only (same && true) (shown b))) (hers refl)
+    ∙ ap (λ xs. only true (only (same && true) xs)) is
+    ∙ by (same && true)
+  where
+    by : (b : Bool) → only true (only b (x ∷ [])) ≡ given b x
+    by true = refl
+    by false = refl
+own_value seen true false x shown is hers = ap (only seen) (only-false (shown seen))
+own_value seen false false x shown is hers = ap (only seen) (only-false (shown seen))
 
--- what is told of a user and a paper, where both are shown
-user_value : {A : Type 0} (a c : Bool) (u : Option ℕ) (v : ℕ) (x : A) → only (a && is_user u (where_shown c (Some v))) (listed (where_shown c (Some x))) ≡ only c (given (a && is_number u v) x)
-user_value true true u v x = by (is_number u v)
+-- what is told of a user and a paper, where the user (c) and the value (d) are shown
+pub pair_value : {A : Type 0} (a c d : Bool) (u : Option ℕ) (v : ℕ) (x : A) (shown : Bool → List A) → shown true ≡ x ∷ [] → shown false ≡ []
+    → only (a && is_user u (where_shown c (Some v))) (shown d) ≡ only (c && d) (given (a && is_number u v) x)
+pair_value a true true u v x shown is none = ap (only (a && is_number u v)) is ∙ by (a && is_number u v)
   where
     by : (b : Bool) → only b (x ∷ []) ≡ only true (given b x)
     by true = refl
     by false = refl
-user_value false true u v x = refl
-user_value true false u v x = sym (only-false (given (is_number u v) x))
-user_value false false u v x = refl
+pair_value a true false u v x shown is none = ap (only (a && is_number u v)) none ∙ sym (only-false (given (a && is_number u v) x))
+pair_value true false d u v x shown is none = only-false (shown d) ∙ sym (only-false (given (is_number u v) x))
+pair_value false false d u v x shown is none = only-false (shown d)
+
+-- the same, where both are shown together
+user_value : {A : Type 0} (a c : Bool) (u : Option ℕ) (v : ℕ) (x : A)
+    → only (a && is_user u (where_shown c (Some v))) (listed (where_shown c (Some x))) ≡ only c (given (a && is_number u v) x)
+user_value a c u v x =
+    pair_value a c c u v x (λ b. listed (where_shown b (Some x))) refl refl ∙ ap (λ b. only b (given (a && is_number u v) x)) (twice c)
+  where
+    twice : (c : Bool) → (c && c) ≡ c
+    twice true = refl
+    twice false = refl
 
 -- where no row applies, none shows a part
-hidden : (rows : List TriggerRow) (p : Part) → applies_any rows ≡ false → shows rows p ≡ false
+pub hidden : (rows : List TriggerRow) (p : Part) → applies_any rows ≡ false → shows rows p ≡ false
 hidden [] p h = refl
 hidden (row ∷ rows) p h =
     let parts = or_parts row.applies (applies_any rows) h in
@@ -82,16 +102,31 @@ module _ (r : Reader) (at : Around) (maker : ℕ) (more : Bool) where
   pub silent : {A : Type 0} (f : Sighting → List A) (e : Entry) → f (joined r at (stamp maker more e)) ≡ [] → flat_map f (sight r at (stamp maker more e)) ≡ []
   silent f e h = flat_map-given f (is_seen r at (stamp maker more e)) (joined r at (stamp maker more e)) ∙ ap (only (is_seen r at (stamp maker more e))) h
 
-  -- what a sighting tells where a part is shown, of an entry that may show nothing
-  pub told_where : {A : Type 0} (f : Sighting → List A) (p : Part) (e : Entry) (xs : List A) → f (joined r at (stamp maker more e)) ≡ only (passes p r at (stamp maker more e)) xs → flat_map f (sight r at (stamp maker more e)) ≡ only (passes p r at (stamp maker more e)) xs
-  told_where {A} f p e xs h =
+  -- what a sighting tells where this holds, of an entry that may show nothing: it doesn't hold then
+  told_if : {A : Type 0} (f : Sighting → List A) (c : Bool) (e : Entry) (xs : List A) → (is_seen r at (stamp maker more e) ≡ false → c ≡ false)
+      → f (joined r at (stamp maker more e)) ≡ only c xs → flat_map f (sight r at (stamp maker more e)) ≡ only c xs
+  told_if {A} f c e xs none h =
       flat_map-given f (is_seen r at (stamp maker more e)) (joined r at (stamp maker more e))
       ∙ ap (only (is_seen r at (stamp maker more e))) h
-      ∙ by (is_seen r at (stamp maker more e)) (passes p r at (stamp maker more e)) (hidden (rows_at r at (stamp maker more e)) p)
+      ∙ by (is_seen r at (stamp maker more e)) c none
     where
       by : (seen c : Bool) → (seen ≡ false → c ≡ false) → only seen (only c xs) ≡ only c xs
       by true c none = only-true (only c xs)
       by false c none = only-false (only c xs) ∙ sym (ap (λ b. only b xs) (none refl) ∙ only-false xs)
+
+  -- the same where a part is shown
+  pub told_where : {A : Type 0} (f : Sighting → List A) (p : Part) (e : Entry) (xs : List A)
+      → f (joined r at (stamp maker more e)) ≡ only (passes p r at (stamp maker more e)) xs
+      → flat_map f (sight r at (stamp maker more e)) ≡ only (passes p r at (stamp maker more e)) xs
+  told_where f p e xs h = told_if f (passes p r at (stamp maker more e)) e xs (hidden (rows_at r at (stamp maker more e)) p) h
+
+  -- and where two are
+  pub told_both : {A : Type 0} (f : Sighting → List A) (p q : Part) (e : Entry) (xs : List A)
+      → f (joined r at (stamp maker more e)) ≡ only (passes_both p q r at (stamp maker more e)) xs
+      → flat_map f (sight r at (stamp maker more e)) ≡ only (passes_both p q r at (stamp maker more e)) xs
+  told_both f p q e xs h =
+      told_if f (passes_both p q r at (stamp maker more e)) e xs
+      (λ none. ap (λ b. b && passes q r at (stamp maker more e)) (hidden (rows_at r at (stamp maker more e)) p none)) h
 
   -- ---- what everyone is shown
 
@@ -128,7 +163,8 @@ module _ (r : Reader) (at : Around) (maker : ℕ) (more : Bool) where
   own_bytes_at : (e : Entry) → flat_map own_bytes_seen (sight r at (stamp maker more e)) ≡ own_bytes_told r.number maker e
   own_bytes_at (Uploaded paper version content) =
       flat_map-given own_bytes_seen (is_seen r at (stamp maker more (Uploaded paper version content))) (joined r at (stamp maker more (Uploaded paper version content)))
-      ∙ own_value (r.author paper) _ (is_number r.number maker) content
+      ∙ own_value (is_seen r at (stamp maker more (Uploaded paper version content))) true (is_number r.number maker) (length content)
+      (λ b. map length (listed (where_shown b (Some content)))) refl (λ hers. or_right (r.author paper) _ (or_right _ _ (or_left (is_number r.number maker) false hers)))
   own_bytes_at e = silent own_bytes_seen e refl
 
   -- ---- what is shown to some
@@ -214,12 +250,12 @@ conflict_tells r u p at e = conflict_at r at e.maker e.more u p e.entry
 -- ---- who is shown a part of a paper
 
 -- a value that is told of a number is shown, where the number's is
-shown_value : {A : Type 0} (c same : Bool) (x : A) → (same ≡ true → c ≡ true) → only c (given same x) ≡ given same x
+pub shown_value : {A : Type 0} (c same : Bool) (x : A) → (same ≡ true → c ≡ true) → only c (given same x) ≡ given same x
 shown_value c true x h = ap (λ b. only b (x ∷ [])) (h refl)
 shown_value c false x h = refl
 
 -- a value that is told of paper p is kept, where such an entry on p passes
-of_paper : {A : Type 0} (passing : ℕ → Bool) (paper p : ℕ) (x : A) → passing p ≡ true → only (passing paper) (given (eqb paper p) x) ≡ given (eqb paper p) x
+pub of_paper : {A : Type 0} (passing : ℕ → Bool) (paper p : ℕ) (x : A) → passing p ≡ true → only (passing paper) (given (eqb paper p) x) ≡ given (eqb paper p) x
 of_paper passing paper p x h = shown_value (passing paper) (eqb paper p) x (λ same. ap passing (eqb-true paper p same) ∙ h)
 
 -- whoever made them, the entries that give paper p authors name them
