@@ -14,3 +14,4 @@ pub mod SeatLaws
 pub mod TargetLaws
 pub mod TextLaws
 pub mod TieLaws
+pub mod TieValues

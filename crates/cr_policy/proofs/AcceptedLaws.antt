@@ -19,7 +19,7 @@ use Rattle.cr_policy.specs.Legal.{IsCaller}
 use Rattle.cr_policy.specs.View.{view}
 use Rattle.cr_policy.specs.ViewFacts.{facts_in_view, shown_in_view}
 use Rattle.cr_policy.proofs.JudgeTies.{judge-tables}
-use Rattle.cr_policy.proofs.StandingLaws.{standing_from_view, accounts-seen, papers-seen, own_papers-seen, own_bytes-seen}
+use Rattle.cr_policy.proofs.StandingLaws.{standing_from_view, accounts-seen, papers-seen, own_papers-seen, own_bytes-seen, own_bid-seen, seat-seen}
 
 -- any user's view tells the facts of a history
 facts-seen : (u : Option ℕ) (H : History) → facts_in_view u (view u H) ≡ facts_of u H
@@ -29,6 +29,8 @@ facts-seen u H = λ i. record {
   papers = papers-seen u H i;
   own_papers = own_papers-seen u H i;
   own_bytes = own_bytes-seen u H i;
+  own_bid = λ p. own_bid-seen u p H i;
+  own_seat = λ p. seat-seen u p H i;
 }
 
 -- a registered user's command
@@ -46,7 +48,7 @@ accepted-adds H (Some user) command drawn bounded is accepted = user-adds H user
 -- and the tables take it. Nobody's is a registration, which doesn't ask who gives it
 pub accepted-fits : (H : History) (caller : Option ℕ) (command : Command) (drawn : Drawn) → FitInTurn no_tables H → AreTold H → IsCaller H caller command
     → judge caller (view caller H) command ≡ Ok drawn → FitInTurn (tables_of H) drawn.group
-accepted-fits H caller command drawn fits told is accepted = by caller command is (sym (judge-tables caller H command told) ∙ accepted)
+accepted-fits H caller command drawn fits told is accepted = by caller command is (sym (judge-tables caller H command fits told) ∙ accepted)
   where
     t : Tables
     t = tables_of H

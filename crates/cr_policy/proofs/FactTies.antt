@@ -1,18 +1,22 @@
 -- Where the tables tell what a history tells, what rules and answers read in a view is what they read in the tables.
-use Rattle.std.proofs.Common.{ℕ, Bool, true, false, ◌≡◌, sym, ap, ◌∙◌, Option, Some}
+use Rattle.std.proofs.Common.{ℕ, Bool, true, false, ◌≡◌, List, length, sym, ap, subst, ◌∙◌, Option, Some}
+use Rattle.std.specs.Prelude.{map}
+use Rattle.cr_base.specs.declared.reply.AccountLine.{AccountLine}
 use Rattle.cr_base.specs.declared.standing.Standing.{Standing}
-use Rattle.cr_base.specs.Answering.{uploads_told}
+use Rattle.cr_base.specs.Answering.{uploads_told, reviewer_told}
 use Rattle.cr_base.specs.History.{History}
-use Rattle.cr_base.specs.HistoryFacts.{is_author, uploads_of}
-use Rattle.cr_base.specs.Page.{shows_author, gets_versions, gets_withdrawn}
+use Rattle.cr_base.specs.HistoryFacts.{is_author, uploads_of, reviewers_of}
+use Rattle.cr_base.specs.Page.{shows_author, gets_conflicts, gets_versions, gets_withdrawn, gets_reviewers}
 use Rattle.cr_base.specs.Papers.{uploads_at, is_withdrawn_at}
+use Rattle.cr_base.specs.Seats.{seat_in, labels_in, reviewers_in}
 use Rattle.cr_base.specs.Ties.{authors_in}
 use Rattle.cr_base.specs.Tables.{tables_of}
 use Rattle.cr_base.specs.Sources.{standing_at, facts_of_tables}
 use Rattle.cr_history.specs.Laws.{AreTold}
 use Rattle.cr_policy.specs.View.{view}
-use Rattle.cr_policy.specs.ViewFacts.{authors_in_view, uploads_in_view, is_withdrawn_in_view, facts_in_view}
-use Rattle.cr_policy.proofs.StandingLaws.{standing_from_view, accounts-seen, papers-seen, own_papers-seen, own_bytes-seen}
+use Rattle.cr_policy.specs.ViewFacts.{authors_in_view, uploads_in_view, is_withdrawn_in_view, seat_in_view, seats_in_view, reviewers_in_view, facts_in_view}
+use Rattle.cr_policy.proofs.StandingLaws.{standing_from_view, accounts-seen, papers-seen, own_papers-seen, own_bytes-seen, own_bid-seen, seat-seen}
+use Rattle.cr_policy.proofs.ReviewerTells.{seat-seen_by_chair, labels-seen, reviewers-seen}
 use Rattle.cr_policy.proofs.PageTells.{authors-seen, uploads-seen_by_author, uploads-seen, withdrawn-seen}
 
 -- the facts of any user's view are those of the tables
@@ -28,6 +32,8 @@ facts_in_view-tables u H told =
       papers = papers i;
       own_papers = own i;
       own_bytes = bytes i;
+      own_bid = λ p. (own_bid-seen u p H ∙ told.bid u p) i;
+      own_seat = λ p. (seat-seen u p H ∙ told.seat u p) i;
     }
 
 module _ (u : Option ℕ) (H : History) (told : AreTold H) (p : ℕ) where
@@ -55,3 +61,23 @@ module _ (u : Option ℕ) (H : History) (told : AreTold H) (p : ℕ) where
       ∙ uploads-seen u p H (ap gets_versions (told.standing u (Some p)) ∙ may)
       ∙ ap (λ (b : Bool). uploads_told b (uploads_of p H)) author
       ∙ ap (uploads_told by.author) (told.uploads p)
+
+  -- ---- what a clear chair is told from the bidding on
+
+  -- the seat of any user
+  pub seat-tables : gets_conflicts by ≡ true → (v : Option ℕ) → seat_in_view v p (view u H) ≡ seat_in (tables_of H).seats v p
+  seat-tables may v = seat-seen_by_chair u v p H (ap gets_conflicts (told.standing u (Some p)) ∙ may) ∙ told.seat v p
+
+  -- and how many labels were given
+  pub labels-tables : gets_conflicts by ≡ true → length (seats_in_view p (view u H)) ≡ labels_in (tables_of H).seats p
+  labels-tables may = labels-seen u p H (ap gets_conflicts (told.standing u (Some p)) ∙ may) ∙ told.labels p
+
+  -- ---- who reviews the paper, as far as any reader is told of it
+
+  pub reviewers-tables : (accounts : List AccountLine) → gets_reviewers by ≡ true
+      → map (reviewer_told by accounts) (reviewers_in_view p (view u H)) ≡ map (reviewer_told by accounts) (reviewers_in (tables_of H).seats p)
+  reviewers-tables accounts may =
+      subst
+      (λ (s : Standing). gets_reviewers s ≡ true → map (reviewer_told s accounts) (reviewers_in_view p (view u H)) ≡ map (reviewer_told s accounts) (reviewers_of p H))
+      (told.standing u (Some p)) (λ gets. reviewers-seen u p H accounts gets) may
+      ∙ ap (map (reviewer_told by accounts)) (told.reviewers p)

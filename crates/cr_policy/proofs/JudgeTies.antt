@@ -1,40 +1,45 @@
 -- Where the tables tell what a history tells, judgement by a view is that by the tables.
-use Rattle.std.proofs.Common.{ℕ, Bool, true, false, cond, ◌≡◌, List, [], ◌∷◌, ◌+◌, ◌++◌, length, refl, ap, ◌∙◌, ◌||◌, ◌&&◌, arith, Option, Some, None, Result, Err}
-use Rattle.std.specs.Prelude.{unwrap_or, not, nat_lt}
+use Rattle.std.proofs.Common.{ℕ, Bool, true, false, cond, ◌≡◌, List, [], ◌∷◌, ◌+◌, ◌++◌, length, refl, ap, ◌∙◌, ◌||◌, ◌&&◌, eqb, arith, Option, Some, None, Result, Err}
+use Rattle.std.specs.Prelude.{unwrap_or, is_some, not, nat_le, nat_lt}
 use Rattle.std.specs.List.{list_any}
 use Rattle.std.specs.Option.{option_map}
 use Rattle.std.proofs.lemmas.Bool.{and_parts, not-false, or_left, or_right}
+use Rattle.std.proofs.lemmas.Bool.Decides.{nat_tests}
 use Rattle.cr_base.specs.declared.command.Command.{Command}
 use Rattle.cr_base.specs.declared.command.Command.TheVariants as commands
 use Rattle.cr_base.specs.declared.reply.Rule.{Rule}
 use Rattle.cr_base.specs.declared.reply.Rule.TheVariants as rules
 use Rattle.cr_base.specs.declared.standing.Standing.{Standing}
 use Rattle.cr_base.specs.declared.target.Target.{Target}
+use Rattle.cr_base.specs.declared.words.Kind.{Kind}
 use Rattle.cr_base.specs.declared.words.Phase.TheVariants.{Submission, Bidding, Notification}
 use Rattle.cr_base.specs.declared.words.Role.{Role}
 use Rattle.cr_base.specs.declared.words.Role.TheVariants.{Account, Member, Chair}
 use Rattle.cr_base.specs.Checks.{Check, ◌breaks◌, judged, is_in_committee, declare_checks, own_checks, other_checks, off_checks, conflict_case, conflict_checks}
+use Rattle.cr_base.specs.Checks.{bid_checks, reviewer_checks, assign_checks, unassign_checks}
 use Rattle.cr_base.specs.Lists.{is_number}
 use Rattle.cr_base.specs.History.{History, Upload}
-use Rattle.cr_base.specs.Page.{shows_author, gets_withdrawn}
-use Rattle.cr_base.specs.Phases.{is_from, is_phase}
-use Rattle.cr_base.specs.Tables.{tables_of}
+use Rattle.cr_base.specs.Page.{shows_author, gets_conflicts, gets_withdrawn}
+use Rattle.cr_base.specs.Phases.{phase_place, is_from, is_phase}
+use Rattle.cr_base.specs.Tables.{no_tables, tables_of, FitInTurn}
 use Rattle.cr_base.specs.Words.{is_anonymous, is_member, is_chair}
 use Rattle.cr_base.specs.Drawn.{Drawn, revision_drawn, upload_drawn, withdrawal_drawn, conflict_drawn}
-use Rattle.cr_base.specs.Judging.{conflict_judged, judge_by, judge_by_role}
+use Rattle.cr_base.specs.Drawn.{bid_drawn, assignment_drawn, unassignment_drawn}
+use Rattle.cr_base.specs.Judging.{conflict_judged, assignment_judged, unassignment_judged, judge_by, judge_by_role}
 use Rattle.cr_base.specs.Sources.{Facts, Shown, maker_of, user_among, role_among, has_paper, paper_named, facts_of_tables, shown_in_tables}
 use Rattle.cr_base.proofs.CheckLaws.{judged-behind, asked-behind}
 use Rattle.cr_history.specs.Laws.{AreTold}
 use Rattle.cr_policy.specs.View.{view}
 use Rattle.cr_policy.specs.ViewFacts.{shown_in_view}
 use Rattle.cr_policy.specs.Judge.{judge}
-use Rattle.cr_policy.proofs.FactTies.{facts_in_view-tables, authors-tables, withdrawn-tables, own_uploads-tables}
+use Rattle.cr_policy.proofs.FactTies.{facts_in_view-tables, authors-tables, withdrawn-tables, own_uploads-tables, seat-tables, labels-tables}
+use Rattle.cr_policy.proofs.PageTies.{conflicts-tables}
 
 -- ---- judgement
 
--- the user named, of whom it is told whether she is an author
-abbrev named : Role → Bool → Bool → Target
-named role herself author = record { role = role; herself = herself; author = author }
+-- the user named, of whom it is told whether she is an author of the paper, is in conflict with it, and reviews it
+abbrev named : Role → Bool → Bool → Bool → Bool → Target
+named role herself author clash reviews = record { role = role; herself = herself; author = author; conflicted = clash; reviewer = reviews }
 
 module _ (by : Standing) (drawn : Drawn) where
   -- these lists of checks give the same answer
@@ -104,13 +109,16 @@ module _ (by : Standing) (drawn : Drawn) where
       (not (is_member user.role) breaks rules.NotAMember ∷ user.author breaks rules.AuthorConflict ∷ []) drawn
       (λ none. same (told-chair none.0 (in_committee none.1.1.0)))
 
-  case-withdrawn : (on bidding late herself : Bool) (role : Role) (author v w : Bool) → begun ≡ bidding → (gets_withdrawn by ≡ true → v ≡ w)
-      → Alike (conflict_case on bidding late by v (named role herself author)) (conflict_case on bidding late by w (named role herself author))
-  case-withdrawn false bidding late herself role author v w b same = off-withdrawn v w (named role herself author) same
-  case-withdrawn true false late herself role author v w b same = declare-withdrawn v w (named role herself author) same
-  case-withdrawn true true true herself role author v w b same = refl
-  case-withdrawn true true false true role author v w b same = own-withdrawn v w b same
-  case-withdrawn true true false false role author v w b same = other-withdrawn v w (named role false author) b same
+  case-withdrawn : (on bidding late : Bool) (user : Target) (v w : Bool) → begun ≡ bidding → (gets_withdrawn by ≡ true → v ≡ w)
+      → Alike (conflict_case on bidding late by v user) (conflict_case on bidding late by w user)
+  case-withdrawn false bidding late user v w b same = off-withdrawn v w user same
+  case-withdrawn true false late user v w b same = declare-withdrawn v w user same
+  case-withdrawn true true true user v w b same = refl
+  case-withdrawn true true false user v w b same = by_user user.herself
+    where
+      by_user : (herself : Bool) → Alike (cond herself (own_checks by v) (other_checks by v user)) (cond herself (own_checks by w) (other_checks by w user))
+      by_user true = own-withdrawn v w b same
+      by_user false = other-withdrawn v w user b same
 
   -- ---- whether the user named is an author
 
@@ -123,9 +131,9 @@ module _ (by : Standing) (drawn : Drawn) where
       shown by.author (is_chair by.role) by.conflicted begun (is_member by.role) (not (is_anonymous by.mode)) (not-false (is_chair by.role) h) clear b
 
   -- this is asked only behind those that have let through one whom the view shows who is
-  off-author : (withdrawn herself : Bool) (role : Role) (x y : Bool) → (shows_author by false ≡ true → x ≡ y)
-      → Alike (off_checks by withdrawn (named role herself x)) (off_checks by withdrawn (named role herself y))
-  off-author withdrawn herself role x y same =
+  off-author : (withdrawn herself : Bool) (role : Role) (x y clash clash' reviews reviews' : Bool) → (shows_author by false ≡ true → x ≡ y)
+      → Alike (off_checks by withdrawn (named role herself x clash reviews)) (off_checks by withdrawn (named role herself y clash' reviews'))
+  off-author withdrawn herself role x y clash clash' reviews reviews' same =
       asked-behind
       (not (is_chair by.role) breaks rules.NotChair ∷ by.conflicted breaks rules.Conflict
       ∷ not (is_in_committee by.phase) breaks rules.WrongPhase ∷ withdrawn breaks rules.Withdrawn
@@ -133,18 +141,22 @@ module _ (by : Standing) (drawn : Drawn) where
       x y rules.AuthorConflict [] drawn
       (λ none. same (told-clear_chair none.0 none.1.0 (in_committee none.1.1.0)))
 
-  case-author : (on bidding late withdrawn herself : Bool) (role : Role) (x y : Bool) → (shows_author by false ≡ true → x ≡ y)
-      → Alike (conflict_case on bidding late by withdrawn (named role herself x)) (conflict_case on bidding late by withdrawn (named role herself y))
-  case-author false bidding late withdrawn herself role x y same = off-author withdrawn herself role x y same
-  case-author true false late withdrawn herself role x y same = refl
-  case-author true true true withdrawn herself role x y same = refl
-  case-author true true false withdrawn herself role x y same = refl
+  -- and it is all that a conflict's rules ask of her ties
+  case-author : (on bidding late withdrawn herself : Bool) (role : Role) (x y clash clash' reviews reviews' : Bool) → (shows_author by false ≡ true → x ≡ y)
+      → Alike (conflict_case on bidding late by withdrawn (named role herself x clash reviews)) (conflict_case on bidding late by withdrawn (named role herself y clash' reviews'))
+  case-author false bidding late withdrawn herself role x y clash clash' reviews reviews' same = off-author withdrawn herself role x y clash clash' reviews reviews' same
+  case-author true false late withdrawn herself role x y clash clash' reviews reviews' same = refl
+  case-author true true true withdrawn herself role x y clash clash' reviews reviews' same = refl
+  case-author true true false withdrawn herself role x y clash clash' reviews reviews' same = refl
 
 -- what two sources show of papers is the same as far as a caller is told it
 record Agree (facts : Facts) (shown tabled : Shown) : Type 0 where
   withdrawn : (p : ℕ) → gets_withdrawn (facts.standing (Some p)) ≡ true → shown.withdrawn p ≡ tabled.withdrawn p
   authors : (p : ℕ) → shows_author (facts.standing (Some p)) false ≡ true → shown.authors p ≡ tabled.authors p
   uploads : (p : ℕ) → (facts.standing (Some p)).author ≡ true → shown.uploads p ≡ tabled.uploads p
+  conflicts : (p : ℕ) → gets_conflicts (facts.standing (Some p)) ≡ true → shown.conflicts p ≡ tabled.conflicts p
+  seat : (p : ℕ) → gets_conflicts (facts.standing (Some p)) ≡ true → (v : Option ℕ) → shown.seat v p ≡ tabled.seat v p
+  labels : (p : ℕ) → gets_conflicts (facts.standing (Some p)) ≡ true → shown.labels p ≡ tabled.labels p
 
 -- a paper's authors are judged alike: whether it is withdrawn is asked, and what was uploaded is counted, only behind the
 -- rule that lets authors alone through
@@ -190,17 +202,131 @@ conflict-same facts shown tabled u (Some p) target on same = by (role_among fact
     wrote : Shown → Bool
     wrote source = list_any (is_number target) (source.authors p)
 
+    clash : Shown → Bool
+    clash source = wrote source || list_any (is_number target) (source.conflicts p)
+
+    reviews : Shown → Bool
+    reviews source = is_some (source.seat target p)
+
     judged_by : Shown → Option Role → Result Drawn Rule
     judged_by source role =
-        judged (conflict_checks standing (paper_named facts source (Some p)) (option_map (λ (r : Role). named r herself (wrote source)) role) on) drawn
+        judged
+        (conflict_checks standing (paper_named facts source (Some p)) (option_map (λ (r : Role). named r herself (wrote source) (clash source) (reviews source)) role) on)
+        drawn
 
     by : (role : Option Role) → judged_by shown role ≡ judged_by tabled role
     by None = refl
     by (Some role) =
         ap (λ (row : Result Drawn Rule). cond (not (has_paper facts (Some p))) (Err rules.NoPaper) row)
-        (case-withdrawn standing drawn on bidding late herself role (wrote shown) (shown.withdrawn p) (tabled.withdrawn p) refl (same.withdrawn p)
-        ∙ case-author standing drawn on bidding late (tabled.withdrawn p) herself role (wrote shown) (wrote tabled)
+        (case-withdrawn standing drawn on bidding late (named role herself (wrote shown) (clash shown) (reviews shown)) (shown.withdrawn p) (tabled.withdrawn p) refl (same.withdrawn p)
+        ∙ case-author standing drawn on bidding late (tabled.withdrawn p) herself role (wrote shown) (wrote tabled) (clash shown) (clash tabled) (reviews shown) (reviews tabled)
         (λ told. ap (list_any (is_number target)) (same.authors p told)))
+
+-- ---- bids and assignments
+
+-- whether a paper is withdrawn is asked of a bid only behind the rules that let through members in the bidding
+bid-same : (facts : Facts) (shown tabled : Shown) (p : ℕ) (drawn : Drawn) → Agree facts shown tabled
+    → judged (bid_checks (facts.standing (Some p)) (paper_named facts shown (Some p))) drawn ≡ judged (bid_checks (facts.standing (Some p)) (paper_named facts tabled (Some p))) drawn
+bid-same facts shown tabled p drawn same =
+    asked-behind
+    (not (has_paper facts (Some p)) breaks rules.NoPaper ∷ not (is_member by.role) breaks rules.NotMember
+    ∷ by.conflicted breaks rules.Conflict ∷ not (is_phase by.phase Bidding) breaks rules.WrongPhase ∷ [])
+    (shown.withdrawn p) (tabled.withdrawn p) rules.Withdrawn [] drawn
+    (λ none. same.withdrawn p (told-member by drawn none.1.0 (begun-bidding (phase_place by.phase) (not-false (is_phase by.phase Bidding) none.1.1.1.0))))
+  where
+    by : Standing
+    by = facts.standing (Some p)
+
+    begun-bidding : (n : ℕ) → eqb n 2 ≡ true → nat_le 2 n ≡ true
+    begun-bidding n h = grind (arith, nat_tests)
+
+-- what the rules on reviewers ask of the paper and of the user named, and how many labels were given, which is drawn from
+record Asked : Type 0 where
+  withdrawn : Bool
+  user : Target
+  seat : Option ℕ
+  labels : ℕ
+
+-- all of it is asked only behind the rules that let through a clear chair from the bidding on
+module _ (facts : Facts) (shown tabled : Shown) (same : Agree facts shown tabled) (u : Option ℕ) (p : ℕ) (target : Option ℕ) where
+  abbrev chair : Standing
+  chair = facts.standing (Some p)
+
+  abbrev asked_of : Shown → Role → Asked
+  asked_of source role =
+      let wrote : Bool = list_any (is_number target) (source.authors p) in
+      let declared : Bool = list_any (is_number target) (source.conflicts p) in
+      record {
+        withdrawn = source.withdrawn p;
+        user = named role (is_number target (maker_of u)) wrote (wrote || declared) (is_some (source.seat target p));
+        seat = source.seat target p;
+        labels = source.labels p;
+      }
+
+  asked-same : (drawn : Drawn) (role : Role) → not (is_chair chair.role) ≡ false → chair.conflicted ≡ false → not (is_in_committee chair.phase) ≡ false → asked_of shown role ≡ asked_of tabled role
+  asked-same drawn role h clear in_time =
+      let begun : is_from Bidding chair.phase ≡ true = in_committee chair drawn in_time in
+      let told : gets_conflicts chair ≡ true = all (is_chair chair.role) chair.conflicted (is_from Bidding chair.phase) (not-false (is_chair chair.role) h) clear begun in
+      let withdrawn = same.withdrawn p (told-chair chair drawn h begun) in
+      let wrote = ap (list_any (is_number target)) (same.authors p (told-clear_chair chair drawn h clear begun)) in
+      let declared = ap (list_any (is_number target)) (same.conflicts p told) in
+      let seat = same.seat p told target in
+      let labels = same.labels p told in
+      λ i. record {
+        withdrawn = withdrawn i;
+        user = named role (is_number target (maker_of u)) (wrote i) (wrote i || declared i) (is_some (seat i));
+        seat = seat i;
+        labels = labels i;
+      }
+    where
+      all : (chair clash begun : Bool) → chair ≡ true → clash ≡ false → begun ≡ true → ((chair && not clash) && begun) ≡ true
+      all chair clash begun h1 h2 h3 = grind arith
+
+  -- so are the checks on an assignment, and those on taking a reviewer off
+  reviewer-same : (role : Role) (more : Asked → List Check) (drawn : Asked → Drawn)
+      → judged (reviewer_checks chair (paper_named facts shown (Some p)) (Some (asked_of shown role).user) ++ more (asked_of shown role)) (drawn (asked_of shown role))
+      ≡ judged (reviewer_checks chair (paper_named facts tabled (Some p)) (Some (asked_of tabled role).user) ++ more (asked_of tabled role)) (drawn (asked_of tabled role))
+  reviewer-same role more drawn =
+      judged-behind
+      (not (has_paper facts (Some p)) breaks rules.NoPaper ∷ false breaks rules.NoUser ∷ not (is_chair chair.role) breaks rules.NotChair
+      ∷ chair.conflicted breaks rules.Conflict ∷ not (is_in_committee chair.phase) breaks rules.WrongPhase ∷ [])
+      (behind (asked_of shown role)) (behind (asked_of tabled role)) (drawn (asked_of shown role)) (drawn (asked_of tabled role))
+      (λ none. ap (λ (asked : Asked). judged (behind asked) (drawn asked)) (asked-same (drawn (asked_of shown role)) role none.1.1.0 none.1.1.1.0 none.1.1.1.1.0))
+    where
+      behind : Asked → List Check
+      behind asked = asked.withdrawn breaks rules.Withdrawn ∷ more asked
+
+  assign-same : (kind : Kind) → assignment_judged facts shown u (Some p) target kind ≡ assignment_judged facts tabled u (Some p) target kind
+  assign-same kind = by (role_among facts.accounts target)
+    where
+      judged_by : Shown → Option Role → Result Drawn Rule
+      judged_by source role =
+          judged
+          (assign_checks chair (paper_named facts source (Some p)) (option_map (λ (r : Role). (asked_of source r).user) role) (source.labels p))
+          (assignment_drawn (maker_of u) p (unwrap_or target 0) kind (source.labels p + 1))
+
+      by : (role : Option Role) → judged_by shown role ≡ judged_by tabled role
+      by None = refl
+      by (Some role) =
+          reviewer-same role
+          (λ asked. not (is_member asked.user.role) breaks rules.NotAMember ∷ asked.user.conflicted breaks rules.TargetConflict
+          ∷ asked.user.reviewer breaks rules.AlreadyAssigned ∷ nat_le 26 asked.labels breaks rules.LabelsSpent ∷ [])
+          (λ asked. assignment_drawn (maker_of u) p (unwrap_or target 0) kind (asked.labels + 1))
+
+  unassign-same : unassignment_judged facts shown u (Some p) target ≡ unassignment_judged facts tabled u (Some p) target
+  unassign-same = by (role_among facts.accounts target)
+    where
+      judged_by : Shown → Option Role → Result Drawn Rule
+      judged_by source role =
+          judged
+          (unassign_checks chair (paper_named facts source (Some p)) (option_map (λ (r : Role). (asked_of source r).user) role))
+          (unassignment_drawn (maker_of u) p (unwrap_or target 0) (unwrap_or (source.seat target p) 0))
+
+      by : (role : Option Role) → judged_by shown role ≡ judged_by tabled role
+      by None = refl
+      by (Some role) =
+          reviewer-same role (λ asked. not asked.user.reviewer breaks rules.NotAssigned ∷ [])
+          (λ asked. unassignment_drawn (maker_of u) p (unwrap_or target 0) (unwrap_or asked.seat 0))
 
 -- so what is shown makes no other judgement than what the tables hold
 command-same : (facts : Facts) (shown tabled : Shown) (u : Option ℕ) (command : Command) → Agree facts shown tabled → judge_by facts shown u command ≡ judge_by facts tabled u command
@@ -210,14 +336,20 @@ command-same facts shown tabled u (commands.Upload (Some p) content) same =
     (λ uploads. upload_drawn (maker_of u) p (length uploads + 1) content)
 command-same facts shown tabled u (commands.Withdraw (Some p)) same = author-same facts shown tabled same p [] (λ _. withdrawal_drawn (maker_of u) p)
 command-same facts shown tabled u (commands.SetConflict paper name on) same = conflict-same facts shown tabled u paper (user_among facts.accounts name) on same
+command-same facts shown tabled u (commands.Bid (Some p) value) same = bid-same facts shown tabled p (bid_drawn (maker_of u) p value) same
+command-same facts shown tabled u (commands.Assign (Some p) name kind) same = assign-same facts shown tabled same u p (user_among facts.accounts name) kind
+command-same facts shown tabled u (commands.Unassign (Some p) name) same = unassign-same facts shown tabled same u p (user_among facts.accounts name)
 command-same facts shown tabled u command same = refl
 
 -- the judgement by any user's view is the one by the tables
-pub judge-tables : (u : Option ℕ) (H : History) (command : Command) → AreTold H → judge u (view u H) command ≡ judge_by_role (tables_of H) u command
-judge-tables u H command told =
+pub judge-tables : (u : Option ℕ) (H : History) (command : Command) → FitInTurn no_tables H → AreTold H → judge u (view u H) command ≡ judge_by_role (tables_of H) u command
+judge-tables u H command fits told =
     ap (λ (facts : Facts). judge_by facts (shown_in_view u (view u H)) u command) (facts_in_view-tables u H told)
     ∙ command-same (facts_of_tables (tables_of H) u) (shown_in_view u (view u H)) (shown_in_tables (tables_of H)) u command (record {
       withdrawn = λ p may. withdrawn-tables u H told p may;
       authors = λ p may. authors-tables u H told p may;
       uploads = λ p may. own_uploads-tables u H told p may;
+      conflicts = λ p may. conflicts-tables u H p fits told (ap gets_conflicts (told.standing u (Some p)) ∙ may);
+      seat = λ p may v. seat-tables u H told p may v;
+      labels = λ p may. labels-tables u H told p may;
     })

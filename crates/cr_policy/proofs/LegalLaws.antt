@@ -104,10 +104,10 @@ Legal-caller_registered name digest H u is = caller-registered name digest H u i
 
 -- judgement and answer by any user's view are those by the tables
 pub Legal-judge : (u : Option ℕ) (H : History) (command : Command) → Legal H → judge u (view u H) command ≡ judge_by_role (tables_of H) u command
-Legal-judge u H command legal = judge-tables u H command (Legal-told H legal)
+Legal-judge u H command legal = judge-tables u H command (Legal-fits H legal) (Legal-told H legal)
 
 pub Legal-answer : (u : Option ℕ) (H : History) (query : Query) → Legal H → answer u (view u H) query ≡ answer_by_role (tables_of H) u query
-Legal-answer u H query legal = answer-tables u H (Legal-fits H legal) (Legal-told H legal) (Legal-in_time H legal) query
+Legal-answer u H query legal = answer-tables u H (Legal-fits H legal) (Legal-told H legal) (legal_invariants H legal).in_order (Legal-in_time H legal) query
 
 -- an author's view tells whom the paper's authors declared
 pub Legal-declared : DeclaredFromView

@@ -1,4 +1,5 @@
 pub mod AcceptedLaws
+pub mod BidTies
 pub mod BoundsLeft
 pub mod BoundsParts
 pub mod BoundsTexts
@@ -12,6 +13,7 @@ pub mod JudgeTies
 pub mod LegalLaws
 pub mod PageTells
 pub mod PageTies
+pub mod ReviewerTells
 pub mod SeatTells
 pub mod StandingLaws
 pub mod Tells

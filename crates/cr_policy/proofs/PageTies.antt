@@ -1,10 +1,11 @@
 -- Where the tables tell what a history tells and conflicts are declared in time, answers by a view are those by the tables.
 use Rattle.std.proofs.Common.{ℕ, Bool, true, false, ◌≡◌, List, [], ◌∷◌, ◌||◌, ◌&&◌, refl, ap, ◌∙◌, arith, Option, Some, None, Result}
 use Rattle.std.specs.Prelude.{◌==◌, unwrap_or, not, is_some, map}
-use Rattle.std.specs.List.{list_any, filter}
+use Rattle.std.specs.List.{flat_map, list_any, filter}
 use Rattle.std.specs.Option.{option_map}
 use Rattle.cr_base.specs.declared.command.Query.{Query}
 use Rattle.cr_base.specs.declared.command.Query.TheVariants as queries
+use Rattle.cr_base.specs.declared.page.Bidder.{Bidder}
 use Rattle.cr_base.specs.declared.page.Page.{Page}
 use Rattle.cr_base.specs.declared.reply.AccountLine.{AccountLine}
 use Rattle.cr_base.specs.declared.reply.Reply.{Reply}
@@ -15,25 +16,28 @@ use Rattle.cr_base.specs.declared.standing.Standing.{Standing}
 use Rattle.cr_base.specs.declared.words.Phase.TheVariants.{Bidding}
 use Rattle.cr_base.specs.Accounts.{lines_of}
 use Rattle.cr_base.specs.Checks.{Check, ◌breaks◌, judged}
-use Rattle.cr_base.specs.History.{History, Upload}
+use Rattle.cr_base.specs.History.{History, Upload, BidTold}
 use Rattle.cr_base.specs.HistoryFacts.{standing_of}
-use Rattle.cr_base.specs.Page.{PaperTexts, page_of, where_told, gets_title, gets_abstract, shows_author, gets_conflict, gets_conflicts, gets_declared, gets_versions, gets_withdrawn, bare_keys}
+use Rattle.cr_base.specs.Lists.{listed}
+use Rattle.cr_base.specs.Page.{PaperTexts, page_of, where_told, gets_title, gets_abstract, shows_author, gets_conflict, gets_conflicts, gets_declared, gets_versions, gets_withdrawn, gets_bid, gets_bids, gets_label, gets_reviewers, bare_keys}
 use Rattle.cr_base.specs.Phases.{is_from}
 use Rattle.cr_base.specs.Tables.{Tables, no_tables, tables_of, FitInTurn}
-use Rattle.cr_base.specs.Answering.{uploads_told, upload_of, content_by, content_asked, query_checks, page_by, reply_or_rule, answer_by, answer_by_role}
+use Rattle.cr_base.specs.Answering.{uploads_told, upload_of, content_by, content_asked, query_checks, bidder_told, reviewer_told, page_by, reply_or_rule, answer_by, answer_by_role}
 use Rattle.cr_base.specs.Sources.{Facts, Shown, has_paper, facts_of_tables, shown_in_tables, names_in}
-use Rattle.cr_base.specs.Words.{is_member}
+use Rattle.cr_base.specs.Words.{is_member, no_bid}
 use Rattle.cr_base.proofs.CheckLaws.{judged-behind}
 use Rattle.cr_history.specs.Laws.{AreTold}
 use Rattle.cr_policy.specs.View.{view}
 use Rattle.cr_policy.specs.ViewFacts.{is_conflict_on_in_view, declared_in_view, users_where, shown_in_view}
 use Rattle.cr_policy.specs.Judge.{answer}
 use Rattle.cr_policy.proofs.DeclaredLaws.{declared-seen_by_author}
-use Rattle.cr_history.specs.Invariants.{DeclaresInTime}
+use Rattle.cr_history.specs.Invariants.{InTurn, IsInOrder, DeclaresInTime}
 use Rattle.cr_history.proofs.OrderTies.{has_order-tables, users-tied_to}
 use Rattle.cr_policy.proofs.StandingLaws.{accounts-seen}
+use Rattle.cr_policy.proofs.BidTies.{bids-tables}
+use Rattle.cr_policy.proofs.ReviewerTells.{same_key}
 use Rattle.cr_policy.proofs.PageTells.{title-seen, abstract-seen, conflicts-seen}
-use Rattle.cr_policy.proofs.FactTies.{facts_in_view-tables, authors-tables, withdrawn-tables, uploads-tables}
+use Rattle.cr_policy.proofs.FactTies.{facts_in_view-tables, authors-tables, withdrawn-tables, uploads-tables, reviewers-tables}
 
 -- ---- users by number
 
@@ -43,7 +47,7 @@ users-tables : (u : Option ℕ) (H : History) (test : ℕ → Bool) → AreTold 
 users-tables u H test told = ap (λ (lines : List AccountLine). filter test (map (λ (a : AccountLine). a.user) lines)) (accounts-seen u H ∙ told.accounts)
 
 -- who is declared in conflict with a paper, as the view of one who is told shows it
-conflicts-tables : (u : Option ℕ) (H : History) (p : ℕ) → FitInTurn no_tables H → AreTold H → gets_conflicts (standing_of u (Some p) H) ≡ true
+pub conflicts-tables : (u : Option ℕ) (H : History) (p : ℕ) → FitInTurn no_tables H → AreTold H → gets_conflicts (standing_of u (Some p) H) ≡ true
     → (shown_in_view u (view u H)).conflicts p ≡ (shown_in_tables (tables_of H)).conflicts p
 conflicts-tables u H p fits told may =
     let t : Tables = tables_of H in
@@ -63,18 +67,17 @@ declared-tables u H p fits told in_time may =
 
 -- ---- pages
 
--- a key that is told holds the same, where its value is the same if it is told
-same_key : {A : Type 0} (told : Bool) (x y : Option A) → (told ≡ true → x ≡ y) → where_told told x ≡ where_told told y
-same_key true x y h = h refl
-same_key false x y h = refl
-
--- texts that agree where a standing tells them
+-- texts that agree where a standing tells them; a reader's own bid and label agree always
 record AgreeWhereTold (by : Standing) (x y : PaperTexts) : Type 0 where
+  bid : x.bid ≡ y.bid
+  label : x.label ≡ y.label
   title : gets_title by ≡ true → x.title ≡ y.title
   abstract_ : gets_abstract by ≡ true → x.abstract_ ≡ y.abstract_
   authors : shows_author by false ≡ true → x.authors ≡ y.authors
   conflicts : gets_conflicts by ≡ true → x.conflicts ≡ y.conflicts
   declared : gets_declared by ≡ true → x.declared ≡ y.declared
+  bids : gets_bids by ≡ true → x.bids ≡ y.bids
+  reviewers : gets_reviewers by ≡ true → x.reviewers ≡ y.reviewers
   versions : gets_versions by ≡ true → x.versions ≡ y.versions
   withdrawn : gets_withdrawn by ≡ true → x.withdrawn ≡ y.withdrawn
 
@@ -84,16 +87,20 @@ page_of-same by p x y agree = λ i. record {
   paper = p;
   abstract_ = same_key (gets_abstract by) x.abstract_ y.abstract_ agree.abstract_ i;
   authors = same_key (shows_author by false) (Some x.authors) (Some y.authors) (λ told. ap Some (agree.authors told)) i;
+  bid = where_told (gets_bid by) (Some (unwrap_or (agree.bid i) no_bid));
+  bids = same_key (gets_bids by) (Some x.bids) (Some y.bids) (λ told. ap Some (agree.bids told)) i;
   conflict = where_told (gets_conflict by) (Some by.conflicted);
   conflicts = same_key (gets_conflicts by) (Some x.conflicts) (Some y.conflicts) (λ told. ap Some (agree.conflicts told)) i;
   declared = same_key (gets_declared by) (Some x.declared) (Some y.declared) (λ told. ap Some (agree.declared told)) i;
+  label = where_told (gets_label by) (agree.label i);
+  reviewers = same_key (gets_reviewers by) (Some x.reviewers) (Some y.reviewers) (λ told. ap Some (agree.reviewers told)) i;
   title = same_key (gets_title by) x.title y.title agree.title i;
   versions = same_key (gets_versions by) (Some x.versions) (Some y.versions) (λ told. ap Some (agree.versions told)) i;
   withdrawn = same_key (gets_withdrawn by) (Some x.withdrawn) (Some y.withdrawn) (λ told. ap Some (agree.withdrawn told)) i;
   bare = bare_keys by;
 }
 
-module _ (u : Option ℕ) (H : History) (fits : FitInTurn no_tables H) (told : AreTold H) (in_time : DeclaresInTime H) where
+module _ (u : Option ℕ) (H : History) (fits : FitInTurn no_tables H) (told : AreTold H) (in_order : InTurn IsInOrder [] H) (in_time : DeclaresInTime H) where
   abbrev facts : Facts
   facts = facts_of_tables (tables_of H) u
 
@@ -109,22 +116,31 @@ module _ (u : Option ℕ) (H : History) (fits : FitInTurn no_tables H) (told : A
       let by : Standing = facts.standing (Some p) in
       let names : List ℕ → List (List ℕ) = names_in facts.accounts in
       let numbers : List Upload → List ℕ = map (λ (upload : Upload). upload.version) in
+      let bidders : List BidTold → List Bidder = λ bids. flat_map (λ (bid : BidTold). listed (bidder_told facts.accounts bid)) bids in
       let texts : Shown → PaperTexts = λ from. record {
         title = from.title p;
         abstract_ = from.abstract_ p;
         authors = names (from.authors p);
+        bid = facts.own_bid p;
+        bids = bidders (from.bids p);
         conflicts = names (from.conflicts p);
         declared = names (from.declared p);
+        label = facts.own_seat p;
+        reviewers = map (reviewer_told by facts.accounts) (from.reviewers p);
         versions = numbers (uploads_told by.author (from.uploads p));
         withdrawn = from.withdrawn p;
       } in
       let stands = told.standing u (Some p) in
       page_of-same by p (texts shown) (texts tabled) (record {
+        bid = refl;
+        label = refl;
         title = λ may. title-seen u p H (ap gets_title stands ∙ may) ∙ told.title p;
         abstract_ = λ may. abstract-seen u p H (ap gets_abstract stands ∙ may) ∙ told.abstract_ p;
         authors = λ may. ap names (authors-tables u H told p may);
         conflicts = λ may. ap names (conflicts-tables u H p fits told (ap gets_conflicts stands ∙ may));
         declared = λ may. ap names (declared-tables u H p fits told in_time (ap gets_declared stands ∙ may));
+        bids = λ may. ap bidders (bids-tables u H told in_order p may);
+        reviewers = λ may. reviewers-tables u H told p facts.accounts may;
         versions = λ may. ap numbers (uploads-tables u H told p may);
         withdrawn = λ may. withdrawn-tables u H told p may;
       })

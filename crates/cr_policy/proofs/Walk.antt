@@ -1,7 +1,9 @@
 -- From what each entry shows to a fold over the view.
 use Rattle.std.proofs.Common.{◌≡◌, ℕ, Bool, true, false, List, [], ◌∷◌, ◌++◌, refl, sym, ap, ◌∙◌, append-nil, ◌||◌, Option, Some, None}
+use Rattle.std.specs.Prelude.{map}
 use Rattle.std.specs.List.{flat_map, list_any}
 use Rattle.std.proofs.lemmas.Bool.{or_parts, true≢false}
+use Rattle.std.proofs.lemmas.List.{map-append}
 use Rattle.std.proofs.lemmas.List.Concat.{flat_map-append}
 use Rattle.std.proofs.lemmas.List.Folds.{list_any-append}
 use Rattle.cr_base.specs.declared.entry.Stamped.{Stamped}
@@ -24,6 +26,11 @@ only-false (x ∷ xs) = refl
 pub flat_map-given : {X A : Type 0} (f : X → List A) (b : Bool) (x : X) → flat_map f (given b x) ≡ only b (f x)
 flat_map-given f true x = append-nil (f x) ∙ sym (only-true (f x))
 flat_map-given f false x = sym (only-false (f x))
+
+-- what is made of each value that is told
+pub map-flat_map : {X A B : Type 0} (f : A → B) (g : X → List A) (xs : List X) → map f (flat_map g xs) ≡ flat_map (λ x. map f (g x)) xs
+map-flat_map f g [] = refl
+map-flat_map f g (x ∷ xs) = map-append f (g x) (flat_map g xs) ∙ ap (λ ys. map f (g x) ++ ys) (map-flat_map f g xs)
 
 -- ---- facts of which each entry shows all that it tells
 

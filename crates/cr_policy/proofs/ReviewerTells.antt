@@ -1,0 +1,170 @@
+-- What a view says of a paper's bids and of its reviewers is what the history says, where the reader's standing tells them.
+use Rattle.std.proofs.Common.{◌≡◌, ℕ, Bool, true, false, List, [], ◌∷◌, refl, sym, ap, ◌∙◌, ◌||◌, ◌&&◌, Option, Some, None, cond, length, arith}
+use Rattle.std.specs.Prelude.{map, not, filter, ◌==◌}
+use Rattle.std.specs.Cmp.Derive.{both_true}
+use Rattle.std.specs.List.{flat_map, list_any}
+use Rattle.std.specs.Option.{option_and_then}
+use Rattle.std.proofs.lemmas.Bool.{and_parts, or_left, or_right}
+use Rattle.std.proofs.lemmas.List.{length-map}
+use Rattle.cr_base.specs.declared.entry.Entry.TheVariants.{Assigned}
+use Rattle.cr_base.specs.declared.entry.Stamped.{Stamped}
+use Rattle.cr_base.specs.declared.page.Reviewer.{Reviewer}
+use Rattle.cr_base.specs.declared.reply.AccountLine.{AccountLine}
+use Rattle.cr_base.specs.declared.standing.Standing.{Standing}
+use Rattle.cr_base.specs.declared.words.Kind.{Kind}
+use Rattle.cr_base.specs.declared.words.Phase.TheVariants.{Bidding, Discussion, Notification}
+use Rattle.cr_base.specs.Answering.{reviewer_told}
+use Rattle.cr_base.specs.Lists.{last}
+use Rattle.cr_base.specs.History.{History, SeatTold, bid_told, assigned_told, unassigned_told}
+use Rattle.cr_base.specs.HistoryFacts.{phase_of, mode_of, role_of, standing_of, is_author, is_conflict_on, bid_of, seat_of, seats_of, seats_left, reviewers_of}
+use Rattle.cr_base.specs.Page.{is_clear_member, is_clear_chair, gets_bids, gets_conflicts, gets_reviewers, shows_reviewer, where_told}
+use Rattle.cr_base.specs.Phases.{is_from}
+use Rattle.cr_base.specs.Sources.{name_in}
+use Rattle.cr_base.specs.Words.{is_overt, is_member}
+use Rattle.cr_history.proofs.LineTies.{stamp}
+use Rattle.cr_policy.specs.Part as part
+use Rattle.cr_policy.specs.Sighting.{Sighting, where_shown}
+use Rattle.cr_policy.specs.Triggers.{reader, Around, user_named, standing_to, unless_anonymous}
+use Rattle.cr_policy.specs.View.{view}
+use Rattle.cr_policy.specs.ViewFacts.{bid_seen, assigned_seen, unassigned_seen, bid_in_view, seat_in_view, seats_in_view, reviewers_in_view}
+use Rattle.cr_policy.proofs.Walk.{map-flat_map, sights-all, fold_all}
+use Rattle.cr_policy.proofs.Tells.{passes, passes_both}
+use Rattle.cr_policy.proofs.SeatTells.{bid_tells, bid_value, unassigned_tells, unassigned_value, ShowsAssigned, assigned_tells}
+use Rattle.cr_policy.proofs.StandingLaws.{first_of, seat-seen_where}
+
+-- ---- bids
+
+-- a clear chair sees each bid on the paper from the bidding on
+pub bid-seen : (u v : Option ℕ) (p : ℕ) (H : History) → gets_bids (standing_of u (Some p) H) ≡ true → bid_in_view v p (view u H) ≡ bid_of v p H
+bid-seen u v p H told =
+    ap last (fold_all (reader u H) (bid_seen v p) (λ (e : Stamped). bid_told v p e.maker e.entry) (passes_both part.by part.value (reader u H))
+    (bid_tells (reader u H) v p)
+    (λ at e. bid_value (reader u H) at v p (λ maker more value. both_true (first_of (gets_bids (standing_of u (Some p) H)) _ told) (first_of (gets_bids (standing_of u (Some p) H)) _ told)) e) [] H)
+
+-- ---- seats
+
+-- and each entry by which anybody is assigned to it, or unassigned from it
+pub seat-seen_by_chair : (u v : Option ℕ) (p : ℕ) (H : History) → gets_conflicts (standing_of u (Some p) H) ≡ true → seat_in_view v p (view u H) ≡ seat_of v p H
+seat-seen_by_chair u v p H told = seat-seen_where u v p H (λ at. record {
+  assigned = λ maker more user kind ordinal hers. both_true (clear (user_named (reader u H) user) _) (clear (user_named (reader u H) user) _);
+  unassigned = λ maker more user ordinal hers. both_true (clear (user_named (reader u H) user) _) (clear (user_named (reader u H) user) _);
+})
+  where
+    chair : Bool
+    chair = is_clear_chair (standing_to (reader u H) p)
+
+    clear : (named rest : Bool) → (named || (chair || rest)) ≡ true
+    clear named rest = or_right named (chair || rest) (or_left chair rest (and_parts chair (is_from Bidding (phase_of H)) told).0)
+
+-- ---- reviewers
+
+-- a part that is told holds the same, where it is the same if it is told
+pub same_key : {A : Type 0} (told : Bool) (x y : Option A) → (told ≡ true → x ≡ y) → where_told told x ≡ where_told told y
+same_key true x y h = h refl
+same_key false x y h = refl
+
+-- the seats that are left are told as those are told whose label is left
+told-left : (told : SeatTold → Reviewer) → ((seat : SeatTold) → (told seat).label ≡ seat.ordinal) → (gone : List ℕ) (seats : List SeatTold)
+    → map told (seats_left gone seats) ≡ filter (λ (r : Reviewer). not (list_any (λ o. o == r.label) gone)) (map told seats)
+told-left told label gone [] = refl
+told-left told label gone (seat ∷ seats) =
+    by (not (list_any (λ o. o == seat.ordinal) gone)) (not (list_any (λ o. o == (told seat).label) gone))
+    (ap (λ n. not (list_any (λ o. o == n) gone)) (sym (label seat))) (told-left told label gone seats)
+  where
+    rest : List Reviewer
+    rest = filter (λ (r : Reviewer). not (list_any (λ o. o == r.label) gone)) (map told seats)
+
+    by : (b c : Bool) → b ≡ c → map told (seats_left gone seats) ≡ rest
+        → map told (cond b (seat ∷ seats_left gone seats) (seats_left gone seats)) ≡ cond c (told seat ∷ rest) rest
+    by true true same later = ap (λ rs. told seat ∷ rs) later
+    by true false same later = absurd (cc)
+    by false true same later = absurd (cc)
+    by false false same later = later
+
+-- one who is told of reviewers sees the label of each, what she is to the paper as far as the standing tells that, and who she is
+module _ (u : Option ℕ) (p : ℕ) (H : History) (accounts : List AccountLine) (told : gets_reviewers (standing_of u (Some p) H) ≡ true) where
+  abbrev by : Standing
+  by = standing_of u (Some p) H
+
+  abbrev chair : Bool
+  chair = is_clear_chair by
+
+  abbrev member : Bool
+  member = is_clear_member by
+
+  abbrev discussed : Bool
+  discussed = is_from Discussion by.phase
+
+  abbrev notified : Bool
+  notified = is_from Notification by.phase
+
+  abbrev shown_label : Bool → Bool → Bool
+  shown_label named own = named || (chair || ((member && discussed) || ((by.author && is_overt by.mode && notified) || (own || false))))
+
+  label_shown : (named own : Bool) → shown_label named own ≡ true
+  label_shown named own = shown chair (is_from Bidding by.phase) member (unless_anonymous (reader u H)) discussed by.author (is_overt by.mode) notified named own told
+    where
+      shown : (c b m n d a o f named own : Bool) → (((c && b) || (m && n && d) || (a && o && f)) || (m && d)) ≡ true
+          → (named || (c || ((m && d) || ((a && o && f) || (own || false))))) ≡ true
+      shown c b m n d a o f named own h = grind arith
+
+  kind_shown : (named own : Bool) → member ≡ true → (named || (chair || ((member && discussed) || (own || false)))) ≡ true
+  kind_shown named own clear =
+      shown chair (is_from Bidding by.phase) member (unless_anonymous (reader u H)) discussed by.author (is_overt by.mode) notified named own clear
+      (no_author (is_member by.role) by.author (is_conflict_on u p H) clear) told
+    where
+      no_author : (serves a d : Bool) → (serves && not (a || d)) ≡ true → a ≡ false
+      no_author serves a d h = grind arith
+
+      shown : (c b m n d a o f named own : Bool) → m ≡ true → a ≡ false → (((c && b) || (m && n && d) || (a && o && f)) || (m && d)) ≡ true
+          → (named || (c || ((m && d) || (own || false)))) ≡ true
+      shown c b m n d a o f named own hm ha h = grind arith
+
+  user_shown : (named own : Bool) → shows_reviewer by ≡ true
+      → (named || (chair || ((member && unless_anonymous (reader u H) && discussed) || ((by.author && is_overt by.mode && notified) || (own || false))))) ≡ true
+  user_shown named own h = shown chair (is_from Bidding by.phase) (member && unless_anonymous (reader u H) && discussed) (by.author && is_overt by.mode && notified) named own h
+    where
+      shown : (c b m a named own : Bool) → ((c && b) || m || a) ≡ true → (named || (c || (m || (a || (own || false))))) ≡ true
+      shown c b m a named own h = grind arith
+
+  assigned-shown : (at : Around) → ShowsAssigned (reviewer_told by accounts) (reader u H) at p
+  assigned-shown at maker more user kind ordinal =
+      let named : Bool = user_named (reader u H) user in
+      let own : Bool = user_named (reader u H) maker in
+      let e : Stamped = stamp maker more (Assigned p user kind ordinal) in
+      let shown_kind = where_shown (passes part.seat (reader u H) at e) (Some kind) in
+      let shown_user = where_shown (passes part.user (reader u H) at e) (Some user) in
+      let name : Option ℕ → Option (List ℕ) = option_and_then (name_in accounts) in
+      let kinds = same_key member shown_kind (Some kind) (λ clear. ap (λ b. where_shown b (Some kind)) (kind_shown named own clear)) in
+      let names = same_key (shows_reviewer by) (name shown_user) (name (Some user)) (λ h. ap (λ b. name (where_shown b (Some user))) (user_shown named own h)) in
+      (label_shown named own, λ i. record { done = where_told chair (Some false); kind = kinds i; label = ordinal; user = names i })
+
+  seats-seen : map (reviewer_told by accounts) (seats_in_view p (view u H)) ≡ map (reviewer_told by accounts) (seats_of p H)
+  seats-seen =
+      let tell : SeatTold → Reviewer = reviewer_told by accounts in
+      map-flat_map tell (assigned_seen p) (view u H)
+      ∙ sights-all (reader u H) (λ (s : Sighting). map tell (assigned_seen p s)) (λ (e : Stamped). map tell (assigned_told p e.entry)) (assigned_tells tell (reader u H) p assigned-shown) [] H
+      ∙ sym (map-flat_map tell (λ (e : Stamped). assigned_told p e.entry) H)
+
+  gone-seen : flat_map (unassigned_seen p) (view u H) ≡ flat_map (λ (e : Stamped). unassigned_told p e.entry) H
+  gone-seen =
+      fold_all (reader u H) (unassigned_seen p) (λ (e : Stamped). unassigned_told p e.entry) (passes part.ordinal (reader u H)) (unassigned_tells (reader u H) p)
+      (λ at e. unassigned_value (reader u H) at u p (λ maker more user ordinal. label_shown (user_named (reader u H) user) (user_named (reader u H) maker)) e) [] H
+
+  pub reviewers-seen : map (reviewer_told by accounts) (reviewers_in_view p (view u H)) ≡ map (reviewer_told by accounts) (reviewers_of p H)
+  reviewers-seen =
+      let tell : SeatTold → Reviewer = reviewer_told by accounts in
+      let left : List ℕ → List Reviewer → List Reviewer = λ gone rs. filter (λ (r : Reviewer). not (list_any (λ o. o == r.label) gone)) rs in
+      told-left tell (λ seat. refl) (flat_map (unassigned_seen p) (view u H)) (seats_in_view p (view u H))
+      ∙ ap (λ gone. left gone (map tell (seats_in_view p (view u H)))) gone-seen
+      ∙ ap (left (flat_map (λ (e : Stamped). unassigned_told p e.entry) H)) seats-seen
+      ∙ sym (told-left tell (λ seat. refl) (flat_map (λ (e : Stamped). unassigned_told p e.entry) H) (seats_of p H))
+
+  labels-seen_where : length (seats_in_view p (view u H)) ≡ length (seats_of p H)
+  labels-seen_where =
+      let tell : SeatTold → Reviewer = reviewer_told by accounts in
+      sym (length-map (seats_in_view p (view u H)) tell) ∙ ap length seats-seen ∙ length-map (seats_of p H) tell
+
+-- so a clear chair sees how many labels were given from the bidding on
+pub labels-seen : (u : Option ℕ) (p : ℕ) (H : History) → gets_conflicts (standing_of u (Some p) H) ≡ true → length (seats_in_view p (view u H)) ≡ length (seats_of p H)
+labels-seen u p H told = labels-seen_where u p H [] (first_of (shows_reviewer (standing_of u (Some p) H)) _ (first_of _ _ (first_of (gets_conflicts (standing_of u (Some p) H)) _ told)))
