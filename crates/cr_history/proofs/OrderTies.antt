@@ -92,7 +92,7 @@ has_order-tables H fits = order-from no_tables H fits (record { conflicts = none
 -- ---- the users of a paper
 
 -- the users of the accounts are numbered from the first
-users-lines_from : (n : ℕ) (accounts : List Account) → map (λ (a : AccountLine). a.user) (lines_from n accounts) ≡ numbers_from n accounts
+pub users-lines_from : (n : ℕ) (accounts : List Account) → map (λ (a : AccountLine). a.user) (lines_from n accounts) ≡ numbers_from n accounts
 users-lines_from n [] = refl
 users-lines_from n (a ∷ accounts) = ap (λ ns. n ∷ ns) (users-lines_from (n + 1) accounts)
 
