@@ -1,24 +1,35 @@
 -- What an accepted command adds: by the rules and the bounds, and as the tables take it.
-use Rattle.std.proofs.Common.{ℕ, ◌≡◌, sym, ap, ◌∙◌, Option, Some, None, Ok}
+use Rattle.std.proofs.Common.{ℕ, Bool, true, false, ◌≡◌, List, ◌||◌, ◌&&◌, eqb, refl, sym, ap, ◌∙◌, arith, Option, Some, None, Ok}
+use Rattle.std.specs.Prelude.{map}
+use Rattle.std.specs.List.{list_any}
+use Rattle.std.proofs.lemmas.Bool.{eqb-true}
+use Rattle.std.proofs.lemmas.Map.Views.{any-filter_same}
 use Rattle.cr_base.specs.declared.command.Command.{Command}
 use Rattle.cr_base.specs.declared.command.Command.TheVariants.{Register}
+use Rattle.cr_base.specs.declared.reply.AccountLine.{AccountLine}
 use Rattle.cr_base.specs.Bounds.{IsBoundedCommand}
 use Rattle.cr_base.specs.Drawn.{Drawn}
 use Rattle.cr_base.specs.History.{History}
+use Rattle.cr_base.specs.HistoryFacts.{accounts_of, is_author}
+use Rattle.cr_base.specs.Lists.{is_number}
 use Rattle.cr_base.specs.Judging.{judge_by, judge_by_role}
 use Rattle.cr_base.specs.Sources.{Facts, Shown}
 use Rattle.cr_base.specs.Tables.{Tables, no_tables, tables_of, FitInTurn}
 use Rattle.cr_base.proofs.FitLaws.{judged-fits}
+use Rattle.cr_base.proofs.ListLaws.{turned}
 use Rattle.cr_history.specs.Groups.{Adds}
 use Rattle.cr_history.specs.Laws.{AreTold}
 use Rattle.cr_history.specs.Invariants.{IsRegistered}
-use Rattle.cr_history.proofs.RuleLaws.{facts_of, registration-adds, command-adds}
+use Rattle.cr_history.proofs.RuleLaws.{facts_of, is_told_all, TellsSeats, registration-adds, command-adds}
 use Rattle.cr_history.proofs.SizeTies.{sized-tables}
 use Rattle.cr_policy.specs.Judge.{judge}
 use Rattle.cr_policy.specs.Legal.{IsCaller}
-use Rattle.cr_policy.specs.View.{view}
-use Rattle.cr_policy.specs.ViewFacts.{facts_in_view, shown_in_view}
+use Rattle.cr_policy.specs.View.{View, view}
+use Rattle.cr_policy.specs.ViewFacts.{accounts_in_view, is_conflict_on_in_view, users_where, facts_in_view, shown_in_view}
+use Rattle.cr_policy.proofs.BidTies.{users-registered}
 use Rattle.cr_policy.proofs.JudgeTies.{judge-tables}
+use Rattle.cr_policy.proofs.PageTells.{authors-seen, conflicts-seen}
+use Rattle.cr_policy.proofs.ReviewerTells.{seat-seen_by_chair, labels-seen}
 use Rattle.cr_policy.proofs.StandingLaws.{standing_from_view, accounts-seen, papers-seen, own_papers-seen, own_bytes-seen, own_bid-seen, seat-seen}
 
 -- any user's view tells the facts of a history
@@ -33,11 +44,49 @@ facts-seen u H = λ i. record {
   own_seat = λ p. seat-seen u p H i;
 }
 
+-- and to a clear chair, from the bidding on, who is in conflict with a paper, who reviews it, and how many labels were given
+module _ (user : ℕ) (H : History) where
+  abbrev V : View
+  V = view (Some user) H
+
+  -- of the users who have registered, those of whom something holds
+  users_where-seen : (v : ℕ) (test : ℕ → Bool) → IsRegistered H v → list_any (is_number (Some v)) (users_where test V) ≡ test v
+  users_where-seen v test registered =
+      let users : List ℕ = map (λ (a : AccountLine). a.user) (accounts_in_view V) in
+      any-filter_same (eqb v) test (test v) (λ k is. ap test (sym (eqb-true v k is))) users
+      ∙ ap (λ b. test v && b) there
+      ∙ always (test v)
+    where
+      there : list_any (eqb v) (map (λ (a : AccountLine). a.user) (accounts_in_view V)) ≡ true
+      there =
+          ap (λ (lines : List AccountLine). list_any (eqb v) (map (λ (a : AccountLine). a.user) lines)) (accounts-seen (Some user) H)
+          ∙ ap (λ (test : ℕ → Bool). list_any test (map (λ (a : AccountLine). a.user) (accounts_of H))) (λ i n. turned v n i)
+          ∙ users-registered H v
+          ∙ registered
+
+      always : (b : Bool) → (b && true) ≡ b
+      always true = refl
+      always false = refl
+
+  seats-told : TellsSeats H user (shown_in_view (Some user) V)
+  seats-told = record {
+    conflicted = λ p v registered told.
+        ap (λ (authors : List ℕ). list_any (is_number (Some v)) authors || list_any (is_number (Some v)) (users_where (λ w. is_conflict_on_in_view (Some w) p V) V))
+        (authors-seen (Some user) p H (shown (is_author (Some user) p H) (is_told_all H user p) _ told))
+        ∙ ap (λ b. is_author (Some v) p H || b)
+        (users_where-seen v (λ w. is_conflict_on_in_view (Some w) p V) registered ∙ conflicts-seen (Some user) p H told (Some v));
+    seat = λ p v told. seat-seen_by_chair (Some user) (Some v) p H told;
+    labels = λ p told. labels-seen (Some user) p H told;
+  }
+    where
+      shown : (author chair member : Bool) → chair ≡ true → (author || chair || member || false) ≡ true
+      shown author chair member h = grind arith
+
 -- a registered user's command
 user-adds : (H : History) (user : ℕ) (command : Command) (drawn : Drawn) → IsBoundedCommand command → IsRegistered H user → judge (Some user) (view (Some user) H) command ≡ Ok drawn → Adds H drawn.group
 user-adds H user command drawn bounded registered accepted =
     let shown : Shown = shown_in_view (Some user) (view (Some user) H) in
-    command-adds H user shown registered command drawn bounded (sym (ap (λ (facts : Facts). judge_by facts shown (Some user) command) (facts-seen (Some user) H)) ∙ accepted)
+    command-adds H user shown registered (seats-told user H) command drawn bounded (sym (ap (λ (facts : Facts). judge_by facts shown (Some user) command) (facts-seen (Some user) H)) ∙ accepted)
 
 -- the group of an accepted command is one that the rules allow
 pub accepted-adds : (H : History) (caller : Option ℕ) (command : Command) (drawn : Drawn) → IsBoundedCommand command → IsCaller H caller command → judge caller (view caller H) command ≡ Ok drawn → Adds H drawn.group

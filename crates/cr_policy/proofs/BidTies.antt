@@ -15,7 +15,7 @@ use Rattle.cr_base.specs.declared.pairs.Tie.{Tie}
 use Rattle.cr_base.specs.declared.reply.AccountLine.{AccountLine}
 use Rattle.cr_base.specs.Accounts.{lines_of}
 use Rattle.cr_base.specs.History.{History, Registration, BidTold, all_told, registration_told, bid_told}
-use Rattle.cr_base.specs.HistoryFacts.{role_of}
+use Rattle.cr_base.specs.HistoryFacts.{role_of, accounts_of}
 use Rattle.cr_base.specs.Lists.{given, listed, last, numbers_from}
 use Rattle.cr_base.specs.Page.{gets_bids}
 use Rattle.cr_base.specs.Pairs.{IsAscending, has_pair, value_of}
@@ -46,7 +46,7 @@ ascending-from t (s ∷ H) ascending = ascending-from (tables_after t s) H (asce
 
 -- ---- whoever bids has registered
 
-abbrev has_registered : History → ℕ → Bool
+abbrev pub has_registered : History → ℕ → Bool
 has_registered H v = list_any (λ (r : Registration). eqb r.user v) (all_told registration_told H)
 
 no_bid : (before : History) (v p maker : ℕ) (e : Entry) → IsMadeByUser before maker e → has_registered before v ≡ false → bid_told (Some v) p maker e ≡ []
@@ -79,25 +79,26 @@ no_bids before (e ∷ after) v p kept none later =
     neither : (a b : Bool) → a ≡ false → b ≡ false → (a || b) ≡ false
     neither a b ha hb = ap (λ c. c || b) ha ∙ hb
 
--- who has is one of the accounts
+-- the users of the accounts are those who have registered
+pub users-registered : (H : History) (v : ℕ) → list_any (λ n. eqb n v) (map (λ (a : AccountLine). a.user) (accounts_of H)) ≡ has_registered H v
+users-registered H v = by (all_told registration_told H)
+  where
+    by : (rs : List Registration) → list_any (λ n. eqb n v) (map (λ (a : AccountLine). a.user) (map (λ (r : Registration). record { user = r.user; name = r.name; role = role_of (Some r.user) H }) rs))
+        ≡ list_any (λ (r : Registration). eqb r.user v) rs
+    by [] = refl
+    by (r ∷ rs) = ap (λ b. eqb r.user v || b) (by rs)
+
+-- and have the first numbers
 registered-within : (H : History) (v : ℕ) → AreTold H → has_registered H v ≡ true → (1 ≤ v) × (v ≤ length (tables_of H).accounts)
 registered-within H v told is =
     let accounts : List Account = (tables_of H).accounts in
     let test : ℕ → Bool = λ n. eqb n v in
-    let users : List AccountLine → List ℕ = λ lines. map (λ (a : AccountLine). a.user) lines in
     bounds v (length accounts)
-    (sym (any-users (all_told registration_told H)
-    ∙ ap (λ lines. list_any test (users lines)) told.accounts
+    (sym (sym (users-registered H v)
+    ∙ ap (λ (lines : List AccountLine). list_any test (map (λ (a : AccountLine). a.user) lines)) told.accounts
     ∙ ap (list_any test) (users-lines_from 1 accounts)
     ∙ list_any-numbers_from 1 v accounts (omega arith)) ∙ is)
   where
-    line : Registration → AccountLine
-    line r = record { user = r.user; name = r.name; role = role_of (Some r.user) H }
-
-    any-users : (rs : List Registration) → list_any (λ (r : Registration). eqb r.user v) rs ≡ list_any (λ n. eqb n v) (map (λ (a : AccountLine). a.user) (map line rs))
-    any-users [] = refl
-    any-users (r ∷ rs) = ap (λ b. eqb r.user v || b) (any-users rs)
-
     bounds : (v n : ℕ) → (nat_le 1 v && nat_le v (1 + n - 1)) ≡ true → (1 ≤ v) × (v ≤ n)
     bounds v n h = (low v n h, high v n h)
       where
