@@ -1,5 +1,5 @@
 -- Where the tables tell what a legal history tells, a clear chair's view shows the bids on a paper as the tables have them.
-use Rattle.std.proofs.Common.{ℕ, Bool, true, false, ◌≡◌, ◌≤◌, ◌+◌, ◌-◌, List, [], ◌∷◌, ◌++◌, length, eqb, refl, sym, ap, ◌∙◌, ◌||◌, ◌&&◌, Option, Some, None, arith}
+use Rattle.std.proofs.Common.{ℕ, Bool, true, false, ◌≡◌, ◌≤◌, ◌+◌, ◌-◌, List, [], ◌∷◌, ◌++◌, length, eqb, refl, sym, ap, ◌∙◌, ◌||◌, ◌&&◌, Option, Some, arith}
 use Rattle.std.specs.Prelude.{nat_le, map, is_some}
 use Rattle.std.specs.List.{flat_map, list_any}
 use Rattle.std.proofs.lemmas.Bool.{eqb-true, and_parts, or_parts, true≢false}
@@ -16,7 +16,7 @@ use Rattle.cr_base.specs.declared.reply.AccountLine.{AccountLine}
 use Rattle.cr_base.specs.Accounts.{lines_of}
 use Rattle.cr_base.specs.History.{History, Registration, BidTold, all_told, registration_told, bid_told}
 use Rattle.cr_base.specs.HistoryFacts.{role_of, accounts_of}
-use Rattle.cr_base.specs.Lists.{given, listed, last, numbers_from}
+use Rattle.cr_base.specs.Lists.{given, listed, last}
 use Rattle.cr_base.specs.Page.{gets_bids}
 use Rattle.cr_base.specs.Pairs.{IsAscending, has_pair, value_of}
 use Rattle.cr_base.specs.Sources.{standing_at}
@@ -25,12 +25,11 @@ use Rattle.cr_base.specs.Ties.{TiesState, pair_of, bid_tie, ties_after, bids_in}
 use Rattle.cr_base.proofs.ListLaws.{list_any-numbers_from}
 use Rattle.cr_base.proofs.PairLaws.{IsAscending-with_tie}
 use Rattle.cr_base.proofs.TieValues.{is_some-value_of, told_at, told-numbers}
-use Rattle.cr_history.specs.Invariants.{IsRegistered, IsMadeByUser, IsInOrder, InTurn}
+use Rattle.cr_history.specs.Invariants.{IsMadeByUser, IsInOrder, InTurn}
 use Rattle.cr_history.specs.Laws.{AreTold}
-use Rattle.cr_history.proofs.LineTies.{stamp}
 use Rattle.cr_history.proofs.OrderTies.{users-lines_from}
 use Rattle.cr_policy.specs.View.{view}
-use Rattle.cr_policy.specs.ViewFacts.{bid_in_view, bids_in_view, accounts_in_view}
+use Rattle.cr_policy.specs.ViewFacts.{bids_in_view, accounts_in_view}
 use Rattle.cr_policy.proofs.StandingLaws.{accounts-seen}
 use Rattle.cr_policy.proofs.ReviewerTells.{bid-seen}
 

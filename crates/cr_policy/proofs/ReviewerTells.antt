@@ -1,5 +1,5 @@
 -- What a view says of a paper's bids and of its reviewers is what the history says, where the reader's standing tells them.
-use Rattle.std.proofs.Common.{◌≡◌, ℕ, Bool, true, false, List, [], ◌∷◌, refl, sym, ap, ◌∙◌, ◌||◌, ◌&&◌, Option, Some, None, cond, length, arith}
+use Rattle.std.proofs.Common.{◌≡◌, ℕ, Bool, true, false, List, [], ◌∷◌, refl, sym, ap, ◌∙◌, ◌||◌, ◌&&◌, Option, Some, cond, length, arith}
 use Rattle.std.specs.Prelude.{map, not, filter, ◌==◌}
 use Rattle.std.specs.Cmp.Derive.{both_true}
 use Rattle.std.specs.List.{flat_map, list_any}
@@ -11,12 +11,11 @@ use Rattle.cr_base.specs.declared.entry.Stamped.{Stamped}
 use Rattle.cr_base.specs.declared.page.Reviewer.{Reviewer}
 use Rattle.cr_base.specs.declared.reply.AccountLine.{AccountLine}
 use Rattle.cr_base.specs.declared.standing.Standing.{Standing}
-use Rattle.cr_base.specs.declared.words.Kind.{Kind}
 use Rattle.cr_base.specs.declared.words.Phase.TheVariants.{Bidding, Discussion, Notification}
 use Rattle.cr_base.specs.Answering.{reviewer_told}
 use Rattle.cr_base.specs.Lists.{last}
 use Rattle.cr_base.specs.History.{History, SeatTold, bid_told, assigned_told, unassigned_told}
-use Rattle.cr_base.specs.HistoryFacts.{phase_of, mode_of, role_of, standing_of, is_author, is_conflict_on, bid_of, seat_of, seats_of, seats_left, reviewers_of}
+use Rattle.cr_base.specs.HistoryFacts.{phase_of, standing_of, is_conflict_on, bid_of, seat_of, seats_of, seats_left, reviewers_of}
 use Rattle.cr_base.specs.Page.{is_clear_member, is_clear_chair, gets_bids, gets_conflicts, gets_reviewers, shows_reviewer, where_told}
 use Rattle.cr_base.specs.Phases.{is_from}
 use Rattle.cr_base.specs.Sources.{name_in}
