@@ -24,6 +24,9 @@ route_at at.Content Get = Some asks.Content
 route_at at.Content Put = Some asks.Upload
 route_at at.Version Get = Some asks.Version
 route_at at.Conflicts Post = Some asks.SetConflict
+route_at at.Bid Put = Some asks.Bid
+route_at at.Reviewers Post = Some asks.Assign
+route_at at.Reviewer Delete = Some asks.Unassign
 route_at at.Me Get = Some asks.Me
 route_at _ _ = None
 

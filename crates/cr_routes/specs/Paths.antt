@@ -1,7 +1,7 @@
 -- The paths of the server.
 use Rattle.std.specs.Prelude.{ℕ, List, [], ◌∷◌, codes}
 use Rattle.cr_routes.specs.declared.place.Place.{Place}
-use Rattle.cr_routes.specs.declared.place.Place.TheVariants.{Register, Accounts, Members, Mode, Phase, Papers, Paper, Content, Version, Conflicts, Me}
+use Rattle.cr_routes.specs.declared.place.Place.TheVariants.{Register, Accounts, Members, Mode, Phase, Papers, Paper, Content, Version, Conflicts, Bid, Reviewers, Reviewer, Me}
 
 -- each path, with its place; a parameter is written in braces. They stand in the order in which the router keeps them:
 -- by their bytes, a path behind those that it is the start of
@@ -11,9 +11,12 @@ paths =
     (codes "/members", Members) ∷
     (codes "/me", Me) ∷
     (codes "/mode", Mode) ∷
+    (codes "/papers/{p}/bid", Bid) ∷
     (codes "/papers/{p}/conflicts", Conflicts) ∷
     (codes "/papers/{p}/content/{v}", Version) ∷
     (codes "/papers/{p}/content", Content) ∷
+    (codes "/papers/{p}/reviewers/{u}", Reviewer) ∷
+    (codes "/papers/{p}/reviewers", Reviewers) ∷
     (codes "/papers/{p}", Paper) ∷
     (codes "/papers", Papers) ∷
     (codes "/phase", Phase) ∷

@@ -27,6 +27,12 @@ pub enum Place {
     Version,
     /// `/papers/{p}/conflicts`: one such part stands between the slashes.
     Conflicts,
+    /// `/papers/{p}/bid`: one such part stands between the slashes.
+    Bid,
+    /// `/papers/{p}/reviewers`: one such part stands between the slashes.
+    Reviewers,
+    /// `/papers/{p}/reviewers/{u}`: one such part stands between the slashes, and one at the end.
+    Reviewer,
     /// `/me`
     Me,
 }
@@ -53,6 +59,9 @@ impl Place {
             (Place::Content, Method::Put) => Some(Ask::Upload),
             (Place::Version, Method::Get | Method::Head) => Some(Ask::Version),
             (Place::Conflicts, Method::Post) => Some(Ask::SetConflict),
+            (Place::Bid, Method::Put) => Some(Ask::Bid),
+            (Place::Reviewers, Method::Post) => Some(Ask::Assign),
+            (Place::Reviewer, Method::Delete) => Some(Ask::Unassign),
             (Place::Me, Method::Get | Method::Head) => Some(Ask::Me),
             _ => None,
         }
@@ -65,8 +74,10 @@ impl Place {
         ensures short { length result.now ≤ 32 }
     {
         match self {
-            Place::Register | Place::Members | Place::Mode | Place::Papers | Place::Conflicts =>
-                "POST",
+            Place::Register | Place::Members | Place::Mode | Place::Papers => "POST",
+            Place::Conflicts | Place::Reviewers => "POST",
+            Place::Bid => "PUT",
+            Place::Reviewer => "DELETE",
             Place::Accounts | Place::Version | Place::Me => "GET, HEAD",
             Place::Paper => "DELETE, GET, HEAD, PUT",
             Place::Content => "GET, HEAD, PUT",

@@ -9,14 +9,17 @@ use matchit::{InsertError, Router};
 use std::alloc::{AllocError, Global};
 
 /// As `paths` lists them.
-static PATHS: [(&str, Place); 11] = [
+static PATHS: [(&str, Place); 14] = [
     ("/accounts", Place::Accounts),
     ("/members", Place::Members),
     ("/me", Place::Me),
     ("/mode", Place::Mode),
+    ("/papers/{p}/bid", Place::Bid),
     ("/papers/{p}/conflicts", Place::Conflicts),
     ("/papers/{p}/content/{v}", Place::Version),
     ("/papers/{p}/content", Place::Content),
+    ("/papers/{p}/reviewers/{u}", Place::Reviewer),
+    ("/papers/{p}/reviewers", Place::Reviewers),
     ("/papers/{p}", Place::Paper),
     ("/papers", Place::Papers),
     ("/phase", Place::Phase),
