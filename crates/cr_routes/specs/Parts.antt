@@ -24,17 +24,17 @@ has_bytes (b ∷ rest) = true
 
 -- a parameter takes each part that isn't empty, another part of a listed path takes itself alone
 abbrev pub takes : List ℕ → List ℕ → Bool
-takes joined_by_commas part = if is_parameter joined_by_commas then has_bytes part else bytes_eq joined_by_commas part
+takes listed part = if is_parameter listed then has_bytes part else bytes_eq listed part
 
 -- a path is as a listed path tells, part for part
 abbrev pub fits_parts : List (List ℕ) → List (List ℕ) → Bool
-fits_parts joined_by_commas path = pointwise takes joined_by_commas path
+fits_parts listed path = pointwise takes listed path
 
 -- the parts that the parameters of a listed path take of such a path, in their order
 abbrev pub taken : List (List ℕ) → List (List ℕ) → List (List ℕ)
 taken [] path = []
-taken (joined_by_commas ∷ more) [] = []
-taken (joined_by_commas ∷ more) (part ∷ path) = if is_parameter joined_by_commas then part ∷ taken more path else taken more path
+taken (listed ∷ more) [] = []
+taken (listed ∷ more) (part ∷ path) = if is_parameter listed then part ∷ taken more path else taken more path
 
 -- the first and the second part, where they are there
 abbrev pub first_of : List (List ℕ) → Option (List ℕ)
@@ -69,4 +69,4 @@ seen f = record { place = f.place; first = option_map (λ t. t.now) f.first; sec
 
 -- at most two parts of a listed path are parameters
 abbrev pub has_few_parameters : List ℕ → Bool
-has_few_parameters joined_by_commas = nat_le (length (taken (parts joined_by_commas) (parts joined_by_commas))) 2
+has_few_parameters listed = nat_le (length (taken (parts listed) (parts listed))) 2

@@ -3,9 +3,9 @@ use Rattle.cr_routes.specs.Parts.{found_at}
 use Rattle.cr_routes.proofs.Places.{unrooted}
 use Rattle.cr_routes.proofs.laws.law_paths.Goals as goal
 
-pub returns-clause-joined_by_commas : goal.returns-clause-joined_by_commas
+pub returns-clause-listed : goal.returns-clause-listed
 unfolding found_at
-returns-clause-joined_by_commas c = refl
+returns-clause-listed c = refl
 
 pub returns-clause-few : goal.returns-clause-few
 returns-clause-few c = refl
