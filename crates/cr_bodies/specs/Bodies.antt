@@ -3,7 +3,7 @@ use Rattle.std.specs.Prelude.{ℕ, List, Option, Some, None, codes}
 use Rattle.serde_json.specs.Data.{Data}
 use Rattle.cr_base.specs.declared.command.Command.{Command}
 use Rattle.cr_base.specs.declared.command.Command.TheVariants as commands
-use Rattle.cr_bodies.specs.Field.{◌>>=◌, abstract_under, digest_under, flag_under, mode_under, name_under, names_under, phase_under, role_under, title_under, user_under}
+use Rattle.cr_bodies.specs.Field.{◌>>=◌, abstract_under, bid_under, digest_under, flag_under, kind_under, mode_under, name_under, names_under, phase_under, role_under, title_under, user_under}
 use Rattle.cr_bodies.specs.Json.{json_of}
 use Rattle.cr_base.specs.declared.ask.Ask.{Ask}
 use Rattle.cr_base.specs.declared.ask.Ask.TheVariants as asks
@@ -38,6 +38,13 @@ command_in asks.SetConflict paper d = do
   on ← flag_under (codes "on") d
   user ← user_under (codes "user") d
   Some (commands.SetConflict paper user on)
+command_in asks.Bid paper d = do
+  bid ← bid_under (codes "bid") d
+  Some (commands.Bid paper bid)
+command_in asks.Assign paper d = do
+  kind ← kind_under (codes "kind") d
+  user ← user_under (codes "user") d
+  Some (commands.Assign paper user kind)
 command_in asks.Accounts paper d = None
 command_in asks.Phase paper d = None
 command_in asks.Page paper d = None
@@ -45,6 +52,7 @@ command_in asks.Withdraw paper d = None
 command_in asks.Content paper d = None
 command_in asks.Upload paper d = None
 command_in asks.Version paper d = None
+command_in asks.Unassign paper d = None
 command_in asks.Me paper d = None
 
 -- the same of a body's bytes

@@ -1,13 +1,14 @@
 -- What a member of a JSON object says, by its key and the kind of its value.
-use Rattle.std.specs.Prelude.{ℕ, List, [], ◌∷◌, length, Bool, IsTrue, nat_le, Option, Some, None, option_map, if◌then◌else◌}
+use Rattle.std.specs.Prelude.{ℕ, ℤ, List, [], ◌∷◌, length, Bool, IsTrue, nat_le, Option, Some, None, option_map, if◌then◌else◌}
 use Rattle.sha2.specs.Sha256.{sha256}
 use Rattle.serde_json.specs.Data.{Data, Items, no_items, item}
-use Rattle.serde_json.specs.Find.{get, as_array, as_bool, as_str}
+use Rattle.serde_json.specs.Find.{get, as_array, as_bool, as_i64, as_number, as_str}
+use Rattle.cr_base.specs.declared.words.Kind.{Kind}
 use Rattle.cr_base.specs.declared.words.Mode.{Mode}
 use Rattle.cr_base.specs.declared.words.Phase.{Phase}
 use Rattle.cr_base.specs.declared.words.Role.{Role}
 use Rattle.cr_base.specs.Texts.{IsAbstract, IsName, IsTitle, is_abstract, is_name, is_title}
-use Rattle.cr_base.specs.Words.{mode_named, phase_named, role_named}
+use Rattle.cr_base.specs.Words.{bid_of_value, mode_named, phase_named, role_named, seat_named}
 use Rattle.cr_bodies.specs.Secret.{is_secret}
 use Rattle.cr_bodies.specs.declared.field.Grammar.{Grammar}
 use Rattle.cr_bodies.specs.declared.field.Grammar.TheVariants.{Name, Secret, Title, Abstract}
@@ -57,9 +58,13 @@ abstract_under key d = tested_under Abstract key d
 abbrev pub digest_under : List ℕ → Data → Option (List ℕ)
 digest_under key d = option_map sha256 (tested_under Secret key d)
 
+-- the name that a text is
+abbrev pub name_told : List ℕ → Option (List ℕ)
+name_told text = passing is_name text
+
 -- the user whose name is told under a key, None where the text there is no name
 abbrev pub user_under : List ℕ → Data → Option (Option (List ℕ))
-user_under key d = option_map (passing (admits Name)) (text_under key d)
+user_under key d = option_map name_told (text_under key d)
 
 -- the names that a list tells, each None where its text is no name; None where an element is no text
 abbrev pub names_told : Items → Option (List (Option (List ℕ)))
@@ -67,7 +72,7 @@ names_told no_items = Some []
 names_told (item d ds) = do
   text ← as_str d
   names ← names_told ds
-  Some (passing (admits Name) text ∷ names)
+  Some (name_told text ∷ names)
 
 -- at most 19 of them
 abbrev pub if_few : List (Option (List ℕ)) → Option (List (Option (List ℕ)))
@@ -86,12 +91,23 @@ names_under key d = names_of (get key d)
 abbrev pub flag_under : List ℕ → Data → Option Bool
 flag_under key d = get key d >>= as_bool
 
--- the phase, the mode, and the role that somebody may be named to, whose word stands under a key
+-- the whole number under a key: one that is written without a fraction and without an exponent, and isn't -0
+abbrev pub integer_under : List ℕ → Data → Option ℤ
+integer_under key d = get key d >>= as_number >>= as_i64
+
+-- the bid under a key: a whole number from -20 to 20
+abbrev pub bid_under : List ℕ → Data → Option ℕ
+bid_under key d = integer_under key d >>= bid_of_value
+
+-- the phase, the mode, the kind of assignment, and the role that somebody may be named to, whose word stands under a key
 abbrev pub phase_under : List ℕ → Data → Option Phase
 phase_under key d = text_under key d >>= phase_named
 
 abbrev pub mode_under : List ℕ → Data → Option Mode
 mode_under key d = text_under key d >>= mode_named
+
+abbrev pub kind_under : List ℕ → Data → Option Kind
+kind_under key d = text_under key d >>= seat_named
 
 abbrev pub role_under : List ℕ → Data → Option Role
 role_under key d = text_under key d >>= role_named

@@ -9,7 +9,9 @@ ghost use Rattle.cr_bodies.specs.Json.{json_of};
 ghost use Rattle.cr_bodies.specs.Bodies.{command_in as command_in_text, command_read};
 ghost use Rattle.cr_bodies.specs.Outcome.{TellsBody, TellsBodySeen};
 
-use crate::field::{Grammar, digest, flag, mode, name, names, phase, role, tested, user};
+use crate::field::{
+    Grammar, bid, digest, flag, kind, mode, name, names, phase, role, tested, user,
+};
 use cr_base::{Ask, Command, PaperNo, Text};
 use serde_json::Value;
 use std::alloc::{AllocError, Global};
@@ -78,6 +80,26 @@ fn revision(alloc: Global, paper: Option<PaperNo>, body: &Value) -> Result<Comma
     })
 }
 
+/// The conflict that a JSON value tells.
+fn conflict(paper: Option<PaperNo>, body: &Value) -> Result<Command, BodyError>
+    ensures told { TellsBody result (command_in_text Ask.SetConflict paper (view body.now)) }
+    ensures bounded { IfOk result IsBoundedCommand }
+{
+    let on = flag(body, "on")?;
+    let user = user(body, "user")?;
+    Ok(Command::SetConflict { paper, user, on })
+}
+
+/// The assignment that a JSON value tells.
+fn assignment(paper: Option<PaperNo>, body: &Value) -> Result<Command, BodyError>
+    ensures told { TellsBody result (command_in_text Ask.Assign paper (view body.now)) }
+    ensures bounded { IfOk result IsBoundedCommand }
+{
+    let kind = kind(body, "kind")?;
+    let user = user(body, "user")?;
+    Ok(Command::Assign { paper, user, kind })
+}
+
 /// The command that a JSON value tells a request: the table of what each body must have, a key and a kind of value a
 /// member. Only a submission and a revision take memory, for their texts and for the names of the other authors.
 fn command_in(
@@ -110,19 +132,22 @@ fn command_in(
         }
         Ask::Submit => submission(alloc, body),
         Ask::Revise => revision(alloc, paper, body),
-        Ask::SetConflict => {
-            let on = flag(body, "on")?;
-            let user = user(body, "user")?;
-            Ok(Command::SetConflict { paper, user, on })
+        Ask::SetConflict => conflict(paper, body),
+        Ask::Bid => {
+            let value = bid(body, "bid")?;
+            Ok(Command::Bid { paper, value })
         }
+        Ask::Assign => assignment(paper, body),
         Ask::Accounts | Ask::Phase | Ask::Page | Ask::Me => Err(BodyError::Bad),
         Ask::Withdraw | Ask::Content | Ask::Upload | Ask::Version => Err(BodyError::Bad),
+        Ask::Unassign => Err(BodyError::Bad),
     }
 }
 
 /// The command that the JSON body of a request tells, with the paper that its path tells, where the command is about one.
 /// Reads the body once. `Bad` comes exactly where the body is no JSON object with the members that such a request must
-/// have, memory aside; so it does where what is asked for is told by no JSON body: a query, an upload, a withdrawal.
+/// have, memory aside; so it does where what is asked for is told by no JSON body: a query, an upload, a
+/// withdrawal, or that a reviewer leaves.
 pub fn read_command(
     alloc: Global,
     ask: Ask,

@@ -2,17 +2,17 @@
 ghost use Rattle.std.specs.Prelude.{◌≡◌, ◌≤◌, length, IfOk, IsTrue};
 ghost use Rattle.cr_base.specs.Texts.{IsName};
 ghost use Rattle.cr_base.specs.Words.{is_member};
-ghost use Rattle.cr_bodies.specs.Field.{IsOf, admits as admits_text, digest_under, flag_under, mode_under, name_under, names_of, names_under};
-ghost use Rattle.cr_bodies.specs.Field.{passing, phase_under, role_under, text_under, tested_under, user_under};
+ghost use Rattle.cr_bodies.specs.Field.{IsOf, admits as admits_text, bid_under, digest_under, flag_under, kind_under, mode_under, name_told, name_under};
+ghost use Rattle.cr_bodies.specs.Field.{names_of, names_under, phase_under, role_under, text_under, tested_under, user_under};
 ghost use Rattle.cr_bodies.specs.Outcome.{Tells, TellsBody, TellsSeen};
-ghost use Rattle.cr_bodies.specs.declared.field.Grammar.TheVariants as grammars;
 ghost use Rattle.serde_json.specs.Data.{array};
 ghost use Rattle.serde_json.specs.View.{items_view, view};
 
 use crate::body::BodyError;
 use crate::secret::{digest_of, is_secret};
 use cr_base::{
-    Digest, MOST_COAUTHORS, Mode, Phase, Role, Short, ToldNames, is_abstract, is_name, is_title,
+    Bid, Digest, Kind, MOST_COAUTHORS, Mode, Phase, Role, Short, ToldNames, is_abstract, is_name,
+    is_title,
 };
 use serde_json::Value;
 use std::alloc::Global;
@@ -85,9 +85,9 @@ pub(crate) fn digest(body: &Value, key: &str) -> Result<Digest, BodyError>
     Ok(digest_of(text.as_bytes()))
 }
 
-/// The name that a text is, or None where it is no name.
-fn name_in(text: &str) -> Option<Short>
-    ensures { result ≡ passing (admits_text grammars.Name) text.now }
+/// The name that a text is: 1 to 32 of `a-z0-9-`. None where it is no name. One walk over at most 32 bytes; takes no memory.
+pub fn name_in(text: &str) -> Option<Short>
+    ensures { result ≡ name_told text.now }
 {
     if is_name(text.as_bytes()) {
         Some(Short::from_slice(text.as_bytes()))
@@ -147,6 +147,18 @@ pub(crate) fn flag(body: &Value, key: &str) -> Result<bool, BodyError>
     }
 }
 
+/// The bid under a key: a whole number from -20 to 20, written without a fraction and without an exponent. -0 is none.
+pub(crate) fn bid(body: &Value, key: &str) -> Result<Bid, BodyError>
+    ensures told { Tells result (bid_under key.now (view body.now)) }
+    ensures high { IfOk result (λ bid. bid ≤ 40) }
+{
+    let number = body.get(key).and_then(Value::as_i64);
+    match number.and_then(Bid::from_value) {
+        Some(bid) => Ok(bid),
+        None => Err(BodyError::Bad),
+    }
+}
+
 /// The phase whose word stands under a key.
 pub(crate) fn phase(body: &Value, key: &str) -> Result<Phase, BodyError>
     ensures { Tells result (phase_under key.now (view body.now)) }
@@ -163,6 +175,16 @@ pub(crate) fn mode(body: &Value, key: &str) -> Result<Mode, BodyError>
 {
     match Mode::from_name(text(body, key)?) {
         Some(mode) => Ok(mode),
+        None => Err(BodyError::Bad),
+    }
+}
+
+/// The kind of assignment whose word stands under a key.
+pub(crate) fn kind(body: &Value, key: &str) -> Result<Kind, BodyError>
+    ensures { Tells result (kind_under key.now (view body.now)) }
+{
+    match Kind::from_name(text(body, key)?) {
+        Some(kind) => Ok(kind),
         None => Err(BodyError::Bad),
     }
 }

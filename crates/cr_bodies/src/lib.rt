@@ -10,3 +10,4 @@ mod secret;
 pub use body::{BodyError, read_command};
 pub use bytes::before_first;
 pub use credentials::{Credentials, read_credentials};
+pub use field::name_in;
