@@ -6,7 +6,7 @@ use Rattle.cr_base.specs.declared.ask.Ask.{Ask}
 use Rattle.cr_base.specs.declared.ask.Ask.TheVariants as asks
 use Rattle.cr_base.specs.declared.command.Command.{Command}
 use Rattle.cr_bodies.specs.Bodies.{command_in, command_read}
-use Rattle.cr_bodies.specs.Field.{◌>>=◌, abstract_under, digest_under, flag_under, mode_under, name_under, names_under, phase_under, role_under, title_under, user_under}
+use Rattle.cr_bodies.specs.Field.{◌>>=◌, abstract_under, bid_under, digest_under, flag_under, kind_under, mode_under, name_under, names_under, phase_under, role_under, title_under, user_under}
 use Rattle.cr_bodies.specs.Json.{json_of}
 use Rattle.cr_routes.specs.Parts.{FoundPath}
 use Rattle.cr_wire.specs.Asked.{LooksAtBody, ask_has_body, asked, command_of, commanded}
@@ -51,6 +51,13 @@ given asks.SetConflict paper body =
     of_each asks.SetConflict (json_of body) (command_in asks.SetConflict paper) (λ d.
     of_each asks.SetConflict (flag_under (codes "on") d) _ (λ on.
     of_each asks.SetConflict (user_under (codes "user") d) _ (λ user. refl)))
+given asks.Bid paper body =
+    of_each asks.Bid (json_of body) (command_in asks.Bid paper) (λ d.
+    of_each asks.Bid (bid_under (codes "bid") d) _ (λ bid. refl))
+given asks.Assign paper body =
+    of_each asks.Assign (json_of body) (command_in asks.Assign paper) (λ d.
+    of_each asks.Assign (kind_under (codes "kind") d) _ (λ kind.
+    of_each asks.Assign (user_under (codes "user") d) _ (λ user. refl)))
 given ask paper body = of_each ask (json_of body) (command_in ask paper) (λ d. tt)
 
 asks_for : (ask : Ask) (told : Option Command) → GivenBy ask told → ask_of (command_of ask told) ≡ Some ask
@@ -68,6 +75,8 @@ ask_by_ask asks.SetPhase found body = by_body asks.SetPhase found body
 ask_by_ask asks.Submit found body = by_body asks.Submit found body
 ask_by_ask asks.Revise found body = by_body asks.Revise found body
 ask_by_ask asks.SetConflict found body = by_body asks.SetConflict found body
+ask_by_ask asks.Bid found body = by_body asks.Bid found body
+ask_by_ask asks.Assign found body = by_body asks.Assign found body
 ask_by_ask ask found body = refl
 
 -- what is told by a body looks at it, whatever it tells

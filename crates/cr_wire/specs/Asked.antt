@@ -13,7 +13,7 @@ use Rattle.cr_routes.specs.Methods.{method_of}
 use Rattle.cr_base.specs.declared.ask.Ask.{Ask}
 use Rattle.cr_base.specs.declared.ask.Ask.TheVariants as asks
 use Rattle.cr_wire.specs.Caller.{ask_of}
-use Rattle.cr_wire.specs.Paper.{paper_of, version_of}
+use Rattle.cr_wire.specs.Paper.{paper_of, user_of, version_of}
 use Rattle.cr_wire.specs.declared.what.What.{What}
 use Rattle.cr_wire.specs.declared.what.What.TheVariants.{NoRoute, WrongMethod, BadBody, Command as Commands, Query as Queries}
 
@@ -50,6 +50,9 @@ asked asks.Content found body = Queries (queries.Content (paper_of found))
 asked asks.Upload found body = Commands (commands.Upload (paper_of found) body)
 asked asks.Version found body = Queries (queries.Version (paper_of found) (version_of found))
 asked asks.SetConflict found body = commanded asks.SetConflict found body
+asked asks.Bid found body = commanded asks.Bid found body
+asked asks.Assign found body = commanded asks.Assign found body
+asked asks.Unassign found body = Commands (commands.Unassign (paper_of found) (user_of found))
 asked asks.Me found body = Queries queries.Me
 
 abbrev pub with_ask : FoundPath → Option Ask → List ℕ → What
@@ -63,7 +66,7 @@ with_found (Some found) method body = with_ask found (option_and_then (ask_at fo
 abbrev pub what_of : List ℕ → List ℕ → List ℕ → What
 what_of method target body = with_found (find_at (path_of target)) method body
 
--- whether what is asked for is told by a body: all commands are but a withdrawal
+-- whether what is asked for is told by a body: all commands are but those by which something is taken away
 abbrev pub ask_has_body : Ask → Bool
 ask_has_body asks.Register = true
 ask_has_body asks.Accounts = false
@@ -79,6 +82,9 @@ ask_has_body asks.Content = false
 ask_has_body asks.Upload = true
 ask_has_body asks.Version = false
 ask_has_body asks.SetConflict = true
+ask_has_body asks.Bid = true
+ask_has_body asks.Assign = true
+ask_has_body asks.Unassign = false
 ask_has_body asks.Me = false
 
 -- a body was looked at, which alone takes memory: this goes by what is asked for

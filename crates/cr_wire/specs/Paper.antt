@@ -1,9 +1,10 @@
--- The paper and the version that a path's parameters name.
+-- The paper, the version and the user that a path's parameters name.
 use Rattle.std.specs.Prelude.{ℕ, ◌^◌, List, length, Bool, ◌&&◌, ◌==◌, not, nat_le, nat_lt, Option, Some, None, option_and_then, if◌then◌else◌, slice_index}
 use Rattle.std.specs.Char.{is_ascii_digit}
 use Rattle.std.specs.List.{list_all}
 use Rattle.std.specs.Option.{option_map_or}
 use Rattle.std.specs.Str.Parse.{digits_value}
+use Rattle.cr_bodies.specs.Field.{name_told}
 use Rattle.cr_routes.specs.Parts.{FoundPath}
 
 -- from one to four bytes
@@ -33,3 +34,7 @@ version_spelt text = if is_number text && nat_lt (digits_value 10 text) (2 ^ 64)
 -- the version that a path is about: its second parameter names it
 abbrev pub version_of : FoundPath → ℕ
 version_of found = option_map_or version_spelt found.second 0
+
+-- the user that a path is about: her name is its second parameter, None where that is no name
+abbrev pub user_of : FoundPath → Option (List ℕ)
+user_of found = option_and_then name_told found.second

@@ -7,7 +7,7 @@ ghost use Rattle.cr_wire.specs.Asked as spec;
 ghost use Rattle.cr_wire.specs.Bounds.{IsBoundedWhat};
 ghost use Rattle.cr_wire.specs.Outcome.{Gives};
 
-use crate::paper::{paper_of, version_of};
+use crate::paper::{paper_of, user_of, version_of};
 use crate::what::What;
 use cr_base::{Ask, Command, PaperNo, Query};
 use cr_bodies::{BodyError, before_first, read_command};
@@ -79,6 +79,10 @@ fn asked(alloc: Global, ask: Ask, found: Matched<'_>, body: &Body<'_>) -> Result
         Ask::Withdraw => Ok(What::Command(Command::Withdraw {
             paper: paper_of(found),
         })),
+        Ask::Unassign => Ok(What::Command(Command::Unassign {
+            paper: paper_of(found),
+            user: user_of(found),
+        })),
         Ask::Upload => upload(alloc, paper_of(found), body),
         Ask::Register
         | Ask::Name
@@ -86,7 +90,9 @@ fn asked(alloc: Global, ask: Ask, found: Matched<'_>, body: &Body<'_>) -> Result
         | Ask::SetPhase
         | Ask::Submit
         | Ask::Revise
-        | Ask::SetConflict => command(alloc, ask, found, body.as_slice()),
+        | Ask::SetConflict
+        | Ask::Bid
+        | Ask::Assign => command(alloc, ask, found, body.as_slice()),
     }
 }
 

@@ -1,9 +1,10 @@
-//! The paper and the version that a path's parameters name.
+//! The paper, the version and the user that a path's parameters name.
 ghost use Rattle.std.specs.Prelude.{◌≡◌};
 ghost use Rattle.cr_routes.specs.Parts.{seen};
 ghost use Rattle.cr_wire.specs.Paper as spec;
 
-use cr_base::PaperNo;
+use cr_base::{PaperNo, Short};
+use cr_bodies::name_in;
 use cr_http::{all_digits, decimal_value};
 use cr_routes::Matched;
 
@@ -69,4 +70,12 @@ pub(crate) fn version_of(found: Matched<'_>) -> u64
         Some(text) => version_spelt(text),
         None => 0,
     }
+}
+
+/// The user that a path is about: its second parameter, where that is a name, 1 to 32 of `a-z0-9-`. Looks at each of at most
+/// 32 bytes once and costs no allocation.
+pub(crate) fn user_of(found: Matched<'_>) -> Option<Short>
+    ensures { result ≡ spec.user_of (seen found.entry) }
+{
+    name_in(found.second?)
 }
