@@ -1,10 +1,11 @@
 -- A view is what the bounds give of the entries, one after another.
 use Rattle.std.proofs.Common.{◌≡◌, ℕ, Bool, true, false, [], ◌∷◌, ◌++◌, eqb, refl, sym, ap, ◌∙◌, ◌||◌, append_assoc, Option}
-use Rattle.std.specs.Prelude.{map}
+use Rattle.std.specs.Prelude.{map, All}
 use Rattle.std.specs.List.{list_any, AllByRecursion}
 use Rattle.std.proofs.lemmas.Bool.{eq-eqb}
 use Rattle.std.proofs.lemmas.List.{map-append}
 use Rattle.std.proofs.lemmas.List.Concat.{flat_map-append}
+use Rattle.std.proofs.lemmas.List.Elements.{All-nil, All-cons, All-append, All-same}
 use Rattle.std.proofs.lemmas.List.Folds.{list_any-append}
 use Rattle.cr_base.specs.declared.entry.Entry.{Entry}
 use Rattle.cr_base.specs.declared.entry.Entry.TheVariants.{Submitted}
@@ -16,9 +17,13 @@ use Rattle.cr_history.proofs.LineTies.{stamp}
 use Rattle.cr_policy.specs.Sighting.{Sighting}
 use Rattle.cr_policy.specs.Triggers.{reader, Around}
 use Rattle.cr_policy.specs.View.{sight, sights, view, is_seen, joined}
-use Rattle.cr_policy.specs.ShownTo.{PartFor, is_told, each_told, kind_for, mark_for, paper_for, user_for, name_for, digest_for, role_for, phase_for, mode_for, maker_for, title_for, abstract_for, version_for, content_for, switch_for}
-use Rattle.cr_policy.specs.ViewBounds.{EntriesShown, MarksShown, PapersShown, UsersShown, NamesShown, DigestsShown, RolesShown, PhasesShown, ModesShown, MakersShown, TitlesShown, AbstractsShown, VersionsShown, ContentsShown, SwitchesShown}
-use Rattle.cr_policy.proofs.BoundsParts.{IsWriters, seen-told, shown-one, mark-one, user-one, digest-one, maker-one, title-one, abstract-one, version-one, content-one, switch-one}
+use Rattle.cr_policy.specs.ShownTo.{PartFor, is_told, each_told, kind_for, mark_for, paper_for, user_for, name_for, digest_for, role_for, phase_for, mode_for}
+use Rattle.cr_policy.specs.ShownTo.{maker_for, title_for, abstract_for, version_for, content_for, switch_for, value_for, seat_for, ordinal_for}
+use Rattle.cr_policy.specs.ViewBounds.{EntriesShown, MarksShown, PapersShown, UsersShown, NamesShown, DigestsShown, RolesShown, PhasesShown, ModesShown}
+use Rattle.cr_policy.specs.ViewBounds.{MakersShown, TitlesShown, AbstractsShown, VersionsShown, ContentsShown, SwitchesShown, ValuesShown}
+use Rattle.cr_policy.specs.ViewBounds.{SeatsShown, OrdinalsShown}
+use Rattle.cr_policy.proofs.BoundsParts.{IsWriters, seen-told, shown-one, mark-one, user-one, digest-one, maker-one, title-one, abstract-one, version-one}
+use Rattle.cr_policy.proofs.BoundsParts.{content-one, switch-one, value-one, seat-one, ordinal-one}
 
 -- ---- one entry
 
@@ -40,6 +45,9 @@ shown_to u H later maker e = record {
   version = version_for u H later maker e;
   content = content_for u H later maker e;
   on = switch_for u H later maker e;
+  value = value_for u H later maker e;
+  seat = seat_for u H later maker e;
+  ordinal = ordinal_for u H later maker e;
 }
 
 module _ (u : Option ℕ) (H : History) where
@@ -67,6 +75,9 @@ module _ (u : Option ℕ) (H : History) where
     version = version-one u H at maker more e i;
     content = content-one u H at maker more e i;
     on = switch-one u H at maker more e told i;
+    value = value-one u H at maker more e told i;
+    seat = seat-one u H at maker more e i;
+    ordinal = ordinal-one u H at maker more e told i;
   }
 
   sight-one : (at : Around) (maker : ℕ) (more : Bool) (e : Entry) → IsWriters u H maker e → sight (reader u H) at (stamp maker more e) ≡ given (is_told u H at.after maker e) (shown_to u H at.after maker e)
@@ -127,6 +138,28 @@ module _ (u : Option ℕ) (H : History) where
   map-view : {A : Type 0} (f : Sighting → A) → map f (view u H) ≡ each_told u H (λ later maker e. f (shown_to u H later maker e)) H
   map-view f = ap (map f) view-told ∙ map-told f H
 
+-- ---- each sighting
+
+-- what is so of each entry that the user is told of, as she is shown it, is so of each sighting
+module _
+    (u : Option ℕ) (H : History) (P : Sighting → Type 0) (Q : Stamped → Type 0)
+    (each : (later : History) (maker : ℕ) (more : Bool) (e : Entry) → Q (stamp maker more e) → is_told u H later maker e ≡ true
+    → P (shown_to u H later maker e))
+  where
+    all-told : (G : History) → AllByRecursion Q G → All P (each_told u H (shown_to u H) G)
+    all-told [] h = All-nil P
+    all-told (e ∷ G) h =
+        All-append P (given (is_told u H G e.maker e.entry) (shown_to u H G e.maker e.entry)) (each_told u H (shown_to u H) G)
+        (by (is_told u H G e.maker e.entry) (each G e.maker e.more e.entry h.0))
+        (all-told G h.1)
+      where
+        by : (told : Bool) → (told ≡ true → P (shown_to u H G e.maker e.entry)) → All P (given told (shown_to u H G e.maker e.entry))
+        by true one = All-cons P (shown_to u H G e.maker e.entry) [] (one refl) (All-nil P)
+        by false one = All-nil P
+
+    pub all-view : AllByRecursion Q H → All P (view u H)
+    all-view h = All-same P (view u H) (each_told u H (shown_to u H) H) (view-told u H) (all-told H h)
+
 -- ---- the laws
 
 pub entries-shown : EntriesShown
@@ -173,3 +206,12 @@ contents-shown u H = map-view u H (λ (s : Sighting). s.content)
 
 pub switches-shown : SwitchesShown
 switches-shown u H = map-view u H (λ (s : Sighting). s.on)
+
+pub values-shown : ValuesShown
+values-shown u H = map-view u H (λ (s : Sighting). s.value)
+
+pub seats-shown : SeatsShown
+seats-shown u H = map-view u H (λ (s : Sighting). s.seat)
+
+pub ordinals-shown : OrdinalsShown
+ordinals-shown u H = map-view u H (λ (s : Sighting). s.ordinal)

@@ -2,6 +2,7 @@ pub mod AcceptedLaws
 pub mod BidTies
 pub mod BoundsLeft
 pub mod BoundsParts
+pub mod BoundsSeats
 pub mod BoundsTexts
 pub mod BoundsWalk
 pub mod ConferenceProofs

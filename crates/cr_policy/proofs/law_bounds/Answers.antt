@@ -1,4 +1,5 @@
-use Rattle.cr_policy.proofs.BoundsWalk.{entries-shown, marks-shown, papers-shown, users-shown, names-shown, digests-shown, roles-shown, phases-shown, modes-shown, makers-shown, titles-shown, abstracts-shown, versions-shown, contents-shown, switches-shown}
+use Rattle.cr_policy.proofs.BoundsWalk.{entries-shown, marks-shown, papers-shown, users-shown, names-shown, digests-shown, roles-shown, phases-shown, modes-shown, makers-shown, titles-shown, abstracts-shown, versions-shown, contents-shown, switches-shown, values-shown, seats-shown, ordinals-shown}
+use Rattle.cr_policy.proofs.BoundsSeats.{own-bids, reviewers-from-authors, reviewers-early, reviewers-unnamed}
 use Rattle.cr_policy.proofs.BoundsTexts.{one-title, one-abstract, one-content}
 use Rattle.cr_policy.proofs.BoundsLeft.{outsiders-shown, strangers-shown, nobody-shown}
 use Rattle.cr_policy.proofs.law_bounds.Goals as goal
@@ -20,6 +21,13 @@ returns c = record {
   versions = versions-shown;
   contents = contents-shown;
   switches = switches-shown;
+  values = values-shown;
+  seats = seats-shown;
+  ordinals = ordinals-shown;
+  own_bids = own-bids;
+  reviewers_from_authors = reviewers-from-authors;
+  reviewers_early = reviewers-early;
+  reviewers_unnamed = reviewers-unnamed;
   one_title = one-title;
   one_abstract = one-abstract;
   one_content = one-content;
