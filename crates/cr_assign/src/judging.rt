@@ -2,29 +2,10 @@
 //! paper that is there and of a user who has registered.
 ghost use Rattle.std.specs.Prelude.{◌≡◌, ◌+◌, true, false, Some, unwrap_or};
 ghost use Rattle.cr_base.specs.declared.words.Role.TheVariants.{Account};
-ghost use Rattle.cr_base.specs.Checks.{judged, chair_checks, assign_checks, unassign_checks};
+ghost use Rattle.cr_base.specs.Checks.{judged, assign_checks, unassign_checks};
 ghost use Rattle.cr_assign.specs.Targets.{target_with};
 
-use cr_base::{MOST_LABELS, Ordinal, Phase, Rule, Standing, Target};
-
-/// A clear chair, from bidding to discussion, of a paper that isn't withdrawn.
-fn chair(by: &Standing, withdrawn: bool) -> Result<(), Rule>
-    ensures { result ≡ judged (chair_checks by.now withdrawn) tt }
-{
-    if !by.role.is_chair() {
-        return Err(Rule::NotChair);
-    }
-    if by.conflicted {
-        return Err(Rule::Conflict);
-    }
-    if !by.phase.is_from(Phase::Bidding) || by.phase.is_from(Phase::Notification) {
-        return Err(Rule::WrongPhase);
-    }
-    if withdrawn {
-        return Err(Rule::Withdrawn);
-    }
-    Ok(())
-}
+use cr_base::{MOST_LABELS, Ordinal, Rule, Standing, Target};
 
 /// Assigning a member who is in no conflict with the paper and doesn't review it: the label behind the
 /// `labels` that were given.
@@ -36,7 +17,7 @@ pub(crate) fn assign(
 ) -> Result<Ordinal, Rule>
     ensures { result ≡ judged (assign_checks by.now (record { there = true; withdrawn = withdrawn }) (Some target.now) labels) (labels + 1) }
 {
-    match chair(by, withdrawn) {
+    match by.may_chair(withdrawn) {
         Ok(()) => {}
         Err(rule) => return Err(rule),
     }
@@ -63,7 +44,7 @@ pub(crate) fn unassign(
 ) -> Result<Ordinal, Rule>
     ensures { result ≡ judged (unassign_checks by.now (record { there = true; withdrawn = withdrawn }) (Some (target_with Account false held))) (unwrap_or held 0) }
 {
-    match chair(by, withdrawn) {
+    match by.may_chair(withdrawn) {
         Ok(()) => {}
         Err(rule) => return Err(rule),
     }

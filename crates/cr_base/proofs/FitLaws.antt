@@ -49,9 +49,13 @@ target-in t target asked h = target_within t.accounts target (sym (ap is_none (r
 
 -- ---- the seat of the user named
 
-none-where : (seat : Option ℕ) → is_some seat ≡ false → seat ≡ None
+pub none-where : (seat : Option ℕ) → is_some seat ≡ false → seat ≡ None
 none-where None h = refl
 none-where (Some ordinal) h = absurd (true≢false h)
+
+pub some-where : (seat : Option ℕ) → is_some seat ≡ true → seat ≡ Some (unwrap_or seat 0)
+some-where None h = absurd (true≢false (sym h))
+some-where (Some ordinal) h = refl
 
 -- whether the user named reviews the paper named, as the rules ask it, is whether she has a seat there
 seat-named : (t : Tables) (caller paper target : Option ℕ) (reviews : Bool) → is_none (target_named (facts_of_tables t caller) (shown_in_tables t) caller paper target) ≡ false
@@ -76,15 +80,11 @@ seat-named t caller (Some p) (Some v) reviews user there says = by (role_among (
     by (Some role) user says = says
 
 -- the seat that is there, where she has one
-some-where : (t : Tables) (target : Option ℕ) (p : ℕ) → is_some (seat_in t.seats (Some (unwrap_or target 0)) p) ≡ true
+seat-there : (t : Tables) (target : Option ℕ) (p : ℕ) → is_some (seat_in t.seats (Some (unwrap_or target 0)) p) ≡ true
     → (asked : Role → Target) → is_none (option_map asked (role_among (lines_of t.accounts) target)) ≡ false
     → seat_in t.seats (Some (unwrap_or target 0)) p ≡ Some (unwrap_or (seat_in t.seats target p) 0)
-some-where t None p h asked user = absurd (true≢false user)
-some-where t (Some v) p h asked user = by (seat_in t.seats (Some v) p) h
-  where
-    by : (seat : Option ℕ) → is_some seat ≡ true → seat ≡ Some (unwrap_or seat 0)
-    by None h = absurd (true≢false (sym h))
-    by (Some ordinal) h = refl
+seat-there t None p h asked user = absurd (true≢false user)
+seat-there t (Some v) p h asked user = some-where (seat_in t.seats (Some v) p) h
 
 -- where the papers that have ties are there
 module _ (t : Tables) (within : AreWithin (paper_count t.papers) t.ties) (maker : ℕ) where
@@ -172,7 +172,7 @@ module _ (t : Tables) (within : AreWithin (paper_count t.papers) t.ties) (maker 
       (unassignment_drawn maker p (unwrap_or target 0) (unwrap_or (seat_in t.seats target p) 0)) drawn accepted in
       let there = paper_within t.papers.papers paper k.0.0 in
       let user = target-in t target _ k.0.1.0 in
-      let taken = some-where t target p (seat-named t (Some maker) paper target true k.0.1.0 k.0.0 (not-false _ k.0.1.1.1.1.1.1.0)) _ k.0.1.0 in
+      let taken = seat-there t target p (seat-named t (Some maker) paper target true k.0.1.0 k.0.0 (not-false _ k.0.1.1.1.1.1.1.0)) _ k.0.1.0 in
       subst (λ (d : Drawn). FitInTurn t d.group) k.1 (record { accounts = user; papers = there; ties = tt; seats = taken }, tt)
     where
       not-false : (b : Bool) → not b ≡ false → b ≡ true

@@ -283,9 +283,10 @@ are_hers user ordinal (t ∷ ts) rising different is = by (eqb user t.pair.user)
         → (found (Some user) ts ≡ Some ordinal → AreHers user ordinal ts) → (eqb ordinal t.value.ordinal ≡ eqb user t.pair.user) × AreHers user ordinal ts
     by true at is rest =
         let e : t.value.ordinal ≡ ordinal = cc in
-        let same : t.pair.user ≡ user = sym (eqb-true user t.pair.user at) in
-        (eq-eqb ordinal t.value.ordinal (sym e) ∙ sym at,
-        hers-behind user ordinal ts (subst (λ (n : ℕ). list_all (nat_lt n) (ordinals ts) ≡ true) e rising.0) (subst (λ (n : ℕ). list_any (λ (s : Tie Seat). eqb s.pair.user n) ts ≡ false) same different.0))
+        let same : t.pair.user ≡ user = sym (eqb-true user t.pair.user at) in (
+          eq-eqb ordinal t.value.ordinal (sym e) ∙ sym at,
+          hers-behind user ordinal ts (subst (λ (n : ℕ). list_all (nat_lt n) (ordinals ts) ≡ true) e rising.0) (subst (λ (n : ℕ). list_any (λ (s : Tie Seat). eqb s.pair.user n) ts ≡ false) same different.0),
+        )
     by false at is rest = (other ordinal t.value.ordinal (found-above t.value.ordinal user ordinal ts rising.0 is) ∙ sym at, rest is)
 
 -- without them, she has none and everybody else has hers

@@ -1,7 +1,9 @@
 //! What a caller is to the conference, and to one paper.
 ghost use Rattle.std.specs.Prelude.{◌≡◌};
+ghost use Rattle.cr_base.specs.Checks.{judged, chair_checks};
 ghost use Rattle.cr_base.specs.Page.{is_clear_member, is_clear_chair};
 
+use crate::reply::Rule;
 use crate::words::{Mode, Phase, Role};
 
 /// What the rules ask about a caller: the phase and the mode of the conference, her role, and how she is
@@ -36,5 +38,25 @@ impl Standing {
         ensures { result ≡ is_clear_chair self.now }
     {
         self.role.is_chair() && !self.conflicted
+    }
+
+    /// Whether she may do to the paper what chairs do from bidding to discussion, where it is withdrawn or not, or the first
+    /// broken rule: `NotChair`, `Conflict` where she is in conflict with it, `WrongPhase`, `Withdrawn`.
+    pub fn may_chair(&self, withdrawn: bool) -> Result<(), Rule>
+        ensures { result ≡ judged (chair_checks self.now withdrawn) tt }
+    {
+        if !self.role.is_chair() {
+            return Err(Rule::NotChair);
+        }
+        if self.conflicted {
+            return Err(Rule::Conflict);
+        }
+        if !self.phase.is_from(Phase::Bidding) || self.phase.is_from(Phase::Notification) {
+            return Err(Rule::WrongPhase);
+        }
+        if withdrawn {
+            return Err(Rule::Withdrawn);
+        }
+        Ok(())
     }
 }

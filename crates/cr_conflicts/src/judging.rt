@@ -91,17 +91,9 @@ pub(crate) fn on(by: &Standing, withdrawn: bool, target: &Target) -> Result<(), 
 pub(crate) fn off(by: &Standing, withdrawn: bool, target: &Target) -> Result<(), Rule>
     ensures { result ≡ judged (off_checks by.now withdrawn target.now) tt }
 {
-    if !by.role.is_chair() {
-        return Err(Rule::NotChair);
-    }
-    if by.conflicted {
-        return Err(Rule::Conflict);
-    }
-    if !by.phase.is_from(Phase::Bidding) || by.phase.is_from(Phase::Notification) {
-        return Err(Rule::WrongPhase);
-    }
-    if withdrawn {
-        return Err(Rule::Withdrawn);
+    match by.may_chair(withdrawn) {
+        Ok(()) => {}
+        Err(rule) => return Err(rule),
     }
     if !target.role.is_member() {
         return Err(Rule::NotAMember);

@@ -36,6 +36,7 @@ use Rattle.cr_base.specs.Judging.{judge_by}
 use Rattle.cr_base.specs.Sources.{Facts, Shown, number_in, user_among, users_among, role_among, paper_named, target_named}
 use Rattle.cr_base.proofs.CheckLaws.{NoneBroken, judged-Ok}
 use Rattle.cr_base.proofs.CoauthorLaws.{users-each}
+use Rattle.cr_base.proofs.FitLaws.{none-where, some-where}
 use Rattle.cr_base.proofs.TargetLaws.{is_none-asked, target_role-of}
 use Rattle.cr_history.specs.Invariants.{IsRegistered, IsByRight}
 use Rattle.cr_history.specs.Groups.{IsRuled, Adds, single, submitted, first_user}
@@ -182,14 +183,6 @@ module _ (H : History) (maker paper user : ℕ) where
       (clear-right begun (eqb user maker) true (is_chair by_maker.role) by_maker.conflicted by_maker.author b (not-false (is_chair by_maker.role) none.0) none.1.0)
 
 -- ---- seats
-
-none-where : (seat : Option ℕ) → is_some seat ≡ false → seat ≡ None
-none-where None h = refl
-none-where (Some ordinal) h = absurd (true≢false h)
-
-some-where : (seat : Option ℕ) → is_some seat ≡ true → seat ≡ Some (unwrap_or seat 0)
-some-where None h = absurd (true≢false (sym h))
-some-where (Some ordinal) h = refl
 
 -- the user is a chair in no conflict with the paper, and it is the bidding or later
 abbrev pub is_told_all : History → ℕ → ℕ → Bool

@@ -1,10 +1,9 @@
 -- Where each entry fits in its turn, what a history tells of a paper's reviewers is what the table of seats has.
 use Rattle.std.proofs.Common.{ℕ, Bool, true, false, cond, ◌≡◌, ◌≤◌, ◌+◌, List, [], ◌∷◌, ◌++◌, length, eqb, refl, sym, ap, subst, ◌∙◌}
 use Rattle.std.proofs.Common.{◌&&◌, ◌||◌, arith, append_assoc, append-nil, Option, Some}
-use Rattle.std.specs.Prelude.{nat_le, not, map, filter, find}
+use Rattle.std.specs.Prelude.{nat_le, not, map, filter}
 use Rattle.std.specs.List.{AllByRecursion, list_any}
-use Rattle.std.specs.Option.{option_map}
-use Rattle.std.proofs.lemmas.Bool.{eqb-true, eq-eqb, ne_eqb, or_right}
+use Rattle.std.proofs.lemmas.Bool.{eqb-true, ne_eqb}
 use Rattle.std.proofs.lemmas.List.{length-map, map-append}
 use Rattle.std.proofs.lemmas.List.Folds.{list_any-append}
 use Rattle.cr_base.specs.declared.entry.Entry.{Entry}
@@ -22,8 +21,7 @@ use Rattle.cr_base.specs.Seats.{labels_in, told_of, reviewers_in, seat_in, Seats
 use Rattle.cr_base.specs.Shapes.{InRange, ordinal_range}
 use Rattle.cr_base.specs.Tables.{Tables, no_tables, tables_after, tables_from, tables_of, FitInTurn}
 use Rattle.cr_base.proofs.ListLaws.{turned}
-use Rattle.cr_base.proofs.SeatLaws.{left_at, ties_of-with_seat, ties_of-without_seat, labels_in-after, seat_in-after, seats-in_order-after, seats-in_order-nil}
-use Rattle.cr_base.proofs.TargetLaws.{paper_within}
+use Rattle.cr_base.proofs.SeatLaws.{left_at, ties_of-with_seat, ties_of-without_seat, labels_in-after, seat_in-after, seats-in_order-after, seats-in_order-nil, seat_in-drawn, labels_in-few}
 use Rattle.cr_history.proofs.Folds.{last_or-append, told-always, told-kept}
 use Rattle.cr_history.proofs.ListCuts.{AllByRecursion-append, AllByRecursion-map, AllByRecursion-filter}
 
@@ -88,58 +86,10 @@ seat_of-tables u p H fits =
 
 -- ---- ordinals
 
--- the ordinal of a seat that is found is one of theirs
-found-among : (test stays : Tie Seat → Bool) (ordinal : ℕ) (ts : List (Tie Seat))
-    → option_map (λ (t : Tie Seat). t.value.ordinal) (find test (filter stays ts)) ≡ Some ordinal
-    → list_any (λ n. eqb n ordinal) (map (λ (t : Tie Seat). t.value.ordinal) ts) ≡ true
-found-among test stays ordinal [] is = cc
-found-among test stays ordinal (t ∷ ts) is = by (stays t) is (found-among test stays ordinal ts)
-  where
-    among : Bool
-    among = list_any (λ n. eqb n ordinal) (map (λ (t : Tie Seat). t.value.ordinal) ts)
-
-    found : Option (Tie Seat) → Option ℕ
-    found o = option_map (λ (t : Tie Seat). t.value.ordinal) o
-
-    behind : List (Tie Seat)
-    behind = filter stays ts
-
-    here : (b : Bool) → found (cond b (Some t) (find test behind)) ≡ Some ordinal → (found (find test behind) ≡ Some ordinal → among ≡ true)
-        → (eqb t.value.ordinal ordinal || among) ≡ true
-    here true h rest = let e : t.value.ordinal ≡ ordinal = cc in ap (λ b. b || among) (eq-eqb t.value.ordinal ordinal e)
-    here false h rest = or_right (eqb t.value.ordinal ordinal) among (rest h)
-
-    by : (b : Bool) → found (find test (cond b (t ∷ behind) behind)) ≡ Some ordinal → (found (find test behind) ≡ Some ordinal → among ≡ true)
-        → (eqb t.value.ordinal ordinal || among) ≡ true
-    by true h rest = here (test t) h rest
-    by false h rest = or_right (eqb t.value.ordinal ordinal) among (rest h)
-
--- so it was drawn for the paper
-seat_in-drawn : (seats : SeatsState) → SeatsInOrder seats → (u : Option ℕ) (p ordinal : ℕ) → seat_in seats u p ≡ Some ordinal
-    → (1 ≤ ordinal) × (ordinal ≤ labels_in seats p)
-seat_in-drawn seats order u p ordinal is =
-    let ts : List (Tie Seat) = ties_of ByPaper p seats in
-    paper_within ts (Some ordinal) (ap not (ap (list_any (λ n. eqb n ordinal)) (sym (order.numbered p)) ∙ found-among _ _ ordinal ts is))
-
 -- no paper's reviewers are given more labels than there are letters
 labels-few : (p : ℕ) (t : Tables) (H : History) → FitInTurn t H → labels_in t.seats p ≤ 26 → labels_in (tables_from t H).seats p ≤ 26
 labels-few p t [] fits few = few
-labels-few p t (s ∷ H) fits few = labels-few p (tables_after t s) H fits.1 (one t.seats s.entry fits.0.seats few)
-  where
-    one : (seats : SeatsState) (e : Entry) → SeatsFit seats e → labels_in seats p ≤ 26 → labels_in (seats_after seats e) p ≤ 26
-    one seats (Assigned paper user kind ordinal) fits few = by (eqb paper p) refl (labels_in-after seats (Assigned paper user kind ordinal) p)
-      where
-        now : ℕ
-        now = labels_in (seats_after seats (Assigned paper user kind ordinal)) p
-
-        by : (b : Bool) → eqb paper p ≡ b → now ≡ labels_in seats p + length (given b (told_of (seat_tie paper user kind ordinal))) → now ≤ 26
-        by true at count =
-            let next : ordinal ≡ labels_in seats p + 1 = subst (λ n. ordinal ≡ labels_in seats n + 1) (eqb-true paper p at) fits.0 in
-            let last = fits.1 in
-            omega (arith, count, next, last)
-        by false at count = omega (arith, count, few)
-    one seats (Unassigned paper user ordinal) fits few = let count = labels_in-after seats (Unassigned paper user ordinal) p in omega (arith, count, few)
-    one seats e fits few = few
+labels-few p t (s ∷ H) fits few = labels-few p (tables_after t s) H fits.1 (labels_in-few t.seats s.entry p fits.0.seats few)
 
 -- the ordinal under which a user reviews a paper is a letter's
 pub seat-drawn : (H : History) → FitInTurn no_tables H → (user paper ordinal : ℕ) → seat_in (tables_of H).seats (Some user) paper ≡ Some ordinal
