@@ -21,16 +21,19 @@ pub is_some-value_of : {V : Type 0} (q : Pair) (ts : List (Tie V)) → is_some (
 is_some-value_of q [] = refl
 is_some-value_of {V} q (t ∷ ts) = by (is_tied q t) (is_some-value_of q ts)
   where
-    by : (b : Bool) → is_some (value_of q ts) ≡ has_pair q ts → is_some (option_map (λ (t : Tie V). t.value) (cond b (Some t) (find (is_tied q) ts))) ≡ (b || has_pair q ts)
+    by : (b : Bool) → is_some (value_of q ts) ≡ has_pair q ts
+        → is_some (option_map (λ (t : Tie V). t.value) (cond b (Some t) (find (is_tied q) ts))) ≡ (b || has_pair q ts)
     by true rest = refl
     by false rest = rest
 
 -- those of whom nothing is told may be left out
-flat_map-filter : {X B : Type 0} (f : X → List B) (test : X → Bool) → ((x : X) → test x ≡ false → f x ≡ []) → (xs : List X) → flat_map f xs ≡ flat_map f (filter test xs)
+flat_map-filter : {X B : Type 0} (f : X → List B) (test : X → Bool) → ((x : X) → test x ≡ false → f x ≡ []) → (xs : List X)
+    → flat_map f xs ≡ flat_map f (filter test xs)
 flat_map-filter f test none [] = refl
 flat_map-filter f test none (x ∷ xs) = by (test x) refl (flat_map-filter f test none xs)
   where
-    by : (b : Bool) → test x ≡ b → flat_map f xs ≡ flat_map f (filter test xs) → f x ++ flat_map f xs ≡ flat_map f (cond b (x ∷ filter test xs) (filter test xs))
+    by : (b : Bool) → test x ≡ b → flat_map f xs ≡ flat_map f (filter test xs)
+        → f x ++ flat_map f xs ≡ flat_map f (cond b (x ∷ filter test xs) (filter test xs))
     by true is rest = ap (λ ys. f x ++ ys) rest
     by false is rest = ap (λ ys. ys ++ flat_map f xs) (none x is) ∙ rest
 
@@ -54,7 +57,8 @@ module _ {V B : Type 0} (order : Order) (n : ℕ) (tell : ℕ → V → B) where
 
       by : (b : Bool) → eqb n (leads order t.pair) ≡ b → stands (comes_before order) p t ≡ true
           → list_all (λ m. not (same_pair (paired order n m) p)) (others_of order n ts) ≡ true
-          → list_all (λ m. not (same_pair (paired order n m) p)) (map (λ (x : Tie V). follows order x.pair) (cond b (t ∷ ties_of order n ts) (ties_of order n ts))) ≡ true
+          → list_all (λ m. not (same_pair (paired order n m) p))
+              (map (λ (x : Tie V). follows order x.pair) (cond b (t ∷ ties_of order n ts) (ties_of order n ts))) ≡ true
       by true is before rest =
           both_true
           (ap not (same_pair-paired order n (follows order t.pair) p)
@@ -70,7 +74,8 @@ module _ {V B : Type 0} (order : Order) (n : ℕ) (tell : ℕ → V → B) where
       ap (λ xs. xs ++ flat_map (told_at (t ∷ ts)) ms) (by (is_tied (paired order n m) t) parts.0)
       ∙ ap (λ ys. told_at ts m ++ ys) (told-behind t ts ms parts.1)
     where
-      by : (b : Bool) → not b ≡ true → map (tell m) (listed (option_map (λ (x : Tie V). x.value) (cond b (Some t) (find (is_tied (paired order n m)) ts)))) ≡ told_at ts m
+      by : (b : Bool) → not b ≡ true
+          → map (tell m) (listed (option_map (λ (x : Tie V). x.value) (cond b (Some t) (find (is_tied (paired order n m)) ts)))) ≡ told_at ts m
       by true h = absurd (true≢false (sym h))
       by false h = refl
 
@@ -86,12 +91,16 @@ module _ {V B : Type 0} (order : Order) (n : ℕ) (tell : ℕ → V → B) where
       values us = map (λ (x : Tie V). tell (follows order x.pair) x.value) us
 
       -- its own value
-      own : (b : Bool) → b ≡ true → map (tell (follows order t.pair)) (listed (option_map (λ (x : Tie V). x.value) (cond b (Some t) (find (is_tied (paired order n (follows order t.pair))) ts)))) ≡ tell (follows order t.pair) t.value ∷ []
+      own : (b : Bool) → b ≡ true
+          → map (tell (follows order t.pair))
+          (listed (option_map (λ (x : Tie V). x.value) (cond b (Some t) (find (is_tied (paired order n (follows order t.pair))) ts))))
+          ≡ tell (follows order t.pair) t.value ∷ []
       own true h = refl
       own false h = absurd (true≢false (sym h))
 
       by : (b : Bool) → eqb n (leads order t.pair) ≡ b → flat_map (told_at (t ∷ ts)) (others_of order n ts) ≡ values (ties_of order n ts)
-          → flat_map (told_at (t ∷ ts)) (map (λ (x : Tie V). follows order x.pair) (cond b (t ∷ ties_of order n ts) (ties_of order n ts))) ≡ values (cond b (t ∷ ties_of order n ts) (ties_of order n ts))
+          → flat_map (told_at (t ∷ ts)) (map (λ (x : Tie V). follows order x.pair) (cond b (t ∷ ties_of order n ts) (ties_of order n ts)))
+              ≡ values (cond b (t ∷ ties_of order n ts) (ties_of order n ts))
       by true is rest =
           ap (λ xs. xs ++ flat_map (told_at (t ∷ ts)) (others_of order n ts))
           (own (is_tied (paired order n (follows order t.pair)) t)
@@ -100,11 +109,13 @@ module _ {V B : Type 0} (order : Order) (n : ℕ) (tell : ℕ → V → B) where
       by false is rest = rest
 
   -- so it is where all the numbers of elements are asked, and the ties have no others
-  pub told-numbers : {A : Type 0} (xs : List A) (ts : List (Tie V)) → IsAscending order ts → ((m : ℕ) → has_pair (paired order n m) ts ≡ true → (1 ≤ m) × (m ≤ length xs))
+  pub told-numbers : {A : Type 0} (xs : List A) (ts : List (Tie V)) → IsAscending order ts
+      → ((m : ℕ) → has_pair (paired order n m) ts ≡ true → (1 ≤ m) × (m ≤ length xs))
       → flat_map (told_at ts) (numbers_from 1 xs) ≡ map (λ (t : Tie V). tell (follows order t.pair) t.value) (ties_of order n ts)
   told-numbers xs ts ascending within =
       let there : ℕ → Bool = λ m. has_pair (paired order n m) ts in
-      flat_map-filter (told_at ts) there (λ m none. nothing m (value_of (paired order n m) ts) (is_some-value_of (paired order n m) ts ∙ none)) (numbers_from 1 xs)
+      flat_map-filter (told_at ts) there (λ m none. nothing m (value_of (paired order n m) ts) (is_some-value_of (paired order n m) ts ∙ none))
+          (numbers_from 1 xs)
       ∙ ap (flat_map (told_at ts)) (numbers-others_of there order n xs ts (rising-others_of order order n ts ascending) within (λ m. refl))
       ∙ told-others ts ascending
     where

@@ -71,7 +71,8 @@ module _ (user : ℕ) (H : History) where
   seats-told : TellsSeats H user (shown_in_view (Some user) V)
   seats-told = record {
     conflicted = λ p v registered told.
-        ap (λ (authors : List ℕ). list_any (is_number (Some v)) authors || list_any (is_number (Some v)) (users_where (λ w. is_conflict_on_in_view (Some w) p V) V))
+        let declared : Bool = list_any (is_number (Some v)) (users_where (λ w. is_conflict_on_in_view (Some w) p V) V) in
+        ap (λ (authors : List ℕ). list_any (is_number (Some v)) authors || declared)
         (authors-seen (Some user) p H (shown (is_author (Some user) p H) (is_told_all H user p) _ told))
         ∙ ap (λ b. is_author (Some v) p H || b)
         (users_where-seen v (λ w. is_conflict_on_in_view (Some w) p V) registered ∙ conflicts-seen (Some user) p H told (Some v));
@@ -86,7 +87,8 @@ module _ (user : ℕ) (H : History) where
 user-adds : (H : History) (user : ℕ) (command : Command) (drawn : Drawn) → IsBoundedCommand command → IsRegistered H user → judge (Some user) (view (Some user) H) command ≡ Ok drawn → Adds H drawn.group
 user-adds H user command drawn bounded registered accepted =
     let shown : Shown = shown_in_view (Some user) (view (Some user) H) in
-    command-adds H user shown registered (seats-told user H) command drawn bounded (sym (ap (λ (facts : Facts). judge_by facts shown (Some user) command) (facts-seen (Some user) H)) ∙ accepted)
+    command-adds H user shown registered (seats-told user H) command drawn bounded
+        (sym (ap (λ (facts : Facts). judge_by facts shown (Some user) command) (facts-seen (Some user) H)) ∙ accepted)
 
 -- the group of an accepted command is one that the rules allow
 pub accepted-adds : (H : History) (caller : Option ℕ) (command : Command) (drawn : Drawn) → IsBoundedCommand command → IsCaller H caller command → judge caller (view caller H) command ≡ Ok drawn → Adds H drawn.group

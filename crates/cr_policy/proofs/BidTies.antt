@@ -82,7 +82,9 @@ no_bids before (e ∷ after) v p kept none later =
 pub users-registered : (H : History) (v : ℕ) → list_any (λ n. eqb n v) (map (λ (a : AccountLine). a.user) (accounts_of H)) ≡ has_registered H v
 users-registered H v = by (all_told registration_told H)
   where
-    by : (rs : List Registration) → list_any (λ n. eqb n v) (map (λ (a : AccountLine). a.user) (map (λ (r : Registration). record { user = r.user; name = r.name; role = role_of (Some r.user) H }) rs))
+    by : (rs : List Registration)
+        → list_any (λ n. eqb n v)
+        (map (λ (a : AccountLine). a.user) (map (λ (r : Registration). record { user = r.user; name = r.name; role = role_of (Some r.user) H }) rs))
         ≡ list_any (λ (r : Registration). eqb r.user v) rs
     by [] = refl
     by (r ∷ rs) = ap (λ b. eqb r.user v || b) (by rs)
@@ -116,7 +118,8 @@ bidder-within H p v told kept there = by (has_registered H v) refl
     by true is = registered-within H v told is
     by false none =
         let value = told.bid (Some v) p in
-        absurd (true≢false (sym there ∙ sym (is_some-value_of (pair_of p v) (tables_of H).ties.bids) ∙ ap is_some (sym value ∙ ap last (no_bids [] H v p kept refl none))))
+        absurd (true≢false
+            (sym there ∙ sym (is_some-value_of (pair_of p v) (tables_of H).ties.bids) ∙ ap is_some (sym value ∙ ap last (no_bids [] H v p kept refl none))))
 
 -- ---- the bids
 

@@ -78,6 +78,7 @@ module _ (u : Option ℕ) (H : History) (told : AreTold H) (p : ℕ) where
       → map (reviewer_told by accounts) (reviewers_in_view p (view u H)) ≡ map (reviewer_told by accounts) (reviewers_in (tables_of H).seats p)
   reviewers-tables accounts may =
       subst
-      (λ (s : Standing). gets_reviewers s ≡ true → map (reviewer_told s accounts) (reviewers_in_view p (view u H)) ≡ map (reviewer_told s accounts) (reviewers_of p H))
+      (λ (s : Standing). gets_reviewers s ≡ true
+          → map (reviewer_told s accounts) (reviewers_in_view p (view u H)) ≡ map (reviewer_told s accounts) (reviewers_of p H))
       (told.standing u (Some p)) (λ gets. reviewers-seen u p H accounts gets) may
       ∙ ap (map (reviewer_told by accounts)) (told.reviewers p)

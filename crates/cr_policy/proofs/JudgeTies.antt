@@ -1,5 +1,6 @@
 -- Where the tables tell what a history tells, judgement by a view is that by the tables.
-use Rattle.std.proofs.Common.{ℕ, Bool, true, false, cond, ◌≡◌, List, [], ◌∷◌, ◌+◌, ◌++◌, length, refl, ap, ◌∙◌, ◌||◌, ◌&&◌, eqb, arith, Option, Some, None, Result, Err}
+use Rattle.std.proofs.Common.{ℕ, Bool, true, false, cond, ◌≡◌, List, [], ◌∷◌, ◌+◌, ◌++◌, length, refl, ap, ◌∙◌, ◌||◌, ◌&&◌, eqb, arith, Option, Some}
+use Rattle.std.proofs.Common.{None, Result, Err}
 use Rattle.std.specs.Prelude.{unwrap_or, is_some, not, nat_le, nat_lt}
 use Rattle.std.specs.List.{list_any}
 use Rattle.std.specs.Option.{option_map}
@@ -143,7 +144,8 @@ module _ (by : Standing) (drawn : Drawn) where
 
   -- and it is all that a conflict's rules ask of her ties
   case-author : (on bidding late withdrawn herself : Bool) (role : Role) (x y clash clash' reviews reviews' : Bool) → (shows_author by false ≡ true → x ≡ y)
-      → Alike (conflict_case on bidding late by withdrawn (named role herself x clash reviews)) (conflict_case on bidding late by withdrawn (named role herself y clash' reviews'))
+      → Alike (conflict_case on bidding late by withdrawn (named role herself x clash reviews))
+          (conflict_case on bidding late by withdrawn (named role herself y clash' reviews'))
   case-author false bidding late withdrawn herself role x y clash clash' reviews reviews' same = off-author withdrawn herself role x y clash clash' reviews reviews' same
   case-author true false late withdrawn herself role x y clash clash' reviews reviews' same = refl
   case-author true true true withdrawn herself role x y clash clash' reviews reviews' same = refl
@@ -211,22 +213,26 @@ conflict-same facts shown tabled u (Some p) target on same = by (role_among fact
     judged_by : Shown → Option Role → Result Drawn Rule
     judged_by source role =
         judged
-        (conflict_checks standing (paper_named facts source (Some p)) (option_map (λ (r : Role). named r herself (wrote source) (clash source) (reviews source)) role) on)
+        (conflict_checks standing (paper_named facts source (Some p))
+            (option_map (λ (r : Role). named r herself (wrote source) (clash source) (reviews source)) role) on)
         drawn
 
     by : (role : Option Role) → judged_by shown role ≡ judged_by tabled role
     by None = refl
     by (Some role) =
         ap (λ (row : Result Drawn Rule). cond (not (has_paper facts (Some p))) (Err rules.NoPaper) row)
-        (case-withdrawn standing drawn on bidding late (named role herself (wrote shown) (clash shown) (reviews shown)) (shown.withdrawn p) (tabled.withdrawn p) refl (same.withdrawn p)
-        ∙ case-author standing drawn on bidding late (tabled.withdrawn p) herself role (wrote shown) (wrote tabled) (clash shown) (clash tabled) (reviews shown) (reviews tabled)
+        (case-withdrawn standing drawn on bidding late (named role herself (wrote shown) (clash shown) (reviews shown)) (shown.withdrawn p)
+            (tabled.withdrawn p) refl (same.withdrawn p)
+        ∙ case-author standing drawn on bidding late (tabled.withdrawn p) herself role (wrote shown) (wrote tabled) (clash shown) (clash tabled)
+            (reviews shown) (reviews tabled)
         (λ told. ap (list_any (is_number target)) (same.authors p told)))
 
 -- ---- bids and assignments
 
 -- whether a paper is withdrawn is asked of a bid only behind the rules that let through members in the bidding
 bid-same : (facts : Facts) (shown tabled : Shown) (p : ℕ) (drawn : Drawn) → Agree facts shown tabled
-    → judged (bid_checks (facts.standing (Some p)) (paper_named facts shown (Some p))) drawn ≡ judged (bid_checks (facts.standing (Some p)) (paper_named facts tabled (Some p))) drawn
+    → judged (bid_checks (facts.standing (Some p)) (paper_named facts shown (Some p))) drawn
+        ≡ judged (bid_checks (facts.standing (Some p)) (paper_named facts tabled (Some p))) drawn
 bid-same facts shown tabled p drawn same =
     asked-behind
     (not (has_paper facts (Some p)) breaks rules.NoPaper ∷ not (is_member by.role) breaks rules.NotMember
@@ -263,10 +269,12 @@ module _ (facts : Facts) (shown tabled : Shown) (same : Agree facts shown tabled
         labels = source.labels p;
       }
 
-  asked-same : (drawn : Drawn) (role : Role) → not (is_chair chair.role) ≡ false → chair.conflicted ≡ false → not (is_in_committee chair.phase) ≡ false → asked_of shown role ≡ asked_of tabled role
+  asked-same : (drawn : Drawn) (role : Role) → not (is_chair chair.role) ≡ false → chair.conflicted ≡ false → not (is_in_committee chair.phase) ≡ false
+      → asked_of shown role ≡ asked_of tabled role
   asked-same drawn role h clear in_time =
       let begun : is_from Bidding chair.phase ≡ true = in_committee chair drawn in_time in
-      let told : gets_conflicts chair ≡ true = all (is_chair chair.role) chair.conflicted (is_from Bidding chair.phase) (not-false (is_chair chair.role) h) clear begun in
+      let told : gets_conflicts chair ≡ true =
+      all (is_chair chair.role) chair.conflicted (is_from Bidding chair.phase) (not-false (is_chair chair.role) h) clear begun in
       let withdrawn = same.withdrawn p (told-chair chair drawn h begun) in
       let wrote = ap (list_any (is_number target)) (same.authors p (told-clear_chair chair drawn h clear begun)) in
       let declared = ap (list_any (is_number target)) (same.conflicts p told) in
@@ -284,14 +292,17 @@ module _ (facts : Facts) (shown tabled : Shown) (same : Agree facts shown tabled
 
   -- so are the checks on an assignment, and those on taking a reviewer off
   reviewer-same : (role : Role) (more : Asked → List Check) (drawn : Asked → Drawn)
-      → judged (reviewer_checks chair (paper_named facts shown (Some p)) (Some (asked_of shown role).user) ++ more (asked_of shown role)) (drawn (asked_of shown role))
-      ≡ judged (reviewer_checks chair (paper_named facts tabled (Some p)) (Some (asked_of tabled role).user) ++ more (asked_of tabled role)) (drawn (asked_of tabled role))
+      → judged (reviewer_checks chair (paper_named facts shown (Some p)) (Some (asked_of shown role).user) ++ more (asked_of shown role))
+          (drawn (asked_of shown role))
+      ≡ judged (reviewer_checks chair (paper_named facts tabled (Some p)) (Some (asked_of tabled role).user) ++ more (asked_of tabled role))
+          (drawn (asked_of tabled role))
   reviewer-same role more drawn =
       judged-behind
       (not (has_paper facts (Some p)) breaks rules.NoPaper ∷ false breaks rules.NoUser ∷ not (is_chair chair.role) breaks rules.NotChair
       ∷ chair.conflicted breaks rules.Conflict ∷ not (is_in_committee chair.phase) breaks rules.WrongPhase ∷ [])
       (behind (asked_of shown role)) (behind (asked_of tabled role)) (drawn (asked_of shown role)) (drawn (asked_of tabled role))
-      (λ none. ap (λ (asked : Asked). judged (behind asked) (drawn asked)) (asked-same (drawn (asked_of shown role)) role none.1.1.0 none.1.1.1.0 none.1.1.1.1.0))
+      (λ none. ap (λ (asked : Asked). judged (behind asked) (drawn asked))
+          (asked-same (drawn (asked_of shown role)) role none.1.1.0 none.1.1.1.0 none.1.1.1.1.0))
     where
       behind : Asked → List Check
       behind asked = asked.withdrawn breaks rules.Withdrawn ∷ more asked
@@ -342,7 +353,8 @@ command-same facts shown tabled u (commands.Unassign (Some p) name) same = unass
 command-same facts shown tabled u command same = refl
 
 -- the judgement by any user's view is the one by the tables
-pub judge-tables : (u : Option ℕ) (H : History) (command : Command) → FitInTurn no_tables H → AreTold H → judge u (view u H) command ≡ judge_by_role (tables_of H) u command
+pub judge-tables : (u : Option ℕ) (H : History) (command : Command) → FitInTurn no_tables H → AreTold H
+    → judge u (view u H) command ≡ judge_by_role (tables_of H) u command
 judge-tables u H command fits told =
     ap (λ (facts : Facts). judge_by facts (shown_in_view u (view u H)) u command) (facts_in_view-tables u H told)
     ∙ command-same (facts_of_tables (tables_of H) u) (shown_in_view u (view u H)) (shown_in_tables (tables_of H)) u command (record {

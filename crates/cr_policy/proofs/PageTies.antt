@@ -19,10 +19,12 @@ use Rattle.cr_base.specs.Checks.{Check, ◌breaks◌, judged}
 use Rattle.cr_base.specs.History.{History, Upload, BidTold}
 use Rattle.cr_base.specs.HistoryFacts.{standing_of}
 use Rattle.cr_base.specs.Lists.{listed}
-use Rattle.cr_base.specs.Page.{PaperTexts, page_of, where_told, gets_title, gets_abstract, shows_author, gets_conflict, gets_conflicts, gets_declared, gets_versions, gets_withdrawn, gets_bid, gets_bids, gets_label, gets_reviewers, bare_keys}
+use Rattle.cr_base.specs.Page.{PaperTexts, page_of, where_told, gets_title, gets_abstract, shows_author, gets_conflict, gets_conflicts, gets_declared}
+use Rattle.cr_base.specs.Page.{gets_versions, gets_withdrawn, gets_bid, gets_bids, gets_label, gets_reviewers, bare_keys}
 use Rattle.cr_base.specs.Phases.{is_from}
 use Rattle.cr_base.specs.Tables.{Tables, no_tables, tables_of, FitInTurn}
-use Rattle.cr_base.specs.Answering.{uploads_told, upload_of, content_by, content_asked, query_checks, bidder_told, reviewer_told, page_by, reply_or_rule, answer_by, answer_by_role}
+use Rattle.cr_base.specs.Answering.{uploads_told, upload_of, content_by, content_asked, query_checks, bidder_told, reviewer_told, page_by}
+use Rattle.cr_base.specs.Answering.{reply_or_rule, answer_by, answer_by_role}
 use Rattle.cr_base.specs.Sources.{Facts, Shown, has_paper, facts_of_tables, shown_in_tables, names_in}
 use Rattle.cr_base.specs.Words.{is_member, no_bid}
 use Rattle.cr_base.proofs.CheckLaws.{judged-behind}

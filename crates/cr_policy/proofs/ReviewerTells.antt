@@ -36,9 +36,12 @@ use Rattle.cr_policy.proofs.StandingLaws.{first_of, seat-seen_where}
 -- a clear chair sees each bid on the paper from the bidding on
 pub bid-seen : (u v : Option ℕ) (p : ℕ) (H : History) → gets_bids (standing_of u (Some p) H) ≡ true → bid_in_view v p (view u H) ≡ bid_of v p H
 bid-seen u v p H told =
-    ap last (fold_all (reader u H) (bid_seen v p) (λ (e : Stamped). bid_told v p e.maker e.entry) (passes_both part.by part.value (reader u H))
-    (bid_tells (reader u H) v p)
-    (λ at e. bid_value (reader u H) at v p (λ maker more value. both_true (first_of (gets_bids (standing_of u (Some p) H)) _ told) (first_of (gets_bids (standing_of u (Some p) H)) _ told)) e) [] H)
+    ap last
+    (fold_all (reader u H) (bid_seen v p) (λ (e : Stamped). bid_told v p e.maker e.entry) (passes_both part.by part.value (reader u H))
+    (bid_tells (reader u H) v p) (λ at e. bid_value (reader u H) at v p (λ maker more value. both_true (clear _) (clear _)) e) [] H)
+  where
+    clear : (rest : Bool) → (gets_bids (standing_of u (Some p) H) || rest) ≡ true
+    clear rest = first_of (gets_bids (standing_of u (Some p) H)) rest told
 
 -- ---- seats
 
@@ -101,7 +104,8 @@ module _ (u : Option ℕ) (p : ℕ) (H : History) (accounts : List AccountLine) 
   shown_label named own = named || (chair || ((member && discussed) || ((by.author && is_overt by.mode && notified) || (own || false))))
 
   label_shown : (named own : Bool) → shown_label named own ≡ true
-  label_shown named own = shown chair (is_from Bidding by.phase) member (unless_anonymous (reader u H)) discussed by.author (is_overt by.mode) notified named own told
+  label_shown named own = shown chair (is_from Bidding by.phase) member (unless_anonymous (reader u H)) discussed by.author
+      (is_overt by.mode) notified named own told
     where
       shown : (c b m n d a o f named own : Bool) → (((c && b) || (m && n && d) || (a && o && f)) || (m && d)) ≡ true
           → (named || (c || ((m && d) || ((a && o && f) || (own || false))))) ≡ true
@@ -121,7 +125,8 @@ module _ (u : Option ℕ) (p : ℕ) (H : History) (accounts : List AccountLine) 
 
   user_shown : (named own : Bool) → shows_reviewer by ≡ true
       → (named || (chair || ((member && unless_anonymous (reader u H) && discussed) || ((by.author && is_overt by.mode && notified) || (own || false))))) ≡ true
-  user_shown named own h = shown chair (is_from Bidding by.phase) (member && unless_anonymous (reader u H) && discussed) (by.author && is_overt by.mode && notified) named own h
+  user_shown named own h = shown chair (is_from Bidding by.phase) (member && unless_anonymous (reader u H) && discussed)
+      (by.author && is_overt by.mode && notified) named own h
     where
       shown : (c b m a named own : Bool) → ((c && b) || m || a) ≡ true → (named || (c || (m || (a || (own || false))))) ≡ true
       shown c b m a named own h = grind arith
@@ -135,20 +140,24 @@ module _ (u : Option ℕ) (p : ℕ) (H : History) (accounts : List AccountLine) 
       let shown_user = where_shown (passes part.user (reader u H) at e) (Some user) in
       let name : Option ℕ → Option (List ℕ) = option_and_then (name_in accounts) in
       let kinds = same_key member shown_kind (Some kind) (λ clear. ap (λ b. where_shown b (Some kind)) (kind_shown named own clear)) in
-      let names = same_key (shows_reviewer by) (name shown_user) (name (Some user)) (λ h. ap (λ b. name (where_shown b (Some user))) (user_shown named own h)) in
+      let names = same_key (shows_reviewer by) (name shown_user) (name (Some user))
+          (λ h. ap (λ b. name (where_shown b (Some user))) (user_shown named own h)) in
       (label_shown named own, λ i. record { done = where_told chair (Some false); kind = kinds i; label = ordinal; user = names i })
 
   seats-seen : map (reviewer_told by accounts) (seats_in_view p (view u H)) ≡ map (reviewer_told by accounts) (seats_of p H)
   seats-seen =
       let tell : SeatTold → Reviewer = reviewer_told by accounts in
       map-flat_map tell (assigned_seen p) (view u H)
-      ∙ sights-all (reader u H) (λ (s : Sighting). map tell (assigned_seen p s)) (λ (e : Stamped). map tell (assigned_told p e.entry)) (assigned_tells tell (reader u H) p assigned-shown) [] H
+      ∙ sights-all (reader u H) (λ (s : Sighting). map tell (assigned_seen p s)) (λ (e : Stamped). map tell (assigned_told p e.entry))
+          (assigned_tells tell (reader u H) p assigned-shown) [] H
       ∙ sym (map-flat_map tell (λ (e : Stamped). assigned_told p e.entry) H)
 
   gone-seen : flat_map (unassigned_seen p) (view u H) ≡ flat_map (λ (e : Stamped). unassigned_told p e.entry) H
   gone-seen =
-      fold_all (reader u H) (unassigned_seen p) (λ (e : Stamped). unassigned_told p e.entry) (passes part.ordinal (reader u H)) (unassigned_tells (reader u H) p)
-      (λ at e. unassigned_value (reader u H) at u p (λ maker more user ordinal. label_shown (user_named (reader u H) user) (user_named (reader u H) maker)) e) [] H
+      fold_all (reader u H) (unassigned_seen p) (λ (e : Stamped). unassigned_told p e.entry) (passes part.ordinal (reader u H))
+          (unassigned_tells (reader u H) p)
+      (λ at e. unassigned_value (reader u H) at u p
+          (λ maker more user ordinal. label_shown (user_named (reader u H) user) (user_named (reader u H) maker)) e) [] H
 
   pub reviewers-seen : map (reviewer_told by accounts) (reviewers_in_view p (view u H)) ≡ map (reviewer_told by accounts) (reviewers_of p H)
   reviewers-seen =
@@ -165,5 +174,7 @@ module _ (u : Option ℕ) (p : ℕ) (H : History) (accounts : List AccountLine) 
       sym (length-map (seats_in_view p (view u H)) tell) ∙ ap length seats-seen ∙ length-map (seats_of p H) tell
 
 -- so a clear chair sees how many labels were given from the bidding on
-pub labels-seen : (u : Option ℕ) (p : ℕ) (H : History) → gets_conflicts (standing_of u (Some p) H) ≡ true → length (seats_in_view p (view u H)) ≡ length (seats_of p H)
-labels-seen u p H told = labels-seen_where u p H [] (first_of (shows_reviewer (standing_of u (Some p) H)) _ (first_of _ _ (first_of (gets_conflicts (standing_of u (Some p) H)) _ told)))
+pub labels-seen : (u : Option ℕ) (p : ℕ) (H : History) → gets_conflicts (standing_of u (Some p) H) ≡ true
+    → length (seats_in_view p (view u H)) ≡ length (seats_of p H)
+labels-seen u p H told = labels-seen_where u p H []
+    (first_of (shows_reviewer (standing_of u (Some p) H)) _ (first_of _ _ (first_of (gets_conflicts (standing_of u (Some p) H)) _ told)))

@@ -145,7 +145,8 @@ module _ {B : Type 0} (m : SeatTold → B) (r : Reader) (at : Around) where
       by true is = refl
       by false is = absurd (true≢false (sym h ∙ hidden (rows_at r at e) p is))
 
-  seat_told_so : (same seen c : Bool) (ordinal : ℕ) (shown told : ℕ → SeatTold) → (same ≡ true → (seen ≡ true) × (c ≡ true) × (m (shown ordinal) ≡ m (told ordinal)))
+  seat_told_so : (same seen c : Bool) (ordinal : ℕ) (shown told : ℕ → SeatTold)
+      → (same ≡ true → (seen ≡ true) × (c ≡ true) × (m (shown ordinal) ≡ m (told ordinal)))
       → only seen (map m (only same (map shown (listed (where_shown c (Some ordinal)))))) ≡ map m (given same (told ordinal))
   seat_told_so true seen c ordinal shown told h =
       let parts = h refl in
