@@ -146,7 +146,8 @@ module _ (by : Standing) (drawn : Drawn) where
   case-author : (on bidding late withdrawn herself : Bool) (role : Role) (x y clash clash' reviews reviews' : Bool) → (shows_author by false ≡ true → x ≡ y)
       → Alike (conflict_case on bidding late by withdrawn (named role herself x clash reviews))
           (conflict_case on bidding late by withdrawn (named role herself y clash' reviews'))
-  case-author false bidding late withdrawn herself role x y clash clash' reviews reviews' same = off-author withdrawn herself role x y clash clash' reviews reviews' same
+  case-author false bidding late withdrawn herself role x y clash clash' reviews reviews' same =
+      off-author withdrawn herself role x y clash clash' reviews reviews' same
   case-author true false late withdrawn herself role x y clash clash' reviews reviews' same = refl
   case-author true true true withdrawn herself role x y clash clash' reviews reviews' same = refl
   case-author true true false withdrawn herself role x y clash clash' reviews reviews' same = refl
