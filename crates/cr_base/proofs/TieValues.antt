@@ -58,7 +58,7 @@ module _ {V B : Type 0} (order : Order) (n : ℕ) (tell : ℕ → V → B) where
       by : (b : Bool) → eqb n (leads order t.pair) ≡ b → stands (comes_before order) p t ≡ true
           → list_all (λ m. not (same_pair (paired order n m) p)) (others_of order n ts) ≡ true
           → list_all (λ m. not (same_pair (paired order n m) p))
-              (map (λ (x : Tie V). follows order x.pair) (cond b (t ∷ ties_of order n ts) (ties_of order n ts))) ≡ true
+          (map (λ (x : Tie V). follows order x.pair) (cond b (t ∷ ties_of order n ts) (ties_of order n ts))) ≡ true
       by true is before rest =
           both_true
           (ap not (same_pair-paired order n (follows order t.pair) p)
@@ -100,7 +100,7 @@ module _ {V B : Type 0} (order : Order) (n : ℕ) (tell : ℕ → V → B) where
 
       by : (b : Bool) → eqb n (leads order t.pair) ≡ b → flat_map (told_at (t ∷ ts)) (others_of order n ts) ≡ values (ties_of order n ts)
           → flat_map (told_at (t ∷ ts)) (map (λ (x : Tie V). follows order x.pair) (cond b (t ∷ ties_of order n ts) (ties_of order n ts)))
-              ≡ values (cond b (t ∷ ties_of order n ts) (ties_of order n ts))
+          ≡ values (cond b (t ∷ ties_of order n ts) (ties_of order n ts))
       by true is rest =
           ap (λ xs. xs ++ flat_map (told_at (t ∷ ts)) (others_of order n ts))
           (own (is_tied (paired order n (follows order t.pair)) t)
@@ -115,7 +115,7 @@ module _ {V B : Type 0} (order : Order) (n : ℕ) (tell : ℕ → V → B) where
   told-numbers xs ts ascending within =
       let there : ℕ → Bool = λ m. has_pair (paired order n m) ts in
       flat_map-filter (told_at ts) there (λ m none. nothing m (value_of (paired order n m) ts) (is_some-value_of (paired order n m) ts ∙ none))
-          (numbers_from 1 xs)
+      (numbers_from 1 xs)
       ∙ ap (flat_map (told_at ts)) (numbers-others_of there order n xs ts (rising-others_of order order n ts ascending) within (λ m. refl))
       ∙ told-others ts ascending
     where

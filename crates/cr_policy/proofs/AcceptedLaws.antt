@@ -88,7 +88,7 @@ user-adds : (H : History) (user : ℕ) (command : Command) (drawn : Drawn) → I
 user-adds H user command drawn bounded registered accepted =
     let shown : Shown = shown_in_view (Some user) (view (Some user) H) in
     command-adds H user shown registered (seats-told user H) command drawn bounded
-        (sym (ap (λ (facts : Facts). judge_by facts shown (Some user) command) (facts-seen (Some user) H)) ∙ accepted)
+    (sym (ap (λ (facts : Facts). judge_by facts shown (Some user) command) (facts-seen (Some user) H)) ∙ accepted)
 
 -- the group of an accepted command is one that the rules allow
 pub accepted-adds : (H : History) (caller : Option ℕ) (command : Command) (drawn : Drawn) → IsBoundedCommand command → IsCaller H caller command → judge caller (view caller H) command ≡ Ok drawn → Adds H drawn.group

@@ -119,7 +119,7 @@ bidder-within H p v told kept there = by (has_registered H v) refl
     by false none =
         let value = told.bid (Some v) p in
         absurd (true≢false
-            (sym there ∙ sym (is_some-value_of (pair_of p v) (tables_of H).ties.bids) ∙ ap is_some (sym value ∙ ap last (no_bids [] H v p kept refl none))))
+        (sym there ∙ sym (is_some-value_of (pair_of p v) (tables_of H).ties.bids) ∙ ap is_some (sym value ∙ ap last (no_bids [] H v p kept refl none))))
 
 -- ---- the bids
 

@@ -79,6 +79,6 @@ module _ (u : Option ℕ) (H : History) (told : AreTold H) (p : ℕ) where
   reviewers-tables accounts may =
       subst
       (λ (s : Standing). gets_reviewers s ≡ true
-          → map (reviewer_told s accounts) (reviewers_in_view p (view u H)) ≡ map (reviewer_told s accounts) (reviewers_of p H))
+      → map (reviewer_told s accounts) (reviewers_in_view p (view u H)) ≡ map (reviewer_told s accounts) (reviewers_of p H))
       (told.standing u (Some p)) (λ gets. reviewers-seen u p H accounts gets) may
       ∙ ap (map (reviewer_told by accounts)) (told.reviewers p)

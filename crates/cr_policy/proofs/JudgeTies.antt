@@ -145,7 +145,7 @@ module _ (by : Standing) (drawn : Drawn) where
   -- and it is all that a conflict's rules ask of her ties
   case-author : (on bidding late withdrawn herself : Bool) (role : Role) (x y clash clash' reviews reviews' : Bool) → (shows_author by false ≡ true → x ≡ y)
       → Alike (conflict_case on bidding late by withdrawn (named role herself x clash reviews))
-          (conflict_case on bidding late by withdrawn (named role herself y clash' reviews'))
+      (conflict_case on bidding late by withdrawn (named role herself y clash' reviews'))
   case-author false bidding late withdrawn herself role x y clash clash' reviews reviews' same =
       off-author withdrawn herself role x y clash clash' reviews reviews' same
   case-author true false late withdrawn herself role x y clash clash' reviews reviews' same = refl
@@ -215,7 +215,7 @@ conflict-same facts shown tabled u (Some p) target on same = by (role_among fact
     judged_by source role =
         judged
         (conflict_checks standing (paper_named facts source (Some p))
-            (option_map (λ (r : Role). named r herself (wrote source) (clash source) (reviews source)) role) on)
+        (option_map (λ (r : Role). named r herself (wrote source) (clash source) (reviews source)) role) on)
         drawn
 
     by : (role : Option Role) → judged_by shown role ≡ judged_by tabled role
@@ -223,9 +223,9 @@ conflict-same facts shown tabled u (Some p) target on same = by (role_among fact
     by (Some role) =
         ap (λ (row : Result Drawn Rule). cond (not (has_paper facts (Some p))) (Err rules.NoPaper) row)
         (case-withdrawn standing drawn on bidding late (named role herself (wrote shown) (clash shown) (reviews shown)) (shown.withdrawn p)
-            (tabled.withdrawn p) refl (same.withdrawn p)
+        (tabled.withdrawn p) refl (same.withdrawn p)
         ∙ case-author standing drawn on bidding late (tabled.withdrawn p) herself role (wrote shown) (wrote tabled) (clash shown) (clash tabled)
-            (reviews shown) (reviews tabled)
+        (reviews shown) (reviews tabled)
         (λ told. ap (list_any (is_number target)) (same.authors p told)))
 
 -- ---- bids and assignments
@@ -233,7 +233,7 @@ conflict-same facts shown tabled u (Some p) target on same = by (role_among fact
 -- whether a paper is withdrawn is asked of a bid only behind the rules that let through members in the bidding
 bid-same : (facts : Facts) (shown tabled : Shown) (p : ℕ) (drawn : Drawn) → Agree facts shown tabled
     → judged (bid_checks (facts.standing (Some p)) (paper_named facts shown (Some p))) drawn
-        ≡ judged (bid_checks (facts.standing (Some p)) (paper_named facts tabled (Some p))) drawn
+    ≡ judged (bid_checks (facts.standing (Some p)) (paper_named facts tabled (Some p))) drawn
 bid-same facts shown tabled p drawn same =
     asked-behind
     (not (has_paper facts (Some p)) breaks rules.NoPaper ∷ not (is_member by.role) breaks rules.NotMember
@@ -294,16 +294,16 @@ module _ (facts : Facts) (shown tabled : Shown) (same : Agree facts shown tabled
   -- so are the checks on an assignment, and those on taking a reviewer off
   reviewer-same : (role : Role) (more : Asked → List Check) (drawn : Asked → Drawn)
       → judged (reviewer_checks chair (paper_named facts shown (Some p)) (Some (asked_of shown role).user) ++ more (asked_of shown role))
-          (drawn (asked_of shown role))
+      (drawn (asked_of shown role))
       ≡ judged (reviewer_checks chair (paper_named facts tabled (Some p)) (Some (asked_of tabled role).user) ++ more (asked_of tabled role))
-          (drawn (asked_of tabled role))
+      (drawn (asked_of tabled role))
   reviewer-same role more drawn =
       judged-behind
       (not (has_paper facts (Some p)) breaks rules.NoPaper ∷ false breaks rules.NoUser ∷ not (is_chair chair.role) breaks rules.NotChair
       ∷ chair.conflicted breaks rules.Conflict ∷ not (is_in_committee chair.phase) breaks rules.WrongPhase ∷ [])
       (behind (asked_of shown role)) (behind (asked_of tabled role)) (drawn (asked_of shown role)) (drawn (asked_of tabled role))
       (λ none. ap (λ (asked : Asked). judged (behind asked) (drawn asked))
-          (asked-same (drawn (asked_of shown role)) role none.1.1.0 none.1.1.1.0 none.1.1.1.1.0))
+      (asked-same (drawn (asked_of shown role)) role none.1.1.0 none.1.1.1.0 none.1.1.1.1.0))
     where
       behind : Asked → List Check
       behind asked = asked.withdrawn breaks rules.Withdrawn ∷ more asked

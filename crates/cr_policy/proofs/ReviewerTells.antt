@@ -141,7 +141,7 @@ module _ (u : Option ℕ) (p : ℕ) (H : History) (accounts : List AccountLine) 
       let name : Option ℕ → Option (List ℕ) = option_and_then (name_in accounts) in
       let kinds = same_key member shown_kind (Some kind) (λ clear. ap (λ b. where_shown b (Some kind)) (kind_shown named own clear)) in
       let names = same_key (shows_reviewer by) (name shown_user) (name (Some user))
-          (λ h. ap (λ b. name (where_shown b (Some user))) (user_shown named own h)) in
+      (λ h. ap (λ b. name (where_shown b (Some user))) (user_shown named own h)) in
       (label_shown named own, λ i. record { done = where_told chair (Some false); kind = kinds i; label = ordinal; user = names i })
 
   seats-seen : map (reviewer_told by accounts) (seats_in_view p (view u H)) ≡ map (reviewer_told by accounts) (seats_of p H)
@@ -149,15 +149,15 @@ module _ (u : Option ℕ) (p : ℕ) (H : History) (accounts : List AccountLine) 
       let tell : SeatTold → Reviewer = reviewer_told by accounts in
       map-flat_map tell (assigned_seen p) (view u H)
       ∙ sights-all (reader u H) (λ (s : Sighting). map tell (assigned_seen p s)) (λ (e : Stamped). map tell (assigned_told p e.entry))
-          (assigned_tells tell (reader u H) p assigned-shown) [] H
+      (assigned_tells tell (reader u H) p assigned-shown) [] H
       ∙ sym (map-flat_map tell (λ (e : Stamped). assigned_told p e.entry) H)
 
   gone-seen : flat_map (unassigned_seen p) (view u H) ≡ flat_map (λ (e : Stamped). unassigned_told p e.entry) H
   gone-seen =
       fold_all (reader u H) (unassigned_seen p) (λ (e : Stamped). unassigned_told p e.entry) (passes part.ordinal (reader u H))
-          (unassigned_tells (reader u H) p)
+      (unassigned_tells (reader u H) p)
       (λ at e. unassigned_value (reader u H) at u p
-          (λ maker more user ordinal. label_shown (user_named (reader u H) user) (user_named (reader u H) maker)) e) [] H
+      (λ maker more user ordinal. label_shown (user_named (reader u H) user) (user_named (reader u H) maker)) e) [] H
 
   pub reviewers-seen : map (reviewer_told by accounts) (reviewers_in_view p (view u H)) ≡ map (reviewer_told by accounts) (reviewers_of p H)
   reviewers-seen =

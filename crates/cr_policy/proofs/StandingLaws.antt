@@ -105,8 +105,8 @@ own_bid-seen u p H = ap last (sights-all (reader u H) (own_bid_seen p) (λ (e : 
 pub seat-seen_where : (u v : Option ℕ) (p : ℕ) (H : History) → ((at : Around) → ShowsSeat (reader u H) at v p) → seat_in_view v p (view u H) ≡ seat_of v p H
 seat-seen_where u v p H shown =
     ap (last_or None)
-        (fold_all (reader u H) (seat_seen v p) (λ (e : Stamped). seat_told v p e.entry) (passes_both part.user part.ordinal (reader u H))
-        (seat_tells (reader u H) v p)
+    (fold_all (reader u H) (seat_seen v p) (λ (e : Stamped). seat_told v p e.entry) (passes_both part.user part.ordinal (reader u H))
+    (seat_tells (reader u H) v p)
     (λ at e. seat_value (reader u H) at v p (shown at) e) [] H)
 
 -- each entry by which she is assigned or unassigned is shown a user

@@ -165,7 +165,7 @@ module _ (r : Reader) (at : Around) (maker : ℕ) (more : Bool) where
       flat_map-given own_bytes_seen (is_seen r at (stamp maker more (Uploaded paper version content))) (joined r at (stamp maker more (Uploaded paper version content)))
       ∙ own_value (is_seen r at (stamp maker more (Uploaded paper version content))) true (is_number r.number maker) (length content)
       (λ b. map length (listed (where_shown b (Some content)))) refl
-          (λ hers. or_right (r.author paper) _ (or_right _ _ (or_left (is_number r.number maker) false hers)))
+      (λ hers. or_right (r.author paper) _ (or_right _ _ (or_left (is_number r.number maker) false hers)))
   own_bytes_at e = silent own_bytes_seen e refl
 
   -- ---- what is shown to some
