@@ -1,3 +1,4 @@
 pub mod Index
+pub mod Places
 pub mod Seen
 pub mod Targets

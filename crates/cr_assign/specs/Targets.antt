@@ -1,5 +1,5 @@
 -- The user whom a command names, and the paper's labels, as the rules ask of them.
-use Rattle.std.specs.Prelude.{ℕ, Bool, false, ◌+◌, Option, Some, is_some, unwrap_or}
+use Rattle.std.specs.Prelude.{ℕ, Bool, false, Option, Some, is_some, unwrap_or}
 use Rattle.std.specs.Option.{option_map, option_and_then}
 use Rattle.cr_base.specs.declared.target.Target.{Target}
 use Rattle.cr_base.specs.declared.words.Role.{Role}

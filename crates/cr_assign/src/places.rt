@@ -1,7 +1,8 @@
 //! Where the seats of a paper stand among those of all papers.
-ghost use Rattle.std.specs.Prelude.{◌≡◌, ◌≤◌, length, take, drop, filter, not, nat_le, nat_lt};
+ghost use Rattle.std.specs.Prelude.{◌≤◌, length};
 ghost use Rattle.cr_base.specs.declared.pairs.Order.TheVariants.{ByPaper};
 ghost use Rattle.cr_pairs.specs.Places.{RisesBy};
+ghost use Rattle.cr_assign.specs.Places.{IsStartOf, IsEndOf};
 
 use cr_base::{PaperNo, Seat, Tie};
 
@@ -9,8 +10,7 @@ use cr_base::{PaperNo, Seat, Tie};
 pub(crate) fn start_of(seats: &[Tie<Seat>], paper: PaperNo) -> usize
     requires { RisesBy ByPaper seats.now }
     ensures within { result ≤ length seats.now }
-    ensures before { take result seats.now ≡ filter (λ t. nat_lt t.pair.paper paper) seats.now }
-    ensures behind { drop result seats.now ≡ filter (λ t. not (nat_lt t.pair.paper paper)) seats.now }
+    ensures start { IsStartOf paper seats.now result }
 {
     seats.partition_point(|seat| seat.pair.paper.number() < paper.number())
 }
@@ -19,8 +19,7 @@ pub(crate) fn start_of(seats: &[Tie<Seat>], paper: PaperNo) -> usize
 pub(crate) fn end_of(seats: &[Tie<Seat>], paper: PaperNo) -> usize
     requires { RisesBy ByPaper seats.now }
     ensures within { result ≤ length seats.now }
-    ensures before { take result seats.now ≡ filter (λ t. nat_le t.pair.paper paper) seats.now }
-    ensures behind { drop result seats.now ≡ filter (λ t. not (nat_le t.pair.paper paper)) seats.now }
+    ensures end { IsEndOf paper seats.now result }
 {
     seats.partition_point(|seat| seat.pair.paper.number() <= paper.number())
 }

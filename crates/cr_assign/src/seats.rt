@@ -74,7 +74,8 @@ impl Seats {
     /// The seats of the paper, by label, at most 26; those that somebody has left are marked. None where
     /// there is no such paper. Two binary searches; takes no memory.
     pub fn seats(&self, paper: PaperNo) -> &[Tie<Seat>]
-        ensures { result.now ≡ ties_of ByPaper paper self.now.seats }
+        ensures ties { result.now ≡ ties_of ByPaper paper self.now.seats }
+        ensures few { length result.now ≤ 26 }
     {
         run_of(&self.seats, Order::ByPaper, paper.number())
     }
@@ -118,7 +119,8 @@ impl Seats {
         requires { SeatsFitInTurn self.now.seats earlier.now }
         ensures { result ≡ seat_in (seats_from self.now.seats earlier.now) (Some user) paper }
     {
-        seat_behind(self.ordinal_of(user, paper), earlier, user, paper)
+        let held = self.reviewing.value(&Pair { paper, user });
+        seat_behind(held, earlier, user, paper)
     }
 
     /// How many labels the paper's reviewers were given, behind earlier entries of the same command: 0 to

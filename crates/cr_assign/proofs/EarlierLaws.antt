@@ -1,0 +1,46 @@
+-- Who reviews a paper behind earlier entries, and how many labels it has given, from what these tell.
+use Rattle.std.proofs.Common.{ℕ, Bool, true, false, cond, ◌≡◌, ◌≤◌, ◌+◌, [], ◌∷◌, length, eqb, refl, ap, ◌∙◌, arith, fold, Option, Some}
+use Rattle.std.specs.Prelude.{not, count_by}
+use Rattle.std.proofs.lemmas.List.Sums.{sum_by-cons}
+use Rattle.cr_base.specs.declared.entry.Entry.{Entry}
+use Rattle.cr_base.specs.declared.entry.Entry.TheVariants.{Assigned}
+use Rattle.cr_base.specs.declared.entry.Stamped.{Stamped}
+use Rattle.cr_base.specs.History.{History, SeatTold, assigned_told, seat_told}
+use Rattle.cr_base.specs.Lists.{given, is_nothing, last_or}
+use Rattle.cr_base.specs.Seats.{SeatsState, SeatsInOrder, SeatsFitInTurn, seats_after, seats_from, labels_in, seat_in}
+use Rattle.cr_base.proofs.SeatLaws.{seats-in_order-after, seat_in-after, labels_in-after, labels_in-few}
+
+-- a user reviews a paper as the last of the entries that speaks of it says, or else as she did
+pub seat_in-from : (u : Option ℕ) (p : ℕ) (seats : SeatsState) (entries : History) → SeatsInOrder seats → SeatsFitInTurn seats entries
+    → seat_in (seats_from seats entries) u p ≡ fold (λ (o : Option ℕ) (e : Stamped). last_or o (seat_told u p e.entry)) (seat_in seats u p) entries
+seat_in-from u p seats [] order fits = refl
+seat_in-from u p seats (e ∷ entries) order fits =
+    seat_in-from u p (seats_after seats e.entry) entries (seats-in_order-after seats e.entry fits.0 order) fits.1
+    ∙ ap (λ (held : Option ℕ). fold (λ (o : Option ℕ) (s : Stamped). last_or o (seat_told u p s.entry)) held entries) (seat_in-after seats e.entry order fits.0 u p)
+
+-- it gives one of the paper's labels
+abbrev pub gives : ℕ → Stamped → Bool
+gives p e = not (is_nothing (assigned_told p e.entry))
+
+given-one : (p : ℕ) (e : Entry) → length (assigned_told p e) ≡ cond (not (is_nothing (assigned_told p e))) 1 0
+given-one p (Assigned paper user kind ordinal) = by (eqb paper p) (record { ordinal = ordinal; kind = Some kind; user = Some user })
+  where
+    by : (b : Bool) (told : SeatTold) → length (given b told) ≡ cond (not (is_nothing (given b told))) 1 0
+    by true told = refl
+    by false told = refl
+given-one p e = refl
+
+-- a paper has given the labels that it had, and those of the entries
+pub labels_in-from : (p : ℕ) (seats : SeatsState) (entries : History) → labels_in (seats_from seats entries) p ≡ labels_in seats p + count_by (gives p) entries
+labels_in-from p seats [] = omega arith
+labels_in-from p seats (e ∷ entries) =
+    let rest = labels_in-from p (seats_after seats e.entry) entries in
+    let first = labels_in-after seats e.entry p in
+    let one = given-one p e.entry in
+    let count = sum_by-cons (λ (s : Stamped). cond (gives p s) 1 0) e entries in
+    omega (arith, rest, first, one, count)
+
+-- which are no more than there are letters
+pub labels_in-few-from : (p : ℕ) (seats : SeatsState) (entries : History) → SeatsFitInTurn seats entries → labels_in seats p ≤ 26 → labels_in (seats_from seats entries) p ≤ 26
+labels_in-few-from p seats [] fits few = few
+labels_in-few-from p seats (e ∷ entries) fits few = labels_in-few-from p (seats_after seats e.entry) entries fits.1 (labels_in-few seats e.entry p fits.0 few)

@@ -1,0 +1,88 @@
+-- The table with one seat more, and with one left: its list, and who reviews what, by user.
+use Rattle.std.proofs.Common.{ℕ, Bool, true, false, cond, ◌≡◌, ◌≤◌, ◌<◌, ◌+◌, ◌-◌, List, length, get_or, set, insert, eqb, refl, sym, ap, subst, ◌∙◌, ◌&&◌, arith, Option, Some, None}
+use Rattle.cr_base.specs.declared.entry.Entry.{Entry}
+use Rattle.cr_base.specs.declared.entry.Entry.TheVariants.{Assigned, Unassigned}
+use Rattle.cr_base.specs.declared.pairs.Order.{Order}
+use Rattle.cr_base.specs.declared.pairs.Order.TheVariants.{ByPaper}
+use Rattle.cr_base.specs.declared.pairs.Pair.{Pair}
+use Rattle.cr_base.specs.declared.pairs.Tie.{Tie}
+use Rattle.cr_base.specs.declared.seat.Seat.{Seat}
+use Rattle.cr_base.specs.declared.words.Kind.{Kind}
+use Rattle.cr_base.specs.History.{seat_told}
+use Rattle.cr_base.specs.Lists.{given, last_or}
+use Rattle.cr_base.specs.Pairs.{with_tie, without_pair, value_of}
+use Rattle.cr_base.specs.Seats.{SeatsState, SeatsInOrder, SeatsFit, seat_tie, with_seat, vacated, without_seat, seats_after, labels_in, seat_in}
+use Rattle.cr_base.specs.Ties.{pair_of}
+use Rattle.cr_base.proofs.ListLaws.{turned}
+use Rattle.cr_base.proofs.PairLaws.{value_of-with_tie, value_of-without_pair}
+use Rattle.cr_base.proofs.SeatLaws.{seats-in_order-after, seat_in-after, seat_in-drawn, labels_in-few}
+use Rattle.cr_pairs.specs.Places.{RisesBy}
+use Rattle.cr_assign.specs.Index.{SeatsIndexed}
+use Rattle.cr_assign.specs.Places.{IsStartOf, IsEndOf}
+use Rattle.cr_assign.proofs.PlaceLaws.{with_seat-at, rises-with_seat, left-place, rises-without_seat}
+
+-- a paper, a user and the ordinal under which she reviews it
+abbrev pub reviewing_tie : ℕ → ℕ → ℕ → Tie ℕ
+reviewing_tie paper user ordinal = record { pair = pair_of paper user; value = ordinal }
+
+module _ (seats : SeatsState) (users : Order) (reviewing : List (Tie ℕ)) (index : SeatsIndexed seats users reviewing) where
+  -- after an entry that fits, where the index has what it tells
+  indexed-after : (e : Entry) (seats' : SeatsState) (users' : Order) (reviewing' : List (Tie ℕ)) → SeatsFit seats e → seats' ≡ seats_after seats e → RisesBy ByPaper seats' → users' ≡ users
+      → ((q : Pair) → value_of q reviewing' ≡ last_or (value_of q reviewing) (seat_told (Some q.user) q.paper e)) → SeatsIndexed seats' users' reviewing'
+  indexed-after e seats' users' reviewing' fits is rises users_same told = record {
+    rises = rises;
+    in_order = subst SeatsInOrder (sym is) (seats-in_order-after seats e fits index.in_order);
+    few = λ p. subst (λ (ts : SeatsState). labels_in ts p ≤ 26) (sym is) (labels_in-few seats e p fits (index.few p));
+    by_user = users_same ∙ index.by_user;
+    same = λ q.
+        told q
+        ∙ ap (λ (o : Option ℕ). last_or o (seat_told (Some q.user) q.paper e)) (index.same q)
+        ∙ sym (seat_in-after seats e index.in_order fits (Some q.user) q.paper)
+        ∙ ap (λ (ts : SeatsState). seat_in ts (Some q.user) q.paper) (sym is);
+  }
+
+  told-last : (b : Bool) (before now : Option ℕ) → cond b now before ≡ last_or before (given b now)
+  told-last true before now = refl
+  told-last false before now = refl
+
+  pub indexed-assigned : (paper user : ℕ) (kind : Kind) (ordinal : ℕ) (seats' : SeatsState) (users' : Order) (reviewing' : List (Tie ℕ)) → SeatsFit seats (Assigned paper user kind ordinal)
+      → seats' ≡ seats_after seats (Assigned paper user kind ordinal) → RisesBy ByPaper seats' → users' ≡ users → reviewing' ≡ with_tie users (reviewing_tie paper user ordinal) reviewing → SeatsIndexed seats' users' reviewing'
+  indexed-assigned paper user kind ordinal seats' users' reviewing' fits is rises users_same put =
+      indexed-after (Assigned paper user kind ordinal) seats' users' reviewing' fits is rises users_same
+      (λ q.
+      ap (value_of q) put
+      ∙ value_of-with_tie q users (reviewing_tie paper user ordinal) reviewing
+      ∙ ap (λ b. cond (b && eqb q.user user) (Some ordinal) (value_of q reviewing)) (turned q.paper paper)
+      ∙ told-last (eqb paper q.paper && eqb q.user user) (value_of q reviewing) (Some ordinal))
+
+  pub indexed-unassigned : (paper user ordinal : ℕ) (seats' : SeatsState) (users' : Order) (reviewing' : List (Tie ℕ)) → SeatsFit seats (Unassigned paper user ordinal)
+      → seats' ≡ seats_after seats (Unassigned paper user ordinal) → RisesBy ByPaper seats' → users' ≡ users → reviewing' ≡ without_pair (pair_of paper user) reviewing → SeatsIndexed seats' users' reviewing'
+  indexed-unassigned paper user ordinal seats' users' reviewing' fits is rises users_same taken =
+      indexed-after (Unassigned paper user ordinal) seats' users' reviewing' fits is rises users_same
+      (λ q.
+      ap (value_of q) taken
+      ∙ value_of-without_pair q (pair_of paper user) reviewing
+      ∙ ap (λ b. cond (b && eqb q.user user) None (value_of q reviewing)) (turned q.paper paper)
+      ∙ told-last (eqb paper q.paper && eqb q.user user) (value_of q reviewing) None)
+
+  -- ---- where the code puts a seat in, and marks one
+
+  pub put-in : (paper user : ℕ) (kind : Kind) (ordinal : ℕ) (read : SeatsState) (place : ℕ) (s : Tie Seat) (seats' : SeatsState) → read ≡ seats → place ≤ length read → IsEndOf paper read place
+      → s ≡ seat_tie paper user kind ordinal → seats' ≡ insert seats place s → (seats' ≡ with_seat (seat_tie paper user kind ordinal) seats) × RisesBy ByPaper seats'
+  put-in paper user kind ordinal read place s seats' same within end made is =
+      let t : Tie Seat = seat_tie paper user kind ordinal in
+      let is' : seats' ≡ insert seats place t = is ∙ ap (λ (x : Tie Seat). insert seats place x) made in
+      let within' : place ≤ length seats = subst (λ (ts : SeatsState). place ≤ length ts) same within in
+      let end' : IsEndOf paper seats place = subst (λ (ts : SeatsState). IsEndOf paper ts place) same end in
+      (is' ∙ with_seat-at t seats place within' end', subst (λ (ts : SeatsState). RisesBy ByPaper ts) (sym is') (rises-with_seat t seats place within' end' index.rises))
+
+  pub marked-at : (paper user ordinal : ℕ) (read : SeatsState) (start number place : ℕ) → SeatsFit seats (Unassigned paper user ordinal) → read ≡ seats → start ≤ length read → IsStartOf paper read start
+      → number ≡ ordinal → place ≡ start + number - 1 → (place < length seats) × ((d : Tie Seat) → set seats place (vacated (get_or seats place d)) ≡ without_seat paper ordinal seats)
+  marked-at paper user ordinal read start number place fits same within begins is at =
+      let drawn = seat_in-drawn seats index.in_order (Some user) paper ordinal fits in
+      let low = drawn.0 in
+      left-place paper ordinal start place seats index.rises (subst (λ (ts : SeatsState). start ≤ length ts) same within) (subst (λ (ts : SeatsState). IsStartOf paper ts start) same begins)
+      (index.in_order.numbered paper) low drawn.1 (omega (arith, low, is, at))
+
+  pub rises-marked : (paper ordinal : ℕ) (seats' : SeatsState) → seats' ≡ without_seat paper ordinal seats → RisesBy ByPaper seats'
+  rises-marked paper ordinal seats' is = subst (λ (ts : SeatsState). RisesBy ByPaper ts) (sym is) (rises-without_seat paper ordinal seats index.rises)

@@ -1,0 +1,212 @@
+-- The list of seats with one more at its place, or with one left where it stands.
+use Rattle.std.proofs.Common.{ℕ, Bool, true, false, cond, ◌≡◌, ◌≤◌, ◌<◌, ◌+◌, ◌-◌, List, [], ◌∷◌, ◌++◌, length, take, drop, get_or, set, insert, eqb, refl, sym, ap, ◌∙◌, arith, zero, suc, ◌&&◌}
+use Rattle.std.specs.Prelude.{nat_le, nat_lt, not, map, filter}
+use Rattle.std.proofs.lemmas.Bool.{eq-eqb}
+use Rattle.std.proofs.lemmas.Bool.Decides.{nat_tests}
+use Rattle.std.proofs.lemmas.List.Sorted.{IsNonDecreasingBy-insert}
+use Rattle.cr_base.specs.declared.pairs.Order.TheVariants.{ByPaper}
+use Rattle.cr_base.specs.declared.pairs.Tie.{Tie}
+use Rattle.cr_base.specs.declared.seat.Seat.{Seat}
+use Rattle.cr_base.specs.Lists.{numbers_from}
+use Rattle.cr_base.specs.Pairs.{ties_of}
+use Rattle.cr_base.specs.Seats.{SeatsState, with_seat, vacated, is_seat, without_seat}
+use Rattle.cr_base.proofs.SeatLaws.{left_at}
+use Rattle.cr_pairs.specs.Places.{RisesBy}
+use Rattle.cr_assign.specs.Places.{IsStartOf, IsEndOf}
+
+-- ---- one more
+
+module _ {A : Type 0} (test : A → Bool) where
+  -- what passes the test is all before a place, and what doesn't is all from there on
+  halves : (xs : List A) (place : ℕ) → place ≤ length xs → ((k : ℕ) (d : A) → k < place → test (get_or xs k d) ≡ true)
+      → ((k : ℕ) (d : A) → place ≤ k → k < length xs → test (get_or xs k d) ≡ false)
+      → (filter test xs ≡ take place xs) × (filter (λ x. not (test x)) xs ≡ drop place xs)
+  halves [] zero within low high = (refl, refl)
+  halves [] (suc place) within low high = absurd (omega arith)
+  halves (x ∷ xs) zero within low high =
+      let rest = halves xs zero (omega arith) (λ k d h. absurd (omega arith)) (λ k d h lt. high (suc k) d (omega arith) (omega arith)) in
+      let first : test x ≡ false = high 0 x (omega arith) (omega arith) in (
+        ap (λ b. cond b (x ∷ filter test xs) (filter test xs)) first ∙ rest.0,
+        ap (λ b. cond (not b) (x ∷ filter (λ y. not (test y)) xs) (filter (λ y. not (test y)) xs)) first ∙ ap (λ (ys : List A). x ∷ ys) rest.1,
+      )
+  halves (x ∷ xs) (suc place) within low high =
+      let rest = halves xs place (omega arith) (λ k d h. low (suc k) d (omega arith)) (λ k d h lt. high (suc k) d (omega arith) (omega arith)) in
+      let first : test x ≡ true = low 0 x (omega arith) in (
+        ap (λ b. cond b (x ∷ filter test xs) (filter test xs)) first ∙ ap (λ (ys : List A). x ∷ ys) rest.0,
+        ap (λ b. cond (not b) (x ∷ filter (λ y. not (test y)) xs) (filter (λ y. not (test y)) xs)) first ∙ rest.1,
+      )
+
+-- a seat put in behind those of its paper
+pub with_seat-at : (s : Tie Seat) (ts : SeatsState) (place : ℕ) → place ≤ length ts → IsEndOf s.pair.paper ts place → insert ts place s ≡ with_seat s ts
+with_seat-at s ts place within end =
+    let parts = halves (λ (t : Tie Seat). nat_le t.pair.paper s.pair.paper) ts place within (λ k d h. end.0 k d (omega arith) h) end.1 in
+    sym (ap (λ (us : SeatsState). us ++ s ∷ filter (λ (t : Tie Seat). not (nat_le t.pair.paper s.pair.paper)) ts) parts.0 ∙ ap (λ (us : SeatsState). take place ts ++ s ∷ us) parts.1)
+
+-- so the papers still rise
+pub rises-with_seat : (s : Tie Seat) (ts : SeatsState) (place : ℕ) → place ≤ length ts → IsEndOf s.pair.paper ts place → RisesBy ByPaper ts → RisesBy ByPaper (insert ts place s)
+rises-with_seat s ts place within end rises =
+    IsNonDecreasingBy-insert (λ (t : Tie Seat). t.pair.paper) ts place s rises within
+    (λ k d h. low (get_or ts k d).pair.paper s.pair.paper (end.0 k d (omega arith) h))
+    (λ k d h lt. high (get_or ts k d).pair.paper s.pair.paper (end.1 k d h lt))
+  where
+    low : (n m : ℕ) → nat_le n m ≡ true → n ≤ m
+    low n m h = grind (arith, nat_tests, h)
+
+    high : (n m : ℕ) → nat_le n m ≡ false → m ≤ n
+    high n m h = grind (arith, nat_tests, h)
+
+-- ---- one left
+
+-- all have the papers that they had
+same-paper : (paper ordinal : ℕ) (ts : SeatsState) (k : ℕ) (d : Tie Seat) → (get_or (without_seat paper ordinal ts) k d).pair.paper ≡ (get_or ts k d).pair.paper
+same-paper paper ordinal [] k d = refl
+same-paper paper ordinal (t ∷ ts) zero d = by (is_seat paper ordinal t)
+  where
+    by : (b : Bool) → (cond b (vacated t) t).pair.paper ≡ t.pair.paper
+    by true = refl
+    by false = refl
+same-paper paper ordinal (t ∷ ts) (suc k) d = same-paper paper ordinal ts k d
+
+same-length : (paper ordinal : ℕ) (ts : SeatsState) → length (without_seat paper ordinal ts) ≡ length ts
+same-length paper ordinal [] = refl
+same-length paper ordinal (t ∷ ts) = ap suc (same-length paper ordinal ts)
+
+-- so they still rise
+pub rises-without_seat : (paper ordinal : ℕ) (ts : SeatsState) → RisesBy ByPaper ts → RisesBy ByPaper (without_seat paper ordinal ts)
+rises-without_seat paper ordinal ts rises i j d le lt =
+    let n = same-length paper ordinal ts in
+    let first = same-paper paper ordinal ts i d in
+    let last = same-paper paper ordinal ts j d in
+    let low = rises i j d le (omega (arith, n, lt)) in
+    omega (arith, first, last, low)
+
+module _ (paper ordinal : ℕ) where
+  abbrev left : Tie Seat → Tie Seat
+  left = left_at paper ordinal
+
+  abbrev ordinals : SeatsState → List ℕ
+  ordinals ts = map (λ (t : Tie Seat). t.value.ordinal) ts
+
+  -- the seats of the paper are numbered from n
+  abbrev AreFrom : ℕ → SeatsState → Type 0
+  AreFrom n ts = ordinals (ties_of ByPaper paper ts) ≡ numbers_from n (ties_of ByPaper paper ts)
+
+  -- a seat of another paper, or of another ordinal, stays
+  other-paper : (t : Tie Seat) → eqb paper t.pair.paper ≡ false → left t ≡ t
+  other-paper t other = ap (λ b. cond (b && eqb ordinal t.value.ordinal) (vacated t) t) other
+
+  other-ordinal : (t : Tie Seat) → eqb ordinal t.value.ordinal ≡ false → left t ≡ t
+  other-ordinal t other = ap (λ b. cond (eqb paper t.pair.paper && b) (vacated t) t) other ∙ by (eqb paper t.pair.paper)
+    where
+      by : (b : Bool) → cond (b && false) (vacated t) t ≡ t
+      by true = refl
+      by false = refl
+
+  -- where all of the paper's have higher ordinals, all stay
+  all-stay : (n : ℕ) (ts : SeatsState) → ordinal < n → AreFrom n ts → map left ts ≡ ts
+  all-stay n [] h from = refl
+  all-stay n (t ∷ ts) h from = by (eqb paper t.pair.paper) refl from (all-stay (n + 1) ts (omega arith)) (all-stay n ts h)
+    where
+      unlike : (o m n : ℕ) → m ≡ n → o < n → eqb o m ≡ false
+      unlike o m n e h = grind (arith, nat_tests, e, h)
+
+      by : (b : Bool) → eqb paper t.pair.paper ≡ b → ordinals (cond b (t ∷ ties_of ByPaper paper ts) (ties_of ByPaper paper ts)) ≡ numbers_from n (cond b (t ∷ ties_of ByPaper paper ts) (ties_of ByPaper paper ts))
+          → (AreFrom (n + 1) ts → map left ts ≡ ts) → (AreFrom n ts → map left ts ≡ ts) → left t ∷ map left ts ≡ t ∷ ts
+      by true is from next same =
+          let first : t.value.ordinal ≡ n = cc in
+          let rest : AreFrom (n + 1) ts = cc in
+          ap (λ (us : SeatsState). left t ∷ us) (next rest) ∙ ap (λ (s : Tie Seat). s ∷ ts) (other-ordinal t (unlike ordinal t.value.ordinal n first h))
+      by false is from next same = ap (λ (us : SeatsState). left t ∷ us) (same from) ∙ ap (λ (s : Tie Seat). s ∷ ts) (other-paper t is)
+
+  -- where all have papers with higher numbers, none is of the paper
+  none-of : (ts : SeatsState) → ((k : ℕ) (d : Tie Seat) → k < length ts → paper < (get_or ts k d).pair.paper) → ties_of ByPaper paper ts ≡ []
+  none-of [] above = refl
+  none-of (t ∷ ts) above =
+      ap (λ b. cond b (t ∷ ties_of ByPaper paper ts) (ties_of ByPaper paper ts)) (unlike paper t.pair.paper (above 0 t (omega arith)))
+      ∙ none-of ts (λ k d h. above (suc k) d (omega arith))
+    where
+      unlike : (n m : ℕ) → n < m → eqb n m ≡ false
+      unlike n m h = grind (arith, nat_tests, h)
+
+  -- the place holds the seat that is left, and no other does
+  abbrev IsLeftAt : SeatsState → ℕ → Type 0
+  IsLeftAt ts place = (place < length ts) × ((d : Tie Seat) → set ts place (vacated (get_or ts place d)) ≡ map left ts)
+
+  later : (t : Tie Seat) (ts : SeatsState) (place place' : ℕ) → left t ≡ t → place' ≡ suc place → IsLeftAt ts place → IsLeftAt (t ∷ ts) place'
+  later t ts place zero stays next at = absurd (omega arith)
+  later t ts place (suc k) stays next at =
+      let same : k ≡ place = omega arith in
+      let inside = at.0 in
+      (omega (arith, inside, same), λ d. ap (λ (i : ℕ). t ∷ set ts i (vacated (get_or ts i d))) same ∙ ap (λ (us : SeatsState). t ∷ us) (at.1 d) ∙ ap (λ (s : Tie Seat). s ∷ map left ts) (sym stays))
+
+  -- among seats of the paper and later ones it stands as far behind the first as its ordinal says
+  among : (n place : ℕ) (ts : SeatsState) → RisesBy ByPaper ts → ((k : ℕ) (d : Tie Seat) → k < length ts → paper ≤ (get_or ts k d).pair.paper) → AreFrom n ts → ordinal ≡ n + place
+      → ordinal < n + length (ties_of ByPaper paper ts) → IsLeftAt ts place
+  among n place [] rises from numbered is high = absurd (omega (arith, is, high))
+  among n place (t ∷ ts) rises from numbered is high =
+      by (eqb paper t.pair.paper) refl numbered high
+      (λ k rest next few. among (n + 1) k ts (λ i j d le lt. rises (suc i) (suc j) d (omega arith) (omega arith)) (λ k d h. from (suc k) d (omega arith)) rest next few)
+    where
+      of : SeatsState
+      of = ties_of ByPaper paper ts
+
+      -- what is so of the seats behind the first, at each place
+      Behind : Type 0
+      Behind = (k : ℕ) → AreFrom (n + 1) ts → ordinal ≡ n + 1 + k → ordinal < n + 1 + length of → IsLeftAt ts k
+
+      first-left : t.value.ordinal ≡ n → eqb paper t.pair.paper ≡ true → place ≡ 0 → left t ≡ vacated t
+      first-left first at none =
+          ap (λ b. cond (b && eqb ordinal t.value.ordinal) (vacated t) t) at
+          ∙ ap (λ b. cond b (vacated t) t) (eq-eqb ordinal t.value.ordinal (omega (arith, first, none, is)))
+
+      unlike : (o m n k : ℕ) → m ≡ n → o ≡ n + suc k → eqb o m ≡ false
+      unlike o m n k e h = grind (arith, nat_tests, e, h)
+
+      here : (k : ℕ) → place ≡ k → t.value.ordinal ≡ n → eqb paper t.pair.paper ≡ true → AreFrom (n + 1) ts → ordinal < n + suc (length of) → Behind → IsLeftAt (t ∷ ts) place
+      here zero none first at rest high behind =
+          let whole : (d : Tie Seat) → set (t ∷ ts) 0 (vacated (get_or (t ∷ ts) 0 d)) ≡ map left (t ∷ ts) =
+          λ d. ap (λ (s : Tie Seat). s ∷ ts) (sym (first-left first at none)) ∙ ap (λ (us : SeatsState). left t ∷ us) (sym (all-stay (n + 1) ts (omega (arith, is, none)) rest)) in
+          (omega (arith, none), λ d. ap (λ (i : ℕ). set (t ∷ ts) i (vacated (get_or (t ∷ ts) i d))) none ∙ whole d)
+      here (suc k) next first at rest high behind =
+          later t ts k place (other-ordinal t (unlike ordinal t.value.ordinal n k first (omega (arith, is, next)))) next (behind k rest (omega (arith, is, next)) (omega (arith, high)))
+
+      above : (n m k : ℕ) → eqb n m ≡ false → n ≤ m → m ≤ k → n < k
+      above n m k at low le = grind (arith, nat_tests, at, low, le)
+
+      by : (b : Bool) → eqb paper t.pair.paper ≡ b → ordinals (cond b (t ∷ of) of) ≡ numbers_from n (cond b (t ∷ of) of) → ordinal < n + length (cond b (t ∷ of) of) → Behind → IsLeftAt (t ∷ ts) place
+      by true at numbered high behind =
+          let first : t.value.ordinal ≡ n = cc in
+          let rest : AreFrom (n + 1) ts = cc in
+          here place refl first at rest high behind
+      by false at numbered high behind =
+          let low = from 0 t (omega arith) in
+          let none : length of ≡ 0 = ap length (none-of ts (λ k d h. above paper t.pair.paper (get_or ts k d).pair.paper at low (rises 0 (suc k) d (omega arith) (omega arith)))) in
+          absurd (omega (arith, is, high, none))
+
+  -- and so among all
+  from-start : (start place k : ℕ) (ts : SeatsState) → RisesBy ByPaper ts → start ≤ length ts → IsStartOf paper ts start → AreFrom 1 ts → ordinal ≡ 1 + k
+      → ordinal ≤ length (ties_of ByPaper paper ts) → place ≡ start + k → IsLeftAt ts place
+  from-start zero place k ts rises within begins numbered is high at =
+      let same : place ≡ k = omega (arith, at) in
+      among 1 place ts rises (λ i d h. low (get_or ts i d).pair.paper (begins.1 i d (omega arith) h)) numbered (omega (arith, is, same)) (omega (arith, high))
+    where
+      low : (m : ℕ) → nat_lt m paper ≡ false → paper ≤ m
+      low m h = grind (arith, nat_tests, h)
+  from-start (suc start) place k [] rises within begins numbered is high at = absurd (omega (arith, within))
+  from-start (suc start) place k (t ∷ ts) rises within begins numbered is high at =
+      let before : eqb paper t.pair.paper ≡ false = unlike t.pair.paper (begins.0 0 t (omega arith) (omega arith)) in
+      let same : ties_of ByPaper paper (t ∷ ts) ≡ ties_of ByPaper paper ts = ap (λ b. cond b (t ∷ ties_of ByPaper paper ts) (ties_of ByPaper paper ts)) before in
+      let n = ap length same in
+      later t ts (start + k) place (other-paper t before) (omega (arith, at))
+      (from-start start (start + k) k ts (λ i j d le lt. rises (suc i) (suc j) d (omega arith) (omega arith)) (omega (arith, within))
+      (λ i d low lt. begins.0 (suc i) d (omega arith) (omega arith), λ i d low lt. begins.1 (suc i) d (omega arith) (omega arith))
+      (ap ordinals (sym same) ∙ numbered ∙ ap (numbers_from 1) same) is (omega (arith, n, high)) (omega arith))
+    where
+      unlike : (m : ℕ) → nat_lt m paper ≡ true → eqb paper m ≡ false
+      unlike m h = grind (arith, nat_tests, h)
+
+  -- the seat of an ordinal that was drawn for the paper stands behind its first as far as that says
+  pub left-place : (start place : ℕ) (ts : SeatsState) → RisesBy ByPaper ts → start ≤ length ts → IsStartOf paper ts start → AreFrom 1 ts → 1 ≤ ordinal → ordinal ≤ length (ties_of ByPaper paper ts)
+      → place + 1 ≡ start + ordinal → (place < length ts) × ((d : Tie Seat) → set ts place (vacated (get_or ts place d)) ≡ without_seat paper ordinal ts)
+  left-place start place ts rises within begins numbered low high at =
+      from-start start place (ordinal - 1) ts rises within begins numbered (omega (arith, low)) high (omega (arith, at, low))

@@ -1,0 +1,19 @@
+use Rattle.std.proofs.Common.{ℕ, Option, ◌∙◌, Some, ap, sym, subst, fold}
+use Rattle.cr_base.specs.declared.entry.Stamped.{Stamped}
+use Rattle.cr_base.specs.History.{seat_told}
+use Rattle.cr_base.specs.Lists.{last_or}
+use Rattle.cr_base.specs.Seats.{SeatsInOrder, seat_in}
+use Rattle.cr_base.specs.Ties.{pair_of}
+use Rattle.cr_assign.specs.Seen.{SeenSeats}
+use Rattle.cr_assign.proofs.EarlierLaws.{seat_in-from}
+use Rattle.cr_assign.proofs.seats.Seats.ordinal_behind.Goals as goal
+
+pub returns : goal.returns
+returns c =
+    let user = Some c.args.user in
+    let paper = c.args.paper in
+    let earlier = c.args.earlier.now in
+    c.seat_behind.ensures
+    ∙ ap (λ (held : Option ℕ). fold (λ (o : Option ℕ) (e : Stamped). last_or o (seat_told user paper e.entry)) held earlier)
+    (c.value-held.ensures ∙ c.self.invariant.same (pair_of paper c.args.user) ∙ ap (λ (v : SeenSeats). seat_in v.seats user paper) c.self.view_is)
+    ∙ sym (seat_in-from user paper c.args.self.now.seats earlier (subst (λ (v : SeenSeats). SeatsInOrder v.seats) c.self.view_is c.self.invariant.in_order) c.requires)
