@@ -1,7 +1,31 @@
 -- Lists and objects of JSON without blanks (RFC 8259, sections 4 and 5).
-use Rattle.std.specs.Prelude.{◌≡◌, ℕ, List, [], ◌∷◌, ◌++◌, Bool, true, false, if◌then◌else◌, Option, Some, None, codes, decimal, map, Result, OnOk}
+use Rattle.std.specs.Prelude.{◌≡◌, ℕ, List, [], ◌∷◌, ◌++◌, Bool, true, false, if◌then◌else◌, Option, Some, None, codes, decimal, map, nat_lt, Result, OnOk}
 use Rattle.json.specs.Print.{quoted}
+use Rattle.cr_anonymity.specs.Letters.{letter_of}
+use Rattle.cr_base.specs.declared.words.Kind.{Kind}
+use Rattle.cr_base.specs.Words.{bid_size, no_bid, seat_name}
 use Rattle.cr_print.specs.Put.{Bytes}
+
+-- ---- values
+
+unfoldable pub truth_text : Bool → List ℕ
+truth_text true = codes "true"
+truth_text false = codes "false"
+
+-- a bid, which is kept plus 20, as a number from -20 to 20
+unfoldable pub minus : Bool → List ℕ
+minus is_negative = if is_negative then codes "-" else []
+
+unfoldable pub bid_text : ℕ → List ℕ
+bid_text raised = minus (nat_lt raised no_bid) ++ decimal (bid_size raised)
+
+-- a label, by its letter
+unfoldable pub label_text : ℕ → List ℕ
+label_text ordinal = quoted (letter_of ordinal ∷ [])
+
+-- a kind of assignment, by its word
+abbrev pub seat_text : Kind → List ℕ
+seat_text kind = quoted (seat_name kind)
 
 -- ---- texts with commas
 
@@ -45,10 +69,6 @@ object_text members = codes "{" ++ separated true (map member_text members) ++ c
 abbrev pub member_of : List ℕ → Option (List ℕ) → List Member
 member_of key None = []
 member_of key (Some value) = record { key = key; value = value } ∷ []
-
-unfoldable pub truth_text : Bool → List ℕ
-truth_text true = codes "true"
-truth_text false = codes "false"
 
 -- ---- an object that is being written
 

@@ -6,6 +6,7 @@ pub mod Receipt
 pub mod Conference
 pub mod Json
 pub mod Accounts
+pub mod Reviewers
 pub mod Page
 pub mod Me
 pub mod Answers

@@ -8,7 +8,7 @@ use Rattle.cr_print.specs.Json.{Member, member_of, numbers_text, object_text}
 -- the keys in the order of their bytes
 unfoldable pub me_members : Me → List Member
 me_members me =
-    member_of (codes "assigned") (Some (codes "[]"))
+    member_of (codes "assigned") (Some (numbers_text me.assigned))
     ++ member_of (codes "bytes") (Some (decimal me.bytes))
     ++ member_of (codes "comments") (Some (codes "0"))
     ++ member_of (codes "conflicts") (Some (numbers_text me.conflicts))

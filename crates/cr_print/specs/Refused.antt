@@ -3,6 +3,7 @@ use Rattle.std.specs.Prelude.{ℕ, List, Some, codes}
 use Rattle.json.specs.Print.{quoted}
 use Rattle.cr_base.specs.declared.reply.Rule.{Rule as BaseRule}
 use Rattle.cr_base.specs.declared.reply.Rule.TheVariants.{NameTaken, FullAccounts, NotChair, WrongPhase, FullPapers, QuotaPapers, NoPaper, NotMember, NoUser, AlreadyNamed, NotAuthor, NotAMember, Conflict, Withdrawn, QuotaBytes, NoContent, AuthorConflict}
+use Rattle.cr_base.specs.declared.reply.Rule.TheVariants.{TargetConflict, AlreadyAssigned, LabelsSpent, NotAssigned}
 use Rattle.cr_http.specs.declared.refusal.Refusal.{Refusal}
 use Rattle.cr_http.specs.declared.refusal.Refusal.TheVariants.{HeadTooLarge, BadHttp, NoHost, LengthRequired, BadLength, TooLarge}
 use Rattle.cr_print.specs.declared.refused.Refused.{Refused}
@@ -39,6 +40,10 @@ rule_name Withdrawn = codes "withdrawn"
 rule_name QuotaBytes = codes "quota_bytes"
 rule_name NoContent = codes "no_content"
 rule_name AuthorConflict = codes "author_conflict"
+rule_name TargetConflict = codes "target_conflict"
+rule_name AlreadyAssigned = codes "already_assigned"
+rule_name LabelsSpent = codes "labels_spent"
+rule_name NotAssigned = codes "not_assigned"
 
 unfoldable pub refused_name : Refused → List ℕ
 refused_name (Closing refusal) = closing_name refusal
@@ -76,6 +81,10 @@ rule_status Withdrawn = statuses.Conflict
 rule_status QuotaBytes = statuses.Conflict
 rule_status NoContent = statuses.NotFound
 rule_status AuthorConflict = statuses.Conflict
+rule_status TargetConflict = statuses.Conflict
+rule_status AlreadyAssigned = statuses.Conflict
+rule_status LabelsSpent = statuses.Conflict
+rule_status NotAssigned = statuses.Conflict
 
 unfoldable pub refused_status : Refused → Status
 refused_status (Closing refusal) = closing_status refusal

@@ -2,13 +2,13 @@
 ghost use Rattle.cr_print.specs.Put.{Appends};
 ghost use Rattle.cr_print.specs.Accounts.{accounts_content};
 
-use crate::list::Item;
 use crate::object::Object;
+use crate::value::Value;
 use cr_base::AccountLine;
 use std::alloc::AllocError;
 
 /// An account, as everyone sees it.
-impl Item for AccountLine {
+impl Value for AccountLine {
     ghost use Rattle.cr_print.specs.Accounts.{account_text};
 
     ghost text = { account_text };

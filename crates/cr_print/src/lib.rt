@@ -23,8 +23,10 @@ mod quoted;
 mod receipt;
 mod refused;
 mod reply;
+mod reviewers;
 mod runs;
 mod status;
+mod value;
 
 pub use brief::ANSWER_ROOM;
 pub use form::Form;

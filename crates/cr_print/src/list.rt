@@ -1,50 +1,11 @@
 //! Lists of JSON (RFC 8259, section 5).
-ghost use Rattle.std.specs.Prelude.{◌≡◌, List, ℕ, true, decimal, map};
-ghost use Rattle.json.specs.Print.{quoted};
+ghost use Rattle.std.specs.Prelude.{true, map};
 ghost use Rattle.cr_print.specs.Put.{Appends, Takes};
 ghost use Rattle.cr_print.specs.Json.{comma, separated, array_text};
 
-use crate::put::{append, append_number};
-use crate::quoted::append_quoted;
-use cr_base::{PaperNo, Short};
+use crate::put::append;
+use crate::value::Value;
 use std::alloc::AllocError;
-
-/// What a list has.
-pub(crate) trait Item {
-    /// Its text in JSON.
-    ghost text: { Self → List ℕ };
-
-    /// Appends it.
-    fn append_to(&self, into: &mut Vec<u8>) -> Result<(), AllocError>
-        ensures { Appends result into.old into.new (text self.now) };
-}
-
-/// A name.
-impl Item for Short {
-    ghost text = { quoted };
-
-    fn append_to(&self, into: &mut Vec<u8>) -> Result<(), AllocError> {
-        append_quoted(into, self.as_slice())
-    }
-}
-
-/// A paper's number.
-impl Item for PaperNo {
-    ghost text = { decimal };
-
-    fn append_to(&self, into: &mut Vec<u8>) -> Result<(), AllocError> {
-        append_number(into, self.number())
-    }
-}
-
-/// A version's number.
-impl Item for u64 {
-    ghost text = { decimal };
-
-    fn append_to(&self, into: &mut Vec<u8>) -> Result<(), AllocError> {
-        append_number(into, *self)
-    }
-}
 
 /// Appends the comma before a value, or nothing before the first of its list.
 #[tactic(auto, unfolding(crate::specs::Json::comma))]
@@ -59,7 +20,7 @@ pub(crate) fn append_comma(into: &mut Vec<u8>, is_first: bool) -> Result<(), All
     Ok(())
 }
 
-fn append_separated<T: Item>(into: &mut Vec<u8>, items: &[T]) -> Result<(), AllocError>
+fn append_separated<T: Value>(into: &mut Vec<u8>, items: &[T]) -> Result<(), AllocError>
     ensures { Appends result into.old into.new (separated true (map T.text items.now)) }
 {
     let mut is_first = true;
@@ -73,7 +34,7 @@ fn append_separated<T: Item>(into: &mut Vec<u8>, items: &[T]) -> Result<(), Allo
 
 /// Appends a list.
 #[tactic(auto, unfolding(crate::specs::Json::array_text))]
-pub(crate) fn append_list<T: Item>(into: &mut Vec<u8>, items: &[T]) -> Result<(), AllocError>
+pub(crate) fn append_list<T: Value>(into: &mut Vec<u8>, items: &[T]) -> Result<(), AllocError>
     ensures { Appends result into.old into.new (array_text (map T.text items.now)) }
 {
     append(into, b"[")?;

@@ -11,7 +11,7 @@ pub(crate) fn append_me(into: &mut Vec<u8>, me: &Me) -> Result<(), AllocError>
     ensures { Appends result into.old into.new (me_content me.now) }
 {
     let mut object = Object::open(into)?;
-    object.fixed(into, "assigned", true, "[]")?;
+    object.list(into, "assigned", me.assigned.as_slice())?;
     object.number(into, "bytes", me.bytes)?;
     object.fixed(into, "comments", true, "0")?;
     object.list(into, "conflicts", me.conflicts.as_slice())?;

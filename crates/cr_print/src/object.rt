@@ -3,12 +3,13 @@ ghost use Rattle.std.specs.Prelude.{◌≡◌, ◌+◌, ◌*◌, ◌++◌, true,
 ghost use Rattle.json.specs.Print.{quoted};
 ghost use Rattle.cr_base.specs.Page.{where_told};
 ghost use Rattle.cr_print.specs.Put.{Appends, Takes};
-ghost use Rattle.cr_print.specs.Json.{AddsMembers, comma, key_text, member_of, truth_text, names_text, numbers_text, array_text};
+ghost use Rattle.cr_print.specs.Json.{AddsMembers, array_text, bid_text, comma, key_text, label_text, member_of, truth_text};
 
-use crate::list::{Item, append_comma, append_list};
+use crate::list::{append_comma, append_list};
 use crate::put::{append, append_number};
 use crate::quoted::append_quoted;
-use cr_base::{Names, Text, Versions};
+use crate::value::{Value, append_bid, append_label};
+use cr_base::{Bid, Ordinal};
 use std::alloc::AllocError;
 
 /// An object that is being written. Its keys need no escape; members are written in the order of the
@@ -70,8 +71,31 @@ impl Object {
         append_quoted(into, text)
     }
 
+    /// Writes a member that is a bid, a number from -20 to 20.
+    pub fn bid(&mut self, into: &mut Vec<u8>, key: &str, bid: Bid) -> Result<(), AllocError>
+        ensures adds { AddsMembers result into.old into.new self.old.is_first self.new.is_first (member_of key.now (Some (bid_text bid))) }
+        ensures room { Takes result into.old into.new (length key.now + 25) }
+    {
+        self.key(into, key)?;
+        append_bid(into, bid)
+    }
+
+    /// Writes a member that is a label, by its letter.
+    pub fn label(
+        &mut self,
+        into: &mut Vec<u8>,
+        key: &str,
+        ordinal: Ordinal,
+    ) -> Result<(), AllocError>
+        ensures adds { AddsMembers result into.old into.new self.old.is_first self.new.is_first (member_of key.now (Some (label_text ordinal))) }
+        ensures room { Takes result into.old into.new (length key.now + 12) }
+    {
+        self.key(into, key)?;
+        append_label(into, ordinal)
+    }
+
     /// Writes a member that is a list.
-    pub fn list<T: Item>(
+    pub fn list<T: Value>(
         &mut self,
         into: &mut Vec<u8>,
         key: &str,
@@ -115,47 +139,20 @@ impl Object {
         }
     }
 
-    /// Writes a member that is a text, where that is told.
-    pub fn text(
+    /// Writes a member of any value, where that is told.
+    pub(crate) fn told<T: Value>(
         &mut self,
         into: &mut Vec<u8>,
         key: &str,
-        text: &Option<Text>,
+        value: &Option<T>,
     ) -> Result<(), AllocError>
-        ensures { AddsMembers result into.old into.new self.old.is_first self.new.is_first (member_of key.now (option_map quoted text.now)) }
+        ensures { AddsMembers result into.old into.new self.old.is_first self.new.is_first (member_of key.now (option_map T.text value.now)) }
     {
-        match text {
-            Some(text) => self.string(into, key, text.as_str().as_bytes()),
-            None => Ok(()),
-        }
-    }
-
-    /// Writes a member that is a list of names, where that is told.
-    pub fn names(
-        &mut self,
-        into: &mut Vec<u8>,
-        key: &str,
-        names: &Option<Names>,
-    ) -> Result<(), AllocError>
-        ensures { AddsMembers result into.old into.new self.old.is_first self.new.is_first (member_of key.now (option_map names_text names.now)) }
-    {
-        match names {
-            Some(names) => self.list(into, key, names.as_slice()),
-            None => Ok(()),
-        }
-    }
-
-    /// Writes a member that is a list of versions, where that is told.
-    pub fn versions(
-        &mut self,
-        into: &mut Vec<u8>,
-        key: &str,
-        versions: &Option<Versions>,
-    ) -> Result<(), AllocError>
-        ensures { AddsMembers result into.old into.new self.old.is_first self.new.is_first (member_of key.now (option_map numbers_text versions.now)) }
-    {
-        match versions {
-            Some(versions) => self.list(into, key, versions.as_slice()),
+        match value {
+            Some(value) => {
+                self.key(into, key)?;
+                value.append_to(into)
+            }
             None => Ok(()),
         }
     }

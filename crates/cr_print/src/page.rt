@@ -6,7 +6,7 @@ use crate::object::Object;
 use cr_base::Page;
 use std::alloc::AllocError;
 
-/// Bytes that suffice for a page beside its texts and most lists of names.
+/// Bytes that suffice for a page beside its texts, mostly.
 const PAGE_ROOM: usize = 1_024;
 
 /// The bytes that a page takes, mostly: more where its texts need many escapes, or its lists are long.
@@ -25,19 +25,20 @@ pub(crate) fn append_page(into: &mut Vec<u8>, page: &Page) -> Result<(), AllocEr
 {
     let bare = page.bare;
     let mut object = Object::open(into)?;
-    object.text(into, "abstract", &page.abstract_)?;
-    object.names(into, "authors", &page.authors)?;
-    object.fixed(into, "bid", bare.bid, "0")?;
-    object.fixed(into, "bids", bare.bids, "[]")?;
+    object.told(into, "abstract", &page.abstract_)?;
+    object.told(into, "authors", &page.authors)?;
+    object.told(into, "bid", &page.bid)?;
+    object.told(into, "bids", &page.bids)?;
     object.truth(into, "conflict", page.conflict)?;
-    object.names(into, "conflicts", &page.conflicts)?;
+    object.told(into, "conflicts", &page.conflicts)?;
     object.fixed(into, "decision", bare.decision, "\"none\"")?;
-    object.names(into, "declared", &page.declared)?;
+    object.told(into, "declared", &page.declared)?;
+    object.told(into, "label", &page.label)?;
     object.number(into, "paper", page.paper.number())?;
-    object.fixed(into, "reviewers", bare.reviewers, "[]")?;
+    object.told(into, "reviewers", &page.reviewers)?;
     object.fixed(into, "tags", bare.tags, "[]")?;
-    object.text(into, "title", &page.title)?;
-    object.versions(into, "versions", &page.versions)?;
+    object.told(into, "title", &page.title)?;
+    object.told(into, "versions", &page.versions)?;
     object.truth(into, "withdrawn", page.withdrawn)?;
     object.close(into)
 }

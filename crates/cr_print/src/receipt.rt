@@ -3,7 +3,7 @@ ghost use Rattle.std.specs.Prelude.{◌≡◌, ◌+◌, ◌*◌, ◌++◌, Some,
 ghost use Rattle.json.specs.Print.{quoted};
 ghost use Rattle.cr_base.specs.Words.{role_name};
 ghost use Rattle.cr_print.specs.Put.{Appends, HasRoom, Puts, Takes};
-ghost use Rattle.cr_print.specs.Json.{member_of, object_text};
+ghost use Rattle.cr_print.specs.Json.{bid_text, label_text, member_of, object_text};
 ghost use Rattle.cr_print.specs.Receipt.{receipt_status, receipt_content};
 ghost use Rattle.cr_print.specs.Answers.{receipt_text};
 
@@ -12,7 +12,7 @@ use crate::form::Form;
 use crate::head::{Extra, json};
 use crate::object::Object;
 use crate::status::Status;
-use cr_base::{Receipt, Role, Short};
+use cr_base::{Bid, Ordinal, Receipt, Role, Short};
 use std::alloc::AllocError;
 
 #[tactic(auto, unfolding(crate::specs::Receipt::receipt_status))]
@@ -20,12 +20,13 @@ fn receipt_status(receipt: &Receipt) -> Status
     ensures { result ≡ receipt_status receipt.now }
 {
     match receipt {
-        Receipt::User { .. } | Receipt::Paper { .. } => Status::Created,
+        Receipt::User { .. } | Receipt::Paper { .. } | Receipt::Label { .. } => Status::Created,
         Receipt::Phase { .. }
         | Receipt::Named { .. }
         | Receipt::Mode { .. }
         | Receipt::Changed { .. }
-        | Receipt::Version { .. } => Status::Okay,
+        | Receipt::Version { .. }
+        | Receipt::Bid { .. } => Status::Okay,
     }
 }
 
@@ -46,6 +47,26 @@ fn append_word_alone(into: &mut Vec<u8>, key: &str, word: &str) -> Result<(), Al
 {
     let mut object = Object::open(into)?;
     object.string(into, key, word.as_bytes())?;
+    object.close(into)
+}
+
+/// Appends what tells a bid.
+fn append_bid_alone(into: &mut Vec<u8>, bid: Bid) -> Result<(), AllocError>
+    ensures text { Appends result into.old into.new (object_text (member_of (codes "bid") (Some (bid_text bid)))) }
+    ensures room { Takes result into.old into.new 30 }
+{
+    let mut object = Object::open(into)?;
+    object.bid(into, "bid", bid)?;
+    object.close(into)
+}
+
+/// Appends what tells a label.
+fn append_label_alone(into: &mut Vec<u8>, ordinal: Ordinal) -> Result<(), AllocError>
+    ensures text { Appends result into.old into.new (object_text (member_of (codes "label") (Some (label_text ordinal)))) }
+    ensures room { Takes result into.old into.new 19 }
+{
+    let mut object = Object::open(into)?;
+    object.label(into, "label", ordinal)?;
     object.close(into)
 }
 
@@ -75,6 +96,8 @@ fn append_receipt(into: &mut Vec<u8>, receipt: &Receipt) -> Result<(), AllocErro
         Receipt::Mode { mode } => append_word_alone(into, "mode", mode.name())?,
         Receipt::Changed { paper } => append_number_alone(into, "paper", paper.number())?,
         Receipt::Version { version } => append_number_alone(into, "version", *version)?,
+        Receipt::Bid { bid } => append_bid_alone(into, *bid)?,
+        Receipt::Label { ordinal } => append_label_alone(into, *ordinal)?,
     }
     Ok(())
 }

@@ -59,6 +59,10 @@ fn rule_name(rule: Rule) -> &'static str
         Rule::QuotaBytes => "quota_bytes",
         Rule::NoContent => "no_content",
         Rule::AuthorConflict => "author_conflict",
+        Rule::TargetConflict => "target_conflict",
+        Rule::AlreadyAssigned => "already_assigned",
+        Rule::LabelsSpent => "labels_spent",
+        Rule::NotAssigned => "not_assigned",
     }
 }
 
@@ -111,6 +115,9 @@ fn rule_status(rule: Rule) -> Status
         | Rule::Withdrawn
         | Rule::QuotaBytes
         | Rule::AuthorConflict => Status::Conflict,
+        Rule::TargetConflict | Rule::AlreadyAssigned | Rule::LabelsSpent | Rule::NotAssigned => {
+            Status::Conflict
+        }
     }
 }
 

@@ -1,7 +1,7 @@
 use Rattle.cr_print.specs.Accounts.{account_members}
 use Rattle.cr_print.specs.Json.{Added}
 use Rattle.cr_print.proofs.Objects.{◌then◌, closed}
-use Rattle.cr_print.proofs.accounts.AccountLineItem.append_to.Goals as goal
+use Rattle.cr_print.proofs.accounts.AccountLineValue.append_to.Goals as goal
 
 pub returns : goal.returns
 unfolding account_members
