@@ -8,7 +8,7 @@ use Rattle.cr_base.specs.declared.command.Command.{Command}
 use Rattle.cr_base.specs.declared.command.Command.TheVariants as commands
 use Rattle.cr_base.specs.declared.entry.Entry.{Entry}
 use Rattle.cr_base.specs.declared.entry.Entry.TheVariants.{Registered, Named, PhaseSet, ModeSet, Submitted}
-use Rattle.cr_base.specs.declared.entry.Entry.TheVariants.{Revised, Uploaded, Withdrawn, Conflict}
+use Rattle.cr_base.specs.declared.entry.Entry.TheVariants.{Revised, Uploaded, Withdrawn, Conflict, Bid, Assigned, Unassigned}
 use Rattle.cr_base.specs.declared.entry.Stamped.{Stamped}
 use Rattle.cr_base.specs.declared.row.Row.{Row}
 use Rattle.cr_base.specs.Accounts.{account_at}
@@ -64,10 +64,17 @@ abbrev pub giver_told : ℕ → Entry → Option ℕ
 giver_told maker (Registered user name digest) = None
 giver_told maker e = Some maker
 
+-- what a user's command that names a user was, where the user named is there
+abbrev pub naming_command_told : Tables → Entry → Option Command
+naming_command_told t (Named user role) = option_map (λ name. commands.Name (Some name) role) (name_told t user)
+naming_command_told t (Conflict paper user on) = option_map (λ name. commands.SetConflict (Some paper) (Some name) on) (name_told t user)
+naming_command_told t (Assigned paper user kind ordinal) = option_map (λ name. commands.Assign (Some paper) (Some name) kind) (name_told t user)
+naming_command_told t (Unassigned paper user ordinal) = option_map (λ name. commands.Unassign (Some paper) (Some name)) (name_told t user)
+naming_command_told t _ = None
+
 -- what a user's command was, where the users that it names are there, and co-authors, if it tells them, no more than 19; an
 -- entry that begins no such command's has none
 abbrev pub user_command_told : Tables → List (Option (List ℕ)) → Entry → Option Command
-user_command_told t authors (Named user role) = option_map (λ name. commands.Name (Some name) role) (name_told t user)
 user_command_told t authors (PhaseSet phase) = Some (commands.SetPhase phase)
 user_command_told t authors (ModeSet mode) = Some (commands.SetMode mode)
 user_command_told t authors (Submitted paper title abstract) =
@@ -75,8 +82,8 @@ user_command_told t authors (Submitted paper title abstract) =
 user_command_told t authors (Revised paper title abstract) = Some (commands.Revise (Some paper) title abstract)
 user_command_told t authors (Uploaded paper version content) = Some (commands.Upload (Some paper) content)
 user_command_told t authors (Withdrawn paper) = Some (commands.Withdraw (Some paper))
-user_command_told t authors (Conflict paper user on) = option_map (λ name. commands.SetConflict (Some paper) (Some name) on) (name_told t user)
-user_command_told t authors _ = None
+user_command_told t authors (Bid paper value) = Some (commands.Bid (Some paper) value)
+user_command_told t authors e = naming_command_told t e
 
 -- what it was, by whomever it was given
 abbrev pub command_told : Tables → List (Option (List ℕ)) → Entry → Option Command

@@ -4,7 +4,7 @@ ghost use Rattle.std.specs.Option.{option_map};
 ghost use Rattle.cr_base.specs.Tables.{FitInTurn};
 ghost use Rattle.cr_base.specs.declared.command.Command.TheVariants as commands;
 ghost use Rattle.cr_view.specs.Draws.{drawn_by};
-ghost use Rattle.cr_book.specs.Rebuilding.{giver_told, command_told, user_command_told, drawn_told, is_known, IsBegun, NoneBegun};
+ghost use Rattle.cr_book.specs.Rebuilding.{giver_told, command_told, naming_command_told, user_command_told, drawn_told, is_known, IsBegun, NoneBegun};
 ghost use Rattle.cr_base.specs.declared.row.Row.{Row};
 
 use crate::naming::authors_told;
@@ -71,6 +71,19 @@ fn user_command_of(live: &Live, first: Entry, authors: ToldNames) -> Option<Comm
             content,
         }),
         Entry::Withdrawn { paper } => Some(Command::Withdraw { paper: Some(paper) }),
+        Entry::Bid { paper, value } => Some(Command::Bid {
+            paper: Some(paper),
+            value,
+        }),
+        other => naming_command_of(live, other),
+    }
+}
+
+/// The same, where the command names a user.
+fn naming_command_of(live: &Live, first: Entry) -> Option<Command>
+    ensures { result ≡ naming_command_told live.now.tables first }
+{
+    match first {
         Entry::Named { user, role } => {
             let name = live.name_of(user)?;
             Some(Command::Name {
@@ -84,6 +97,23 @@ fn user_command_of(live: &Live, first: Entry, authors: ToldNames) -> Option<Comm
                 paper: Some(paper),
                 user: Some(name),
                 on,
+            })
+        }
+        Entry::Assigned {
+            paper, user, kind, ..
+        } => {
+            let name = live.name_of(user)?;
+            Some(Command::Assign {
+                paper: Some(paper),
+                user: Some(name),
+                kind,
+            })
+        }
+        Entry::Unassigned { paper, user, .. } => {
+            let name = live.name_of(user)?;
+            Some(Command::Unassign {
+                paper: Some(paper),
+                user: Some(name),
             })
         }
         _ => None,
