@@ -1,17 +1,20 @@
--- A small conference, up to the bidding and in it: seven users, three papers, and every kind of entry.
+-- A small conference, from its first registration to the notification: eight users, three papers, and every kind of entry. In its
+-- twin alice assigns another member to paper 1.
 use Rattle.std.specs.Prelude.{ℕ, ◌≡◌, true, false, List, [], ◌∷◌, ◌++◌, length, codes}
 use Rattle.cr_base.specs.declared.entry.Entry.{Entry}
 use Rattle.cr_base.specs.declared.entry.Entry.TheVariants.{Registered, Named, PhaseSet, ModeSet, Submitted}
 use Rattle.cr_base.specs.declared.entry.Entry.TheVariants.{Coauthor, Revised, Uploaded, Withdrawn, Conflict}
+use Rattle.cr_base.specs.declared.entry.Entry.TheVariants.{Bid, Assigned, Unassigned}
 use Rattle.cr_base.specs.declared.entry.Stamped.{Stamped}
+use Rattle.cr_base.specs.declared.words.Kind.TheVariants.{Primary, Secondary, Pc}
 use Rattle.cr_base.specs.declared.words.Mode.{Mode}
-use Rattle.cr_base.specs.declared.words.Phase.TheVariants.{Submission, Bidding}
+use Rattle.cr_base.specs.declared.words.Phase.TheVariants.{Submission, Bidding, Reviewing, Discussion, Notification}
 use Rattle.cr_base.specs.declared.words.Role.TheVariants.{Member, Chair}
 use Rattle.cr_base.specs.History.{History}
 
 -- ---- who takes part
 
--- a chair in no conflict
+-- a chair in no conflict, who reviews paper 1
 abbrev pub alice : ℕ
 alice = 1
 
@@ -23,7 +26,7 @@ bob = 2
 abbrev pub carol : ℕ
 carol = 3
 
--- a member in no conflict, at the end
+-- a member in no conflict, at the end, who reviews paper 1
 abbrev pub dave : ℕ
 dave = 4
 
@@ -31,7 +34,7 @@ dave = 4
 abbrev pub erin : ℕ
 erin = 5
 
--- a chair in conflict with paper 1
+-- a chair in conflict with paper 1, who reviews paper 2
 abbrev pub fay : ℕ
 fay = 6
 
@@ -39,8 +42,12 @@ fay = 6
 abbrev pub gus : ℕ
 gus = 7
 
+-- a member in no conflict, who reviews paper 1 in the twin alone
+abbrev pub hal : ℕ
+hal = 8
+
 abbrev pub cast : List ℕ
-cast = alice ∷ bob ∷ carol ∷ dave ∷ erin ∷ fay ∷ gus ∷ []
+cast = alice ∷ bob ∷ carol ∷ dave ∷ erin ∷ fay ∷ gus ∷ hal ∷ []
 
 -- the digests of their secrets, whatever these are
 pub record Digests : Type 0 where
@@ -51,6 +58,7 @@ pub record Digests : Type 0 where
   pub erin : List ℕ
   pub fay : List ℕ
   pub gus : List ℕ
+  pub hal : List ℕ
 
 pub record AreDigests (d : Digests) : Type 0 where
   pub alice : length d.alice ≡ 32
@@ -60,6 +68,7 @@ pub record AreDigests (d : Digests) : Type 0 where
   pub erin : length d.erin ≡ 32
   pub fay : length d.fay ≡ 32
   pub gus : length d.gus ≡ 32
+  pub hal : length d.hal ≡ 32
 
 -- the texts of the three papers, and those that paper 1 is given later
 abbrev pub proofs : List ℕ
@@ -120,6 +129,7 @@ registered d =
     ∷ erin adds Registered erin (codes "erin") d.erin
     ∷ fay adds Registered fay (codes "fay") d.fay
     ∷ gus adds Registered gus (codes "gus") d.gus
+    ∷ hal adds Registered hal (codes "hal") d.hal
     ∷ []
 
 -- alice names the others of the committee, sets the mode and opens submission
@@ -129,6 +139,7 @@ opened d mode =
     ++ alice adds Named carol Member
     ∷ alice adds Named dave Member
     ∷ alice adds Named fay Chair
+    ∷ alice adds Named hal Member
     ∷ alice adds ModeSet mode
     ∷ alice adds PhaseSet Submission
     ∷ []
@@ -160,8 +171,8 @@ before_bidding d mode =
 
 -- alice opens the bidding, and turns fay's conflict off; fay declares it herself; dave declares one of his with paper 2,
 -- and alice turns that off
-abbrev pub in_bidding : Digests → Mode → History
-in_bidding d mode =
+abbrev pub opened_bidding : Digests → Mode → History
+opened_bidding d mode =
     before_bidding d mode
     ++ alice adds PhaseSet Bidding
     ∷ alice adds Conflict 1 fay false
@@ -169,3 +180,38 @@ in_bidding d mode =
     ∷ dave adds Conflict 2 dave true
     ∷ alice adds Conflict 2 dave false
     ∷ []
+
+-- dave and alice bid on paper 1, dave a second time, and carol on paper 2: 5, -20, 20 and -3, each kept plus 20
+abbrev pub having_bids : Digests → Mode → History
+having_bids d mode =
+    opened_bidding d mode
+    ++ dave adds Bid 1 25
+    ∷ carol adds Bid 2 17
+    ∷ alice adds Bid 1 0
+    ∷ dave adds Bid 1 40
+    ∷ []
+
+-- alice assigns a member to paper 1, dave or in the twin hal, and herself, and fay to paper 2
+abbrev pub in_bidding : Digests → Mode → ℕ → History
+in_bidding d mode reviewer =
+    having_bids d mode
+    ++ alice adds Assigned 1 reviewer Primary 1
+    ∷ alice adds Assigned 1 alice Secondary 2
+    ∷ alice adds Assigned 2 fay Pc 1
+    ∷ []
+
+-- she opens the reviewing, takes the member off paper 1 and assigns the same one again, under the next label
+abbrev pub in_reviewing : Digests → Mode → ℕ → History
+in_reviewing d mode reviewer =
+    in_bidding d mode reviewer
+    ++ alice adds PhaseSet Reviewing
+    ∷ alice adds Unassigned 1 reviewer 1
+    ∷ alice adds Assigned 1 reviewer Pc 3
+    ∷ []
+
+-- she opens the discussion, and the notification
+abbrev pub in_discussion : Digests → Mode → ℕ → History
+in_discussion d mode reviewer = in_reviewing d mode reviewer ++ alice adds PhaseSet Discussion ∷ []
+
+abbrev pub at_notification : Digests → Mode → ℕ → History
+at_notification d mode reviewer = in_discussion d mode reviewer ++ alice adds PhaseSet Notification ∷ []

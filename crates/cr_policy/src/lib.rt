@@ -8,7 +8,8 @@
 
 ghost use Rattle.std.specs.Prelude.{ℕ, Option};
 ghost use Rattle.cr_base.specs.History.{History};
-ghost use Rattle.cr_policy.specs.ConferenceLaws.{ConferenceLegal, ViewsBeforeBidding, ViewsInBidding};
+ghost use Rattle.cr_policy.specs.ConferenceLaws.{ConferenceLegal, ViewsBeforeBidding, ViewsInBidding, ViewsInDiscussion};
+ghost use Rattle.cr_policy.specs.ConferenceLaws.{ViewsAtNotification, TwinsAlike};
 ghost use Rattle.cr_policy.specs.Laws.{StandingFromView, PublicFactsFromView, ViewSuffices, DeclaredFromView, LegalKeeps};
 ghost use Rattle.cr_policy.specs.Laws.{DigestsAreOwn, TwoRegistrations, DigestsHidden, OneSubmission, OneConflict};
 ghost use Rattle.cr_policy.specs.ViewBounds.{EntriesShown, MarksShown, PapersShown, UsersShown, NamesShown, DigestsShown};
@@ -70,21 +71,28 @@ pub fn law_witness()
 {}
 
 /// What each kind of reader sees of a small conference, entry by entry and all of it: nobody, an
-/// account, an author, a co-author, a member and a chair in no conflict, and a member and a chair in
-/// conflict, of three papers with every kind of entry, in each mode, before the bidding and in it.
+/// account, an author, a co-author, a member in no conflict, one who reviews, a chair who does, and a member and a
+/// chair in conflict, of three papers with every kind of entry, in each mode, before the bidding, in it, in the discussion
+/// and at the notification. It has a twin, in which another member reviews a paper in the first one's place: what the
+/// paper's authors see of the two is the same, up to the discussion, and at the notification but in the open mode; and so is
+/// what a member and a chair in conflict with the paper see, in all phases.
 pub fn law_views()
     ensures legal { ConferenceLegal }
     ensures before { ViewsBeforeBidding }
     ensures bidding { ViewsInBidding }
+    ensures discussion { ViewsInDiscussion }
+    ensures notification { ViewsAtNotification }
+    ensures twins { TwinsAlike }
 {}
 
 /// What a view shows, neither more nor less, of every history, legal or not, for every user and for
 /// nobody. The first clauses go part by part: a view has one sighting of each entry that the user is
 /// told of, and of each part exactly what she may know, by who wrote the paper, who is on the
 /// committee, who is declared in conflict, phase and mode. The last say what that leaves: of bids and of who
-/// reviews a paper little, for all but the chairs in no conflict with it; of a paper's titles, abstracts and contents the last one, for all but its authors; little of a paper for outsiders, who
-/// neither wrote nor handle it, so in conflict, or on no committee, or before the bidding; for strangers
-/// what is public and their own entries; and for nobody what is public.
+/// reviews a paper little, for all but the chairs in no conflict with it; of a paper's titles, abstracts and
+/// contents the last one, for all but its authors; little of a paper for outsiders, who neither wrote nor handle it,
+/// so in conflict, or on no committee, or before the bidding; for strangers what is public and their own entries;
+/// and for nobody what is public.
 pub fn law_bounds()
     ensures entries { EntriesShown }
     ensures marks { MarksShown }
