@@ -1,65 +1,86 @@
 -- The lines of a view: each sighting is one compact JSON object and a line feed.
-use Rattle.std.specs.Prelude.{ℕ, List, ◌++◌, length, Option, Some, codes, decimal}
+use Rattle.std.specs.Prelude.{ℕ, List, ◌++◌, length, Option, Some, None, codes, decimal}
 use Rattle.std.specs.List.{flat_map}
 use Rattle.std.specs.Option.{option_map}
 use Rattle.hex.specs.Hex.{encode_lower}
 use Rattle.json.specs.Print.{quoted}
+use Rattle.cr_base.specs.declared.entry.EntryKind.{EntryKind}
+use Rattle.cr_base.specs.declared.entry.EntryKind.TheVariants as kinds
+use Rattle.cr_base.specs.declared.words.Kind.{Kind}
 use Rattle.cr_base.specs.declared.words.Phase.{Phase}
 use Rattle.cr_base.specs.declared.words.Mode.{Mode}
 use Rattle.cr_base.specs.declared.words.Role.{Role}
 use Rattle.cr_base.specs.Page.{where_told}
 use Rattle.cr_base.specs.Rows.{kind_name}
-use Rattle.cr_base.specs.Words.{mode_name, phase_name, role_name}
+use Rattle.cr_base.specs.Words.{mode_name, phase_name, role_name, seat_name}
 use Rattle.cr_policy.specs.Sighting.{Sighting}
 use Rattle.cr_policy.specs.View.{View}
-use Rattle.cr_print.specs.Json.{Member, member_of, object_text, truth_text}
+use Rattle.cr_print.specs.Json.{Member, bid_text, member_of, object_text, truth_text}
 
--- the value of a member: a text, a digest in lower-case hexadecimal digits, a word, a number, how many bytes a content has
-abbrev pub bytes_value : Option (List ℕ) → Option (List ℕ)
-bytes_value bytes = option_map quoted bytes
+-- ---- the values of members, where names and texts are strings and numbers decimal
 
-abbrev pub digest_value : Option (List ℕ) → Option (List ℕ)
-digest_value digest = option_map (λ bytes. quoted (encode_lower bytes)) digest
+-- a digest in lower-case hexadecimal digits
+abbrev pub digest_text : List ℕ → List ℕ
+digest_text digest = quoted (encode_lower digest)
 
-abbrev pub phase_value : Option Phase → Option (List ℕ)
-phase_value phase = option_map (λ p. quoted (phase_name p)) phase
+-- a content by its length in bytes
+abbrev pub content_text : List ℕ → List ℕ
+content_text content = decimal (length content)
 
-abbrev pub mode_value : Option Mode → Option (List ℕ)
-mode_value mode = option_map (λ m. quoted (mode_name m)) mode
+-- a phase, a mode, a role and a kind of assignment by their words
+abbrev pub phase_text : Phase → List ℕ
+phase_text phase = quoted (phase_name phase)
 
-abbrev pub role_value : Option Role → Option (List ℕ)
-role_value role = option_map (λ r. quoted (role_name r)) role
+abbrev pub mode_text : Mode → List ℕ
+mode_text mode = quoted (mode_name mode)
 
-abbrev pub number_value : Option ℕ → Option (List ℕ)
-number_value number = option_map decimal number
+abbrev pub role_text : Role → List ℕ
+role_text role = quoted (role_name role)
 
-abbrev pub length_value : Option (List ℕ) → Option (List ℕ)
-length_value content = option_map (λ bytes. decimal (length bytes)) content
+abbrev pub seat_text : Kind → List ℕ
+seat_text seat = quoted (seat_name seat)
+
+-- ---- the users of an entry
+
+-- the user whom an entry is about; of a bid that is who made it
+abbrev pub user_told : EntryKind → Option ℕ → Option ℕ → Option ℕ
+user_told kinds.Bid by user = by
+user_told kind by user = user
+
+-- who made an entry, beside the user whom it is about
+abbrev pub by_told : EntryKind → Option ℕ → Option ℕ
+by_told kinds.Bid by = None
+by_told kind by = by
+
+-- ---- a line
 
 -- the parts that are shown, and the mark `mine` on the reader's own, with their keys in the order of their bytes
 unfoldable pub first_members : Sighting → List Member
 first_members s =
-    member_of (codes "abstract") (bytes_value s.abstract)
-    ++ member_of (codes "by") (number_value s.by)
-    ++ member_of (codes "bytes") (length_value s.content)
-    ++ member_of (codes "digest") (digest_value s.digest)
+    member_of (codes "abstract") (option_map quoted s.abstract)
+    ++ member_of (codes "by") (option_map decimal (by_told s.kind s.by))
+    ++ member_of (codes "bytes") (option_map content_text s.content)
+    ++ member_of (codes "digest") (option_map digest_text s.digest)
     ++ member_of (codes "kind") (Some (quoted (kind_name s.kind)))
 
 unfoldable pub middle_members : Sighting → List Member
 middle_members s =
     member_of (codes "mine") (where_told s.mine (Some (codes "true")))
-    ++ member_of (codes "mode") (mode_value s.mode)
-    ++ member_of (codes "name") (bytes_value s.name)
+    ++ member_of (codes "mode") (option_map mode_text s.mode)
+    ++ member_of (codes "name") (option_map quoted s.name)
     ++ member_of (codes "on") (option_map truth_text s.on)
+    ++ member_of (codes "ordinal") (option_map decimal s.ordinal)
+    ++ member_of (codes "paper") (option_map decimal s.paper)
 
 unfoldable pub last_members : Sighting → List Member
 last_members s =
-    member_of (codes "paper") (number_value s.paper)
-    ++ member_of (codes "phase") (phase_value s.phase)
-    ++ member_of (codes "role") (role_value s.role)
-    ++ member_of (codes "title") (bytes_value s.title)
-    ++ member_of (codes "user") (number_value s.user)
-    ++ member_of (codes "version") (number_value s.version)
+    member_of (codes "phase") (option_map phase_text s.phase)
+    ++ member_of (codes "role") (option_map role_text s.role)
+    ++ member_of (codes "seat") (option_map seat_text s.seat)
+    ++ member_of (codes "title") (option_map quoted s.title)
+    ++ member_of (codes "user") (option_map decimal (user_told s.kind s.by s.user))
+    ++ member_of (codes "value") (option_map bid_text s.value)
+    ++ member_of (codes "version") (option_map decimal s.version)
 
 abbrev pub sighting_members : Sighting → List Member
 sighting_members s = first_members s ++ middle_members s ++ last_members s

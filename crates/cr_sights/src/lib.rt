@@ -6,6 +6,7 @@
 mod last;
 mod line;
 mod members;
+mod seats;
 mod sighting;
 mod walk;
 

@@ -1,32 +1,50 @@
 //! A sighting as a line.
-ghost use Rattle.std.specs.Prelude.{◌≡◌, OnOk, option_map};
+ghost use Rattle.std.specs.Prelude.{◌≡◌, OnOk};
+ghost use Rattle.std.specs.Option.{option_copied};
 ghost use Rattle.cr_base.specs.Lists.{listed};
 ghost use Rattle.cr_print.specs.Json.{AddsMembers};
 ghost use Rattle.cr_print.specs.Put.{Appends};
-ghost use Rattle.cr_sights.specs.Lines.{first_members, last_members, line_text, lines_text, middle_members};
+ghost use Rattle.cr_sights.specs.Lines.{by_told, first_members, last_members, line_text, lines_text, middle_members, user_told};
 
-use crate::members::{
-    add_bytes, add_digest, add_length, add_mode, add_paper, add_phase, add_role, add_user,
-    add_version,
-};
+use crate::members::add;
 use crate::sighting::Sighting;
-use cr_base::{Short, Text};
+use cr_base::{EntryKind, UserNo};
 use cr_print::Object;
 use std::alloc::AllocError;
+
+/// The user whom an entry is about; of a bid that is who made it.
+fn user_told<'a>(sighting: &'a Sighting) -> Option<&'a UserNo>
+    ensures { let s = sighting.now in option_copied result ≡ user_told s.kind s.by s.user }
+{
+    match sighting.kind {
+        EntryKind::Bid => sighting.by.as_ref(),
+        _ => sighting.user.as_ref(),
+    }
+}
+
+/// Who made an entry, beside the user whom it is about.
+fn by_told<'a>(sighting: &'a Sighting) -> Option<&'a UserNo>
+    ensures { let s = sighting.now in option_copied result ≡ by_told s.kind s.by }
+{
+    match sighting.kind {
+        EntryKind::Bid => None,
+        _ => sighting.by.as_ref(),
+    }
+}
 
 /// Writes the members up to `kind`.
 fn add_first(object: &mut Object, into: &mut Vec<u8>, sighting: &Sighting) -> Result<(), AllocError>
     ensures { AddsMembers result into.old into.new object.old.is_first object.new.is_first (first_members sighting.now) }
 {
-    add_bytes(object, into, "abstract", text_bytes(&sighting.abstract_))?;
-    add_user(object, into, "by", &sighting.by)?;
-    add_length(object, into, "bytes", sighting.content)?;
-    add_digest(object, into, "digest", sighting.digest)?;
+    add(object, into, "abstract", sighting.abstract_)?;
+    add(object, into, "by", by_told(sighting))?;
+    add(object, into, "bytes", sighting.content)?;
+    add(object, into, "digest", sighting.digest)?;
     object.string(into, "kind", sighting.kind.name().as_bytes())?;
     Ok(())
 }
 
-/// Writes the members from `mine` to `on`.
+/// Writes the members from `mine` to `paper`.
 fn add_middle(
     object: &mut Object,
     into: &mut Vec<u8>,
@@ -35,22 +53,25 @@ fn add_middle(
     ensures { AddsMembers result into.old into.new object.old.is_first object.new.is_first (middle_members sighting.now) }
 {
     object.fixed(into, "mine", sighting.mine, "true")?;
-    add_mode(object, into, "mode", sighting.mode)?;
-    add_bytes(object, into, "name", name_bytes(&sighting.name))?;
+    add(object, into, "mode", sighting.mode.as_ref())?;
+    add(object, into, "name", sighting.name)?;
     object.truth(into, "on", sighting.on)?;
+    add(object, into, "ordinal", sighting.ordinal.as_ref())?;
+    add(object, into, "paper", sighting.paper.as_ref())?;
     Ok(())
 }
 
-/// Writes the members from `paper` on.
+/// Writes the members from `phase` on.
 fn add_last(object: &mut Object, into: &mut Vec<u8>, sighting: &Sighting) -> Result<(), AllocError>
     ensures { AddsMembers result into.old into.new object.old.is_first object.new.is_first (last_members sighting.now) }
 {
-    add_paper(object, into, "paper", &sighting.paper)?;
-    add_phase(object, into, "phase", sighting.phase)?;
-    add_role(object, into, "role", sighting.role)?;
-    add_bytes(object, into, "title", text_bytes(&sighting.title))?;
-    add_user(object, into, "user", &sighting.user)?;
-    add_version(object, into, "version", sighting.version)?;
+    add(object, into, "phase", sighting.phase.as_ref())?;
+    add(object, into, "role", sighting.role.as_ref())?;
+    add(object, into, "seat", sighting.seat.as_ref())?;
+    add(object, into, "title", sighting.title)?;
+    add(object, into, "user", user_told(sighting))?;
+    add(object, into, "value", sighting.value.as_ref())?;
+    add(object, into, "version", sighting.version.as_ref())?;
     Ok(())
 }
 
@@ -75,25 +96,5 @@ pub(crate) fn fill(line: &mut Vec<u8>, sighting: &Option<Sighting>) -> Result<()
     match sighting {
         Some(sighting) => append_line(line, sighting),
         None => Ok(()),
-    }
-}
-
-/// The bytes of a text, where it is there.
-fn text_bytes<'a>(text: &Option<&'a Text>) -> Option<&'a [u8]>
-    ensures { option_map (λ t. t.now) result ≡ option_map (λ t. t.now) text.now }
-{
-    match text {
-        Some(text) => Some(text.as_str().as_bytes()),
-        None => None,
-    }
-}
-
-/// The bytes of a name, where it is there.
-fn name_bytes<'a>(name: &Option<&'a Short>) -> Option<&'a [u8]>
-    ensures { option_map (λ t. t.now) result ≡ option_map (λ t. t.now) name.now }
-{
-    match name {
-        Some(name) => Some(name.as_slice()),
-        None => None,
     }
 }

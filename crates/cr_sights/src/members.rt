@@ -1,86 +1,37 @@
 //! The members of a view line, each written where its part is shown.
-ghost use Rattle.std.specs.Prelude.{◌≡◌, option_map};
+ghost use Rattle.std.specs.Prelude.{◌≡◌, List, ℕ, Some, decimal, option_map};
+ghost use Rattle.std.specs.Option.{option_copied};
 ghost use Rattle.hex.specs.Hex.{encode_lower};
-ghost use Rattle.cr_print.specs.Json.{AddsMembers, member_of};
-ghost use Rattle.cr_sights.specs.Lines.{bytes_value, digest_value, length_value, mode_value, number_value, phase_value, role_value};
+ghost use Rattle.json.specs.Print.{quoted};
+ghost use Rattle.cr_print.specs.Json.{AddsMembers, bid_text, member_of, truth_text};
+ghost use Rattle.cr_sights.specs.Lines.{content_text, digest_text, mode_text, phase_text, role_text, seat_text};
 
-use cr_base::{Blob, Digest, Mode, PaperNo, Phase, Role, UserNo};
+use cr_base::{Bid, Blob, Digest, Kind, Mode, Ordinal, PaperNo, Phase, Role, Short, Text, UserNo};
 use cr_print::Object;
 use std::alloc::AllocError;
 
-/// Writes a user's number.
-pub(crate) fn add_user(
-    object: &mut Object,
-    into: &mut Vec<u8>,
-    key: &str,
-    user: &Option<UserNo>,
-) -> Result<(), AllocError>
-    ensures { AddsMembers result into.old into.new object.old.is_first object.new.is_first (member_of key.now (number_value user.now)) }
-{
-    match user {
-        Some(user) => object.number(into, key, user.number()),
-        None => Ok(()),
-    }
+/// A part of an entry, as a line tells it.
+pub(crate) trait Part {
+    /// Its text in JSON.
+    ghost text: { Self → List ℕ };
+
+    /// Writes it as the member of a key; an error only for lack of memory.
+    fn write(&self, object: &mut Object, into: &mut Vec<u8>, key: &str) -> Result<(), AllocError>
+        ensures { AddsMembers result into.old into.new object.old.is_first object.new.is_first (member_of key.now (Some (text self.now))) };
 }
 
-/// Writes a paper's number.
-pub(crate) fn add_paper(
+/// Writes a part as the member of a key, where it is shown; an error only for lack of memory.
+pub(crate) fn add<P: Part>(
     object: &mut Object,
     into: &mut Vec<u8>,
     key: &str,
-    paper: &Option<PaperNo>,
-) -> Result<(), AllocError>
-    ensures { AddsMembers result into.old into.new object.old.is_first object.new.is_first (member_of key.now (number_value paper.now)) }
-{
-    match paper {
-        Some(paper) => object.number(into, key, paper.number()),
-        None => Ok(()),
-    }
-}
-
-/// Writes the number of a version.
-pub(crate) fn add_version(
-    object: &mut Object,
-    into: &mut Vec<u8>,
-    key: &str,
-    version: Option<u64>,
-) -> Result<(), AllocError>
-    ensures { AddsMembers result into.old into.new object.old.is_first object.new.is_first (member_of key.now (number_value version)) }
-{
-    match version {
-        Some(version) => object.number(into, key, version),
-        None => Ok(()),
-    }
-}
-
-/// Writes the length of a content, of which nothing is copied.
-pub(crate) fn add_length(
-    object: &mut Object,
-    into: &mut Vec<u8>,
-    key: &str,
-    content: Option<&Blob>,
+    part: Option<&P>,
 ) -> Result<(), AllocError>
     ensures { AddsMembers result into.old into.new object.old.is_first object.new.is_first
-        (member_of key.now (length_value (option_map (λ c. c.now) content.entry))) }
+        (member_of key.now (option_map P.text (option_copied part.entry))) }
 {
-    match content {
-        Some(content) => object.number(into, key, content.as_slice().len() as u64),
-        None => Ok(()),
-    }
-}
-
-/// Writes a name, a title, an abstract.
-pub(crate) fn add_bytes(
-    object: &mut Object,
-    into: &mut Vec<u8>,
-    key: &str,
-    bytes: Option<&[u8]>,
-) -> Result<(), AllocError>
-    ensures { AddsMembers result into.old into.new object.old.is_first object.new.is_first
-        (member_of key.now (bytes_value (option_map (λ b. b.now) bytes.entry))) }
-{
-    match bytes {
-        Some(bytes) => object.string(into, key, bytes),
+    match part {
+        Some(part) => part.write(object, into, key),
         None => Ok(()),
     }
 }
@@ -94,63 +45,119 @@ fn digits_of(digest: Digest) -> [u8; 64]
     digits
 }
 
-/// Writes a digest by its 64 lower-case hexadecimal digits.
-pub(crate) fn add_digest(
-    object: &mut Object,
-    into: &mut Vec<u8>,
-    key: &str,
-    digest: Option<&Digest>,
-) -> Result<(), AllocError>
-    ensures { AddsMembers result into.old into.new object.old.is_first object.new.is_first
-        (member_of key.now (digest_value (option_map (λ d. d.now) digest.entry))) }
-{
-    match digest {
-        Some(digest) => object.string(into, key, &digits_of(*digest)),
-        None => Ok(()),
+/// A user by her number.
+impl Part for UserNo {
+    ghost text = { decimal };
+
+    fn write(&self, object: &mut Object, into: &mut Vec<u8>, key: &str) -> Result<(), AllocError> {
+        object.number(into, key, self.number())
     }
 }
 
-/// Writes a phase by its word.
-pub(crate) fn add_phase(
-    object: &mut Object,
-    into: &mut Vec<u8>,
-    key: &str,
-    phase: Option<Phase>,
-) -> Result<(), AllocError>
-    ensures { AddsMembers result into.old into.new object.old.is_first object.new.is_first (member_of key.now (phase_value phase)) }
-{
-    match phase {
-        Some(phase) => object.string(into, key, phase.name().as_bytes()),
-        None => Ok(()),
+/// A paper by its number.
+impl Part for PaperNo {
+    ghost text = { decimal };
+
+    fn write(&self, object: &mut Object, into: &mut Vec<u8>, key: &str) -> Result<(), AllocError> {
+        object.number(into, key, self.number())
     }
 }
 
-/// Writes a mode by its word.
-pub(crate) fn add_mode(
-    object: &mut Object,
-    into: &mut Vec<u8>,
-    key: &str,
-    mode: Option<Mode>,
-) -> Result<(), AllocError>
-    ensures { AddsMembers result into.old into.new object.old.is_first object.new.is_first (member_of key.now (mode_value mode)) }
-{
-    match mode {
-        Some(mode) => object.string(into, key, mode.name().as_bytes()),
-        None => Ok(()),
+/// A label by its ordinal.
+impl Part for Ordinal {
+    ghost text = { decimal };
+
+    fn write(&self, object: &mut Object, into: &mut Vec<u8>, key: &str) -> Result<(), AllocError> {
+        object.number(into, key, self.number())
     }
 }
 
-/// Writes a role by its word.
-pub(crate) fn add_role(
-    object: &mut Object,
-    into: &mut Vec<u8>,
-    key: &str,
-    role: Option<Role>,
-) -> Result<(), AllocError>
-    ensures { AddsMembers result into.old into.new object.old.is_first object.new.is_first (member_of key.now (role_value role)) }
-{
-    match role {
-        Some(role) => object.string(into, key, role.name().as_bytes()),
-        None => Ok(()),
+/// A version by its number.
+impl Part for u64 {
+    ghost text = { decimal };
+
+    fn write(&self, object: &mut Object, into: &mut Vec<u8>, key: &str) -> Result<(), AllocError> {
+        object.number(into, key, *self)
+    }
+}
+
+/// A bid with its sign.
+impl Part for Bid {
+    ghost text = { bid_text };
+
+    fn write(&self, object: &mut Object, into: &mut Vec<u8>, key: &str) -> Result<(), AllocError> {
+        object.bid(into, key, *self)
+    }
+}
+
+/// A content by its length, of which nothing is copied.
+impl Part for Blob {
+    ghost text = { content_text };
+
+    fn write(&self, object: &mut Object, into: &mut Vec<u8>, key: &str) -> Result<(), AllocError> {
+        object.number(into, key, self.as_slice().len() as u64)
+    }
+}
+
+/// A name.
+impl Part for Short {
+    ghost text = { quoted };
+
+    fn write(&self, object: &mut Object, into: &mut Vec<u8>, key: &str) -> Result<(), AllocError> {
+        object.string(into, key, self.as_slice())
+    }
+}
+
+/// A title or an abstract.
+impl Part for Text {
+    ghost text = { quoted };
+
+    fn write(&self, object: &mut Object, into: &mut Vec<u8>, key: &str) -> Result<(), AllocError> {
+        object.string(into, key, self.as_str().as_bytes())
+    }
+}
+
+/// A digest by its 64 lower-case hexadecimal digits.
+impl Part for Digest {
+    ghost text = { digest_text };
+
+    fn write(&self, object: &mut Object, into: &mut Vec<u8>, key: &str) -> Result<(), AllocError> {
+        object.string(into, key, &digits_of(*self))
+    }
+}
+
+/// A phase by its word.
+impl Part for Phase {
+    ghost text = { phase_text };
+
+    fn write(&self, object: &mut Object, into: &mut Vec<u8>, key: &str) -> Result<(), AllocError> {
+        object.string(into, key, self.name().as_bytes())
+    }
+}
+
+/// A mode by its word.
+impl Part for Mode {
+    ghost text = { mode_text };
+
+    fn write(&self, object: &mut Object, into: &mut Vec<u8>, key: &str) -> Result<(), AllocError> {
+        object.string(into, key, self.name().as_bytes())
+    }
+}
+
+/// A role by its word.
+impl Part for Role {
+    ghost text = { role_text };
+
+    fn write(&self, object: &mut Object, into: &mut Vec<u8>, key: &str) -> Result<(), AllocError> {
+        object.string(into, key, self.name().as_bytes())
+    }
+}
+
+/// A kind of assignment by its word.
+impl Part for Kind {
+    ghost text = { seat_text };
+
+    fn write(&self, object: &mut Object, into: &mut Vec<u8>, key: &str) -> Result<(), AllocError> {
+        object.string(into, key, self.name().as_bytes())
     }
 }

@@ -5,15 +5,16 @@ ghost use Rattle.cr_base.specs.Page.{is_clear_member, is_clear_chair};
 ghost use Rattle.cr_base.specs.Phases.{is_from};
 ghost use Rattle.cr_base.specs.Words.{is_anonymous, is_member};
 ghost use Rattle.cr_base.specs.declared.words.Phase.TheVariants as phases;
-ghost use Rattle.cr_base.specs.declared.entry.Entry.TheVariants.{Submitted, Coauthor, Revised, Uploaded, Withdrawn, Conflict};
+ghost use Rattle.cr_base.specs.declared.entry.Entry.TheVariants.{Submitted, Coauthor, Revised, Uploaded, Withdrawn, Conflict, Bid as TheBid};
 ghost use Rattle.cr_policy.specs.Triggers.{Around, authors, members, none_alike, standing_to, unless_anonymous, user_named};
 ghost use Rattle.cr_policy.specs.Sighting.{blank as blank_sighting};
 ghost use Rattle.cr_policy.specs.View.{sight as sight_at};
 ghost use Rattle.cr_sights.specs.Readers.{reader_in};
 
+use crate::seats::{assignment, unassignment};
 use cr_base::{
-    Blob, Digest, Entry, EntryKind, Mode, PaperNo, Phase, Role, Short, Stamped, Standing, Text,
-    UserNo,
+    Bid, Blob, Digest, Entry, EntryKind, Kind, Mode, Ordinal, PaperNo, Phase, Role, Short, Stamped,
+    Standing, Text, UserNo,
 };
 use cr_view::Live;
 use std::marker::Model;
@@ -30,7 +31,7 @@ pub struct Sighting<'a> {
     pub mine: bool,
     /// The paper of an entry that has one.
     pub paper: Option<PaperNo>,
-    /// The user who was registered, named, told as a co-author, or declared in conflict.
+    /// The user who was registered, named, told as a co-author, declared in conflict, assigned or unassigned.
     pub user: Option<UserNo>,
     /// The name that was registered.
     pub name: Option<&'a Short>,
@@ -42,7 +43,7 @@ pub struct Sighting<'a> {
     pub phase: Option<Phase>,
     /// The mode that was set.
     pub mode: Option<Mode>,
-    /// Who made a submission.
+    /// Who made a submission or a bid.
     pub by: Option<UserNo>,
     /// The title of a submission or a revision.
     pub title: Option<&'a Text>,
@@ -54,6 +55,12 @@ pub struct Sighting<'a> {
     pub content: Option<&'a Blob>,
     /// Whether a conflict was turned on, or off.
     pub on: Option<bool>,
+    /// How much a member wants to review the paper.
+    pub value: Option<Bid>,
+    /// What the user who was assigned is to the paper.
+    pub seat: Option<Kind>,
+    /// The ordinal of the label under which she reviews it, or did.
+    pub ordinal: Option<Ordinal>,
 }
 
 impl<'a> Model for Sighting<'a> {
@@ -78,11 +85,14 @@ impl<'a> Model for Sighting<'a> {
       version = s.version;
       content = option_map (λ t. t.now) s.content;
       on = s.on;
+      value = s.value;
+      seat = s.seat;
+      ordinal = s.ordinal;
     } };
 }
 
 /// No part of an entry.
-fn blank<'a>(kind: EntryKind, mine: bool) -> Sighting<'a>
+pub(crate) fn blank<'a>(kind: EntryKind, mine: bool) -> Sighting<'a>
     ensures { result ≡ record (blank_sighting kind) { mine = mine } }
 {
     Sighting {
@@ -101,6 +111,9 @@ fn blank<'a>(kind: EntryKind, mine: bool) -> Sighting<'a>
         version: None,
         content: None,
         on: None,
+        value: None,
+        seat: None,
+        ordinal: None,
     }
 }
 
@@ -109,6 +122,13 @@ fn is_bidding(by: &Standing) -> bool
     ensures { result ≡ is_from phases.Bidding by.now.phase }
 {
     by.phase.is_from(Phase::Bidding)
+}
+
+/// Whether she oversees a paper: from the bidding, as a chair who is in no conflict with it.
+fn oversees(by: &Standing) -> bool
+    ensures { result ≡ (is_clear_chair by.now && is_from phases.Bidding by.now.phase) }
+{
+    by.is_clear_chair() && is_bidding(by)
 }
 
 /// Whether she is shown who made a submission.
@@ -132,13 +152,6 @@ fn shows_abstract(by: &Standing, mine: bool, is_last: bool) -> bool
     ensures { result ≡ (by.now.author || ((is_last && is_clear_member by.now && is_from phases.Bidding by.now.phase) || mine)) }
 {
     by.author || is_last && by.is_clear_member() && is_bidding(by) || mine
-}
-
-/// Whether she is shown any conflict with a paper, whoever made it.
-fn shows_conflicts(by: &Standing) -> bool
-    ensures { result ≡ (is_clear_chair by.now && is_from phases.Bidding by.now.phase) }
-{
-    by.is_clear_chair() && is_bidding(by)
 }
 
 /// Whether she is told that a user is an author of a paper: its authors are, who made the entry, clear chairs from
@@ -191,7 +204,16 @@ fn tells_conflict(live: &Live, reader: UserNo, maker: UserNo, user: UserNo, pape
 {
     let by = live.standing(&Some(reader), &Some(paper));
     let wrote = live.standing(&Some(maker), &Some(paper)).author;
-    user == reader || wrote && by.author || shows_conflicts(&by) || maker == reader
+    user == reader || wrote && by.author || oversees(&by) || maker == reader
+}
+
+/// Whether she is told of a bid on a paper: who made it is, and whoever oversees the paper.
+fn tells_bid(live: &Live, reader: UserNo, maker: UserNo, paper: PaperNo) -> bool
+    ensures { let r = reader_in live.now.tables (Some reader) in
+        result ≡ ((is_clear_chair (standing_to r paper) && is_from phases.Bidding r.now) || user_named r maker) }
+{
+    let by = live.standing(&Some(reader), &Some(paper));
+    oversees(&by) || maker == reader
 }
 
 /// What a submission with these parts shows her: its paper, and who made it, its title and its abstract where she may
@@ -333,6 +355,30 @@ fn conflict<'a>(
     })
 }
 
+/// What a bid with these parts shows her: how much is wanted, and by whom where she oversees the paper; or nothing where
+/// she isn't told of it.
+fn bid<'a>(
+    live: &Live,
+    reader: UserNo,
+    stamped: &'a Stamped,
+    paper: PaperNo,
+    value: Bid,
+) -> Option<Sighting<'a>>
+    requires { stamped.now.entry ≡ TheBid paper value }
+    ensures { (at : Around) → listed result ≡ sight_at (reader_in live.now.tables (Some reader)) at stamped.now }
+{
+    if !tells_bid(live, reader, stamped.maker, paper) {
+        return None;
+    }
+    let by = live.standing(&Some(reader), &Some(paper));
+    Some(Sighting {
+        paper: Some(paper),
+        by: oversees(&by).then_some(stamped.maker),
+        value: Some(value),
+        ..blank(EntryKind::Bid, reader == stamped.maker)
+    })
+}
+
 /// What an entry shows a user by the tables of the whole history, and none where it shows her nothing. `is_last`
 /// tells whether no later entry is of the same matter: gives its paper texts, or content. A few look-ups; takes no
 /// memory.
@@ -384,5 +430,17 @@ pub fn sight<'a>(
         } => upload(live, reader, stamped, is_last, *paper, *version, content),
         Entry::Withdrawn { paper } => withdrawal(live, reader, stamped, *paper),
         Entry::Conflict { paper, user, on } => conflict(live, reader, stamped, *paper, *user, *on),
+        Entry::Bid { paper, value } => bid(live, reader, stamped, *paper, *value),
+        Entry::Assigned {
+            paper,
+            user,
+            kind,
+            ordinal,
+        } => assignment(live, reader, stamped, *paper, *user, *kind, *ordinal),
+        Entry::Unassigned {
+            paper,
+            user,
+            ordinal,
+        } => unassignment(live, reader, stamped, *paper, *user, *ordinal),
     }
 }

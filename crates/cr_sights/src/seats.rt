@@ -1,0 +1,138 @@
+//! What assignments and their ends show a reader.
+ghost use Rattle.std.specs.Prelude.{◌≡◌, ◌||◌, ◌&&◌, IfSome, Some, is_some, not};
+ghost use Rattle.cr_base.specs.declared.entry.Entry.TheVariants.{Assigned, Unassigned};
+ghost use Rattle.cr_base.specs.declared.words.Phase.TheVariants as phases;
+ghost use Rattle.cr_base.specs.Lists.{listed};
+ghost use Rattle.cr_base.specs.Page.{is_clear_chair, is_clear_member};
+ghost use Rattle.cr_base.specs.Phases.{is_from};
+ghost use Rattle.cr_base.specs.Words.{is_anonymous, is_overt};
+ghost use Rattle.cr_policy.specs.Triggers.{Around, applies_any};
+ghost use Rattle.cr_policy.specs.View.{sight as sight_at};
+ghost use Rattle.cr_sights.specs.Readers.{reader_in};
+ghost use Rattle.cr_sights.specs.SeatRows.{AreShown, rows_with};
+
+use crate::sighting::{Sighting, blank};
+use cr_base::{EntryKind, Kind, Ordinal, PaperNo, Phase, Stamped, Standing, UserNo};
+use cr_view::Live;
+
+/// Which parts beside the paper she is shown who is told of an assignment, or of its end.
+#[derive(Clone, Copy)]
+struct SeatParts {
+    /// Who has the seat.
+    user: bool,
+    /// What she is to the paper.
+    kind: bool,
+    /// The ordinal of her label.
+    ordinal: bool,
+}
+
+/// Whether she is a clear member in the discussion, or later.
+fn discusses(by: &Standing) -> bool
+    ensures { result ≡ (is_clear_member by.now && is_from phases.Discussion by.now.phase) }
+{
+    by.is_clear_member() && by.phase.is_from(Phase::Discussion)
+}
+
+/// Whether she is an author who is shown her reviewers.
+fn sees_reviewers(by: &Standing) -> bool
+    ensures { result ≡ (by.now.author && (is_overt by.now.mode && is_from phases.Notification by.now.phase)) }
+{
+    by.author && by.mode.is_overt() && by.phase.is_from(Phase::Notification)
+}
+
+/// Whether she is shown who has a seat: who is named or made the entry, clear chairs, clear members from the discussion
+/// unless the mode is anonymous, and authors who are shown their reviewers.
+fn shows_user(by: &Standing, named: bool, made: bool) -> bool
+    ensures { result ≡ (named || (is_clear_chair by.now
+        || ((is_clear_member by.now && (not (is_anonymous by.now.mode) && is_from phases.Discussion by.now.phase))
+        || ((by.now.author && (is_overt by.now.mode && is_from phases.Notification by.now.phase)) || made)))) }
+{
+    let handles = by.is_clear_chair() || discusses(by) && !by.mode.is_anonymous();
+    named || handles || sees_reviewers(by) || made
+}
+
+/// Whether she is shown what a seat is: who is named or made the entry, clear chairs, and clear members from the discussion.
+fn shows_kind(by: &Standing, named: bool, made: bool) -> bool
+    ensures { result ≡ (named || (is_clear_chair by.now
+        || ((is_clear_member by.now && is_from phases.Discussion by.now.phase) || made))) }
+{
+    named || by.is_clear_chair() || discusses(by) || made
+}
+
+/// Whether she is told of a seat, and shown its ordinal: who is shown what it is, and authors who are shown their reviewers.
+fn shows_ordinal(by: &Standing, named: bool, made: bool) -> bool
+    ensures { result ≡ (named || (is_clear_chair by.now
+        || ((is_clear_member by.now && is_from phases.Discussion by.now.phase)
+        || ((by.now.author && (is_overt by.now.mode && is_from phases.Notification by.now.phase)) || made)))) }
+{
+    shows_kind(by, named, made) || sees_reviewers(by)
+}
+
+/// Which parts she is shown, and None where she isn't told of it.
+fn seat_parts(
+    live: &Live,
+    reader: UserNo,
+    maker: UserNo,
+    paper: PaperNo,
+    user: UserNo,
+) -> Option<SeatParts>
+    ensures told { applies_any (rows_with (reader_in live.now.tables (Some reader)) maker paper user) ≡ is_some result }
+    ensures parts { IfSome result (AreShown (rows_with (reader_in live.now.tables (Some reader)) maker paper user)) }
+{
+    let by = live.standing(&Some(reader), &Some(paper));
+    let named = reader == user;
+    let made = reader == maker;
+    let ordinal = shows_ordinal(&by, named, made);
+    if !ordinal {
+        return None;
+    }
+    Some(SeatParts {
+        user: shows_user(&by, named, made),
+        kind: shows_kind(&by, named, made),
+        ordinal,
+    })
+}
+
+/// What an assignment with these parts shows her: what she may know of it, or nothing where she isn't told of it.
+pub(crate) fn assignment<'a>(
+    live: &Live,
+    reader: UserNo,
+    stamped: &'a Stamped,
+    paper: PaperNo,
+    user: UserNo,
+    kind: Kind,
+    ordinal: Ordinal,
+) -> Option<Sighting<'a>>
+    requires { stamped.now.entry ≡ Assigned paper user kind ordinal }
+    ensures { (at : Around) → listed result ≡ sight_at (reader_in live.now.tables (Some reader)) at stamped.now }
+{
+    let parts = seat_parts(live, reader, stamped.maker, paper, user)?;
+    Some(Sighting {
+        paper: Some(paper),
+        user: parts.user.then_some(user),
+        seat: parts.kind.then_some(kind),
+        ordinal: parts.ordinal.then_some(ordinal),
+        ..blank(EntryKind::Assigned, reader == stamped.maker)
+    })
+}
+
+/// What the end of an assignment with these parts shows her, the same way.
+pub(crate) fn unassignment<'a>(
+    live: &Live,
+    reader: UserNo,
+    stamped: &'a Stamped,
+    paper: PaperNo,
+    user: UserNo,
+    ordinal: Ordinal,
+) -> Option<Sighting<'a>>
+    requires { stamped.now.entry ≡ Unassigned paper user ordinal }
+    ensures { (at : Around) → listed result ≡ sight_at (reader_in live.now.tables (Some reader)) at stamped.now }
+{
+    let parts = seat_parts(live, reader, stamped.maker, paper, user)?;
+    Some(Sighting {
+        paper: Some(paper),
+        user: parts.user.then_some(user),
+        ordinal: parts.ordinal.then_some(ordinal),
+        ..blank(EntryKind::Unassigned, reader == stamped.maker)
+    })
+}
