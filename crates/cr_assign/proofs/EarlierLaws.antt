@@ -8,7 +8,7 @@ use Rattle.cr_base.specs.declared.entry.Stamped.{Stamped}
 use Rattle.cr_base.specs.History.{History, SeatTold, assigned_told, seat_told}
 use Rattle.cr_base.specs.Lists.{given, is_nothing, last_or}
 use Rattle.cr_base.specs.Seats.{SeatsState, SeatsInOrder, SeatsFitInTurn, seats_after, seats_from, labels_in, seat_in}
-use Rattle.cr_base.proofs.SeatLaws.{seats-in_order-after, seat_in-after, labels_in-after, labels_in-few}
+use Rattle.cr_base.proofs.SeatLaws.{seats-in_order-after, seat_in-after, labels_in-after}
 
 -- a user reviews a paper as the last of the entries that speaks of it says, or else as she did
 pub seat_in-from : (u : Option ℕ) (p : ℕ) (seats : SeatsState) (entries : History) → SeatsInOrder seats → SeatsFitInTurn seats entries
@@ -16,7 +16,8 @@ pub seat_in-from : (u : Option ℕ) (p : ℕ) (seats : SeatsState) (entries : Hi
 seat_in-from u p seats [] order fits = refl
 seat_in-from u p seats (e ∷ entries) order fits =
     seat_in-from u p (seats_after seats e.entry) entries (seats-in_order-after seats e.entry fits.0 order) fits.1
-    ∙ ap (λ (held : Option ℕ). fold (λ (o : Option ℕ) (s : Stamped). last_or o (seat_told u p s.entry)) held entries) (seat_in-after seats e.entry order fits.0 u p)
+    ∙ ap (λ (held : Option ℕ). fold (λ (o : Option ℕ) (s : Stamped). last_or o (seat_told u p s.entry)) held entries)
+    (seat_in-after seats e.entry order fits.0 u p)
 
 -- it gives one of the paper's labels
 abbrev pub gives : ℕ → Stamped → Bool
@@ -39,8 +40,3 @@ labels_in-from p seats (e ∷ entries) =
     let one = given-one p e.entry in
     let count = sum_by-cons (λ (s : Stamped). cond (gives p s) 1 0) e entries in
     omega (arith, rest, first, one, count)
-
--- which are no more than there are letters
-pub labels_in-few-from : (p : ℕ) (seats : SeatsState) (entries : History) → SeatsFitInTurn seats entries → labels_in seats p ≤ 26 → labels_in (seats_from seats entries) p ≤ 26
-labels_in-few-from p seats [] fits few = few
-labels_in-few-from p seats (e ∷ entries) fits few = labels_in-few-from p (seats_after seats e.entry) entries fits.1 (labels_in-few seats e.entry p fits.0 few)

@@ -18,7 +18,7 @@ use Rattle.cr_base.proofs.PairLaws.{value_of-with_tie, value_of-without_pair}
 use Rattle.cr_base.proofs.SeatLaws.{seats-in_order-after, seat_in-after, seat_in-drawn, labels_in-few}
 use Rattle.cr_pairs.specs.Places.{RisesBy}
 use Rattle.cr_assign.specs.Index.{SeatsIndexed}
-use Rattle.cr_assign.specs.Places.{IsStartOf, IsEndOf}
+use Rattle.cr_assign.specs.Places.{IsFrom}
 use Rattle.cr_assign.proofs.PlaceLaws.{with_seat-at, rises-with_seat, left-place, rises-without_seat}
 
 -- a paper, a user and the ordinal under which she reviews it
@@ -27,7 +27,8 @@ reviewing_tie paper user ordinal = record { pair = pair_of paper user; value = o
 
 module _ (seats : SeatsState) (users : Order) (reviewing : List (Tie ℕ)) (index : SeatsIndexed seats users reviewing) where
   -- after an entry that fits, where the index has what it tells
-  indexed-after : (e : Entry) (seats' : SeatsState) (users' : Order) (reviewing' : List (Tie ℕ)) → SeatsFit seats e → seats' ≡ seats_after seats e → RisesBy ByPaper seats' → users' ≡ users
+  indexed-after : (e : Entry) (seats' : SeatsState) (users' : Order) (reviewing' : List (Tie ℕ)) → SeatsFit seats e
+      → seats' ≡ seats_after seats e → RisesBy ByPaper seats' → users' ≡ users
       → ((q : Pair) → value_of q reviewing' ≡ last_or (value_of q reviewing) (seat_told (Some q.user) q.paper e)) → SeatsIndexed seats' users' reviewing'
   indexed-after e seats' users' reviewing' fits is rises users_same told = record {
     rises = rises;
@@ -45,8 +46,9 @@ module _ (seats : SeatsState) (users : Order) (reviewing : List (Tie ℕ)) (inde
   told-last true before now = refl
   told-last false before now = refl
 
-  pub indexed-assigned : (paper user : ℕ) (kind : Kind) (ordinal : ℕ) (seats' : SeatsState) (users' : Order) (reviewing' : List (Tie ℕ)) → SeatsFit seats (Assigned paper user kind ordinal)
-      → seats' ≡ seats_after seats (Assigned paper user kind ordinal) → RisesBy ByPaper seats' → users' ≡ users → reviewing' ≡ with_tie users (reviewing_tie paper user ordinal) reviewing → SeatsIndexed seats' users' reviewing'
+  pub indexed-assigned : (paper user : ℕ) (kind : Kind) (ordinal : ℕ) (seats' : SeatsState) (users' : Order) (reviewing' : List (Tie ℕ))
+      → SeatsFit seats (Assigned paper user kind ordinal) → seats' ≡ seats_after seats (Assigned paper user kind ordinal) → RisesBy ByPaper seats'
+      → users' ≡ users → reviewing' ≡ with_tie users (reviewing_tie paper user ordinal) reviewing → SeatsIndexed seats' users' reviewing'
   indexed-assigned paper user kind ordinal seats' users' reviewing' fits is rises users_same put =
       indexed-after (Assigned paper user kind ordinal) seats' users' reviewing' fits is rises users_same
       (λ q.
@@ -55,8 +57,9 @@ module _ (seats : SeatsState) (users : Order) (reviewing : List (Tie ℕ)) (inde
       ∙ ap (λ b. cond (b && eqb q.user user) (Some ordinal) (value_of q reviewing)) (turned q.paper paper)
       ∙ told-last (eqb paper q.paper && eqb q.user user) (value_of q reviewing) (Some ordinal))
 
-  pub indexed-unassigned : (paper user ordinal : ℕ) (seats' : SeatsState) (users' : Order) (reviewing' : List (Tie ℕ)) → SeatsFit seats (Unassigned paper user ordinal)
-      → seats' ≡ seats_after seats (Unassigned paper user ordinal) → RisesBy ByPaper seats' → users' ≡ users → reviewing' ≡ without_pair (pair_of paper user) reviewing → SeatsIndexed seats' users' reviewing'
+  pub indexed-unassigned : (paper user ordinal : ℕ) (seats' : SeatsState) (users' : Order) (reviewing' : List (Tie ℕ))
+      → SeatsFit seats (Unassigned paper user ordinal) → seats' ≡ seats_after seats (Unassigned paper user ordinal) → RisesBy ByPaper seats'
+      → users' ≡ users → reviewing' ≡ without_pair (pair_of paper user) reviewing → SeatsIndexed seats' users' reviewing'
   indexed-unassigned paper user ordinal seats' users' reviewing' fits is rises users_same taken =
       indexed-after (Unassigned paper user ordinal) seats' users' reviewing' fits is rises users_same
       (λ q.
@@ -67,21 +70,26 @@ module _ (seats : SeatsState) (users : Order) (reviewing : List (Tie ℕ)) (inde
 
   -- ---- where the code puts a seat in, and marks one
 
-  pub put-in : (paper user : ℕ) (kind : Kind) (ordinal : ℕ) (read : SeatsState) (place : ℕ) (s : Tie Seat) (seats' : SeatsState) → read ≡ seats → place ≤ length read → IsEndOf paper read place
+  pub put-in : (paper user : ℕ) (kind : Kind) (ordinal : ℕ) (read : SeatsState) (number place : ℕ) (s : Tie Seat) (seats' : SeatsState)
+      → read ≡ seats → number ≡ paper + 1 → place ≤ length read → IsFrom number read place
       → s ≡ seat_tie paper user kind ordinal → seats' ≡ insert seats place s → (seats' ≡ with_seat (seat_tie paper user kind ordinal) seats) × RisesBy ByPaper seats'
-  put-in paper user kind ordinal read place s seats' same within end made is =
+  put-in paper user kind ordinal read number place s seats' same above within next made is =
       let t : Tie Seat = seat_tie paper user kind ordinal in
       let is' : seats' ≡ insert seats place t = is ∙ ap (λ (x : Tie Seat). insert seats place x) made in
       let within' : place ≤ length seats = subst (λ (ts : SeatsState). place ≤ length ts) same within in
-      let end' : IsEndOf paper seats place = subst (λ (ts : SeatsState). IsEndOf paper ts place) same end in
-      (is' ∙ with_seat-at t seats place within' end', subst (λ (ts : SeatsState). RisesBy ByPaper ts) (sym is') (rises-with_seat t seats place within' end' index.rises))
+      let next' : IsFrom (paper + 1) seats place = subst (λ (n : ℕ). IsFrom n seats place) above (subst (λ (ts : SeatsState). IsFrom number ts place) same next) in (
+        is' ∙ with_seat-at t seats place within' next',
+        subst (λ (ts : SeatsState). RisesBy ByPaper ts) (sym is') (rises-with_seat t seats place within' next' index.rises),
+      )
 
-  pub marked-at : (paper user ordinal : ℕ) (read : SeatsState) (start number place : ℕ) → SeatsFit seats (Unassigned paper user ordinal) → read ≡ seats → start ≤ length read → IsStartOf paper read start
-      → number ≡ ordinal → place ≡ start + number - 1 → (place < length seats) × ((d : Tie Seat) → set seats place (vacated (get_or seats place d)) ≡ without_seat paper ordinal seats)
-  marked-at paper user ordinal read start number place fits same within begins is at =
+  pub marked-at : (paper user ordinal : ℕ) (read : SeatsState) (from start number place : ℕ) → SeatsFit seats (Unassigned paper user ordinal)
+      → read ≡ seats → from ≡ paper → start ≤ length read → IsFrom from read start → number ≡ ordinal → place ≡ start + number - 1
+      → (place < length seats) × ((d : Tie Seat) → set seats place (vacated (get_or seats place d)) ≡ without_seat paper ordinal seats)
+  marked-at paper user ordinal read from start number place fits same here within begins is at =
       let drawn = seat_in-drawn seats index.in_order (Some user) paper ordinal fits in
       let low = drawn.0 in
-      left-place paper ordinal start place seats index.rises (subst (λ (ts : SeatsState). start ≤ length ts) same within) (subst (λ (ts : SeatsState). IsStartOf paper ts start) same begins)
+      left-place paper ordinal start place seats index.rises
+      (subst (λ (ts : SeatsState). start ≤ length ts) same within) (subst (λ (n : ℕ). IsFrom n seats start) here (subst (λ (ts : SeatsState). IsFrom from ts start) same begins))
       (index.in_order.numbered paper) low drawn.1 (omega (arith, low, is, at))
 
   pub rises-marked : (paper ordinal : ℕ) (seats' : SeatsState) → seats' ≡ without_seat paper ordinal seats → RisesBy ByPaper seats'

@@ -12,7 +12,7 @@ use Rattle.cr_base.specs.Pairs.{ties_of}
 use Rattle.cr_base.specs.Seats.{SeatsState, with_seat, vacated, is_seat, without_seat}
 use Rattle.cr_base.proofs.SeatLaws.{left_at}
 use Rattle.cr_pairs.specs.Places.{RisesBy}
-use Rattle.cr_assign.specs.Places.{IsStartOf, IsEndOf}
+use Rattle.cr_assign.specs.Places.{IsFrom}
 
 -- ---- one more
 
@@ -36,23 +36,34 @@ module _ {A : Type 0} (test : A → Bool) where
         ap (λ b. cond (not b) (x ∷ filter (λ y. not (test y)) xs) (filter (λ y. not (test y)) xs)) first ∙ rest.1,
       )
 
+-- a paper has no higher number where it is below the next, and is none below where it isn't
+up-to : (n m : ℕ) → nat_lt n (m + 1) ≡ true → nat_le n m ≡ true
+up-to n m h = grind (arith, nat_tests, h)
+
+beyond : (n m : ℕ) → nat_lt n (m + 1) ≡ false → nat_le n m ≡ false
+beyond n m h = grind (arith, nat_tests, h)
+
 -- a seat put in behind those of its paper
-pub with_seat-at : (s : Tie Seat) (ts : SeatsState) (place : ℕ) → place ≤ length ts → IsEndOf s.pair.paper ts place → insert ts place s ≡ with_seat s ts
-with_seat-at s ts place within end =
-    let parts = halves (λ (t : Tie Seat). nat_le t.pair.paper s.pair.paper) ts place within (λ k d h. end.0 k d (omega arith) h) end.1 in
-    sym (ap (λ (us : SeatsState). us ++ s ∷ filter (λ (t : Tie Seat). not (nat_le t.pair.paper s.pair.paper)) ts) parts.0 ∙ ap (λ (us : SeatsState). take place ts ++ s ∷ us) parts.1)
+pub with_seat-at : (s : Tie Seat) (ts : SeatsState) (place : ℕ) → place ≤ length ts → IsFrom (s.pair.paper + 1) ts place → insert ts place s ≡ with_seat s ts
+with_seat-at s ts place within next =
+    let behind : Tie Seat → Bool = λ t. not (nat_le t.pair.paper s.pair.paper) in
+    let parts = halves (λ (t : Tie Seat). nat_le t.pair.paper s.pair.paper) ts place within
+    (λ k d h. up-to (get_or ts k d).pair.paper s.pair.paper (next.0 k d (omega arith) h))
+    (λ k d h lt. beyond (get_or ts k d).pair.paper s.pair.paper (next.1 k d h lt)) in
+    sym (ap (λ (us : SeatsState). us ++ s ∷ filter behind ts) parts.0 ∙ ap (λ (us : SeatsState). take place ts ++ s ∷ us) parts.1)
 
 -- so the papers still rise
-pub rises-with_seat : (s : Tie Seat) (ts : SeatsState) (place : ℕ) → place ≤ length ts → IsEndOf s.pair.paper ts place → RisesBy ByPaper ts → RisesBy ByPaper (insert ts place s)
-rises-with_seat s ts place within end rises =
+pub rises-with_seat : (s : Tie Seat) (ts : SeatsState) (place : ℕ) → place ≤ length ts → IsFrom (s.pair.paper + 1) ts place
+    → RisesBy ByPaper ts → RisesBy ByPaper (insert ts place s)
+rises-with_seat s ts place within next rises =
     IsNonDecreasingBy-insert (λ (t : Tie Seat). t.pair.paper) ts place s rises within
-    (λ k d h. low (get_or ts k d).pair.paper s.pair.paper (end.0 k d (omega arith) h))
-    (λ k d h lt. high (get_or ts k d).pair.paper s.pair.paper (end.1 k d h lt))
+    (λ k d h. low (get_or ts k d).pair.paper s.pair.paper (next.0 k d (omega arith) h))
+    (λ k d h lt. high (get_or ts k d).pair.paper s.pair.paper (next.1 k d h lt))
   where
-    low : (n m : ℕ) → nat_le n m ≡ true → n ≤ m
+    low : (n m : ℕ) → nat_lt n (m + 1) ≡ true → n ≤ m
     low n m h = grind (arith, nat_tests, h)
 
-    high : (n m : ℕ) → nat_le n m ≡ false → m ≤ n
+    high : (n m : ℕ) → nat_lt n (m + 1) ≡ false → m ≤ n
     high n m h = grind (arith, nat_tests, h)
 
 -- ---- one left
@@ -110,12 +121,16 @@ module _ (paper ordinal : ℕ) where
       unlike : (o m n : ℕ) → m ≡ n → o < n → eqb o m ≡ false
       unlike o m n e h = grind (arith, nat_tests, e, h)
 
-      by : (b : Bool) → eqb paper t.pair.paper ≡ b → ordinals (cond b (t ∷ ties_of ByPaper paper ts) (ties_of ByPaper paper ts)) ≡ numbers_from n (cond b (t ∷ ties_of ByPaper paper ts) (ties_of ByPaper paper ts))
+      of : SeatsState
+      of = ties_of ByPaper paper ts
+
+      by : (b : Bool) → eqb paper t.pair.paper ≡ b → ordinals (cond b (t ∷ of) of) ≡ numbers_from n (cond b (t ∷ of) of)
           → (AreFrom (n + 1) ts → map left ts ≡ ts) → (AreFrom n ts → map left ts ≡ ts) → left t ∷ map left ts ≡ t ∷ ts
       by true is from next same =
           let first : t.value.ordinal ≡ n = cc in
           let rest : AreFrom (n + 1) ts = cc in
-          ap (λ (us : SeatsState). left t ∷ us) (next rest) ∙ ap (λ (s : Tie Seat). s ∷ ts) (other-ordinal t (unlike ordinal t.value.ordinal n first h))
+          ap (λ (us : SeatsState). left t ∷ us) (next rest)
+          ∙ ap (λ (s : Tie Seat). s ∷ ts) (other-ordinal t (unlike ordinal t.value.ordinal n first h))
       by false is from next same = ap (λ (us : SeatsState). left t ∷ us) (same from) ∙ ap (λ (s : Tie Seat). s ∷ ts) (other-paper t is)
 
   -- where all have papers with higher numbers, none is of the paper
@@ -128,6 +143,9 @@ module _ (paper ordinal : ℕ) where
       unlike : (n m : ℕ) → n < m → eqb n m ≡ false
       unlike n m h = grind (arith, nat_tests, h)
 
+  tail-rises : (t : Tie Seat) (ts : SeatsState) → RisesBy ByPaper (t ∷ ts) → RisesBy ByPaper ts
+  tail-rises t ts rises i j d le lt = rises (suc i) (suc j) d (omega arith) (omega arith)
+
   -- the place holds the seat that is left, and no other does
   abbrev IsLeftAt : SeatsState → ℕ → Type 0
   IsLeftAt ts place = (place < length ts) × ((d : Tie Seat) → set ts place (vacated (get_or ts place d)) ≡ map left ts)
@@ -136,16 +154,21 @@ module _ (paper ordinal : ℕ) where
   later t ts place zero stays next at = absurd (omega arith)
   later t ts place (suc k) stays next at =
       let same : k ≡ place = omega arith in
-      let inside = at.0 in
-      (omega (arith, inside, same), λ d. ap (λ (i : ℕ). t ∷ set ts i (vacated (get_or ts i d))) same ∙ ap (λ (us : SeatsState). t ∷ us) (at.1 d) ∙ ap (λ (s : Tie Seat). s ∷ map left ts) (sym stays))
+      let inside = at.0 in (
+        omega (arith, inside, same),
+        λ d.
+            ap (λ (i : ℕ). t ∷ set ts i (vacated (get_or ts i d))) same
+            ∙ ap (λ (us : SeatsState). t ∷ us) (at.1 d)
+            ∙ ap (λ (s : Tie Seat). s ∷ map left ts) (sym stays),
+      )
 
   -- among seats of the paper and later ones it stands as far behind the first as its ordinal says
-  among : (n place : ℕ) (ts : SeatsState) → RisesBy ByPaper ts → ((k : ℕ) (d : Tie Seat) → k < length ts → paper ≤ (get_or ts k d).pair.paper) → AreFrom n ts → ordinal ≡ n + place
-      → ordinal < n + length (ties_of ByPaper paper ts) → IsLeftAt ts place
+  among : (n place : ℕ) (ts : SeatsState) → RisesBy ByPaper ts → ((k : ℕ) (d : Tie Seat) → k < length ts → paper ≤ (get_or ts k d).pair.paper)
+      → AreFrom n ts → ordinal ≡ n + place → ordinal < n + length (ties_of ByPaper paper ts) → IsLeftAt ts place
   among n place [] rises from numbered is high = absurd (omega (arith, is, high))
   among n place (t ∷ ts) rises from numbered is high =
       by (eqb paper t.pair.paper) refl numbered high
-      (λ k rest next few. among (n + 1) k ts (λ i j d le lt. rises (suc i) (suc j) d (omega arith) (omega arith)) (λ k d h. from (suc k) d (omega arith)) rest next few)
+      (λ k rest next few. among (n + 1) k ts (tail-rises t ts rises) (λ i d h. from (suc i) d (omega arith)) rest next few)
     where
       of : SeatsState
       of = ties_of ByPaper paper ts
@@ -162,29 +185,34 @@ module _ (paper ordinal : ℕ) where
       unlike : (o m n k : ℕ) → m ≡ n → o ≡ n + suc k → eqb o m ≡ false
       unlike o m n k e h = grind (arith, nat_tests, e, h)
 
-      here : (k : ℕ) → place ≡ k → t.value.ordinal ≡ n → eqb paper t.pair.paper ≡ true → AreFrom (n + 1) ts → ordinal < n + suc (length of) → Behind → IsLeftAt (t ∷ ts) place
+      here : (k : ℕ) → place ≡ k → t.value.ordinal ≡ n → eqb paper t.pair.paper ≡ true → AreFrom (n + 1) ts → ordinal < n + suc (length of)
+          → Behind → IsLeftAt (t ∷ ts) place
       here zero none first at rest high behind =
           let whole : (d : Tie Seat) → set (t ∷ ts) 0 (vacated (get_or (t ∷ ts) 0 d)) ≡ map left (t ∷ ts) =
           λ d. ap (λ (s : Tie Seat). s ∷ ts) (sym (first-left first at none)) ∙ ap (λ (us : SeatsState). left t ∷ us) (sym (all-stay (n + 1) ts (omega (arith, is, none)) rest)) in
           (omega (arith, none), λ d. ap (λ (i : ℕ). set (t ∷ ts) i (vacated (get_or (t ∷ ts) i d))) none ∙ whole d)
       here (suc k) next first at rest high behind =
-          later t ts k place (other-ordinal t (unlike ordinal t.value.ordinal n k first (omega (arith, is, next)))) next (behind k rest (omega (arith, is, next)) (omega (arith, high)))
+          let stays = other-ordinal t (unlike ordinal t.value.ordinal n k first (omega (arith, is, next))) in
+          later t ts k place stays next (behind k rest (omega (arith, is, next)) (omega (arith, high)))
 
       above : (n m k : ℕ) → eqb n m ≡ false → n ≤ m → m ≤ k → n < k
       above n m k at low le = grind (arith, nat_tests, at, low, le)
 
-      by : (b : Bool) → eqb paper t.pair.paper ≡ b → ordinals (cond b (t ∷ of) of) ≡ numbers_from n (cond b (t ∷ of) of) → ordinal < n + length (cond b (t ∷ of) of) → Behind → IsLeftAt (t ∷ ts) place
+      by : (b : Bool) → eqb paper t.pair.paper ≡ b → ordinals (cond b (t ∷ of) of) ≡ numbers_from n (cond b (t ∷ of) of)
+          → ordinal < n + length (cond b (t ∷ of) of) → Behind → IsLeftAt (t ∷ ts) place
       by true at numbered high behind =
           let first : t.value.ordinal ≡ n = cc in
           let rest : AreFrom (n + 1) ts = cc in
           here place refl first at rest high behind
       by false at numbered high behind =
           let low = from 0 t (omega arith) in
-          let none : length of ≡ 0 = ap length (none-of ts (λ k d h. above paper t.pair.paper (get_or ts k d).pair.paper at low (rises 0 (suc k) d (omega arith) (omega arith)))) in
+          let higher : (k : ℕ) (d : Tie Seat) → k < length ts → paper < (get_or ts k d).pair.paper =
+          λ k d h. above paper t.pair.paper (get_or ts k d).pair.paper at low (rises 0 (suc k) d (omega arith) (omega arith)) in
+          let none = ap length (none-of ts higher) in
           absurd (omega (arith, is, high, none))
 
   -- and so among all
-  from-start : (start place k : ℕ) (ts : SeatsState) → RisesBy ByPaper ts → start ≤ length ts → IsStartOf paper ts start → AreFrom 1 ts → ordinal ≡ 1 + k
+  from-start : (start place k : ℕ) (ts : SeatsState) → RisesBy ByPaper ts → start ≤ length ts → IsFrom paper ts start → AreFrom 1 ts → ordinal ≡ 1 + k
       → ordinal ≤ length (ties_of ByPaper paper ts) → place ≡ start + k → IsLeftAt ts place
   from-start zero place k ts rises within begins numbered is high at =
       let same : place ≡ k = omega (arith, at) in
@@ -195,10 +223,11 @@ module _ (paper ordinal : ℕ) where
   from-start (suc start) place k [] rises within begins numbered is high at = absurd (omega (arith, within))
   from-start (suc start) place k (t ∷ ts) rises within begins numbered is high at =
       let before : eqb paper t.pair.paper ≡ false = unlike t.pair.paper (begins.0 0 t (omega arith) (omega arith)) in
-      let same : ties_of ByPaper paper (t ∷ ts) ≡ ties_of ByPaper paper ts = ap (λ b. cond b (t ∷ ties_of ByPaper paper ts) (ties_of ByPaper paper ts)) before in
+      let of : SeatsState = ties_of ByPaper paper ts in
+      let same : ties_of ByPaper paper (t ∷ ts) ≡ of = ap (λ b. cond b (t ∷ of) of) before in
       let n = ap length same in
       later t ts (start + k) place (other-paper t before) (omega (arith, at))
-      (from-start start (start + k) k ts (λ i j d le lt. rises (suc i) (suc j) d (omega arith) (omega arith)) (omega (arith, within))
+      (from-start start (start + k) k ts (tail-rises t ts rises) (omega (arith, within))
       (λ i d low lt. begins.0 (suc i) d (omega arith) (omega arith), λ i d low lt. begins.1 (suc i) d (omega arith) (omega arith))
       (ap ordinals (sym same) ∙ numbered ∙ ap (numbers_from 1) same) is (omega (arith, n, high)) (omega arith))
     where
@@ -206,7 +235,8 @@ module _ (paper ordinal : ℕ) where
       unlike m h = grind (arith, nat_tests, h)
 
   -- the seat of an ordinal that was drawn for the paper stands behind its first as far as that says
-  pub left-place : (start place : ℕ) (ts : SeatsState) → RisesBy ByPaper ts → start ≤ length ts → IsStartOf paper ts start → AreFrom 1 ts → 1 ≤ ordinal → ordinal ≤ length (ties_of ByPaper paper ts)
+  pub left-place : (start place : ℕ) (ts : SeatsState) → RisesBy ByPaper ts → start ≤ length ts → IsFrom paper ts start → AreFrom 1 ts
+      → 1 ≤ ordinal → ordinal ≤ length (ties_of ByPaper paper ts)
       → place + 1 ≡ start + ordinal → (place < length ts) × ((d : Tie Seat) → set ts place (vacated (get_or ts place d)) ≡ without_seat paper ordinal ts)
   left-place start place ts rises within begins numbered low high at =
       from-start start place (ordinal - 1) ts rises within begins numbered (omega (arith, low)) high (omega (arith, at, low))

@@ -15,7 +15,9 @@ pub(crate) fn assign(
     target: &Target,
     labels: u64,
 ) -> Result<Ordinal, Rule>
-    ensures { result ≡ judged (assign_checks by.now (record { there = true; withdrawn = withdrawn }) (Some target.now) labels) (labels + 1) }
+    ensures { result ≡ judged
+        (assign_checks by.now (record { there = true; withdrawn = withdrawn }) (Some target.now) labels)
+        (labels + 1) }
 {
     match by.may_chair(withdrawn) {
         Ok(()) => {}
@@ -42,7 +44,9 @@ pub(crate) fn unassign(
     withdrawn: bool,
     held: Option<Ordinal>,
 ) -> Result<Ordinal, Rule>
-    ensures { result ≡ judged (unassign_checks by.now (record { there = true; withdrawn = withdrawn }) (Some (target_with Account false held))) (unwrap_or held 0) }
+    ensures { result ≡ judged
+        (unassign_checks by.now (record { there = true; withdrawn = withdrawn }) (Some (target_with Account false held)))
+        (unwrap_or held 0) }
 {
     match by.may_chair(withdrawn) {
         Ok(()) => {}

@@ -11,7 +11,7 @@ ghost use Rattle.cr_assign.specs.Targets.{target_of, held_at, labels_at};
 
 use crate::earlier::{labels_given, seat_behind};
 use crate::judging;
-use crate::places::{end_of, start_of};
+use crate::places::place_from;
 use cr_base::{
     Entry, Kind, Order, Ordinal, Pair, PaperNo, Role, Rule, Seat, Stamped, Standing, Target, Tie,
     UserNo,
@@ -123,10 +123,9 @@ impl Seats {
         seat_behind(held, earlier, user, paper)
     }
 
-    /// How many labels the paper's reviewers were given, behind earlier entries of the same command: 0 to
-    /// 26. Two binary searches, and a walk over the entries.
+    /// How many labels the paper's reviewers were given, behind earlier entries of the same command. Two
+    /// binary searches, and a walk over the entries.
     fn labels_behind(&self, paper: PaperNo, earlier: &[Stamped]) -> u64
-        requires { SeatsFitInTurn self.now.seats earlier.now }
         ensures { result ≡ labels_in (seats_from self.now.seats earlier.now) paper }
     {
         self.labels_drawn(paper) + labels_given(earlier, paper) as u64
@@ -152,7 +151,11 @@ impl Seats {
         earlier: &[Stamped],
     ) -> Result<Ordinal, Rule>
         requires { SeatsFitInTurn self.now.seats earlier.now }
-        ensures { let seats = seats_from self.now.seats earlier.now in result ≡ judged (assign_checks by.now (record { there = is_some paper.now; withdrawn = withdrawn }) (target_of seats target_conflicted paper.now target.now) (labels_at seats paper.now)) (labels_at seats paper.now + 1) }
+        ensures { let seats = seats_from self.now.seats earlier.now in
+            let labels = labels_at seats paper.now in
+            result ≡ judged
+            (assign_checks by.now (record { there = is_some paper.now; withdrawn = withdrawn }) (target_of seats target_conflicted paper.now target.now) labels)
+            (labels + 1) }
     {
         let Some(paper) = paper else {
             return Err(Rule::NoPaper);
@@ -186,7 +189,10 @@ impl Seats {
         earlier: &[Stamped],
     ) -> Result<Ordinal, Rule>
         requires { SeatsFitInTurn self.now.seats earlier.now }
-        ensures { let seats = seats_from self.now.seats earlier.now in result ≡ judged (unassign_checks by.now (record { there = is_some paper.now; withdrawn = withdrawn }) (target_of seats false paper.now target.now)) (held_at seats paper.now target.now) }
+        ensures { let seats = seats_from self.now.seats earlier.now in
+            result ≡ judged
+            (unassign_checks by.now (record { there = is_some paper.now; withdrawn = withdrawn }) (target_of seats false paper.now target.now))
+            (held_at seats paper.now target.now) }
     {
         let Some(paper) = paper else {
             return Err(Rule::NoPaper);
@@ -219,7 +225,7 @@ impl Seats {
         ensures after { self.new.seats ≡ with_seat (seat_tie paper user kind ordinal) self.old.seats }
         ensures room { self.old.room ≤ self.new.room + 1 }
     {
-        let place = end_of(&self.seats, paper);
+        let place = place_from(&self.seats, paper.number() + 1);
         match self.seats.insert(place, taken(paper, user, kind, ordinal)) {
             Ok(()) => {}
             Err(_) => unreachable!(),
@@ -236,7 +242,8 @@ impl Seats {
         ensures after { self.new.seats ≡ without_seat paper ordinal self.old.seats }
         ensures room { self.old.room ≤ self.new.room }
     {
-        let place = start_of(&self.seats, paper) + ordinal.number() as usize - 1;
+        let first = place_from(&self.seats, paper.number());
+        let place = first + ordinal.number() as usize - 1;
         self.seats[place].value.vacated = true;
         self.reviewing.remove(&Pair { paper, user });
     }

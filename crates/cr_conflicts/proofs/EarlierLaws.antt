@@ -13,7 +13,8 @@ abbrev pub one_gives : Option ℕ → ℕ → History → Bool
 one_gives u p entries = list_any (λ (e : Stamped). list_any (is_number u) (author_told p e.maker e.entry)) entries
 
 -- an author is who was one, or whom one of the entries makes one
-pub is_author_in-from : (u : Option ℕ) (p : ℕ) (ties : TiesState) (entries : History) → is_author_in (ties_from ties entries) u p ≡ (is_author_in ties u p || one_gives u p entries)
+pub is_author_in-from : (u : Option ℕ) (p : ℕ) (ties : TiesState) (entries : History)
+    → is_author_in (ties_from ties entries) u p ≡ (is_author_in ties u p || one_gives u p entries)
 is_author_in-from u p ties [] = nothing (is_author_in ties u p)
   where
     nothing : (b : Bool) → b ≡ (b || false)
@@ -30,17 +31,22 @@ is_author_in-from u p ties (e ∷ entries) =
     grouped false b c = refl
 
 -- who was none is one where one of the entries makes her one
-pub author-given : (u : Option ℕ) (p : ℕ) (ties : TiesState) (entries : History) (given : Bool) → is_author_in ties u p ≡ false → given ≡ one_gives u p entries → given ≡ is_author_in (ties_from ties entries) u p
-author-given u p ties entries given none is = is ∙ ap (λ b. b || one_gives u p entries) (sym none) ∙ sym (is_author_in-from u p ties entries)
+pub author-given : (u : Option ℕ) (p : ℕ) (ties : TiesState) (entries : History) (given : Bool) → is_author_in ties u p ≡ false
+    → given ≡ one_gives u p entries → given ≡ is_author_in (ties_from ties entries) u p
+author-given u p ties entries given none is =
+    is ∙ ap (λ b. b || one_gives u p entries) (sym none) ∙ sym (is_author_in-from u p ties entries)
 
 -- who was one stays one
-pub author-stays : (u : Option ℕ) (p : ℕ) (ties : TiesState) (entries : History) → is_author_in ties u p ≡ true → true ≡ is_author_in (ties_from ties entries) u p
+pub author-stays : (u : Option ℕ) (p : ℕ) (ties : TiesState) (entries : History) → is_author_in ties u p ≡ true
+    → true ≡ is_author_in (ties_from ties entries) u p
 author-stays u p ties entries author = ap (λ b. b || one_gives u p entries) (sym author) ∙ sym (is_author_in-from u p ties entries)
 
 -- a user is declared in conflict as the last of the entries that speaks of it says, or else as she was
 pub is_conflict_on_in-from : (u : Option ℕ) (p : ℕ) (ties : TiesState) (entries : History)
-    → is_conflict_on_in (ties_from ties entries) u p ≡ fold (λ (b : Bool) (e : Stamped). last_or b (conflict_told u p e.entry)) (is_conflict_on_in ties u p) entries
+    → is_conflict_on_in (ties_from ties entries) u p
+    ≡ fold (λ (b : Bool) (e : Stamped). last_or b (conflict_told u p e.entry)) (is_conflict_on_in ties u p) entries
 is_conflict_on_in-from u p ties [] = refl
 is_conflict_on_in-from u p ties (e ∷ entries) =
     is_conflict_on_in-from u p (ties_after ties e.maker e.entry) entries
-    ∙ ap (λ (on : Bool). fold (λ (b : Bool) (s : Stamped). last_or b (conflict_told u p s.entry)) on entries) (is_conflict_on_in-after u p ties e.maker e.entry)
+    ∙ ap (λ (on : Bool). fold (λ (b : Bool) (s : Stamped). last_or b (conflict_told u p s.entry)) on entries)
+    (is_conflict_on_in-after u p ties e.maker e.entry)

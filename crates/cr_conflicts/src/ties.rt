@@ -245,7 +245,8 @@ impl Ties {
         withdrawn: bool,
         earlier: &[Stamped],
     ) -> Result<(), Rule>
-        ensures { result ≡ judged (conflict_checks by.now (record { there = is_some paper.now; withdrawn = withdrawn }) (target_of (ties_from self.now.ties earlier.now) maker paper.now target.now) on) tt }
+        ensures { let ties = ties_from self.now.ties earlier.now in
+            result ≡ judged (conflict_checks by.now (record { there = is_some paper.now; withdrawn = withdrawn }) (target_of ties maker paper.now target.now) on) tt }
     {
         let Some(paper) = paper else {
             return Err(Rule::NoPaper);

@@ -1,4 +1,4 @@
-use Rattle.std.proofs.Common.{◌≡◌, ◌∙◌, ap, sym, subst}
+use Rattle.std.proofs.Common.{◌≡◌, ◌+◌, ◌∙◌, ap, sym, subst}
 use Rattle.cr_base.specs.declared.entry.Entry.TheVariants.{Assigned}
 use Rattle.cr_base.specs.declared.pairs.Order.TheVariants.{ByPaper}
 use Rattle.cr_base.specs.Seats.{SeatsFit, seat_tie, with_seat}
@@ -8,12 +8,15 @@ use Rattle.cr_assign.proofs.IndexLaws.{indexed-assigned, put-in}
 use Rattle.cr_assign.proofs.seats.Seats.add.Goals as goal
 
 -- the list as the code makes it
-put : (c : goal.After-insert-2) → (c.insert.new.self.items ≡ with_seat (seat_tie c.args.paper c.args.user c.args.kind c.args.ordinal) c.self.inside.seats.items) × RisesBy ByPaper c.insert.new.self.items
+put : (c : goal.After-insert-2)
+    → (c.insert.new.self.items ≡ with_seat (seat_tie c.args.paper c.args.user c.args.kind c.args.ordinal) c.self.inside.seats.items)
+    × RisesBy ByPaper c.insert.new.self.items
 put c =
     let x = c.self.inside in
     put-in x.seats.items x.reviewing.order x.reviewing.ties c.self.invariant c.args.paper c.args.user c.args.kind c.args.ordinal
-    c.deref.result.now c.end_of-place.result c.taken.result c.insert.new.self.items
-    c.deref.ensures.value c.end_of-place.ensures.within c.end_of-place.ensures.end c.taken.ensures c.in-Ok.ensures.items
+    c.deref.result.now (c.number.result + 1) c.place_from-place.result c.taken.result c.insert.new.self.items
+    c.deref.ensures.value (ap (λ n. n + 1) c.number.ensures.value) c.place_from-place.ensures.within c.place_from-place.ensures.from
+    c.taken.ensures c.in-Ok.ensures.items
 
 pub returns-clause-after : goal.returns-clause-after
 returns-clause-after c =

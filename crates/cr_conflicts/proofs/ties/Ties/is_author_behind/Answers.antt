@@ -3,7 +3,11 @@ use Rattle.cr_conflicts.proofs.EarlierLaws.{author-given, author-stays}
 use Rattle.cr_conflicts.proofs.ties.Ties.is_author_behind.Goals as goal
 
 pub returns-then-is_author : goal.returns-then-is_author
-returns-then-is_author c = c.if-is_author.true ∙ author-stays (Some c.args.user) c.args.paper c.args.self.now.ties c.args.earlier.now (sym c.is_author.ensures ∙ c.if-is_author.true)
+returns-then-is_author c =
+    c.if-is_author.true
+    ∙ author-stays (Some c.args.user) c.args.paper c.args.self.now.ties c.args.earlier.now (sym c.is_author.ensures ∙ c.if-is_author.true)
 
 pub returns-else-is_author : goal.returns-else-is_author
-returns-else-is_author c = author-given (Some c.args.user) c.args.paper c.args.self.now.ties c.args.earlier.now c.give_author.result (sym c.is_author.ensures ∙ c.if-is_author.false) c.give_author.ensures
+returns-else-is_author c =
+    author-given (Some c.args.user) c.args.paper c.args.self.now.ties c.args.earlier.now c.give_author.result
+    (sym c.is_author.ensures ∙ c.if-is_author.false) c.give_author.ensures
