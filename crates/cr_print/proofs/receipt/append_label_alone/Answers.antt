@@ -1,6 +1,0 @@
-use Rattle.cr_print.proofs.Objects.{closed}
-use Rattle.cr_print.proofs.receipt.append_label_alone.Goals as goal
-
-pub returns-clause-text : goal.returns-clause-text
-returns-clause-text c =
-    closed c.close.result c.args.into.now c.open.new.into c.label.new.into c.close.new.into _ _ _ c.in_ok-object.ensures.text c.in_ok-object.ensures.first c.in_ok-label.ensures.adds c.close.ensures.text
