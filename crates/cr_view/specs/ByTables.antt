@@ -1,18 +1,22 @@
 -- What the rules make of each command, by reads of the tables; the caller is `maker`.
-use Rattle.std.specs.Prelude.{ℕ, Bool, ◌+◌, List, [], length, Option, Some, None, is_some, is_none, unwrap_or, Result}
+use Rattle.std.specs.Prelude.{ℕ, Bool, not, ◌+◌, List, [], ◌∷◌, length, Option, Some, None, is_some, is_none, unwrap_or, Result}
 use Rattle.std.specs.List.{flat_map, list_any}
 use Rattle.std.specs.Option.{option_map, option_and_then}
 use Rattle.cr_base.specs.declared.reply.Rule.{Rule}
+use Rattle.cr_base.specs.declared.reply.Rule.TheVariants as rules
 use Rattle.cr_base.specs.declared.target.Target.{Target}
+use Rattle.cr_base.specs.declared.words.Kind.{Kind}
 use Rattle.cr_base.specs.declared.words.Role.{Role}
 use Rattle.cr_base.specs.Accounts.{number_at, role_at}
-use Rattle.cr_base.specs.Checks.{judged, of_role, register_checks, submit_checks, name_checks, conflict_checks}
-use Rattle.cr_base.specs.Drawn.{Drawn, registration_drawn, submission_drawn, naming_drawn, conflict_drawn}
+use Rattle.cr_base.specs.Checks.{NamedPaper, ◌breaks◌, judged, of_role, register_checks, submit_checks, name_checks, conflict_checks, assign_checks, unassign_checks}
+use Rattle.cr_base.specs.Drawn.{Drawn, registration_drawn, submission_drawn, naming_drawn, conflict_drawn, assignment_drawn, unassignment_drawn}
 use Rattle.cr_base.specs.Lists.{listed, is_number, at_some}
-use Rattle.cr_base.specs.Papers.{paper_count, own_count}
-use Rattle.cr_base.specs.Sources.{standing_at, facts_of_tables, shown_in_tables, paper_named}
+use Rattle.cr_base.specs.Papers.{paper_count, own_count, is_withdrawn_at}
+use Rattle.cr_base.specs.Seats.{labels_in, seat_in}
+use Rattle.cr_base.specs.Sources.{standing_at, facts_of_tables, shown_in_tables, has_paper, paper_named}
 use Rattle.cr_base.specs.Tables.{Tables}
-use Rattle.cr_base.specs.Ties.{is_author_in}
+use Rattle.cr_base.specs.Ties.{is_author_in, is_conflicted_in}
+use Rattle.cr_view.specs.declared.assigning.Named.{Named}
 use Rattle.cr_view.specs.Targets.{target_at, users_at}
 
 abbrev pub registration_at : Tables → List ℕ → List ℕ → Result Drawn Rule
@@ -40,18 +44,55 @@ naming_of t maker target name role =
 abbrev pub naming_at : Tables → ℕ → Option (List ℕ) → Role → Result Drawn Rule
 naming_at t maker name role = naming_of t maker (target_at t.accounts name) (unwrap_or name []) role
 
+-- the paper that is named, with how `maker` stands to it, or that there is none
+abbrev pub named_at : Tables → ℕ → Option ℕ → Result Named Rule
+named_at t maker paper =
+    judged
+    (not (has_paper (facts_of_tables t None) paper) breaks rules.NoPaper ∷ [])
+    (record { by = standing_at t (Some maker) paper; paper = unwrap_or paper 0; withdrawn = at_some (is_withdrawn_at t.papers) paper })
+
+-- what the rules ask of that paper
+abbrev pub asked_of : Tables → Option ℕ → NamedPaper
+asked_of t paper = paper_named (facts_of_tables t None) (shown_in_tables t) paper
+
 -- what the rules ask of this user, if there is one
 abbrev pub asked_at : Tables → ℕ → Option ℕ → Option ℕ → Option Target
 asked_at t maker paper user =
     let wrote = at_some (is_author_in t.ties user) paper in
-    option_map (λ (role : Role). record { role = role; herself = is_number user maker; author = wrote }) (option_and_then (role_at t.accounts) user)
+    let conflicted = at_some (is_conflicted_in t.ties user) paper in
+    let reviews = at_some (λ p. is_some (seat_in t.seats user p)) paper in
+    option_map
+    (λ (role : Role). record { role = role; herself = is_number user maker; author = wrote; conflicted = conflicted; reviewer = reviews })
+    (option_and_then (role_at t.accounts) user)
 
 -- turning this user's conflict, if there is one, on or off; and that of the user of a name
 abbrev pub conflict_of : Tables → ℕ → Option ℕ → Option ℕ → Bool → Result Drawn Rule
 conflict_of t maker paper target on =
     judged
-    (conflict_checks (standing_at t (Some maker) paper) (paper_named (facts_of_tables t None) (shown_in_tables t) paper) (asked_at t maker paper target) on)
+    (conflict_checks (standing_at t (Some maker) paper) (asked_of t paper) (asked_at t maker paper target) on)
     (conflict_drawn maker (unwrap_or paper 0) (unwrap_or target 0) on)
 
 abbrev pub conflict_at : Tables → ℕ → Option ℕ → Option (List ℕ) → Bool → Result Drawn Rule
 conflict_at t maker paper name on = conflict_of t maker paper (target_at t.accounts name) on
+
+-- assigning this user, if there is one, to the paper; and the user of a name
+abbrev pub assignment_of : Tables → ℕ → Option ℕ → Option ℕ → Kind → Result Drawn Rule
+assignment_of t maker paper target kind =
+    let labels = labels_in t.seats (unwrap_or paper 0) in
+    judged
+    (assign_checks (standing_at t (Some maker) paper) (asked_of t paper) (asked_at t maker paper target) labels)
+    (assignment_drawn maker (unwrap_or paper 0) (unwrap_or target 0) kind (labels + 1))
+
+abbrev pub assignment_at : Tables → ℕ → Option ℕ → Option (List ℕ) → Kind → Result Drawn Rule
+assignment_at t maker paper name kind = assignment_of t maker paper (target_at t.accounts name) kind
+
+-- taking this user, if there is one, off the paper; and the user of a name
+abbrev pub unassignment_of : Tables → ℕ → Option ℕ → Option ℕ → Result Drawn Rule
+unassignment_of t maker paper target =
+    let ordinal = unwrap_or (seat_in t.seats target (unwrap_or paper 0)) 0 in
+    judged
+    (unassign_checks (standing_at t (Some maker) paper) (asked_of t paper) (asked_at t maker paper target))
+    (unassignment_drawn maker (unwrap_or paper 0) (unwrap_or target 0) ordinal)
+
+abbrev pub unassignment_at : Tables → ℕ → Option ℕ → Option (List ℕ) → Result Drawn Rule
+unassignment_at t maker paper name = unassignment_of t maker paper (target_at t.accounts name)

@@ -4,9 +4,9 @@ use Rattle.cr_base.specs.declared.entry.Entry.TheVariants.{Submitted, Coauthor}
 use Rattle.cr_base.specs.declared.reply.Receipt.TheVariants as receipts
 use Rattle.cr_base.specs.declared.reply.Rule.{Rule}
 use Rattle.cr_base.specs.Drawn.{Drawn, grouped, registration_drawn, phase_drawn, revision_drawn, upload_drawn}
-use Rattle.cr_base.specs.Drawn.{withdrawal_drawn, naming_drawn, mode_drawn, conflict_drawn}
+use Rattle.cr_base.specs.Drawn.{withdrawal_drawn, naming_drawn, mode_drawn, conflict_drawn, bid_drawn, assignment_drawn, unassignment_drawn}
 use Rattle.cr_view.specs.declared.draw.Draw.{Draw}
-use Rattle.cr_view.specs.declared.draw.Draw.TheVariants.{Registration, Phase, Submission, Revision, Upload, Withdrawal, Naming, Mode, Conflict}
+use Rattle.cr_view.specs.declared.draw.Draw.TheVariants.{Registration, Phase, Submission, Revision, Upload, Withdrawal, Naming, Mode, Conflict, Bid, Assignment, Unassignment}
 
 -- the entries and the receipt of a draw; a submission's co-authors were found before, each once
 abbrev pub drawn_by : Draw → Drawn
@@ -22,6 +22,9 @@ drawn_by (Withdrawal maker paper) = withdrawal_drawn maker paper
 drawn_by (Naming maker user name role) = naming_drawn maker user name role
 drawn_by (Mode maker mode) = mode_drawn maker mode
 drawn_by (Conflict maker paper user on) = conflict_drawn maker paper user on
+drawn_by (Bid maker paper value) = bid_drawn maker paper value
+drawn_by (Assignment maker paper user kind ordinal) = assignment_drawn maker paper user kind ordinal
+drawn_by (Unassignment maker paper user ordinal) = unassignment_drawn maker paper user ordinal
 
 -- the draw is of a paper that is there
 abbrev pub IsOfPaper : Draw → Type 0
@@ -31,6 +34,13 @@ IsOfPaper (Submission maker paper title abstract coauthors) = ⊥
 IsOfPaper (Naming maker user name role) = ⊥
 IsOfPaper (Mode maker mode) = ⊥
 IsOfPaper draw = Unit {0}
+
+-- the draw is of who may review such a paper: a bid, or an assignment that begins or ends
+abbrev pub IsOfReviewing : Draw → Type 0
+IsOfReviewing (Bid maker paper value) = Unit {0}
+IsOfReviewing (Assignment maker paper user kind ordinal) = Unit {0}
+IsOfReviewing (Unassignment maker paper user ordinal) = Unit {0}
+IsOfReviewing draw = ⊥
 
 -- the same of a judgement: what it drew, or the broken rule
 abbrev pub drawn_or_rule : Result Draw Rule → Result Drawn Rule

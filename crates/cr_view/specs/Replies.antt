@@ -1,22 +1,28 @@
 -- What a caller is told of a query.
-use Rattle.std.specs.Prelude.{ℕ, Bool, true, ◌≡◌, ◌≢◌, List, [], map, Option, unwrap_or, Result, Ok, Err, IsOk}
+use Rattle.std.specs.Prelude.{ℕ, Bool, true, ◌≡◌, ◌≢◌, List, [], map, Option, Some, None, unwrap_or, Result, Ok, Err, IsOk, if◌then◌else◌}
+use Rattle.std.specs.List.{flat_map}
 use Rattle.std.specs.Option.{option_map}
 use Rattle.cr_base.specs.declared.command.Query.TheVariants as queries
+use Rattle.cr_base.specs.declared.page.Bidder.{Bidder}
 use Rattle.cr_base.specs.declared.page.Page.{Page}
+use Rattle.cr_base.specs.declared.page.Reviewer.{Reviewer}
 use Rattle.cr_base.specs.declared.pairs.Tie.{Tie}
 use Rattle.cr_base.specs.declared.reply.Conference.{Conference}
 use Rattle.cr_base.specs.declared.reply.Reply.{Reply}
 use Rattle.cr_base.specs.declared.reply.Reply.TheVariants as replies
 use Rattle.cr_base.specs.declared.reply.Rule.{Rule}
+use Rattle.cr_base.specs.declared.seat.Seat.{Seat}
 use Rattle.cr_base.specs.declared.standing.Standing.{Standing}
 use Rattle.cr_base.specs.Accounts.{lines_of}
-use Rattle.cr_base.specs.Answering.{query_checks, page_by, uploads_told, upload_of, content_by, content_asked, reply_or_rule}
+use Rattle.cr_base.specs.Answering.{query_checks, page_by, uploads_told, upload_of, content_by, content_asked, reply_or_rule, bidder_told, reviewer_told}
 use Rattle.cr_base.specs.Checks.{judged, of_there, content_checks}
-use Rattle.cr_base.specs.History.{Upload}
+use Rattle.cr_base.specs.History.{Upload, BidTold}
+use Rattle.cr_base.specs.Lists.{listed}
 use Rattle.cr_base.specs.Papers.{paper_count, uploads_at}
+use Rattle.cr_base.specs.Seats.{told_of, seat_in}
 use Rattle.cr_base.specs.Sources.{Facts, standing_at, facts_of_tables, shown_in_tables, has_paper, names_in}
 use Rattle.cr_base.specs.Tables.{Tables}
-use Rattle.cr_base.specs.Ties.{BareTies}
+use Rattle.cr_base.specs.Ties.{BareTies, bid_in}
 use Rattle.cr_view.specs.declared.queries.AnswerError.{AnswerError}
 use Rattle.cr_view.specs.declared.queries.AnswerError.TheVariants as errors
 
@@ -47,10 +53,18 @@ conference_at t = record { mode = t.stage.mode; papers = paper_count t.papers; p
 abbrev pub reader_at : Tables → Option ℕ → Option ℕ → Result Standing Rule
 reader_at t user paper = judged (query_checks (facts_of_tables t user) (shown_in_tables t) (queries.Page paper)) (standing_at t user paper)
 
--- the page of a paper, for a reader who stands so to it
-abbrev pub page_at : Tables → Standing → ℕ → Page
-page_at t by p =
-    let facts : Facts = record { standing = λ (paper : Option ℕ). by; accounts = lines_of t.accounts; papers = []; own_papers = 0; own_bytes = 0 } in
+-- the page of a paper, for a user who stands so to it
+abbrev pub page_at : Tables → Option ℕ → Standing → ℕ → Page
+page_at t user by p =
+    let facts : Facts = record {
+      standing = λ (paper : Option ℕ). by;
+      accounts = lines_of t.accounts;
+      papers = [];
+      own_papers = 0;
+      own_bytes = 0;
+      own_bid = bid_in t.ties user;
+      own_seat = seat_in t.seats user;
+    } in
     page_by facts (shown_in_tables t) p
 
 -- the page that is due to a user, or the first broken rule
@@ -87,3 +101,17 @@ content_reply_at t user paper version =
 -- the names of those whom these ties tie
 abbrev pub names_of : Tables → BareTies → List (List ℕ)
 names_of t ties = names_in (lines_of t.accounts) (map (λ (tie : Tie (Unit {0})). tie.pair.user) ties)
+
+-- the bid of a tie; and these bids, each with the name of whose it is
+abbrev pub bid_of : Tie ℕ → BidTold
+bid_of tie = record { user = tie.pair.user; value = tie.value }
+
+abbrev pub bidders_of : Tables → List BidTold → List Bidder
+bidders_of t bids = flat_map (λ (bid : BidTold). listed (bidder_told (lines_of t.accounts) bid)) bids
+
+-- who has this seat, unless she has left it, as one who stands so to its paper is told of her; and those who have these
+abbrev pub reviewer_of : Tables → Standing → Tie Seat → Option Reviewer
+reviewer_of t by seat = if seat.value.vacated then None else Some (reviewer_told by (lines_of t.accounts) (told_of seat))
+
+abbrev pub reviewers_of : Tables → Standing → List (Tie Seat) → List Reviewer
+reviewers_of t by seats = flat_map (λ (seat : Tie Seat). listed (reviewer_of t by seat)) seats

@@ -1,14 +1,11 @@
 //! What is judged by the tables.
 ghost use Rattle.std.specs.Prelude.{◌≡◌, ◌≤◌, IfOk, IsSome, Some, length};
-ghost use Rattle.std.specs.Option.{option_map, option_and_then};
-ghost use Rattle.cr_base.specs.Accounts.{role_at};
 ghost use Rattle.cr_base.specs.Judging.{judge_by_role};
 ghost use Rattle.cr_base.specs.Tables.{FitInTurn};
 ghost use Rattle.cr_base.specs.declared.command.Command.TheVariants as commands;
-ghost use Rattle.cr_view.specs.ByTables.{registration_at, submission_at, naming_at, conflict_at};
+ghost use Rattle.cr_view.specs.ByTables.{registration_at, submission_at, naming_at};
 ghost use Rattle.cr_view.specs.Callers.{HasCaller, HasFewAuthors};
 ghost use Rattle.cr_view.specs.Draws.{drawn_by, drawn_or_rule};
-ghost use Rattle.cr_view.specs.Targets.{target_at};
 
 use crate::draw::Draw;
 use crate::live::Live;
@@ -34,13 +31,20 @@ impl Live {
     ///
     /// A submission breaks `NoUser` where one of its co-authors isn't there, else what `judge_submit` of
     /// `Papers` tells. A revision, an upload and a withdrawal break `NoPaper`, else `NotAuthor`, else
-    /// `WrongPhase`, else `Withdrawn`, and an upload else `QuotaBytes`. Of all else the rules and their order
-    /// stand at the tables' own `register_check`, `judge_phase`, `judge_name`, `judge_mode` and
-    /// `judge_conflict`.
+    /// `WrongPhase`, else `Withdrawn`, and an upload else `QuotaBytes`. A bid breaks `NoPaper`, else
+    /// `NotMember`, else `Conflict` where the caller is in conflict with the paper, else `WrongPhase` where
+    /// the phase isn't the bidding, else `Withdrawn`. An assignment, and the end of one, break `NoPaper`,
+    /// else `NoUser`, else `NotChair`, else `Conflict`, else `WrongPhase` before the bidding and from the
+    /// notification on, else `Withdrawn`; then an assignment breaks `NotAMember`, else `TargetConflict`
+    /// where the user named is in conflict with the paper, else `AlreadyAssigned`, else `LabelsSpent`, and
+    /// the end of one `NotAssigned`. Of all else the rules and their order stand at the tables' own
+    /// `register_check`, `judge_phase`, `judge_name`, `judge_mode` and `judge_conflict`.
     ///
-    /// Takes no memory: the command's texts and its content are moved. A registration, a naming and a
-    /// conflict take one look-up by name, a submission one for each co-author told, a conflict a binary
-    /// search of the ties besides, and all else a few reads by number.
+    /// Takes no memory: the command's texts and its content are moved. A registration, a naming, a
+    /// conflict, an assignment and the end of one take one look-up by name, a submission one for each
+    /// co-author told; how the caller stands to a paper four binary searches, a conflict one besides, an
+    /// assignment and its end four besides and a step for each of the paper's seats, at most 26; and all
+    /// else a few reads by number.
     pub fn judge(&self, caller: &Option<UserNo>, command: Command) -> Result<Draw, Rule>
         requires caller { HasCaller caller.now command }
         requires few { HasFewAuthors command }
@@ -69,6 +73,13 @@ impl Live {
             Command::SetMode { mode } => self.judge_mode(maker(caller), mode),
             Command::SetConflict { paper, user, on } => {
                 self.judge_conflict(maker(caller), &paper, &user, on)
+            }
+            Command::Bid { paper, value } => self.judge_bid(maker(caller), &paper, value),
+            Command::Assign { paper, user, kind } => {
+                self.judge_assignment(maker(caller), &paper, &user, kind)
+            }
+            Command::Unassign { paper, user } => {
+                self.judge_unassignment(maker(caller), &paper, &user)
             }
         }
     }
@@ -137,51 +148,6 @@ impl Live {
         let by = self.standing(&Some(maker), &None);
         self.stage.judge_mode(&by)?;
         Ok(Draw::Mode { maker, mode })
-    }
-
-    fn judge_conflict(
-        &self,
-        maker: UserNo,
-        paper: &Option<PaperNo>,
-        name: &Option<Short>,
-        on: bool,
-    ) -> Result<Draw, Rule>
-        ensures { drawn_or_rule result ≡ conflict_at self.now.tables maker paper.now name.now on }
-    {
-        if !self.has_paper(paper) {
-            return Err(Rule::NoPaper);
-        }
-        let Some(number) = paper else {
-            return Err(Rule::NoPaper);
-        };
-        let target = self.target(name);
-        let Some((user, _)) = &target else {
-            return Err(Rule::NoUser);
-        };
-        let by = self.standing(&Some(maker), paper);
-        let withdrawn = self.papers.is_withdrawn(*number);
-        let kept = self
-            .ties
-            .judge_conflict(&by, maker, paper, &target, on, withdrawn);
-        kept.and(Ok(Draw::Conflict {
-            maker,
-            paper: *number,
-            user: *user,
-            on,
-        }))
-    }
-
-    /// The user of a name and her role, if somebody registered it.
-    fn target(&self, name: &Option<Short>) -> Option<(UserNo, Role)>
-        ensures user { option_map (λ t. t.0) result ≡ target_at self.now.tables.accounts name.now }
-        ensures role { option_map (λ t. t.1) result ≡ option_and_then (role_at self.now.tables.accounts) (target_at self.now.tables.accounts name.now) }
-    {
-        let Some(name) = name else {
-            return None;
-        };
-        let user = self.number_of(name)?;
-        let role = self.accounts.role_given(user)?;
-        Some((user, role))
     }
 }
 

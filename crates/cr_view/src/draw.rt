@@ -1,11 +1,11 @@
 //! What an accepted command draws.
 ghost use Rattle.std.specs.Prelude.{◌≡◌, IfOk};
-ghost use Rattle.cr_view.specs.Draws.{drawn_by, IsOfPaper};
+ghost use Rattle.cr_view.specs.Draws.{drawn_by, IsOfPaper, IsOfReviewing};
 
 use crate::group::{registration, single, submission};
 use cr_base::{
-    Blob, Coauthors, Digest, Entry, Mode, PaperNo, Phase, Receipt, Role, Short, Stamped, Text,
-    UserNo,
+    Bid, Blob, Coauthors, Digest, Entry, Kind, Mode, Ordinal, PaperNo, Phase, Receipt, Role, Short,
+    Stamped, Text, UserNo,
 };
 use std::alloc::{AllocError, Global};
 
@@ -101,6 +101,39 @@ pub enum Draw {
         /// Whether she is in conflict with it.
         on: bool,
     },
+    /// A bid on a paper.
+    Bid {
+        /// Whose it is.
+        maker: UserNo,
+        /// The paper.
+        paper: PaperNo,
+        /// The bid.
+        value: Bid,
+    },
+    /// A paper has one more reviewer.
+    Assignment {
+        /// Who assigns her.
+        maker: UserNo,
+        /// The paper.
+        paper: PaperNo,
+        /// The user of the name.
+        user: UserNo,
+        /// What she is to the paper.
+        kind: Kind,
+        /// Her label's ordinal: the count of the paper's assignments plus 1.
+        ordinal: Ordinal,
+    },
+    /// A paper has one reviewer less.
+    Unassignment {
+        /// Who takes her off it.
+        maker: UserNo,
+        /// The paper.
+        paper: PaperNo,
+        /// The user of the name.
+        user: UserNo,
+        /// The ordinal of the label under which she reviewed it.
+        ordinal: Ordinal,
+    },
 }
 
 impl Draw {
@@ -121,6 +154,9 @@ impl Draw {
             },
             Draw::Mode { mode, .. } => Receipt::Mode { mode: *mode },
             Draw::Conflict { paper, .. } => Receipt::Changed { paper: *paper },
+            Draw::Bid { value, .. } => Receipt::Bid { bid: *value },
+            Draw::Assignment { ordinal, .. } => Receipt::Label { ordinal: *ordinal },
+            Draw::Unassignment { paper, .. } => Receipt::Changed { paper: *paper },
         }
     }
 
@@ -191,6 +227,49 @@ fn of_paper(alloc: Global, draw: Draw) -> Result<Vec<Stamped>, AllocError>
             user,
             on,
         } => single(alloc, maker, Entry::Conflict { paper, user, on }),
+        other => of_reviewing(alloc, other),
+    }
+}
+
+/// The entry of a draw that is of who may review a paper; an error only for lack of memory.
+fn of_reviewing(alloc: Global, draw: Draw) -> Result<Vec<Stamped>, AllocError>
+    requires { IsOfReviewing draw }
+    ensures { IfOk result (λ group. group.items ≡ (drawn_by draw).group) }
+{
+    match draw {
+        Draw::Bid {
+            maker,
+            paper,
+            value,
+        } => single(alloc, maker, Entry::Bid { paper, value }),
+        Draw::Assignment {
+            maker,
+            paper,
+            user,
+            kind,
+            ordinal,
+        } => {
+            let entry = Entry::Assigned {
+                paper,
+                user,
+                kind,
+                ordinal,
+            };
+            single(alloc, maker, entry)
+        }
+        Draw::Unassignment {
+            maker,
+            paper,
+            user,
+            ordinal,
+        } => {
+            let entry = Entry::Unassigned {
+                paper,
+                user,
+                ordinal,
+            };
+            single(alloc, maker, entry)
+        }
         _ => unreachable!(),
     }
 }

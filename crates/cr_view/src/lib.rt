@@ -2,15 +2,18 @@
 //! answered, and what an accepted command adds. Every look-up is in the tables; no view is made.
 #![tactic(auto)]
 
+mod assigning;
 mod coauthors;
 mod commands;
 mod content;
 mod draw;
 mod group;
+mod lists;
 mod live;
 mod me;
 mod page;
 mod queries;
+mod reviewing;
 
 pub use draw::Draw;
 pub use live::Live;

@@ -1,14 +1,16 @@
 //! The tables of a history, and what a user is by them.
-ghost use Rattle.std.specs.Prelude.{◌≡◌, ◌≤◌, ◌<◌, ◌+◌, OnOk, length};
+ghost use Rattle.std.specs.Prelude.{◌≡◌, ◌≤◌, ◌<◌, ◌+◌, IsTrue, OnOk, is_some, length};
 ghost use Rattle.std.specs.Option.{option_map};
 ghost use Rattle.cr_base.specs.Accounts.{number_at, account_at, caller_at};
 ghost use Rattle.cr_base.specs.Sources.{standing_at};
 ghost use Rattle.cr_base.specs.Lists.{at_some};
 ghost use Rattle.cr_base.specs.Papers.{paper_count};
+ghost use Rattle.cr_base.specs.Seats.{seat_in};
 ghost use Rattle.cr_base.specs.Tables.{no_tables, tables_after, tables_from, Fits, FitInTurn};
-ghost use Rattle.cr_base.specs.Ties.{is_author_in, is_conflicted_in, AreWithin};
+ghost use Rattle.cr_base.specs.Ties.{is_author_in, is_conflicted_in, are_within, AreWithin};
 
 use cr_accounts::Accounts;
+use cr_assign::Seats;
 use cr_base::{Digest, PaperNo, Short, Stamped, Standing, UserNo};
 use cr_conflicts::Ties;
 use cr_papers::Papers;
@@ -25,23 +27,24 @@ pub struct Live {
     pub(crate) accounts: Accounts,
     pub(crate) papers: Papers,
     pub(crate) ties: Ties,
+    pub(crate) seats: Seats,
 }
 
 impl Model for Live {
-    ghost use Rattle.std.specs.Prelude.{min};
+    ghost use Rattle.std.specs.Prelude.{IsTrue, min};
     ghost use Rattle.cr_base.specs.Papers.{paper_count};
-    ghost use Rattle.cr_base.specs.Ties.{AreWithin};
+    ghost use Rattle.cr_base.specs.Ties.{are_within, AreWithin};
     ghost use Rattle.cr_view.specs.Seen.{SeenTables};
 
     ghost Value = { SeenTables };
 
     ghost view = { λ t. record {
-      tables = record { stage = t.stage; accounts = t.accounts.accounts; papers = t.papers.papers; ties = t.ties.ties };
-      room = min t.accounts.room (min t.papers.room t.ties.room);
+      tables = record { stage = t.stage; accounts = t.accounts.accounts; papers = t.papers.papers; ties = t.ties.ties; seats = t.seats.seats };
+      room = min t.accounts.room (min t.papers.room (min t.ties.room t.seats.room));
     } };
 
-    // The papers that have ties are there.
-    ghost invariant = { λ t. AreWithin (paper_count t.papers.papers) t.ties.ties };
+    // The papers that have ties are there, and so are those that have seats.
+    ghost invariant = { λ t. AreWithin (paper_count t.papers.papers) t.ties.ties × IsTrue (are_within (paper_count t.papers.papers) t.seats.seats) };
 }
 
 /// The tables and their entries.
@@ -55,6 +58,7 @@ impl Live {
             accounts: Accounts::new(alloc),
             papers: Papers::new(alloc),
             ties: Ties::new(alloc),
+            seats: Seats::new(alloc),
         }
     }
 
@@ -67,7 +71,8 @@ impl Live {
     {
         self.accounts.room(group)?;
         self.papers.room(group)?;
-        self.ties.room(group)
+        self.ties.room(group)?;
+        self.seats.room(group)
     }
 
     /// One more entry, for which there is room. It is taken whole, since the papers keep its texts and
@@ -81,6 +86,7 @@ impl Live {
         self.stage.apply(&stamped);
         self.accounts.apply(&stamped);
         self.ties.apply(&stamped);
+        self.seats.apply(&stamped);
         self.papers.apply(stamped);
     }
 
@@ -123,7 +129,7 @@ impl Live {
 
     /// What a user, or nobody, is to the conference and to a paper, where one is named. A
     /// caller who is nobody is an `Account` without ties. Takes no memory; a few reads by number, and
-    /// three binary searches of the ties.
+    /// four binary searches of ties and seats.
     pub fn standing(&self, user: &Option<UserNo>, paper: &Option<PaperNo>) -> Standing
         ensures { result ≡ standing_at self.now.tables user.now paper.now }
     {
@@ -133,6 +139,7 @@ impl Live {
             role: self.accounts.standing_for(user),
             author: self.is_author(user, paper),
             conflicted: self.is_conflicted(user, paper),
+            reviewer: self.is_reviewer(user, paper),
         }
     }
 
@@ -157,14 +164,28 @@ impl Live {
             return false;
         };
         match paper {
-            Some(paper) => self.ties.is_conflicted(*user, *paper),
+            Some(paper) => self.ties.is_conflicted(*user, *paper, &[]),
             None => false,
         }
     }
 
-    /// Nothing to run: a law, that the papers which have ties are there.
+    /// Whether the user reviews the paper; false for nobody, and where no paper is named.
+    fn is_reviewer(&self, user: &Option<UserNo>, paper: &Option<PaperNo>) -> bool
+        ensures { result ≡ at_some (λ p. is_some (seat_in self.now.tables.seats user.now p)) paper.now }
+    {
+        let Some(user) = user else {
+            return false;
+        };
+        match paper {
+            Some(paper) => self.seats.is_reviewer(*user, *paper),
+            None => false,
+        }
+    }
+
+    /// Nothing to run: a law, that the papers which have ties are there, and those which have seats.
     pub(crate) fn law_within(&self)
-        ensures { AreWithin (paper_count self.now.tables.papers) self.now.tables.ties }
+        ensures ties { AreWithin (paper_count self.now.tables.papers) self.now.tables.ties }
+        ensures seats { IsTrue (are_within (paper_count self.now.tables.papers) self.now.tables.seats) }
     {
         let _papers = &self.papers;
     }

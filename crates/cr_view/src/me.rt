@@ -13,14 +13,17 @@ use std::alloc::{AllocError, Global};
 
 impl Live {
     /// What a user is told of herself; an error only for lack of memory. A few look-ups by number, and
-    /// a walk over her own papers and those with which she is declared in conflict.
+    /// a walk over her own papers, over those with which she is declared in conflict and over those that
+    /// she reviews.
     pub fn me(&self, alloc: Global, user: UserNo) -> Result<Me, AllocError>
         ensures { IfOk result (λ me. me ≡ me_by (facts_of_tables self.now.tables (Some user)) user) }
     {
         self.law_within();
         let papers = papers_of(alloc, self.ties.authored(user))?;
         let conflicts = self.others(alloc, user, self.ties.conflicting(user))?;
+        let assigned = papers_of(alloc, self.seats.reviewing(user))?;
         Ok(Me {
+            assigned,
             bytes: self.papers.bytes_of_user(user),
             conflicts,
             name: self.own_name(user),

@@ -1,11 +1,12 @@
 //! Which keys of a paper's page a caller is told, by her standing at the paper.
-ghost use Rattle.std.specs.Prelude.{◌≡◌, IfOk, Some};
+ghost use Rattle.std.specs.Prelude.{◌≡◌, IfOk, Some, false};
 ghost use Rattle.std.specs.Option.{option_copied};
 ghost use Rattle.cr_base.specs.Lists.{listed};
 ghost use Rattle.cr_base.specs.Page.{gets_title, gets_abstract, gets_conflict, gets_conflicts, gets_declared, gets_versions, gets_withdrawn};
-ghost use Rattle.cr_base.specs.Page.{bare_keys, where_told};
+ghost use Rattle.cr_base.specs.Page.{is_clear_chair, is_clear_member, gets_bid, gets_bids, gets_label, gets_reviewers, bare_keys, where_told};
 
-use cr_base::{BareKeys, Phase, Standing, Text, Versions};
+use cr_anonymity::shows_reviewer;
+use cr_base::{BareKeys, Kind, Phase, Standing, Text, Versions};
 use std::alloc::{AllocError, Global};
 
 /// Whether she is told the title: authors; members from bidding on.
@@ -80,31 +81,68 @@ pub(crate) fn withdrawn_told(by: &Standing, withdrawn: bool) -> Option<bool>
     }
 }
 
-/// Whether she is told who reviews: from bidding on chairs who aren't in conflict, from discussion on
-/// such members; from notification on authors, in the open mode.
-fn gets_reviewers(by: &Standing) -> bool
-    ensures { result ≡ (bare_keys by.now).reviewers }
+/// Whether she is told her own bid: from bidding on members who aren't in conflict.
+pub(crate) fn gets_bid(by: &Standing) -> bool
+    ensures { result ≡ gets_bid by.now }
 {
-    (by.is_clear_chair() && by.phase.is_from(Phase::Bidding))
-        || (by.is_clear_member() && by.phase.is_from(Phase::Discussion))
-        || (by.author && by.mode.is_overt() && by.phase.is_from(Phase::Notification))
+    by.is_clear_member() && by.phase.is_from(Phase::Bidding)
+}
+
+/// Whether she is told all bids: from bidding on chairs who aren't in conflict.
+pub(crate) fn gets_bids(by: &Standing) -> bool
+    ensures { result ≡ gets_bids by.now }
+{
+    by.is_clear_chair() && by.phase.is_from(Phase::Bidding)
+}
+
+/// Whether she is told her own label: reviewers of the paper who are members and not in conflict.
+pub(crate) fn gets_label(by: &Standing) -> bool
+    ensures { result ≡ gets_label by.now }
+{
+    by.is_clear_member() && by.reviewer
+}
+
+/// Whether she is told who reviews, each by her label at least: whoever is shown their names, and from
+/// discussion on members who aren't in conflict.
+pub(crate) fn gets_reviewers(by: &Standing) -> bool
+    ensures { result ≡ gets_reviewers by.now }
+{
+    shows_reviewer(by) || (by.is_clear_member() && by.phase.is_from(Phase::Discussion))
+}
+
+/// Whether a reviewer has written a review, where she is told that: chairs who aren't in conflict.
+/// Nobody has yet.
+pub(crate) fn done_told(by: &Standing) -> Option<bool>
+    ensures { result ≡ where_told (is_clear_chair by.now) (Some false) }
+{
+    if by.is_clear_chair() {
+        Some(false)
+    } else {
+        None
+    }
+}
+
+/// What a reviewer is to the paper, where she is told that: members who aren't in conflict.
+pub(crate) fn kind_told(by: &Standing, kind: Kind) -> Option<Kind>
+    ensures { result ≡ where_told (is_clear_member by.now) (Some kind) }
+{
+    if by.is_clear_member() {
+        Some(kind)
+    } else {
+        None
+    }
 }
 
 /// Which of the keys that have nothing to tell yet are there for her.
 pub(crate) fn bare_keys(by: &Standing) -> BareKeys
     ensures { result ≡ bare_keys by.now }
 {
-    let bidding = by.phase.is_from(Phase::Bidding);
     let discussion = by.phase.is_from(Phase::Discussion);
     let notification = by.phase.is_from(Phase::Notification);
     let clear_member = by.is_clear_member();
-    let clear_chair = by.is_clear_chair();
     BareKeys {
-        bid: clear_member && bidding,
-        bids: clear_chair && bidding,
         decision: (clear_member && discussion) || (by.author && notification),
-        reviewers: gets_reviewers(by),
-        tags: clear_member && bidding,
+        tags: clear_member && by.phase.is_from(Phase::Bidding),
     }
 }
 

@@ -1,9 +1,8 @@
 //! What queries are answered by the tables.
-ghost use Rattle.std.specs.Prelude.{◌≡◌, ◌≢◌, ◌++◌, IfOk, OnOk, OnErr, Some};
+ghost use Rattle.std.specs.Prelude.{◌≡◌, ◌≢◌, IfOk, OnErr, Some};
 ghost use Rattle.cr_base.specs.Accounts.{lines_of};
 ghost use Rattle.cr_base.specs.Answering.{query_checks, answer_by_role};
 ghost use Rattle.cr_base.specs.Checks.{judged};
-ghost use Rattle.cr_base.specs.Lists.{listed};
 ghost use Rattle.cr_base.specs.Page.{gets_versions, where_told};
 ghost use Rattle.cr_base.specs.Sources.{facts_of_tables, shown_in_tables, has_paper};
 ghost use Rattle.cr_base.specs.declared.command.Query.TheVariants as queries;
@@ -11,6 +10,7 @@ ghost use Rattle.cr_view.specs.Callers.{HasAsker};
 ghost use Rattle.cr_view.specs.Replies.{AnswersAsDue, ShowsAsDue, conference_at, names_of, page_at, page_due, reader_at, versions_at};
 
 use crate::commands::maker;
+use crate::lists::push_some;
 use crate::live::Live;
 use crate::page::{
     bare_keys, conflict_told, gets_abstract, gets_conflicts, gets_declared, gets_title,
@@ -18,8 +18,8 @@ use crate::page::{
 };
 use cr_anonymity::shows_author;
 use cr_base::{
-    AccountLines, Conference, Names, Page, PaperNo, Query, Reply, Rule, Short, Standing, Tie,
-    UserNo, Versions,
+    AccountLines, Conference, Names, Page, PaperNo, Query, Reply, Rule, Standing, Tie, UserNo,
+    Versions,
 };
 use std::alloc::{AllocError, Global};
 
@@ -93,9 +93,10 @@ impl Live {
     /// What the caller's query is answered, or the first broken rule of its kind; an error for want of
     /// memory only where no rule is broken, and never where the state of the conference is asked for.
     /// There is a caller where the query is about herself. All accounts cost a walk over them; a page a few
-    /// look-ups and one more for each name that is told, whatever the length of the texts, and a step for
-    /// each version that is told; what she is told of herself a walk over her own papers and conflicts; a
-    /// content one look-up, whatever its length.
+    /// look-ups and one more for each name that is told, whatever the length of the texts, a step for each
+    /// version that is told, and, where reviewers are told, one for each who was ever assigned, at most 26;
+    /// what she is told of herself a walk over her own papers, over those with which she is in conflict and
+    /// over those that she reviews; a content one look-up, whatever its length.
     pub fn answer(
         &self,
         alloc: Global,
@@ -154,17 +155,25 @@ impl Live {
             Err(rule) => return Err(AnswerError::Rule(rule)),
         };
         match paper {
-            Some(paper) => Ok(self.page(alloc, &by, *paper)?),
+            Some(paper) => Ok(self.page(alloc, user, &by, *paper)?),
             None => unreachable!(),
         }
     }
 
-    /// What a reader who stands so to a paper is told of it.
-    fn page(&self, alloc: Global, by: &Standing, paper: PaperNo) -> Result<Page, AllocError>
-        ensures { IfOk result (λ page. page ≡ page_at self.now.tables by.now paper) }
+    /// What a user who stands so to a paper is told of it.
+    fn page(
+        &self,
+        alloc: Global,
+        user: &Option<UserNo>,
+        by: &Standing,
+        paper: PaperNo,
+    ) -> Result<Page, AllocError>
+        ensures { IfOk result (λ page. page ≡ page_at self.now.tables user.now by.now paper) }
     {
         let title = shared_where(gets_title(by), self.papers.last_title(paper))?;
         let abstract_ = shared_where(gets_abstract(by), self.papers.last_abstract(paper))?;
+        let bids = self.bids_told(alloc, by, paper)?;
+        let reviewers = self.reviewers_told(alloc, by, paper)?;
         let authors = self.names_where(alloc, shows_author(by, false), self.ties.authors(paper))?;
         let conflicts = self.names_where(alloc, gets_conflicts(by), self.ties.conflicts(paper))?;
         let declared = self.names_where(alloc, gets_declared(by), self.ties.declared(paper))?;
@@ -173,9 +182,13 @@ impl Live {
             paper,
             abstract_,
             authors,
+            bid: self.bid_told(user, by, paper),
+            bids,
             conflict: conflict_told(by),
             conflicts,
             declared,
+            label: self.label_told(user, by, paper),
+            reviewers,
             title,
             versions,
             withdrawn: withdrawn_told(by, self.papers.is_withdrawn(paper)),
@@ -225,18 +238,8 @@ impl Live {
     {
         let mut names = Vec::with_capacity(alloc, ties.len())?;
         for tie in ties {
-            push_name(&mut names, self.accounts.name_of(tie.pair.user))?;
+            push_some(&mut names, self.accounts.name_of(tie.pair.user))?;
         }
         Ok(Names::from_vec(names))
     }
-}
-
-/// Adds a name, where there is one; an error only for lack of memory.
-fn push_name(names: &mut Vec<Short>, name: Option<Short>) -> Result<(), AllocError>
-    ensures { OnOk result (names.new.items ≡ names.old.items ++ listed name) }
-{
-    if let Some(name) = name {
-        names.push(name)?;
-    }
-    Ok(())
 }

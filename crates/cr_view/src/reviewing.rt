@@ -1,0 +1,162 @@
+//! What a page tells of bids on a paper and of its reviewers.
+ghost use Rattle.std.specs.Prelude.{◌≡◌, IfOk, Some, map, unwrap_or};
+ghost use Rattle.std.specs.Option.{option_map};
+ghost use Rattle.cr_base.specs.declared.pairs.Order.TheVariants.{ByPaper};
+ghost use Rattle.cr_base.specs.Accounts.{account_at, lines_of};
+ghost use Rattle.cr_base.specs.Answering.{bidder_told};
+ghost use Rattle.cr_base.specs.Page.{gets_bid, gets_bids, gets_label, gets_reviewers, shows_reviewer, where_told};
+ghost use Rattle.cr_base.specs.Pairs.{ties_of};
+ghost use Rattle.cr_base.specs.Seats.{seat_in};
+ghost use Rattle.cr_base.specs.Ties.{bid_in, bids_in};
+ghost use Rattle.cr_base.specs.Words.{no_bid};
+ghost use Rattle.cr_view.specs.Replies.{bid_of, bidders_of, reviewer_of, reviewers_of};
+
+use crate::lists::push_some;
+use crate::live::Live;
+use crate::page::{done_told, gets_bid, gets_bids, gets_label, gets_reviewers, kind_told};
+use cr_anonymity::shows_reviewer;
+use cr_base::{
+    Bid, Bidder, Bids, Ordinal, PaperNo, Reviewer, Reviewers, Seat, Short, Standing, Tie, UserNo,
+};
+use std::alloc::{AllocError, Global};
+
+/// Her own bid and her own label.
+impl Live {
+    /// Her last bid, and 0 where she has told none, where she is told it.
+    pub(crate) fn bid_told(
+        &self,
+        user: &Option<UserNo>,
+        by: &Standing,
+        paper: PaperNo,
+    ) -> Option<Bid>
+        ensures { result ≡ where_told (gets_bid by.now) (Some (unwrap_or (bid_in self.now.tables.ties user.now paper) no_bid)) }
+    {
+        if !gets_bid(by) {
+            return None;
+        }
+        let Some(user) = user else {
+            return Some(Bid::zero());
+        };
+        match self.ties.bid_of(*user, paper) {
+            Some(bid) => Some(bid),
+            None => Some(Bid::zero()),
+        }
+    }
+
+    /// The ordinal of her label, where she is told it.
+    pub(crate) fn label_told(
+        &self,
+        user: &Option<UserNo>,
+        by: &Standing,
+        paper: PaperNo,
+    ) -> Option<Ordinal>
+        ensures { result ≡ where_told (gets_label by.now) (seat_in self.now.tables.seats user.now paper) }
+    {
+        if !gets_label(by) {
+            return None;
+        }
+        match user {
+            Some(user) => self.seats.ordinal_of(*user, paper),
+            None => None,
+        }
+    }
+}
+
+/// All bids.
+impl Live {
+    /// The last bids on the paper, where they are told.
+    pub(crate) fn bids_told(
+        &self,
+        alloc: Global,
+        by: &Standing,
+        paper: PaperNo,
+    ) -> Result<Option<Bids>, AllocError>
+        ensures { IfOk result (λ bids. bids ≡ where_told (gets_bids by.now) (Some (bidders_of self.now.tables (bids_in self.now.tables.ties paper)))) }
+    {
+        if !gets_bids(by) {
+            return Ok(None);
+        }
+        Ok(Some(self.bidders(alloc, self.ties.bids(paper))?))
+    }
+
+    /// These bids, without those of users whom nobody knows.
+    fn bidders(&self, alloc: Global, ties: &[Tie<Bid>]) -> Result<Bids, AllocError>
+        ensures { IfOk result (λ bids. bids ≡ bidders_of self.now.tables (map bid_of ties.now)) }
+    {
+        let mut bids = Vec::with_capacity(alloc, ties.len())?;
+        for tie in ties {
+            push_some(&mut bids, self.bidder(tie))?;
+        }
+        Ok(Bids::from_vec(bids))
+    }
+
+    /// A bid with the name of whose it is, where she has one. One read by number.
+    fn bidder(&self, tie: &Tie<Bid>) -> Option<Bidder>
+        ensures { result ≡ bidder_told (lines_of self.now.tables.accounts) (bid_of tie.now) }
+    {
+        let user = self.accounts.name_of(tie.pair.user)?;
+        Some(Bidder {
+            bid: tie.value,
+            user,
+        })
+    }
+}
+
+/// Who reviews.
+impl Live {
+    /// Who reviews the paper, where that is told, each as she is told of who stands so to it.
+    pub(crate) fn reviewers_told(
+        &self,
+        alloc: Global,
+        by: &Standing,
+        paper: PaperNo,
+    ) -> Result<Option<Reviewers>, AllocError>
+        ensures { IfOk result (λ reviewers. reviewers ≡ where_told (gets_reviewers by.now) (Some (reviewers_of self.now.tables by.now (ties_of ByPaper paper self.now.tables.seats)))) }
+    {
+        if !gets_reviewers(by) {
+            return Ok(None);
+        }
+        Ok(Some(self.reviewers(alloc, by, self.seats.of_paper(paper))?))
+    }
+
+    /// Those of these seats that nobody has left.
+    fn reviewers(
+        &self,
+        alloc: Global,
+        by: &Standing,
+        seats: &[Tie<Seat>],
+    ) -> Result<Reviewers, AllocError>
+        ensures { IfOk result (λ reviewers. reviewers ≡ reviewers_of self.now.tables by.now seats.now) }
+    {
+        let mut reviewers = Vec::with_capacity(alloc, seats.len())?;
+        for seat in seats {
+            push_some(&mut reviewers, self.reviewer(by, seat))?;
+        }
+        Ok(Reviewers::from_vec(reviewers))
+    }
+
+    /// Who has this seat, unless she has left it, as who stands so to its paper is told of her.
+    fn reviewer(&self, by: &Standing, seat: &Tie<Seat>) -> Option<Reviewer>
+        ensures { result ≡ reviewer_of self.now.tables by.now seat.now }
+    {
+        if seat.value.vacated {
+            return None;
+        }
+        Some(Reviewer {
+            done: done_told(by),
+            kind: kind_told(by, seat.value.kind),
+            label: seat.value.ordinal,
+            user: self.reviewer_name(by, seat.pair.user),
+        })
+    }
+
+    /// A reviewer's name, where it is shown. One read by number, where it is.
+    fn reviewer_name(&self, by: &Standing, user: UserNo) -> Option<Short>
+        ensures { result ≡ where_told (shows_reviewer by.now) (option_map (λ a. a.name) (account_at self.now.tables.accounts user)) }
+    {
+        if !shows_reviewer(by) {
+            return None;
+        }
+        self.accounts.name_of(user)
+    }
+}
