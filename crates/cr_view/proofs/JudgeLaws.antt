@@ -21,6 +21,15 @@ passed {A} {B} checks made x given h =
     let same : ◌≡◌ {A = Result B Rule} (Ok (made given)) (Ok (made x)) = ap (λ (y : A). Ok (made y)) (sym k.1) in
     same ∙ sym (judged-none checks (made x) k.0)
 
+-- both: what is made of what was given, or the rule
+abbrev pub made_of : {A B : Type 0} → (A → B) → Result A Rule → Result B Rule
+made_of make (Ok x) = Ok (make x)
+made_of make (Err rule) = Err rule
+
+pub judged-made : {A B : Type 0} (checks : List Check) (make : A → B) (x : A) (r : Result A Rule) → r ≡ judged checks x → made_of make r ≡ judged checks (make x)
+judged-made checks make x (Ok given) h = passed checks make x given h
+judged-made checks make x (Err rule) h = refused checks x (make x) rule h
+
 -- ---- commands
 
 -- the same command of the same caller

@@ -1,7 +1,9 @@
 pub mod AnswerLaws
+pub mod AssigningLaws
 pub mod ContentLaws
 pub mod FitLaws
 pub mod GroupLaws
 pub mod JudgeLaws
 pub mod MeLaws
+pub mod ReviewingLaws
 pub mod TargetLaws

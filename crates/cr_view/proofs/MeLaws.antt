@@ -1,9 +1,12 @@
 -- What a user is told of herself, by reads of the tables.
-use Rattle.std.proofs.Common.{ℕ, Bool, true, false, cond, ◌≡◌, ◌+◌, ◌<◌, List, [], ◌∷◌, ◌++◌, length, drop, get_or, refl, sym, ap, ◌∙◌, Option, Some, ◌&&◌, ◌||◌}
-use Rattle.std.specs.Prelude.{map, not, filter, unwrap_or}
+use Rattle.std.proofs.Common.{ℕ, Bool, true, false, cond, ◌≡◌, ◌≤◌, ◌+◌, ◌<◌, List, [], ◌∷◌, ◌++◌, length, drop, get_or, eqb, refl, sym, ap, subst, ◌∙◌, arith, Option, Some, is_some, ◌&&◌, ◌||◌}
+use Rattle.std.specs.Prelude.{map, not, filter, find, unwrap_or, nat_le}
 use Rattle.std.specs.Option.{option_map}
+use Rattle.std.proofs.lemmas.Bool.{and_parts, eqb-true, eq-eqb, true≢false}
+use Rattle.std.proofs.lemmas.Bool.Decides.{nat_tests}
 use Rattle.cr_base.specs.declared.entry.Account.{Account}
 use Rattle.cr_base.specs.declared.me.Me.{Me}
+use Rattle.cr_base.specs.declared.seat.Seat.{Seat}
 use Rattle.cr_base.specs.declared.words.Role.{Role}
 use Rattle.cr_base.specs.Accounts.{account_at, role_in}
 use Rattle.cr_base.specs.Answering.{me_by}
@@ -11,13 +14,14 @@ use Rattle.cr_base.specs.Sources.{facts_of_tables}
 use Rattle.cr_base.proofs.ListLaws.{name_in-lines_of}
 use Rattle.cr_base.specs.declared.pairs.Order.TheVariants.{ByPaper, ByUser}
 use Rattle.cr_base.specs.declared.pairs.Tie.{Tie}
-use Rattle.cr_base.specs.Lists.{IsRising, given}
-use Rattle.cr_base.specs.Pairs.{papers_tied_to}
+use Rattle.cr_base.specs.Lists.{IsRising, given, is_number}
+use Rattle.cr_base.specs.Pairs.{has_pair, ties_of, papers_tied_to}
 use Rattle.cr_base.specs.Papers.{paper_count, paper_numbers, own_bytes}
+use Rattle.cr_base.specs.Seats.{SeatsState, seat_in}
 use Rattle.cr_base.specs.Tables.{Tables}
-use Rattle.cr_base.specs.Ties.{BareTies, pair_of, is_author_in, is_conflict_on_in, is_conflicted_in, AreWithin}
+use Rattle.cr_base.specs.Ties.{BareTies, pair_of, bare_tie, is_author_in, is_conflict_on_in, is_conflicted_in, are_within, AreWithin}
 use Rattle.cr_base.proofs.PairLaws.{list_any-others_of}
-use Rattle.cr_base.proofs.RisingLists.{numbers-others_of}
+use Rattle.cr_base.proofs.RisingLists.{has_number, numbers-others_of}
 use Rattle.cr_base.proofs.TieLaws.{within-pair}
 use Rattle.cr_view.proofs.AnswerLaws.{walk-step}
 
@@ -34,6 +38,51 @@ only_declared : (author declared : Bool) → (declared && not author) ≡ ((auth
 only_declared true true = refl
 only_declared true false = refl
 only_declared false declared = refl
+
+-- a paper on which a user has a seat is one of those that have seats
+seat-within : (n p : ℕ) (u : Option ℕ) (ts : SeatsState) → are_within n ts ≡ true → is_some (seat_in ts u p) ≡ true → (1 ≤ p) × (p ≤ n)
+seat-within n p u [] all there = absurd (true≢false (sym there))
+seat-within n p u (s ∷ ts) all there = by (eqb p s.pair.paper) refl there
+  where
+    parts : ((nat_le 1 s.pair.paper && nat_le s.pair.paper n) ≡ true) × (are_within n ts ≡ true)
+    parts = and_parts (nat_le 1 s.pair.paper && nat_le s.pair.paper n) (are_within n ts) all
+
+    low : (p n : ℕ) → (nat_le 1 p && nat_le p n) ≡ true → 1 ≤ p
+    low p n h = grind (arith, nat_tests)
+
+    high : (p n : ℕ) → (nat_le 1 p && nat_le p n) ≡ true → p ≤ n
+    high p n h = grind (arith, nat_tests)
+
+    hers : List (Tie Seat) → Option (Tie Seat)
+    hers seats = find (λ (x : Tie Seat). is_number u x.pair.user) (filter (λ (x : Tie Seat). not x.value.vacated) seats)
+
+    by : (b : Bool) → eqb p s.pair.paper ≡ b → is_some (option_map (λ (x : Tie Seat). x.value.ordinal) (hers (cond b (s ∷ ties_of ByPaper p ts) (ties_of ByPaper p ts)))) ≡ true → (1 ≤ p) × (p ≤ n)
+    by true same h =
+        let e : s.pair.paper ≡ p = sym (eqb-true p s.pair.paper same) in
+        subst (λ (m : ℕ). (1 ≤ m) × (m ≤ n)) e (low s.pair.paper n parts.0, high s.pair.paper n parts.0)
+    by false other h = seat-within n p u ts parts.1 h
+
+-- numbers, as ties of a user to the papers of these numbers
+tied : ℕ → List ℕ → BareTies
+tied user papers = map (λ (p : ℕ). bare_tie p user) papers
+
+papers-tied : (user : ℕ) (papers : List ℕ) → papers_tied_to user (tied user papers) ≡ papers
+papers-tied user [] = refl
+papers-tied user (p ∷ papers) =
+    ap (λ (b : Bool). map (λ (x : Tie (Unit {0})). x.pair.paper) (cond b (bare_tie p user ∷ ties_of ByUser user (tied user papers)) (ties_of ByUser user (tied user papers)))) (eq-eqb user user refl)
+    ∙ ap (λ (ps : List ℕ). p ∷ ps) (papers-tied user papers)
+
+-- the papers that she reviews
+pub own-seats : (t : Tables) (user : ℕ) (papers : List ℕ) → are_within (paper_count t.papers) t.seats ≡ true → IsRising papers
+    → ((p : ℕ) → has_number p papers ≡ is_some (seat_in t.seats (Some user) p)) → papers ≡ filter (λ p. is_some (seat_in t.seats (Some user) p)) (paper_numbers t.papers)
+own-seats t user papers within rising same =
+    let ties : BareTies = tied user papers in
+    let found : (p : ℕ) → is_some (seat_in t.seats (Some user) p) ≡ has_pair (pair_of p user) ties = λ p.
+    sym (same p) ∙ ap (has_number p) (sym (papers-tied user papers)) ∙ list_any-others_of ByUser user p ties in
+    sym
+    (numbers-others_of (λ p. is_some (seat_in t.seats (Some user) p)) ByUser user t.papers.papers ties (subst IsRising (sym (papers-tied user papers)) rising)
+    (λ p there. seat-within (paper_count t.papers) p (Some user) t.seats within (found p ∙ there)) found
+    ∙ papers-tied user papers)
 
 module _ (t : Tables) (user : ℕ) (within : AreWithin (paper_count t.papers) t.ties) where
   -- the papers whose author she is
@@ -56,32 +105,34 @@ module _ (t : Tables) (user : ℕ) (within : AreWithin (paper_count t.papers) t.
 -- ---- the answer
 
 -- what is read piece by piece is what she is told
-pub me-told : (t : Tables) (user bytes : ℕ) (papers conflicts name : List ℕ) (role : Role)
+pub me-told : (t : Tables) (user bytes : ℕ) (assigned papers conflicts name : List ℕ) (role : Role)
+    → assigned ≡ filter (λ p. is_some (seat_in t.seats (Some user) p)) (paper_numbers t.papers)
     → bytes ≡ own_bytes t.papers (Some user)
     → papers ≡ filter (λ p. is_author_in t.ties (Some user) p) (paper_numbers t.papers)
     → conflicts ≡ filter (λ p. is_conflicted_in t.ties (Some user) p && not (is_author_in t.ties (Some user) p)) (paper_numbers t.papers)
     → name ≡ unwrap_or (option_map (λ (a : Account). a.name) (account_at t.accounts user)) []
     → role ≡ role_in t.accounts (Some user)
-    → ◌≡◌ {A = Me} (record { bytes = bytes; conflicts = conflicts; name = name; papers = papers; role = role; user = user }) (me_by (facts_of_tables t (Some user)) user)
-me-told t user bytes papers conflicts name role uploaded hers others named has =
+    → ◌≡◌ {A = Me} (record { assigned = assigned; bytes = bytes; conflicts = conflicts; name = name; papers = papers; role = role; user = user }) (me_by (facts_of_tables t (Some user)) user)
+me-told t user bytes assigned papers conflicts name role reviewed uploaded hers others named has =
     let wanted : Me = me_by (facts_of_tables t (Some user)) user in
     let known : name ≡ wanted.name = named ∙ sym (ap (λ (o : Option (List ℕ)). unwrap_or o []) (name_in-lines_of t.accounts user)) in
-    let told : ℕ → List ℕ → List ℕ → List ℕ → Role → Me = λ b c n p r. record { bytes = b; conflicts = c; name = n; papers = p; role = r; user = user } in
-    ap (λ (b : ℕ). told b conflicts name papers role) uploaded
-    ∙ ap (λ (c : List ℕ). told wanted.bytes c name papers role) others
-    ∙ ap (λ (n : List ℕ). told wanted.bytes wanted.conflicts n papers role) known
-    ∙ ap (λ (p : List ℕ). told wanted.bytes wanted.conflicts wanted.name p role) hers
-    ∙ ap (λ (r : Role). told wanted.bytes wanted.conflicts wanted.name wanted.papers r) has
+    let told : List ℕ → ℕ → List ℕ → List ℕ → List ℕ → Role → Me = λ a b c n p r. record { assigned = a; bytes = b; conflicts = c; name = n; papers = p; role = r; user = user } in
+    ap (λ (a : List ℕ). told a bytes conflicts name papers role) reviewed
+    ∙ ap (λ (b : ℕ). told wanted.assigned b conflicts name papers role) uploaded
+    ∙ ap (λ (c : List ℕ). told wanted.assigned wanted.bytes c name papers role) others
+    ∙ ap (λ (n : List ℕ). told wanted.assigned wanted.bytes wanted.conflicts n papers role) known
+    ∙ ap (λ (p : List ℕ). told wanted.assigned wanted.bytes wanted.conflicts wanted.name p role) hers
+    ∙ ap (λ (r : Role). told wanted.assigned wanted.bytes wanted.conflicts wanted.name wanted.papers r) has
 
 -- ---- walks
 
 -- one more paper of those of ties
-pub papers-step : (ties : BareTies) (i : ℕ) (other : Tie (Unit {0})) (before after wanted : List ℕ)
+pub papers-step : {V : Type 0} (ties : List (Tie V)) (i : ℕ) (other : Tie V) (before after wanted : List ℕ)
     → i < length ties → after ≡ before ++ (get_or ties i other).pair.paper ∷ []
-    → before ++ map (λ (t : Tie (Unit {0})). t.pair.paper) (drop i ties) ≡ wanted
-    → after ++ map (λ (t : Tie (Unit {0})). t.pair.paper) (drop (i + 1) ties) ≡ wanted
-papers-step ties i other before after wanted within pushed told =
-    walk-step (λ (ts : BareTies). map (λ (t : Tie (Unit {0})). t.pair.paper) ts) ((get_or ties i other).pair.paper ∷ []) ties i other before after wanted within (λ rest. refl) pushed told
+    → before ++ map (λ (t : Tie V). t.pair.paper) (drop i ties) ≡ wanted
+    → after ++ map (λ (t : Tie V). t.pair.paper) (drop (i + 1) ties) ≡ wanted
+papers-step {V} ties i other before after wanted within pushed told =
+    walk-step (λ (ts : List (Tie V)). map (λ (t : Tie V). t.pair.paper) ts) ((get_or ties i other).pair.paper ∷ []) ties i other before after wanted within (λ rest. refl) pushed told
 
 -- the same of those that pass a test
 pub kept-step : (test : ℕ → Bool) (ties : BareTies) (i : ℕ) (other : Tie (Unit {0})) (before after wanted : List ℕ)

@@ -1,31 +1,33 @@
 -- What each command draws, by reads of the tables.
 use Rattle.std.proofs.Common.{ℕ, Bool, true, false, cond, ◌≡◌, ◌+◌, length, List, [], ◌∷◌, refl, sym, ap, ◌∙◌, ◌||◌, Option, Some, None, Result, Ok, Err}
-use Rattle.std.specs.Prelude.{map, is_some, is_none, unwrap_or}
+use Rattle.std.specs.Prelude.{map, find, is_some, is_none, unwrap_or}
 use Rattle.std.specs.List.{flat_map, list_any}
 use Rattle.std.specs.Option.{option_map, option_and_then}
 use Rattle.std.specs.Result.{result_and}
-use Rattle.cr_base.specs.declared.command.Command.TheVariants.{Submit, Upload, Name, SetConflict}
+use Rattle.cr_base.specs.declared.command.Command.TheVariants.{Submit, Upload, Name}
 use Rattle.cr_base.specs.declared.entry.Account.{Account}
+use Rattle.cr_base.specs.declared.pairs.Tie.{Tie}
 use Rattle.cr_base.specs.declared.reply.Rule.{Rule}
+use Rattle.cr_base.specs.declared.seat.Seat.{Seat}
 use Rattle.cr_base.specs.declared.standing.Standing.{Standing}
 use Rattle.cr_base.specs.declared.target.Target.{Target}
 use Rattle.cr_base.specs.declared.words.Role.{Role}
 use Rattle.cr_base.specs.Accounts.{number_at, role_at, lines_of}
-use Rattle.cr_base.specs.Checks.{Check, NamedPaper, judged, of_role, submit_checks, revise_checks, upload_checks, name_checks, conflict_checks}
-use Rattle.cr_base.specs.Drawn.{Drawn, submission_drawn, upload_drawn, naming_drawn, conflict_drawn}
-use Rattle.cr_base.specs.Judging.{name_judged, submission_judged, conflict_judged, judge_by_role}
-use Rattle.cr_base.specs.Sources.{has_paper, paper_named, user_among, users_among, standing_at, facts_of_tables, shown_in_tables}
+use Rattle.cr_base.specs.Checks.{Check, judged, of_role, submit_checks, revise_checks, upload_checks, name_checks}
+use Rattle.cr_base.specs.Drawn.{Drawn, submission_drawn, upload_drawn, naming_drawn}
+use Rattle.cr_base.specs.Judging.{name_judged, submission_judged, judge_by_role}
+use Rattle.cr_base.specs.Sources.{user_among, users_among, standing_at, facts_of_tables}
 use Rattle.cr_base.specs.Lists.{listed, at_some, is_number}
-use Rattle.cr_base.specs.Papers.{is_withdrawn_at, uploads_at, own_count, own_bytes}
+use Rattle.cr_base.specs.Papers.{uploads_at, own_count, own_bytes}
+use Rattle.cr_base.specs.Seats.{SeatsState, seats_taken, seat_in}
 use Rattle.cr_base.specs.Tables.{Tables}
 use Rattle.cr_base.specs.Ties.{TiesState, authors_in, is_author_in, is_conflicted_in}
 use Rattle.cr_base.proofs.AccountLaws.{number_in-lines_of}
 use Rattle.cr_base.proofs.ListLaws.{length-numbers_from, role_among-lines_of}
-use Rattle.cr_conflicts.specs.Targets.{target_in, target_of}
 use Rattle.cr_papers.specs.Named.{named_in}
 use Rattle.cr_view.specs.declared.draw.Draw.{Draw}
 use Rattle.cr_view.specs.declared.draw.Draw.TheVariants as draws
-use Rattle.cr_view.specs.ByTables.{submission_at, naming_of, naming_at, asked_at, conflict_at}
+use Rattle.cr_view.specs.ByTables.{submission_at, naming_of, naming_at}
 use Rattle.cr_view.specs.Draws.{drawn_by, drawn_or_rule}
 use Rattle.cr_view.specs.Targets.{target_at, users_at}
 use Rattle.cr_view.proofs.JudgeLaws.{refused, passed}
@@ -45,17 +47,24 @@ pub nobody-conflicted : (ties : TiesState) (user paper : Option ℕ) → user �
 nobody-conflicted ties user None is = refl
 nobody-conflicted ties user (Some p) is = sym (ap (λ (u : Option ℕ). is_conflicted_in ties u p) is ∙ ap (λ b. b || false) (nobody (authors_in ties p)))
 
+nobody-seated : (ts : List (Tie Seat)) → find (λ (s : Tie Seat). is_number None s.pair.user) ts ≡ None
+nobody-seated [] = refl
+nobody-seated (s ∷ ts) = nobody-seated ts
+
+-- nor does nobody review a paper
+pub nobody-seat : (seats : SeatsState) (user : Option ℕ) (p : ℕ) → user ≡ None → None ≡ seat_in seats user p
+nobody-seat seats user p is =
+    sym (ap (λ (u : Option ℕ). seat_in seats u p) is ∙ ap (option_map (λ (s : Tie Seat). s.value.ordinal)) (nobody-seated (seats_taken seats p)))
+
+pub nobody-reviewer : (seats : SeatsState) (user paper : Option ℕ) → user ≡ None → false ≡ at_some (λ p. is_some (seat_in seats user p)) paper
+nobody-reviewer seats user None is = refl
+nobody-reviewer seats user (Some p) is = ap is_some (nobody-seat seats user p is)
+
 -- ---- the user named
 
-target-among : (accounts : List Account) (name : Option (List ℕ)) → user_among (lines_of accounts) name ≡ target_at accounts name
+pub target-among : (accounts : List Account) (name : Option (List ℕ)) → user_among (lines_of accounts) name ≡ target_at accounts name
 target-among accounts None = refl
 target-among accounts (Some name) = number_in-lines_of accounts name
-
--- she is asked about alike by the table of ties and by all tables
-target-asked : (t : Tables) (maker : ℕ) (paper : Option ℕ) (target : Option (ℕ × Role)) (user : Option ℕ) → option_map (λ (p : ℕ × Role). p.0) target ≡ user → option_map (λ (p : ℕ × Role). p.1) target ≡ option_and_then (role_at t.accounts) user → target_of t.ties maker paper target ≡ asked_at t maker paper user
-target-asked t maker paper None user known has = ap (asked_at t maker paper) known
-target-asked t maker paper (Some p) user known has =
-    ap (option_map (target_in t.ties maker paper p.0)) (has ∙ sym (ap (option_and_then (role_at t.accounts)) known)) ∙ ap (asked_at t maker paper) known
 
 -- ---- what is judged
 
@@ -76,13 +85,6 @@ pub judge-name : (t : Tables) (maker : ℕ) (name : Option (List ℕ)) (role : R
 judge-name t maker name role =
     ap (λ (v : Option ℕ). name_judged (facts_of_tables t (Some maker)) (Some maker) v (unwrap_or name []) role) (target-among t.accounts name)
     ∙ ap (λ (now : Option Role). judged (name_checks (standing_at t (Some maker) None) (option_map of_role now) role) (naming_drawn maker (unwrap_or (target_at t.accounts name) 0) (unwrap_or name []) role)) (role_among-lines_of t.accounts (target_at t.accounts name))
-
-pub judge-conflict : (t : Tables) (maker : ℕ) (paper : Option ℕ) (name : Option (List ℕ)) (on : Bool) → judge_by_role t (Some maker) (SetConflict paper name on) ≡ conflict_at t maker paper name on
-judge-conflict t maker paper name on =
-    let target : Option ℕ = target_at t.accounts name in
-    let asked : Option Role → Option Target = λ now. option_map (λ (role : Role). record { role = role; herself = is_number target maker; author = at_some (is_author_in t.ties target) paper }) now in
-    ap (λ (v : Option ℕ). conflict_judged (facts_of_tables t (Some maker)) (shown_in_tables t) (Some maker) paper v on) (target-among t.accounts name)
-    ∙ ap (λ (now : Option Role). judged (conflict_checks (standing_at t (Some maker) paper) (paper_named (facts_of_tables t None) (shown_in_tables t) paper) (asked now) on) (conflict_drawn maker (unwrap_or paper 0) (unwrap_or target 0) on)) (role_among-lines_of t.accounts target)
 
 -- ---- what is drawn
 
@@ -144,27 +146,3 @@ naming-drawn t maker name given user role by kept r is found stands judges told 
     ∙ ap (λ (s : Standing). judged (name_checks s asked role) (naming_drawn maker user given role)) stands
     ∙ ap (λ (v : Option ℕ). naming_of t maker v given role) found
     ∙ sym (ap (λ (n : Option (List ℕ)). naming_at t maker n role) is)
-
--- a conflict, where there are the paper and a user of the name
-pub conflict-drawn : (t : Tables) (maker : ℕ) (paper : Option ℕ) (number : ℕ) (name : Option (List ℕ)) (on found withdrawn : Bool) (by : Standing) (target : Option (ℕ × Role)) (user : ℕ) (kept : Result (Unit {0}) Rule) (r : Result Draw Rule)
-    → paper ≡ Some number → found ≡ has_paper (facts_of_tables t None) paper → found ≡ true → withdrawn ≡ at_some (is_withdrawn_at t.papers) paper → by ≡ standing_at t (Some maker) paper
-    → option_map (λ (p : ℕ × Role). p.0) target ≡ Some user → option_map (λ (p : ℕ × Role). p.0) target ≡ target_at t.accounts name → option_map (λ (p : ℕ × Role). p.1) target ≡ option_and_then (role_at t.accounts) (target_at t.accounts name)
-    → kept ≡ judged (conflict_checks by (record { there = is_some paper; withdrawn = withdrawn }) (target_of t.ties maker paper target) on) tt → r ≡ result_and kept (Ok (draws.Conflict maker number user on))
-    → drawn_or_rule r ≡ conflict_at t maker paper name on
-conflict-drawn t maker paper number name on found withdrawn by target user kept r is there held left stands known named has judges told =
-    let checks : Standing → NamedPaper → Option Target → List Check = λ s p asked. conflict_checks s p asked on in
-    let named_paper : Bool → Bool → NamedPaper = λ there withdrawn. record { there = there; withdrawn = withdrawn } in
-    let given : NamedPaper = named_paper (is_some paper) withdrawn in
-    let due_paper : NamedPaper = paper_named (facts_of_tables t None) (shown_in_tables t) paper in
-    let here : Standing = standing_at t (Some maker) paper in
-    let asked : Option Target = target_of t.ties maker paper target in
-    let draw : Draw = draws.Conflict maker number user on in
-    let same : is_some paper ≡ has_paper (facts_of_tables t None) paper = ap is_some is ∙ sym held ∙ there in
-    let due : Option ℕ → Option ℕ → Result Drawn Rule = λ v p. judged (checks here due_paper (asked_at t maker paper (target_at t.accounts name))) (conflict_drawn maker (unwrap_or p 0) (unwrap_or v 0) on) in
-    drawn-and (checks by given asked) draw kept r judges told
-    ∙ ap (λ (s : Standing). judged (checks s given asked) (drawn_by draw)) stands
-    ∙ ap (λ (b : Bool). judged (checks here (named_paper b withdrawn) asked) (drawn_by draw)) same
-    ∙ ap (λ (b : Bool). judged (checks here (named_paper (has_paper (facts_of_tables t None) paper) b) asked) (drawn_by draw)) left
-    ∙ ap (λ (a : Option Target). judged (checks here due_paper a) (drawn_by draw)) (target-asked t maker paper target (target_at t.accounts name) named has)
-    ∙ ap (λ (v : Option ℕ). due v (Some number)) (sym known ∙ named)
-    ∙ ap (due (target_at t.accounts name)) (sym is)

@@ -1,5 +1,5 @@
 -- What a caller is told of a query.
-use Rattle.std.specs.Prelude.{ℕ, Bool, true, ◌≡◌, ◌≢◌, List, [], map, Option, Some, None, unwrap_or, Result, Ok, Err, IsOk, if◌then◌else◌}
+use Rattle.std.specs.Prelude.{ℕ, Bool, true, false, not, ◌&&◌, ◌≡◌, ◌≢◌, List, [], map, filter, Option, Some, None, unwrap_or, Result, Ok, Err, IsOk, if◌then◌else◌}
 use Rattle.std.specs.List.{flat_map}
 use Rattle.std.specs.Option.{option_map}
 use Rattle.cr_base.specs.declared.command.Query.TheVariants as queries
@@ -16,11 +16,12 @@ use Rattle.cr_base.specs.declared.standing.Standing.{Standing}
 use Rattle.cr_base.specs.Accounts.{lines_of}
 use Rattle.cr_base.specs.Answering.{query_checks, page_by, uploads_told, upload_of, content_by, content_asked, reply_or_rule, bidder_told, reviewer_told}
 use Rattle.cr_base.specs.Checks.{judged, of_there, content_checks}
-use Rattle.cr_base.specs.History.{Upload, BidTold}
+use Rattle.cr_base.specs.History.{Upload, BidTold, SeatTold}
 use Rattle.cr_base.specs.Lists.{listed}
+use Rattle.cr_base.specs.Page.{is_clear_chair, is_clear_member, shows_reviewer, where_told}
 use Rattle.cr_base.specs.Papers.{paper_count, uploads_at}
 use Rattle.cr_base.specs.Seats.{told_of, seat_in}
-use Rattle.cr_base.specs.Sources.{Facts, standing_at, facts_of_tables, shown_in_tables, has_paper, names_in}
+use Rattle.cr_base.specs.Sources.{Facts, standing_at, facts_of_tables, shown_in_tables, has_paper, names_in, name_in}
 use Rattle.cr_base.specs.Tables.{Tables}
 use Rattle.cr_base.specs.Ties.{BareTies, bid_in}
 use Rattle.cr_view.specs.declared.queries.AnswerError.{AnswerError}
@@ -109,9 +110,22 @@ bid_of tie = record { user = tie.pair.user; value = tie.value }
 abbrev pub bidders_of : Tables → List BidTold → List Bidder
 bidders_of t bids = flat_map (λ (bid : BidTold). listed (bidder_told (lines_of t.accounts) bid)) bids
 
--- who has this seat, unless she has left it, as one who stands so to its paper is told of her; and those who have these
-abbrev pub reviewer_of : Tables → Standing → Tie Seat → Option Reviewer
-reviewer_of t by seat = if seat.value.vacated then None else Some (reviewer_told by (lines_of t.accounts) (told_of seat))
+-- whoever has these seats and has not left them
+abbrev pub seated : List (Tie Seat) → List SeatTold
+seated seats = map told_of (filter (λ (seat : Tie Seat). not seat.value.vacated) seats)
 
-abbrev pub reviewers_of : Tables → Standing → List (Tie Seat) → List Reviewer
-reviewers_of t by seats = flat_map (λ (seat : Tie Seat). listed (reviewer_of t by seat)) seats
+-- reviewers, as one who stands so to their paper is told of them
+abbrev pub reviewers_of : Tables → Standing → List SeatTold → List Reviewer
+reviewers_of t by seats = map (reviewer_told by (lines_of t.accounts)) seats
+
+-- the name of whoever has this seat, where it is shown and she has not left it; and a reviewer of this name
+abbrev pub seat_name : Tables → Standing → Tie Seat → Option (List ℕ)
+seat_name t by seat = where_told (not seat.value.vacated && shows_reviewer by) (name_in (lines_of t.accounts) seat.pair.user)
+
+abbrev pub reviewer_of : Standing → Tie Seat → Option (List ℕ) → Option Reviewer
+reviewer_of by seat name = if seat.value.vacated then None else Some (record {
+  done = where_told (is_clear_chair by) (Some false);
+  kind = where_told (is_clear_member by) (Some seat.value.kind);
+  label = seat.value.ordinal;
+  user = name;
+})

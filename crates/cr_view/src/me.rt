@@ -21,7 +21,7 @@ impl Live {
         self.law_within();
         let papers = papers_of(alloc, self.ties.authored(user))?;
         let conflicts = self.others(alloc, user, self.ties.conflicting(user))?;
-        let assigned = papers_of(alloc, self.seats.reviewing(user))?;
+        let assigned = papers_of(alloc, self.seats.reviewed(user))?;
         Ok(Me {
             assigned,
             bytes: self.papers.bytes_of_user(user),
@@ -68,7 +68,7 @@ fn push_where(papers: &mut Vec<PaperNo>, told: bool, paper: PaperNo) -> Result<(
 }
 
 /// The papers of these ties; an error only for lack of memory.
-fn papers_of(alloc: Global, ties: &[Tie<()>]) -> Result<PaperNos, AllocError>
+fn papers_of<V>(alloc: Global, ties: &[Tie<V>]) -> Result<PaperNos, AllocError>
     ensures { IfOk result (λ papers. papers ≡ map (λ tie. tie.pair.paper) ties.now) }
 {
     let mut papers = Vec::with_capacity(alloc, ties.len())?;

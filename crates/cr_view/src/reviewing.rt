@@ -1,15 +1,12 @@
 //! What a page tells of bids on a paper and of its reviewers.
 ghost use Rattle.std.specs.Prelude.{◌≡◌, IfOk, Some, map, unwrap_or};
-ghost use Rattle.std.specs.Option.{option_map};
-ghost use Rattle.cr_base.specs.declared.pairs.Order.TheVariants.{ByPaper};
-ghost use Rattle.cr_base.specs.Accounts.{account_at, lines_of};
+ghost use Rattle.cr_base.specs.Accounts.{lines_of};
 ghost use Rattle.cr_base.specs.Answering.{bidder_told};
-ghost use Rattle.cr_base.specs.Page.{gets_bid, gets_bids, gets_label, gets_reviewers, shows_reviewer, where_told};
-ghost use Rattle.cr_base.specs.Pairs.{ties_of};
-ghost use Rattle.cr_base.specs.Seats.{seat_in};
+ghost use Rattle.cr_base.specs.Page.{gets_bid, gets_bids, gets_label, gets_reviewers, where_told};
+ghost use Rattle.cr_base.specs.Seats.{seat_in, reviewers_in};
 ghost use Rattle.cr_base.specs.Ties.{bid_in, bids_in};
 ghost use Rattle.cr_base.specs.Words.{no_bid};
-ghost use Rattle.cr_view.specs.Replies.{bid_of, bidders_of, reviewer_of, reviewers_of};
+ghost use Rattle.cr_view.specs.Replies.{bid_of, bidders_of, reviewer_of, reviewers_of, seat_name, seated};
 
 use crate::lists::push_some;
 use crate::live::Live;
@@ -94,11 +91,13 @@ impl Live {
     fn bidder(&self, tie: &Tie<Bid>) -> Option<Bidder>
         ensures { result ≡ bidder_told (lines_of self.now.tables.accounts) (bid_of tie.now) }
     {
-        let user = self.accounts.name_of(tie.pair.user)?;
-        Some(Bidder {
-            bid: tie.value,
-            user,
-        })
+        match self.accounts.name_of(tie.pair.user) {
+            Some(user) => Some(Bidder {
+                bid: tie.value,
+                user,
+            }),
+            None => None,
+        }
     }
 }
 
@@ -111,12 +110,12 @@ impl Live {
         by: &Standing,
         paper: PaperNo,
     ) -> Result<Option<Reviewers>, AllocError>
-        ensures { IfOk result (λ reviewers. reviewers ≡ where_told (gets_reviewers by.now) (Some (reviewers_of self.now.tables by.now (ties_of ByPaper paper self.now.tables.seats)))) }
+        ensures { IfOk result (λ reviewers. reviewers ≡ where_told (gets_reviewers by.now) (Some (reviewers_of self.now.tables by.now (reviewers_in self.now.tables.seats paper)))) }
     {
         if !gets_reviewers(by) {
             return Ok(None);
         }
-        Ok(Some(self.reviewers(alloc, by, self.seats.of_paper(paper))?))
+        Ok(Some(self.reviewers(alloc, by, self.seats.seats(paper))?))
     }
 
     /// Those of these seats that nobody has left.
@@ -126,37 +125,40 @@ impl Live {
         by: &Standing,
         seats: &[Tie<Seat>],
     ) -> Result<Reviewers, AllocError>
-        ensures { IfOk result (λ reviewers. reviewers ≡ reviewers_of self.now.tables by.now seats.now) }
+        ensures { IfOk result (λ reviewers. reviewers ≡ reviewers_of self.now.tables by.now (seated seats.now)) }
     {
         let mut reviewers = Vec::with_capacity(alloc, seats.len())?;
         for seat in seats {
-            push_some(&mut reviewers, self.reviewer(by, seat))?;
+            let name = self.reviewer_name(by, seat);
+            push_some(&mut reviewers, reviewer(by, seat, name))?;
         }
         Ok(Reviewers::from_vec(reviewers))
     }
 
-    /// Who has this seat, unless she has left it, as who stands so to its paper is told of her.
-    fn reviewer(&self, by: &Standing, seat: &Tie<Seat>) -> Option<Reviewer>
-        ensures { result ≡ reviewer_of self.now.tables by.now seat.now }
+    /// The name of who has this seat, where it is shown, unless she has left it. One read by number, where
+    /// it is.
+    fn reviewer_name(&self, by: &Standing, seat: &Tie<Seat>) -> Option<Short>
+        ensures { result ≡ seat_name self.now.tables by.now seat.now }
     {
-        if seat.value.vacated {
+        if seat.value.vacated || !shows_reviewer(by) {
             return None;
         }
-        Some(Reviewer {
-            done: done_told(by),
-            kind: kind_told(by, seat.value.kind),
-            label: seat.value.ordinal,
-            user: self.reviewer_name(by, seat.pair.user),
-        })
+        self.accounts.name_of(seat.pair.user)
     }
+}
 
-    /// A reviewer's name, where it is shown. One read by number, where it is.
-    fn reviewer_name(&self, by: &Standing, user: UserNo) -> Option<Short>
-        ensures { result ≡ where_told (shows_reviewer by.now) (option_map (λ a. a.name) (account_at self.now.tables.accounts user)) }
-    {
-        if !shows_reviewer(by) {
-            return None;
-        }
-        self.accounts.name_of(user)
+/// Who has this seat, under this name where it is shown, as who stands so to the seat's paper is told of
+/// her; none where she has left it.
+fn reviewer(by: &Standing, seat: &Tie<Seat>, name: Option<Short>) -> Option<Reviewer>
+    ensures { result ≡ reviewer_of by.now seat.now name }
+{
+    if seat.value.vacated {
+        return None;
     }
+    Some(Reviewer {
+        done: done_told(by),
+        kind: kind_told(by, seat.value.kind),
+        label: seat.value.ordinal,
+        user: name,
+    })
 }

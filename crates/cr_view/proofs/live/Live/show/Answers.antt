@@ -31,7 +31,7 @@ returns c =
     sym
     (ap (λ (page : Page). Ok page)
     (c.in_ok-page-in-Some.ensures
-    ∙ ap (λ (s : Standing). page_at t s c.in-Some.paper) by
-    ∙ ap (λ (o : Option ℕ). page_at t (standing_at t u o) c.in-Some.paper) c.in-Some.is
+    ∙ ap (λ (s : Standing). page_at t u s c.in-Some.paper) by
+    ∙ ap (λ (o : Option ℕ). page_at t u (standing_at t u o) c.in-Some.paper) c.in-Some.is
     ∙ sym (ap (λ (o : Option ℕ). page_by facts (shown_in_tables t) (unwrap_or o 0)) c.in-Some.is))
     ∙ passed checks (λ (s : Standing). page_by facts (shown_in_tables t) (unwrap_or p 0)) (standing_at t u p) c.in-Ok.by c.in-Ok.ensures)

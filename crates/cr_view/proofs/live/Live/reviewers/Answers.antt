@@ -1,0 +1,20 @@
+use Rattle.std.proofs.Common.{ℕ, List, ◌++◌, ◌∙◌, Option, ap}
+use Rattle.cr_base.specs.declared.page.Reviewer.{Reviewer}
+use Rattle.cr_base.specs.declared.pairs.Tie.{Tie}
+use Rattle.cr_base.specs.declared.seat.Seat.{Seat}
+use Rattle.cr_base.specs.Lists.{listed}
+use Rattle.cr_view.specs.Replies.{seat_name, reviewer_of}
+use Rattle.cr_view.proofs.ReviewingLaws.{reviewers-step}
+use Rattle.cr_view.proofs.live.Live.reviewers.Goals as goal
+
+pub loop-seat-preserved : goal.loop-seat-preserved
+loop-seat-preserved c =
+    let t = c.args.self.now.tables in
+    let by = c.args.by.now in
+    let before : List Reviewer = c.loop-seat.reviewers.items in
+    let pushed =
+    c.in_ok-push_some.ensures
+    ∙ ap (λ (o : Option Reviewer). before ++ listed o) c.reviewer.ensures
+    ∙ ap (λ (name : Option (List ℕ)). before ++ listed (reviewer_of by c.seat-item.result name)) c.reviewer_name-name.ensures
+    ∙ ap (λ (seat : Tie Seat). before ++ listed (reviewer_of by seat (seat_name t by seat))) c.seat-item.is in
+    reviewers-step t by c.args.seats.now c.loop-seat.seat-index c.seat-item.result before _ _ c.loop-seat-test.true pushed c.loop-seat.invariant
