@@ -1,5 +1,5 @@
 -- Who reviews a paper behind earlier entries, and how many labels it has given, from what these tell.
-use Rattle.std.proofs.Common.{ℕ, Bool, true, false, cond, ◌≡◌, ◌≤◌, ◌+◌, [], ◌∷◌, length, eqb, refl, ap, ◌∙◌, arith, fold, Option, Some}
+use Rattle.std.proofs.Common.{ℕ, Bool, true, false, cond, ◌≡◌, ◌+◌, [], ◌∷◌, length, eqb, refl, ap, ◌∙◌, arith, fold, Option, Some}
 use Rattle.std.specs.Prelude.{not, count_by}
 use Rattle.std.proofs.lemmas.List.Sums.{sum_by-cons}
 use Rattle.cr_base.specs.declared.entry.Entry.{Entry}

@@ -1,6 +1,6 @@
 //! The seats of papers, and who reviews which.
 ghost use Rattle.std.specs.Prelude.{false, ◌≡◌, ◌==◌, ◌≤◌, ◌<◌, ◌+◌, OnOk, Some, length, map, is_some};
-ghost use Rattle.std.specs.List.{list_any};
+ghost use Rattle.std.specs.List.{All, list_any};
 ghost use Rattle.cr_base.specs.declared.pairs.Order.TheVariants.{ByPaper};
 ghost use Rattle.cr_base.specs.declared.entry.Entry.TheVariants.{Assigned, Unassigned};
 ghost use Rattle.cr_base.specs.Checks.{judged, assign_checks, unassign_checks};
@@ -109,6 +109,7 @@ impl Seats {
     pub fn reviewed(&self, user: UserNo) -> &[Tie<Ordinal>]
         ensures papers { (p : _) → list_any (λ m. p == m) (map (λ t. t.pair.paper) result.now) ≡ is_some (seat_in self.now.seats (Some user) p) }
         ensures rising { IsRising (map (λ t. t.pair.paper) result.now) }
+        ensures ordinals { All (λ t. seat_in self.now.seats (Some user) t.pair.paper ≡ Some t.value) result.now }
     {
         self.reviewing.of_user(user)
     }

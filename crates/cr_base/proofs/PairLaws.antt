@@ -1,6 +1,6 @@
 -- What is there after a tie came into a list or a pair went out of it, what is kept of a pair, and that the order stays.
 use Rattle.std.proofs.Common.{ℕ, Bool, true, false, cond, not, ◌||◌, ◌&&◌, ◌≡◌, List, [], ◌∷◌, map, eqb, refl, sym, ap, ◌∙◌, arith, Option, Some, None}
-use Rattle.std.specs.Prelude.{find, is_some}
+use Rattle.std.specs.Prelude.{find}
 use Rattle.std.specs.Cmp.Derive.{both_true}
 use Rattle.std.specs.List.{filter, list_any, list_all}
 use Rattle.std.specs.Option.{option_map}
@@ -175,15 +175,6 @@ module _ {V : Type 0} (q : Pair) where
   kept-split : (is : Bool) (t : Tie V) (behind : Option (Tie V)) → kept_first is t behind ≡ cond is (Some t.value) (option_map (λ (x : Tie V). x.value) behind)
   kept-split true t behind = refl
   kept-split false t behind = refl
-
-  -- it is there where something is kept of it
-  pub value_of-has_pair : (ts : List (Tie V)) → is_some (value_of q ts) ≡ has_pair q ts
-  value_of-has_pair [] = refl
-  value_of-has_pair (t ∷ ts) = ap is_some (kept-split (is_tied q t) t (find (is_tied q) ts)) ∙ by (is_tied q t) (value_of-has_pair ts)
-    where
-      by : (is : Bool) → is_some (value_of q ts) ≡ has_pair q ts → is_some (cond is (Some t.value) (value_of q ts)) ≡ (is || has_pair q ts)
-      by true rest = refl
-      by false rest = rest
 
   -- a tie came in: what is kept of its pair is its own, and of every other pair what was
   pub value_of-with_tie : (order : Order) (s : Tie V) (ts : List (Tie V)) → value_of q (with_tie order s ts) ≡ cond (same_pair q s.pair) (Some s.value) (value_of q ts)

@@ -1,13 +1,16 @@
-use Rattle.std.proofs.Common.{◌∙◌, Some, map, eqb, ap, sym, subst}
+use Rattle.std.proofs.Common.{ℕ, List, ◌≡◌, ◌∙◌, Some, map, eqb, ap, sym, subst}
 use Rattle.std.specs.Prelude.{is_some}
-use Rattle.std.specs.List.{list_any}
+use Rattle.std.specs.List.{All, list_any}
 use Rattle.cr_base.specs.declared.pairs.Order.TheVariants.{ByUser}
+use Rattle.cr_base.specs.declared.pairs.Tie.{Tie}
 use Rattle.cr_base.specs.Lists.{IsRising}
-use Rattle.cr_base.specs.Seats.{seat_in}
+use Rattle.cr_base.specs.Seats.{SeatsState, seat_in}
 use Rattle.cr_base.specs.Ties.{pair_of}
-use Rattle.cr_base.proofs.PairLaws.{list_any-others_of, value_of-has_pair}
+use Rattle.cr_base.proofs.PairLaws.{list_any-others_of}
 use Rattle.cr_base.proofs.RisingLists.{rising-others_of}
+use Rattle.cr_base.proofs.TieValues.{is_some-value_of}
 use Rattle.cr_assign.specs.Seen.{SeenSeats}
+use Rattle.cr_assign.proofs.ReviewedLaws.{reviewed-under}
 use Rattle.cr_assign.proofs.seats.Seats.reviewed.Goals as goal
 
 pub returns-clause-papers : goal.returns-clause-papers
@@ -17,7 +20,7 @@ returns-clause-papers c =
     λ p.
     ap (λ ts. list_any (λ m. eqb p m) (map (λ t. t.pair.paper) ts)) c.of_user.ensures.ties
     ∙ list_any-others_of ByUser user p reviewing
-    ∙ sym (value_of-has_pair (pair_of p user) reviewing)
+    ∙ sym (is_some-value_of (pair_of p user) reviewing)
     ∙ ap is_some (c.self.invariant.same (pair_of p user))
     ∙ ap (λ (v : SeenSeats). is_some (seat_in v.seats (Some user) p)) c.self.view_is
 
@@ -26,3 +29,12 @@ returns-clause-rising c =
     let x = c.self.inside in
     subst (λ ts. IsRising (map (λ t. t.pair.paper) ts)) (sym c.of_user.ensures.ties)
     (rising-others_of x.reviewing.order ByUser c.args.user x.reviewing.ties c.of_user.ensures.order)
+
+pub returns-clause-ordinals : goal.returns-clause-ordinals
+returns-clause-ordinals c =
+    let x = c.self.inside in
+    let user = c.args.user in
+    let under : SeatsState → List (Tie ℕ) → Type 0 = λ seats ts. All (λ (t : Tie ℕ). seat_in seats (Some user) t.pair.paper ≡ Some t.value) ts in
+    subst (λ (v : SeenSeats). under v.seats c.of_user.result.now) c.self.view_is
+    (subst (under x.seats.items) (sym c.of_user.ensures.ties)
+    (reviewed-under x.seats.items x.reviewing.order x.reviewing.ties c.self.invariant c.of_user.ensures.order user))
