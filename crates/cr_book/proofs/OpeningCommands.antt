@@ -408,12 +408,12 @@ module _ (H : History) (legal : Legal H) where
           few_of n h = grind (arith, nat_tests, h)
       by false few told = absurd (none_some command told)
 
-  -- and so is a command that names a user
-  naming-allowed : (maker user : ℕ) (command : Command) (naming : List ℕ → Command) → ((name : List ℕ) → IsBoundedCommand (naming name)) → IsRegistered H maker → option_map naming (name_told t user) ≡ Some command
+  -- a command that names a user is allowed, where it is with every name
+  naming-allowed : (maker user : ℕ) (command : Command) (naming : List ℕ → Command) → ((name : List ℕ) → IsAllowed H (record { caller = Some maker; command = naming name })) → option_map naming (name_told t user) ≡ Some command
       → IsAllowed H (record { caller = Some maker; command = command })
-  naming-allowed maker user command naming bounded made told =
+  naming-allowed maker user command naming allowed told =
       let name = told-name (name_told t user) naming command told in
-      subst (λ (c : Command). IsAllowed H (record { caller = Some maker; command = c })) name.1 (record { caller = made; bounded = bounded name.0 })
+      subst (λ (c : Command). IsAllowed H (record { caller = Some maker; command = c })) name.1 (allowed name.0)
 
   -- a user's is allowed, where the entry is within its bounds
   user-allowed : (authors : List (Option (List ℕ))) (maker : ℕ) (more : Bool) (e : Entry) (command : Command) → IsBoundedEntry (record { maker = maker; more = more; entry = e }) → IsRegistered H maker → user_command_told t authors e ≡ Some command
@@ -429,10 +429,10 @@ module _ (H : History) (legal : Legal H) where
       subst (λ (c : Command). IsAllowed H (record { caller = Some maker; command = c })) (some_is (Withdraw (Some paper)) command told) (record { caller = made; bounded = tt })
   user-allowed authors maker more (entries.Bid paper value) command bounded made told =
       subst (λ (c : Command). IsAllowed H (record { caller = Some maker; command = c })) (some_is (commands.Bid (Some paper) value) command told) (record { caller = made; bounded = bounded.n2.1 })
-  user-allowed authors maker more (Named user role) command bounded made told = naming-allowed maker user command (λ name. Name (Some name) role) (λ name. member_named role bounded.n2.0) made told
-  user-allowed authors maker more (Conflict paper user on) command bounded made told = naming-allowed maker user command (λ name. SetConflict (Some paper) (Some name) on) (λ name. tt) made told
-  user-allowed authors maker more (Assigned paper user kind ordinal) command bounded made told = naming-allowed maker user command (λ name. Assign (Some paper) (Some name) kind) (λ name. tt) made told
-  user-allowed authors maker more (Unassigned paper user ordinal) command bounded made told = naming-allowed maker user command (λ name. Unassign (Some paper) (Some name)) (λ name. tt) made told
+  user-allowed authors maker more (Named user role) command bounded made told = naming-allowed maker user command (λ name. Name (Some name) role) (λ name. record { caller = made; bounded = member_named role bounded.n2.0 }) told
+  user-allowed authors maker more (Conflict paper user on) command bounded made told = naming-allowed maker user command (λ name. SetConflict (Some paper) (Some name) on) (λ name. record { caller = made; bounded = tt }) told
+  user-allowed authors maker more (Assigned paper user kind ordinal) command bounded made told = naming-allowed maker user command (λ name. Assign (Some paper) (Some name) kind) (λ name. record { caller = made; bounded = tt }) told
+  user-allowed authors maker more (Unassigned paper user ordinal) command bounded made told = naming-allowed maker user command (λ name. Unassign (Some paper) (Some name)) (λ name. record { caller = made; bounded = tt }) told
   user-allowed authors maker more e command bounded made told = absurd (none_some command told)
 
   -- and so is any
