@@ -42,7 +42,7 @@ only_declared false declared = refl
 -- a paper on which a user has a seat is one of those that have seats
 seat-within : (n p : ℕ) (u : Option ℕ) (ts : SeatsState) → are_within n ts ≡ true → is_some (seat_in ts u p) ≡ true → (1 ≤ p) × (p ≤ n)
 seat-within n p u [] all there = absurd (true≢false (sym there))
-seat-within n p u (s ∷ ts) all there = by (eqb p s.pair.paper) refl there
+seat-within n p u (s ∷ ts) all there = by (eqb p s.pair.paper) refl there (seat-within n p u ts parts.1)
   where
     parts : ((nat_le 1 s.pair.paper && nat_le s.pair.paper n) ≡ true) × (are_within n ts ≡ true)
     parts = and_parts (nat_le 1 s.pair.paper && nat_le s.pair.paper n) (are_within n ts) all
@@ -56,14 +56,15 @@ seat-within n p u (s ∷ ts) all there = by (eqb p s.pair.paper) refl there
     hers : List (Tie Seat) → Option (Tie Seat)
     hers seats = find (λ (x : Tie Seat). is_number u x.pair.user) (filter (λ (x : Tie Seat). not x.value.vacated) seats)
 
-    by : (b : Bool) → eqb p s.pair.paper ≡ b → is_some (option_map (λ (x : Tie Seat). x.value.ordinal) (hers (cond b (s ∷ ties_of ByPaper p ts) (ties_of ByPaper p ts)))) ≡ true → (1 ≤ p) × (p ≤ n)
-    by true same h =
+    by : (b : Bool) → eqb p s.pair.paper ≡ b → is_some (option_map (λ (x : Tie Seat). x.value.ordinal) (hers (cond b (s ∷ ties_of ByPaper p ts) (ties_of ByPaper p ts)))) ≡ true
+        → (is_some (seat_in ts u p) ≡ true → (1 ≤ p) × (p ≤ n)) → (1 ≤ p) × (p ≤ n)
+    by true same h rest =
         let e : s.pair.paper ≡ p = sym (eqb-true p s.pair.paper same) in
         subst (λ (m : ℕ). (1 ≤ m) × (m ≤ n)) e (low s.pair.paper n parts.0, high s.pair.paper n parts.0)
-    by false other h = seat-within n p u ts parts.1 h
+    by false other h rest = rest h
 
 -- numbers, as ties of a user to the papers of these numbers
-tied : ℕ → List ℕ → BareTies
+abbrev tied : ℕ → List ℕ → BareTies
 tied user papers = map (λ (p : ℕ). bare_tie p user) papers
 
 papers-tied : (user : ℕ) (papers : List ℕ) → papers_tied_to user (tied user papers) ≡ papers
