@@ -3,7 +3,8 @@ use Rattle.std.specs.Prelude.{ℕ, List, Option, Some, None, codes}
 use Rattle.serde_json.specs.Data.{Data}
 use Rattle.cr_base.specs.declared.command.Command.{Command}
 use Rattle.cr_base.specs.declared.command.Command.TheVariants as commands
-use Rattle.cr_bodies.specs.Field.{◌>>=◌, abstract_under, bid_under, digest_under, flag_under, kind_under, mode_under, name_under, names_under, phase_under, role_under, title_under, user_under}
+use Rattle.cr_bodies.specs.Field.{◌>>=◌, abstract_under, bid_under, digest_under, flag_under, kind_under, mode_under}
+use Rattle.cr_bodies.specs.Field.{name_under, names_under, phase_under, role_under, title_under, user_under}
 use Rattle.cr_bodies.specs.Json.{json_of}
 use Rattle.cr_base.specs.declared.ask.Ask.{Ask}
 use Rattle.cr_base.specs.declared.ask.Ask.TheVariants as asks

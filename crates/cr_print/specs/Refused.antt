@@ -2,8 +2,9 @@
 use Rattle.std.specs.Prelude.{ℕ, List, Some, codes}
 use Rattle.json.specs.Print.{quoted}
 use Rattle.cr_base.specs.declared.reply.Rule.{Rule as BaseRule}
-use Rattle.cr_base.specs.declared.reply.Rule.TheVariants.{NameTaken, FullAccounts, NotChair, WrongPhase, FullPapers, QuotaPapers, NoPaper, NotMember, NoUser, AlreadyNamed, NotAuthor, NotAMember, Conflict, Withdrawn, QuotaBytes, NoContent, AuthorConflict}
-use Rattle.cr_base.specs.declared.reply.Rule.TheVariants.{TargetConflict, AlreadyAssigned, LabelsSpent, NotAssigned}
+use Rattle.cr_base.specs.declared.reply.Rule.TheVariants.{NameTaken, FullAccounts, NotChair, WrongPhase, FullPapers, QuotaPapers, NoPaper}
+use Rattle.cr_base.specs.declared.reply.Rule.TheVariants.{NotMember, NoUser, AlreadyNamed, NotAuthor, NotAMember, Conflict, Withdrawn, QuotaBytes}
+use Rattle.cr_base.specs.declared.reply.Rule.TheVariants.{NoContent, AuthorConflict, TargetConflict, AlreadyAssigned, LabelsSpent, NotAssigned}
 use Rattle.cr_http.specs.declared.refusal.Refusal.{Refusal}
 use Rattle.cr_http.specs.declared.refusal.Refusal.TheVariants.{HeadTooLarge, BadHttp, NoHost, LengthRequired, BadLength, TooLarge}
 use Rattle.cr_print.specs.declared.refused.Refused.{Refused}

@@ -1,7 +1,8 @@
 -- The paths of the server.
 use Rattle.std.specs.Prelude.{ℕ, List, [], ◌∷◌, codes}
 use Rattle.cr_routes.specs.declared.place.Place.{Place}
-use Rattle.cr_routes.specs.declared.place.Place.TheVariants.{Register, Accounts, Members, Mode, Phase, Papers, Paper, Content, Version, Conflicts, Bid, Reviewers, Reviewer, Me}
+use Rattle.cr_routes.specs.declared.place.Place.TheVariants.{Register, Accounts, Members, Mode, Phase, Me}
+use Rattle.cr_routes.specs.declared.place.Place.TheVariants.{Papers, Paper, Content, Version, Conflicts, Bid, Reviewers, Reviewer}
 
 -- each path, with its place; a parameter is written in braces. They stand in the order in which the router keeps them:
 -- by their bytes, a path behind those that it is the start of
