@@ -10,10 +10,12 @@ use Rattle.std.proofs.lemmas.Bool.Decides.{nat_tests}
 use Rattle.std.proofs.lemmas.List.{length-map}
 use Rattle.cr_base.specs.declared.command.Command.{Command}
 use Rattle.cr_base.specs.declared.command.Command.TheVariants as commands
-use Rattle.cr_base.specs.declared.command.Command.TheVariants.{Register, SetPhase, Submit, Revise, Upload, Withdraw, Name, SetMode, SetConflict, Assign, Unassign}
+use Rattle.cr_base.specs.declared.command.Command.TheVariants.{Register, SetPhase, Submit, Revise, Upload, Withdraw, Name, SetMode, SetConflict}
+use Rattle.cr_base.specs.declared.command.Command.TheVariants.{Assign, Unassign}
 use Rattle.cr_base.specs.declared.entry.Entry.{Entry}
 use Rattle.cr_base.specs.declared.entry.Entry.TheVariants as entries
-use Rattle.cr_base.specs.declared.entry.Entry.TheVariants.{Registered, Named, PhaseSet, ModeSet, Submitted, Revised, Uploaded, Withdrawn, Conflict, Assigned, Unassigned}
+use Rattle.cr_base.specs.declared.entry.Entry.TheVariants.{Registered, Named, PhaseSet, ModeSet, Submitted, Revised, Uploaded, Withdrawn, Conflict}
+use Rattle.cr_base.specs.declared.entry.Entry.TheVariants.{Assigned, Unassigned}
 use Rattle.cr_base.specs.declared.entry.Stamped.{Stamped}
 use Rattle.cr_base.specs.declared.reply.AccountLine.{AccountLine}
 use Rattle.cr_base.specs.declared.reply.Rule.{Rule}
@@ -29,12 +31,14 @@ use Rattle.cr_base.specs.Bounds.{IsBoundedCommand}
 use Rattle.cr_base.specs.HistoryFacts.{role_of}
 use Rattle.cr_base.specs.History.{History, Registration, all_told, registration_told}
 use Rattle.cr_base.specs.Judging.{judge_by_role}
-use Rattle.cr_base.specs.Drawn.{Drawn, besides, grouped, registration_drawn, phase_drawn, submission_drawn, revision_drawn, upload_drawn, withdrawal_drawn, naming_drawn, mode_drawn, conflict_drawn, bid_drawn, assignment_drawn, unassignment_drawn}
+use Rattle.cr_base.specs.Drawn.{Drawn, besides, grouped, registration_drawn, phase_drawn, submission_drawn, revision_drawn, upload_drawn, withdrawal_drawn, naming_drawn, mode_drawn, conflict_drawn}
+use Rattle.cr_base.specs.Drawn.{bid_drawn, assignment_drawn, unassignment_drawn}
 use Rattle.cr_base.specs.Lists.{is_nothing, listed}
 use Rattle.cr_base.specs.Papers.{own_bytes, uploads_at}
 use Rattle.cr_base.specs.Seats.{labels_in, seat_in}
 use Rattle.cr_base.specs.Sources.{Facts, number_in, paper_named, role_among, shown_in_tables, target_named, user_among, users_among, facts_of_tables, standing_at}
-use Rattle.cr_base.specs.Checks.{Check, NamedPaper, judged, of_role, register_checks, phase_checks, submit_checks, revise_checks, upload_checks, name_checks, mode_checks, conflict_checks, bid_checks, assign_checks, unassign_checks}
+use Rattle.cr_base.specs.Checks.{Check, NamedPaper, judged, of_role, register_checks, phase_checks, submit_checks, revise_checks, upload_checks, name_checks, mode_checks, conflict_checks}
+use Rattle.cr_base.specs.Checks.{bid_checks, assign_checks, unassign_checks}
 use Rattle.cr_base.specs.Texts.{IsTitle, IsAbstract}
 use Rattle.cr_base.proofs.CheckLaws.{NoneBroken, judged-Ok, judged-none}
 use Rattle.cr_book.proofs.OpeningAuthors.{new-besides, found-back, none-missing, all-listed, coauthors, grouped-cons, numbers, begin-first, told-first, open-rest, same-begin, IsNumber, bounded-numbers, Rebuilt, rebuilt, Become, become}
@@ -236,50 +240,87 @@ module _ (t : Tables) (rows : List Row) (drawn : Drawn) (begins : take (length r
     abbrev named_user : Option ℕ → Option ℕ → Option Target
     named_user paper target = target_named (facts_of_tables t (Some user)) (shown_in_tables t) (Some user) paper target
 
-    -- A command that names a user on a paper, by its rules, which want both to be there, and by what it draws: one entry, which
-    -- tells the command.
-    module _ (made : Option ℕ → Option (List ℕ) → Command) (checks : Option ℕ → Option ℕ → List Check) (draws : Option ℕ → Option ℕ → Drawn) (e : ℕ → ℕ → Entry)
-        (judges : (paper : Option ℕ) (name : Option (List ℕ)) → judge_by_role t (Some user) (made paper name) ≡ judged (checks paper (found name)) (draws paper (found name)))
-        (no_paper : (target : Option ℕ) → NoneBroken (checks None target) → ⊥) (no_user : (p : ℕ) → NoneBroken (checks (Some p) None) → ⊥)
-        (group : (p v : ℕ) → (draws (Some p) (Some v)).group ≡ grouped user (e p v ∷ [])) (given : (p v : ℕ) → giver_told user (e p v) ≡ Some user)
-        (tells : (p v : ℕ) → command_told t (authors_told t user rows) (e p v) ≡ option_map (λ (n : List ℕ). made (Some p) (Some n)) (name_told t v)) where
-      on-paper-told : (paper : Option ℕ) (name : Option (List ℕ)) → judge_by_role t (Some user) (made paper name) ≡ Ok drawn → Told t rows drawn
-      on-paper-told None name accepted = absurd (no_paper (found name) (judged-Ok (checks None (found name)) (draws None (found name)) drawn (sym (judges None name) ∙ accepted)).0)
-      on-paper-told (Some p) None accepted = absurd (no_user p (judged-Ok (checks (Some p) None) (draws (Some p) None) drawn (sym (judges (Some p) None) ∙ accepted)).0)
-      on-paper-told (Some p) (Some name) accepted = by (found (Some name)) refl
-        where
-          kept : NoneBroken (checks (Some p) (found (Some name))) × (draws (Some p) (found (Some name)) ≡ drawn)
-          kept = judged-Ok (checks (Some p) (found (Some name))) (draws (Some p) (found (Some name))) drawn (sym (judges (Some p) (Some name)) ∙ accepted)
+    -- A command that names a user on a paper, with its rules, which want both to be there, and with what it draws: one entry,
+    -- which tells the command.
+    record OnPaper : Type 0 where
+      made : Option ℕ → Option (List ℕ) → Command
+      entry : ℕ → ℕ → Entry
+      checks : Option ℕ → Option ℕ → List Check
+      draws : Option ℕ → Option ℕ → Drawn
+      judges : (paper : Option ℕ) (name : Option (List ℕ))
+          → judge_by_role t (Some user) (made paper name) ≡ judged (checks paper (found name)) (draws paper (found name))
+      no_paper : (target : Option ℕ) → NoneBroken (checks None target) → ⊥
+      no_user : (p : ℕ) → NoneBroken (checks (Some p) None) → ⊥
+      group : (p v : ℕ) → (draws (Some p) (Some v)).group ≡ grouped user (entry p v ∷ [])
+      given : (p v : ℕ) → giver_told user (entry p v) ≡ Some user
+      tells : (p v : ℕ) → command_told t (authors_told t user rows) (entry p v) ≡ option_map (λ (n : List ℕ). made (Some p) (Some n)) (name_told t v)
 
-          by : (target : Option ℕ) → found (Some name) ≡ target → Told t rows drawn
-          by None is = absurd (no_user p (subst (λ (o : Option ℕ). NoneBroken (checks (Some p) o)) is kept.0))
-          by (Some v) is =
-              told-single user (e p v) (made (Some p) (Some name)) (draws (Some p) (Some v)) (group p v) (ap (draws (Some p)) (sym is) ∙ kept.1) (given p v) known
-              (tells p v ∙ ap (option_map (λ (n : List ℕ). made (Some p) (Some n))) (named t name v (sym (number_in-lines_of t.accounts name) ∙ is))) accepted
-
-    conflict-told : (paper : Option ℕ) (name : Option (List ℕ)) (on : Bool) → judge_by_role t (Some user) (SetConflict paper name on) ≡ Ok drawn → Told t rows drawn
-    conflict-told paper name on accepted =
-        on-paper-told (λ paper name. SetConflict paper name on) (λ paper target. conflict_checks (standing_at t (Some user) paper) (named_paper paper) (named_user paper target) on)
-        (λ paper target. conflict_drawn user (unwrap_or paper 0) (unwrap_or target 0) on) (λ p v. Conflict p v on)
-        (λ paper name. refl) (λ target none. true≢false none.0) (λ p none. true≢false none.1.0) (λ p v. refl) (λ p v. refl) (λ p v. refl) paper name accepted
-
-    assignment-told : (paper : Option ℕ) (name : Option (List ℕ)) (kind : Kind) → judge_by_role t (Some user) (Assign paper name kind) ≡ Ok drawn → Told t rows drawn
-    assignment-told paper name kind accepted =
-        on-paper-told (λ paper name. Assign paper name kind) (λ paper target. assign_checks (standing_at t (Some user) paper) (named_paper paper) (named_user paper target) (labels paper))
-        (λ paper target. assignment_drawn user (unwrap_or paper 0) (unwrap_or target 0) kind (labels paper + 1)) (λ p v. Assigned p v kind (labels (Some p) + 1))
-        (λ paper name. refl) (λ target none. true≢false none.0) (λ p none. true≢false none.1.0) (λ p v. refl) (λ p v. refl) (λ p v. refl) paper name accepted
+    on-paper-told : (c : OnPaper) (paper : Option ℕ) (name : Option (List ℕ)) → judge_by_role t (Some user) (c.made paper name) ≡ Ok drawn → Told t rows drawn
+    on-paper-told c paper name accepted =
+        by paper name accepted (judged-Ok (c.checks paper (found name)) (c.draws paper (found name)) drawn (sym (c.judges paper name) ∙ accepted))
       where
-        labels : Option ℕ → ℕ
-        labels paper = labels_in t.seats (unwrap_or paper 0)
+        of_user : (p : ℕ) (name : List ℕ) → judge_by_role t (Some user) (c.made (Some p) (Some name)) ≡ Ok drawn
+            → (target : Option ℕ) → found (Some name) ≡ target
+            → NoneBroken (c.checks (Some p) target) × (c.draws (Some p) target ≡ drawn) → Told t rows drawn
+        of_user p name accepted None is kept = absurd (c.no_user p kept.0)
+        of_user p name accepted (Some v) is kept =
+            let found_by = named t name v (sym (number_in-lines_of t.accounts name) ∙ is) in
+            told-single user (c.entry p v) (c.made (Some p) (Some name)) (c.draws (Some p) (Some v)) (c.group p v) kept.1 (c.given p v) known
+            (c.tells p v ∙ ap (option_map (λ (n : List ℕ). c.made (Some p) (Some n))) found_by) accepted
 
-    unassignment-told : (paper : Option ℕ) (name : Option (List ℕ)) → judge_by_role t (Some user) (Unassign paper name) ≡ Ok drawn → Told t rows drawn
-    unassignment-told paper name accepted =
-        on-paper-told (λ paper name. Unassign paper name) (λ paper target. unassign_checks (standing_at t (Some user) paper) (named_paper paper) (named_user paper target))
-        (λ paper target. unassignment_drawn user (unwrap_or paper 0) (unwrap_or target 0) (seat paper target)) (λ p v. Unassigned p v (seat (Some p) (Some v)))
-        (λ paper name. refl) (λ target none. true≢false none.0) (λ p none. true≢false none.1.0) (λ p v. refl) (λ p v. refl) (λ p v. refl) paper name accepted
-      where
-        seat : Option ℕ → Option ℕ → ℕ
-        seat paper target = unwrap_or (seat_in t.seats target (unwrap_or paper 0)) 0
+        by : (paper : Option ℕ) (name : Option (List ℕ)) → judge_by_role t (Some user) (c.made paper name) ≡ Ok drawn
+            → NoneBroken (c.checks paper (found name)) × (c.draws paper (found name) ≡ drawn) → Told t rows drawn
+        by None name accepted kept = absurd (c.no_paper (found name) kept.0)
+        by (Some p) None accepted kept = absurd (c.no_user p kept.0)
+        by (Some p) (Some name) accepted kept = of_user p name accepted (found (Some name)) refl kept
+
+    abbrev conflict : Bool → OnPaper
+    conflict on = record {
+      made = λ paper name. SetConflict paper name on;
+      entry = λ p v. Conflict p v on;
+      checks = λ paper target. conflict_checks (standing_at t (Some user) paper) (named_paper paper) (named_user paper target) on;
+      draws = λ paper target. conflict_drawn user (unwrap_or paper 0) (unwrap_or target 0) on;
+      judges = λ paper name. refl;
+      no_paper = λ target none. true≢false none.0;
+      no_user = λ p none. true≢false none.1.0;
+      group = λ p v. refl;
+      given = λ p v. refl;
+      tells = λ p v. refl;
+    }
+
+    abbrev labels : Option ℕ → ℕ
+    labels paper = labels_in t.seats (unwrap_or paper 0)
+
+    abbrev assignment : Kind → OnPaper
+    assignment kind = record {
+      made = λ paper name. Assign paper name kind;
+      entry = λ p v. Assigned p v kind (labels (Some p) + 1);
+      checks = λ paper target. assign_checks (standing_at t (Some user) paper) (named_paper paper) (named_user paper target) (labels paper);
+      draws = λ paper target. assignment_drawn user (unwrap_or paper 0) (unwrap_or target 0) kind (labels paper + 1);
+      judges = λ paper name. refl;
+      no_paper = λ target none. true≢false none.0;
+      no_user = λ p none. true≢false none.1.0;
+      group = λ p v. refl;
+      given = λ p v. refl;
+      tells = λ p v. refl;
+    }
+
+    abbrev seat : Option ℕ → Option ℕ → ℕ
+    seat paper target = unwrap_or (seat_in t.seats target (unwrap_or paper 0)) 0
+
+    abbrev unassignment : OnPaper
+    unassignment = record {
+      made = Unassign;
+      entry = λ p v. Unassigned p v (seat (Some p) (Some v));
+      checks = λ paper target. unassign_checks (standing_at t (Some user) paper) (named_paper paper) (named_user paper target);
+      draws = λ paper target. unassignment_drawn user (unwrap_or paper 0) (unwrap_or target 0) (seat paper target);
+      judges = λ paper name. refl;
+      no_paper = λ target none. true≢false none.0;
+      no_user = λ p none. true≢false none.1.0;
+      group = λ p v. refl;
+      given = λ p v. refl;
+      tells = λ p v. refl;
+    }
 
     -- what is done to a paper without naming a user
     revision-told : (paper : Option ℕ) (title abstract : List ℕ) → judge_by_role t (Some user) (Revise paper title abstract) ≡ Ok drawn → Told t rows drawn
@@ -303,7 +344,8 @@ module _ (t : Tables) (rows : List Row) (drawn : Drawn) (begins : take (length r
         (judged-Ok (revise_checks (standing_at t (Some user) (Some p)) (named_paper (Some p))) (withdrawal_drawn user p) drawn accepted).1 refl known refl accepted
 
     bid-told : (paper : Option ℕ) (value : ℕ) → judge_by_role t (Some user) (commands.Bid paper value) ≡ Ok drawn → Told t rows drawn
-    bid-told None value accepted = absurd (true≢false (judged-Ok (bid_checks (standing_at t (Some user) None) (named_paper None)) (bid_drawn user 0 value) drawn accepted).0.0)
+    bid-told None value accepted =
+        absurd (true≢false (judged-Ok (bid_checks (standing_at t (Some user) None) (named_paper None)) (bid_drawn user 0 value) drawn accepted).0.0)
     bid-told (Some p) value accepted =
         told-single user (entries.Bid p value) (commands.Bid (Some p) value) (bid_drawn user p value) refl
         (judged-Ok (bid_checks (standing_at t (Some user) (Some p)) (named_paper (Some p))) (bid_drawn user p value) drawn accepted).1 refl known refl accepted
@@ -342,10 +384,13 @@ accepted-told H call drawn r behind legal allowed accepted begins bounded = by c
     by (Some user) (Upload paper content) is within judges = upload-told t rows drawn begins user (registered user is) paper content judges
     by (Some user) (Withdraw paper) is within judges = withdrawal-told t rows drawn begins user (registered user is) paper judges
     by (Some user) (Name name role) is within judges = name-told t rows drawn begins user (registered user is) name role judges
-    by (Some user) (SetConflict paper name on) is within judges = conflict-told t rows drawn begins user (registered user is) paper name on judges
+    by (Some user) (SetConflict paper name on) is within judges =
+        on-paper-told t rows drawn begins user (registered user is) (conflict t rows drawn begins user (registered user is) on) paper name judges
     by (Some user) (commands.Bid paper value) is within judges = bid-told t rows drawn begins user (registered user is) paper value judges
-    by (Some user) (Assign paper name kind) is within judges = assignment-told t rows drawn begins user (registered user is) paper name kind judges
-    by (Some user) (Unassign paper name) is within judges = unassignment-told t rows drawn begins user (registered user is) paper name judges
+    by (Some user) (Assign paper name kind) is within judges =
+        on-paper-told t rows drawn begins user (registered user is) (assignment t rows drawn begins user (registered user is) kind) paper name judges
+    by (Some user) (Unassign paper name) is within judges =
+        on-paper-told t rows drawn begins user (registered user is) (unassignment t rows drawn begins user (registered user is)) paper name judges
 
 -- ---- the call of an entry
 
@@ -409,7 +454,8 @@ module _ (H : History) (legal : Legal H) where
       by false few told = absurd (none_some command told)
 
   -- a command that names a user is allowed, where it is with every name
-  naming-allowed : (maker user : ℕ) (command : Command) (naming : List ℕ → Command) → ((name : List ℕ) → IsAllowed H (record { caller = Some maker; command = naming name })) → option_map naming (name_told t user) ≡ Some command
+  naming-allowed : (maker user : ℕ) (command : Command) (naming : List ℕ → Command)
+      → ((name : List ℕ) → IsAllowed H (record { caller = Some maker; command = naming name })) → option_map naming (name_told t user) ≡ Some command
       → IsAllowed H (record { caller = Some maker; command = command })
   naming-allowed maker user command naming allowed told =
       let name = told-name (name_told t user) naming command told in
@@ -428,11 +474,16 @@ module _ (H : History) (legal : Legal H) where
   user-allowed authors maker more (Withdrawn paper) command bounded made told =
       subst (λ (c : Command). IsAllowed H (record { caller = Some maker; command = c })) (some_is (Withdraw (Some paper)) command told) (record { caller = made; bounded = tt })
   user-allowed authors maker more (entries.Bid paper value) command bounded made told =
-      subst (λ (c : Command). IsAllowed H (record { caller = Some maker; command = c })) (some_is (commands.Bid (Some paper) value) command told) (record { caller = made; bounded = bounded.n2.1 })
-  user-allowed authors maker more (Named user role) command bounded made told = naming-allowed maker user command (λ name. Name (Some name) role) (λ name. record { caller = made; bounded = member_named role bounded.n2.0 }) told
-  user-allowed authors maker more (Conflict paper user on) command bounded made told = naming-allowed maker user command (λ name. SetConflict (Some paper) (Some name) on) (λ name. record { caller = made; bounded = tt }) told
-  user-allowed authors maker more (Assigned paper user kind ordinal) command bounded made told = naming-allowed maker user command (λ name. Assign (Some paper) (Some name) kind) (λ name. record { caller = made; bounded = tt }) told
-  user-allowed authors maker more (Unassigned paper user ordinal) command bounded made told = naming-allowed maker user command (λ name. Unassign (Some paper) (Some name)) (λ name. record { caller = made; bounded = tt }) told
+      let is = some_is (commands.Bid (Some paper) value) command told in
+      subst (λ (c : Command). IsAllowed H (record { caller = Some maker; command = c })) is (record { caller = made; bounded = bounded.n2.1 })
+  user-allowed authors maker more (Named user role) command bounded made told =
+      naming-allowed maker user command (λ name. Name (Some name) role) (λ name. record { caller = made; bounded = member_named role bounded.n2.0 }) told
+  user-allowed authors maker more (Conflict paper user on) command bounded made told =
+      naming-allowed maker user command (λ name. SetConflict (Some paper) (Some name) on) (λ name. record { caller = made; bounded = tt }) told
+  user-allowed authors maker more (Assigned paper user kind ordinal) command bounded made told =
+      naming-allowed maker user command (λ name. Assign (Some paper) (Some name) kind) (λ name. record { caller = made; bounded = tt }) told
+  user-allowed authors maker more (Unassigned paper user ordinal) command bounded made told =
+      naming-allowed maker user command (λ name. Unassign (Some paper) (Some name)) (λ name. record { caller = made; bounded = tt }) told
   user-allowed authors maker more e command bounded made told = absurd (none_some command told)
 
   -- and so is any

@@ -6,16 +6,15 @@ use Rattle.hex.specs.Hex.{encode_lower}
 use Rattle.json.specs.Print.{quoted}
 use Rattle.cr_base.specs.declared.entry.EntryKind.{EntryKind}
 use Rattle.cr_base.specs.declared.entry.EntryKind.TheVariants as kinds
-use Rattle.cr_base.specs.declared.words.Kind.{Kind}
 use Rattle.cr_base.specs.declared.words.Phase.{Phase}
 use Rattle.cr_base.specs.declared.words.Mode.{Mode}
 use Rattle.cr_base.specs.declared.words.Role.{Role}
 use Rattle.cr_base.specs.Page.{where_told}
 use Rattle.cr_base.specs.Rows.{kind_name}
-use Rattle.cr_base.specs.Words.{mode_name, phase_name, role_name, seat_name}
+use Rattle.cr_base.specs.Words.{mode_name, phase_name, role_name}
 use Rattle.cr_policy.specs.Sighting.{Sighting}
 use Rattle.cr_policy.specs.View.{View}
-use Rattle.cr_print.specs.Json.{Member, bid_text, member_of, object_text, truth_text}
+use Rattle.cr_print.specs.Json.{Member, bid_text, member_of, object_text, seat_text, truth_text}
 
 -- ---- the values of members, where names and texts are strings and numbers decimal
 
@@ -27,7 +26,7 @@ digest_text digest = quoted (encode_lower digest)
 abbrev pub content_text : List ℕ → List ℕ
 content_text content = decimal (length content)
 
--- a phase, a mode, a role and a kind of assignment by their words
+-- a phase, a mode and a role by their words
 abbrev pub phase_text : Phase → List ℕ
 phase_text phase = quoted (phase_name phase)
 
@@ -36,9 +35,6 @@ mode_text mode = quoted (mode_name mode)
 
 abbrev pub role_text : Role → List ℕ
 role_text role = quoted (role_name role)
-
-abbrev pub seat_text : Kind → List ℕ
-seat_text seat = quoted (seat_name seat)
 
 -- ---- the users of an entry
 

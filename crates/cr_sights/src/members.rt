@@ -3,8 +3,8 @@ ghost use Rattle.std.specs.Prelude.{◌≡◌, List, ℕ, Some, decimal, option_
 ghost use Rattle.std.specs.Option.{option_copied};
 ghost use Rattle.hex.specs.Hex.{encode_lower};
 ghost use Rattle.json.specs.Print.{quoted};
-ghost use Rattle.cr_print.specs.Json.{AddsMembers, bid_text, member_of, truth_text};
-ghost use Rattle.cr_sights.specs.Lines.{content_text, digest_text, mode_text, phase_text, role_text, seat_text};
+ghost use Rattle.cr_print.specs.Json.{AddsMembers, bid_text, member_of, seat_text};
+ghost use Rattle.cr_sights.specs.Lines.{content_text, digest_text, mode_text, phase_text, role_text};
 
 use cr_base::{Bid, Blob, Digest, Kind, Mode, Ordinal, PaperNo, Phase, Role, Short, Text, UserNo};
 use cr_print::Object;

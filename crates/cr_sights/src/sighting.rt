@@ -228,7 +228,8 @@ fn submission<'a>(
     abstract_: &'a Text,
 ) -> Sighting<'a>
     requires { stamped.now.entry ≡ Submitted paper title.now abstract_.now }
-    ensures { (at : Around) → none_alike stamped.now.entry at.after ≡ is_last → result ∷ [] ≡ sight_at (reader_in live.now.tables (Some reader)) at stamped.now }
+    ensures { (at : Around) → none_alike stamped.now.entry at.after ≡ is_last
+        → result ∷ [] ≡ sight_at (reader_in live.now.tables (Some reader)) at stamped.now }
 {
     let mine = reader == stamped.maker;
     let by = live.standing(&Some(reader), &Some(paper));
@@ -274,7 +275,8 @@ fn revision<'a>(
     abstract_: &'a Text,
 ) -> Option<Sighting<'a>>
     requires { stamped.now.entry ≡ Revised paper title.now abstract_.now }
-    ensures { (at : Around) → none_alike stamped.now.entry at.after ≡ is_last → listed result ≡ sight_at (reader_in live.now.tables (Some reader)) at stamped.now }
+    ensures { (at : Around) → none_alike stamped.now.entry at.after ≡ is_last
+        → listed result ≡ sight_at (reader_in live.now.tables (Some reader)) at stamped.now }
 {
     if !tells_revision(live, reader, stamped.maker, is_last, paper) {
         return None;
@@ -300,7 +302,8 @@ fn upload<'a>(
     content: &'a Blob,
 ) -> Option<Sighting<'a>>
     requires { stamped.now.entry ≡ Uploaded paper version content.now }
-    ensures { (at : Around) → none_alike stamped.now.entry at.after ≡ is_last → listed result ≡ sight_at (reader_in live.now.tables (Some reader)) at stamped.now }
+    ensures { (at : Around) → none_alike stamped.now.entry at.after ≡ is_last
+        → listed result ≡ sight_at (reader_in live.now.tables (Some reader)) at stamped.now }
 {
     if !tells_upload(live, reader, stamped.maker, is_last, paper) {
         return None;

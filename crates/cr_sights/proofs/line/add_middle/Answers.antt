@@ -5,5 +5,6 @@ use Rattle.cr_sights.proofs.line.add_middle.Goals as goal
 pub returns : goal.returns
 unfolding middle_members
 returns c =
-    let all = c.in_ok-fixed.ensures then c.in_ok-add.ensures then c.in_ok-add-2.ensures then c.in_ok-truth.ensures then c.in_ok-add-3.ensures then c.in_ok-add-4.ensures in
+    let first = c.in_ok-fixed.ensures then c.in_ok-add.ensures then c.in_ok-add-2.ensures then c.in_ok-truth.ensures in
+    let all = first then c.in_ok-add-3.ensures then c.in_ok-add-4.ensures in
     rw (← c.sighting.view_is, ← c.as_ref.ensures.value, ← c.as_ref-2.ensures.value, ← c.as_ref-3.ensures.value) all
