@@ -254,11 +254,13 @@ impl Ties {
         let Some((user, role)) = target else {
             return Err(Rule::NoUser);
         };
+        let author = self.is_author_behind(*user, *paper, earlier);
+        let declared = self.is_declared_behind(*user, *paper, earlier);
         let target = Target {
             role: *role,
             herself: user.number() == maker.number(),
-            author: self.is_author_behind(*user, *paper, earlier),
-            conflicted: self.is_conflicted(*user, *paper, earlier),
+            author,
+            conflicted: author || declared,
             reviewer: false,
         };
         if on {
