@@ -26,7 +26,8 @@ abbrev pub made_of : {A B : Type 0} → (A → B) → Result A Rule → Result B
 made_of make (Ok x) = Ok (make x)
 made_of make (Err rule) = Err rule
 
-pub judged-made : {A B : Type 0} (checks : List Check) (make : A → B) (x : A) (r : Result A Rule) → r ≡ judged checks x → made_of make r ≡ judged checks (make x)
+pub judged-made : {A B : Type 0} (checks : List Check) (make : A → B) (x : A) (r : Result A Rule)
+    → r ≡ judged checks x → made_of make r ≡ judged checks (make x)
 judged-made checks make x (Ok given) h = passed checks make x given h
 judged-made checks make x (Err rule) h = refused checks x (make x) rule h
 

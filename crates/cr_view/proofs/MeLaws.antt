@@ -1,5 +1,6 @@
 -- What a user is told of herself, by reads of the tables.
-use Rattle.std.proofs.Common.{ℕ, Bool, true, false, cond, ◌≡◌, ◌≤◌, ◌+◌, ◌<◌, List, [], ◌∷◌, ◌++◌, length, drop, get_or, eqb, refl, sym, ap, subst, ◌∙◌, arith, Option, Some, is_some, ◌&&◌, ◌||◌}
+use Rattle.std.proofs.Common.{ℕ, Bool, true, false, cond, ◌≡◌, ◌≤◌, ◌+◌, ◌<◌, List, [], ◌∷◌, ◌++◌, length}
+use Rattle.std.proofs.Common.{drop, get_or, eqb, refl, sym, ap, subst, ◌∙◌, arith, Option, Some, is_some, ◌&&◌, ◌||◌}
 use Rattle.std.specs.Prelude.{map, not, filter, find, unwrap_or, nat_le}
 use Rattle.std.specs.Option.{option_map}
 use Rattle.std.proofs.lemmas.Bool.{and_parts, eqb-true, eq-eqb, true≢false}
@@ -56,7 +57,8 @@ seat-within n p u (s ∷ ts) all there = by (eqb p s.pair.paper) refl there (sea
     hers : List (Tie Seat) → Option (Tie Seat)
     hers seats = find (λ (x : Tie Seat). is_number u x.pair.user) (filter (λ (x : Tie Seat). not x.value.vacated) seats)
 
-    by : (b : Bool) → eqb p s.pair.paper ≡ b → is_some (option_map (λ (x : Tie Seat). x.value.ordinal) (hers (cond b (s ∷ ties_of ByPaper p ts) (ties_of ByPaper p ts)))) ≡ true
+    by : (b : Bool) → eqb p s.pair.paper ≡ b
+        → is_some (option_map (λ (x : Tie Seat). x.value.ordinal) (hers (cond b (s ∷ ties_of ByPaper p ts) (ties_of ByPaper p ts)))) ≡ true
         → (is_some (seat_in ts u p) ≡ true → (1 ≤ p) × (p ≤ n)) → (1 ≤ p) × (p ≤ n)
     by true same h rest =
         let e : s.pair.paper ≡ p = sym (eqb-true p s.pair.paper same) in
@@ -70,12 +72,14 @@ tied user papers = map (λ (p : ℕ). bare_tie p user) papers
 papers-tied : (user : ℕ) (papers : List ℕ) → papers_tied_to user (tied user papers) ≡ papers
 papers-tied user [] = refl
 papers-tied user (p ∷ papers) =
-    ap (λ (b : Bool). map (λ (x : Tie (Unit {0})). x.pair.paper) (cond b (bare_tie p user ∷ ties_of ByUser user (tied user papers)) (ties_of ByUser user (tied user papers)))) (eq-eqb user user refl)
+    let hers : BareTies = ties_of ByUser user (tied user papers) in
+    ap (λ (b : Bool). map (λ (x : Tie (Unit {0})). x.pair.paper) (cond b (bare_tie p user ∷ hers) hers)) (eq-eqb user user refl)
     ∙ ap (λ (ps : List ℕ). p ∷ ps) (papers-tied user papers)
 
 -- the papers that she reviews
 pub own-seats : (t : Tables) (user : ℕ) (papers : List ℕ) → are_within (paper_count t.papers) t.seats ≡ true → IsRising papers
-    → ((p : ℕ) → has_number p papers ≡ is_some (seat_in t.seats (Some user) p)) → papers ≡ filter (λ p. is_some (seat_in t.seats (Some user) p)) (paper_numbers t.papers)
+    → ((p : ℕ) → has_number p papers ≡ is_some (seat_in t.seats (Some user) p))
+    → papers ≡ filter (λ p. is_some (seat_in t.seats (Some user) p)) (paper_numbers t.papers)
 own-seats t user papers within rising same =
     let ties : BareTies = tied user papers in
     let found : (p : ℕ) → is_some (seat_in t.seats (Some user) p) ≡ has_pair (pair_of p user) ties = λ p.
@@ -113,11 +117,13 @@ pub me-told : (t : Tables) (user bytes : ℕ) (assigned papers conflicts name : 
     → conflicts ≡ filter (λ p. is_conflicted_in t.ties (Some user) p && not (is_author_in t.ties (Some user) p)) (paper_numbers t.papers)
     → name ≡ unwrap_or (option_map (λ (a : Account). a.name) (account_at t.accounts user)) []
     → role ≡ role_in t.accounts (Some user)
-    → ◌≡◌ {A = Me} (record { assigned = assigned; bytes = bytes; conflicts = conflicts; name = name; papers = papers; role = role; user = user }) (me_by (facts_of_tables t (Some user)) user)
+    → ◌≡◌ {A = Me} (record { assigned = assigned; bytes = bytes; conflicts = conflicts; name = name; papers = papers; role = role; user = user })
+    (me_by (facts_of_tables t (Some user)) user)
 me-told t user bytes assigned papers conflicts name role reviewed uploaded hers others named has =
     let wanted : Me = me_by (facts_of_tables t (Some user)) user in
     let known : name ≡ wanted.name = named ∙ sym (ap (λ (o : Option (List ℕ)). unwrap_or o []) (name_in-lines_of t.accounts user)) in
-    let told : List ℕ → ℕ → List ℕ → List ℕ → List ℕ → Role → Me = λ a b c n p r. record { assigned = a; bytes = b; conflicts = c; name = n; papers = p; role = r; user = user } in
+    let told : List ℕ → ℕ → List ℕ → List ℕ → List ℕ → Role → Me =
+    λ a b c n p r. record { assigned = a; bytes = b; conflicts = c; name = n; papers = p; role = r; user = user } in
     ap (λ (a : List ℕ). told a bytes conflicts name papers role) reviewed
     ∙ ap (λ (b : ℕ). told wanted.assigned b conflicts name papers role) uploaded
     ∙ ap (λ (c : List ℕ). told wanted.assigned wanted.bytes c name papers role) others
@@ -133,7 +139,8 @@ pub papers-step : {V : Type 0} (ties : List (Tie V)) (i : ℕ) (other : Tie V) (
     → before ++ map (λ (t : Tie V). t.pair.paper) (drop i ties) ≡ wanted
     → after ++ map (λ (t : Tie V). t.pair.paper) (drop (i + 1) ties) ≡ wanted
 papers-step {V} ties i other before after wanted within pushed told =
-    walk-step (λ (ts : List (Tie V)). map (λ (t : Tie V). t.pair.paper) ts) ((get_or ties i other).pair.paper ∷ []) ties i other before after wanted within (λ rest. refl) pushed told
+    let first : List ℕ = (get_or ties i other).pair.paper ∷ [] in
+    walk-step (λ (ts : List (Tie V)). map (λ (t : Tie V). t.pair.paper) ts) first ties i other before after wanted within (λ rest. refl) pushed told
 
 -- the same of those that pass a test
 pub kept-step : (test : ℕ → Bool) (ties : BareTies) (i : ℕ) (other : Tie (Unit {0})) (before after wanted : List ℕ)

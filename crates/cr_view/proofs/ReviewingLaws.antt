@@ -1,5 +1,5 @@
 -- What a page tells of bids and reviewers, by reads of the tables.
-use Rattle.std.proofs.Common.{ℕ, Bool, true, false, cond, ◌≡◌, ◌+◌, ◌<◌, List, [], ◌∷◌, ◌++◌, length, drop, get_or, refl, sym, ap, ◌∙◌, Option, Some, None}
+use Rattle.std.proofs.Common.{ℕ, Bool, true, false, cond, ◌≡◌, ◌+◌, ◌<◌, List, ◌∷◌, ◌++◌, length, drop, get_or, refl, sym, ap, ◌∙◌, Option, Some, None}
 use Rattle.std.specs.Prelude.{map, filter, not, ◌&&◌}
 use Rattle.std.specs.Option.{option_map}
 use Rattle.cr_base.specs.declared.entry.Account.{Account}
@@ -27,9 +27,12 @@ untold {A} false value none = refl
 -- ---- bids
 
 -- a bid, with the name that is found
-pub bidder-is : (accounts : List Account) (tie : Tie ℕ) (found : Option (List ℕ)) → found ≡ option_map (λ (a : Account). a.name) (account_at accounts tie.pair.user)
+pub bidder-is : (accounts : List Account) (tie : Tie ℕ) (found : Option (List ℕ))
+    → found ≡ option_map (λ (a : Account). a.name) (account_at accounts tie.pair.user)
     → ◌≡◌ {A = Option Bidder} (option_map (λ (name : List ℕ). record { bid = tie.value; user = name }) found) (bidder_told (lines_of accounts) (bid_of tie))
-bidder-is accounts tie found is = ap (λ (o : Option (List ℕ)). option_map (λ (name : List ℕ). record { bid = tie.value; user = name }) o) (is ∙ sym (name_in-lines_of accounts tie.pair.user))
+bidder-is accounts tie found is =
+    ap (λ (o : Option (List ℕ)). option_map (λ (name : List ℕ). record { bid = tie.value; user = name }) o)
+    (is ∙ sym (name_in-lines_of accounts tie.pair.user))
 
 -- one more bid
 pub bidders-step : (t : Tables) (ties : List (Tie ℕ)) (i : ℕ) (other : Tie ℕ) (before after wanted : List Bidder)
@@ -37,7 +40,8 @@ pub bidders-step : (t : Tables) (ties : List (Tie ℕ)) (i : ℕ) (other : Tie �
     → before ++ bidders_of t (map bid_of (drop i ties)) ≡ wanted
     → after ++ bidders_of t (map bid_of (drop (i + 1) ties)) ≡ wanted
 bidders-step t ties i other before after wanted within pushed told =
-    walk-step (λ (ts : List (Tie ℕ)). bidders_of t (map bid_of ts)) (listed (bidder_told (lines_of t.accounts) (bid_of (get_or ties i other)))) ties i other before after wanted within (λ rest. refl) pushed told
+    let first : Option Bidder = bidder_told (lines_of t.accounts) (bid_of (get_or ties i other)) in
+    walk-step (λ (ts : List (Tie ℕ)). bidders_of t (map bid_of ts)) (listed first) ties i other before after wanted within (λ rest. refl) pushed told
 
 -- ---- reviewers
 
@@ -50,7 +54,8 @@ seat-name-is t by seat found stays shows is =
     ∙ ap (λ (b : Bool). where_told b (name_in (lines_of t.accounts) seat.pair.user)) shows)
 
 -- who has the first of these seats comes first, unless she has left it
-reviewer-first : (t : Tables) (by : Standing) (seat : Tie Seat) (rest : List (Tie Seat)) → reviewers_of t by (seated (seat ∷ rest)) ≡ listed (reviewer_of by seat (seat_name t by seat)) ++ reviewers_of t by (seated rest)
+reviewer-first : (t : Tables) (by : Standing) (seat : Tie Seat) (rest : List (Tie Seat))
+    → reviewers_of t by (seated (seat ∷ rest)) ≡ listed (reviewer_of by seat (seat_name t by seat)) ++ reviewers_of t by (seated rest)
 reviewer-first t by seat rest = split seat.value.vacated
   where
     kept : List (Tie Seat)
@@ -64,7 +69,8 @@ reviewer-first t by seat rest = split seat.value.vacated
       user = where_told (not left && shows_reviewer by) (name_in (lines_of t.accounts) seat.pair.user);
     }
 
-    split : (left : Bool) → map (reviewer_told by (lines_of t.accounts)) (map told_of (cond (not left) (seat ∷ kept) kept)) ≡ listed (cond left None (Some (told left))) ++ map (reviewer_told by (lines_of t.accounts)) (map told_of kept)
+    split : (left : Bool) → map (reviewer_told by (lines_of t.accounts)) (map told_of (cond (not left) (seat ∷ kept) kept))
+        ≡ listed (cond left None (Some (told left))) ++ map (reviewer_told by (lines_of t.accounts)) (map told_of kept)
     split true = refl
     split false = refl
 
@@ -75,4 +81,6 @@ pub reviewers-step : (t : Tables) (by : Standing) (seats : List (Tie Seat)) (i :
     → after ++ reviewers_of t by (seated (drop (i + 1) seats)) ≡ wanted
 reviewers-step t by seats i other before after wanted within pushed told =
     let seat : Tie Seat = get_or seats i other in
-    walk-step (λ (ts : List (Tie Seat)). reviewers_of t by (seated ts)) (listed (reviewer_of by seat (seat_name t by seat))) seats i other before after wanted within (reviewer-first t by seat) pushed told
+    let first : Option Reviewer = reviewer_of by seat (seat_name t by seat) in
+    walk-step (λ (ts : List (Tie Seat)). reviewers_of t by (seated ts)) (listed first) seats i other before after wanted within
+    (reviewer-first t by seat) pushed told

@@ -2,7 +2,7 @@
 use Rattle.std.proofs.Common.{ℕ, Bool, true, false, cond, ◌≡◌, ◌+◌, length, List, [], ◌∷◌, refl, sym, ap, ◌∙◌, ◌||◌, Option, Some, None, Result, Ok, Err}
 use Rattle.std.specs.Prelude.{map, find, is_some, is_none, unwrap_or}
 use Rattle.std.specs.List.{flat_map, list_any}
-use Rattle.std.specs.Option.{option_map, option_and_then}
+use Rattle.std.specs.Option.{option_map}
 use Rattle.std.specs.Result.{result_and}
 use Rattle.cr_base.specs.declared.command.Command.TheVariants.{Submit, Upload, Name}
 use Rattle.cr_base.specs.declared.entry.Account.{Account}

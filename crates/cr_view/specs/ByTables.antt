@@ -8,7 +8,8 @@ use Rattle.cr_base.specs.declared.target.Target.{Target}
 use Rattle.cr_base.specs.declared.words.Kind.{Kind}
 use Rattle.cr_base.specs.declared.words.Role.{Role}
 use Rattle.cr_base.specs.Accounts.{number_at, role_at}
-use Rattle.cr_base.specs.Checks.{NamedPaper, ◌breaks◌, judged, of_role, register_checks, submit_checks, name_checks, conflict_checks, assign_checks, unassign_checks}
+use Rattle.cr_base.specs.Checks.{NamedPaper, ◌breaks◌, judged, of_role, register_checks}
+use Rattle.cr_base.specs.Checks.{submit_checks, name_checks, conflict_checks, assign_checks, unassign_checks}
 use Rattle.cr_base.specs.Drawn.{Drawn, registration_drawn, submission_drawn, naming_drawn, conflict_drawn, assignment_drawn, unassignment_drawn}
 use Rattle.cr_base.specs.Lists.{listed, is_number, at_some}
 use Rattle.cr_base.specs.Papers.{paper_count, own_count, is_withdrawn_at}

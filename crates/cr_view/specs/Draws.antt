@@ -6,7 +6,8 @@ use Rattle.cr_base.specs.declared.reply.Rule.{Rule}
 use Rattle.cr_base.specs.Drawn.{Drawn, grouped, registration_drawn, phase_drawn, revision_drawn, upload_drawn}
 use Rattle.cr_base.specs.Drawn.{withdrawal_drawn, naming_drawn, mode_drawn, conflict_drawn, bid_drawn, assignment_drawn, unassignment_drawn}
 use Rattle.cr_view.specs.declared.draw.Draw.{Draw}
-use Rattle.cr_view.specs.declared.draw.Draw.TheVariants.{Registration, Phase, Submission, Revision, Upload, Withdrawal, Naming, Mode, Conflict, Bid, Assignment, Unassignment}
+use Rattle.cr_view.specs.declared.draw.Draw.TheVariants.{Registration, Phase, Submission, Revision, Upload, Withdrawal}
+use Rattle.cr_view.specs.declared.draw.Draw.TheVariants.{Naming, Mode, Conflict, Bid, Assignment, Unassignment}
 
 -- the entries and the receipt of a draw; a submission's co-authors were found before, each once
 abbrev pub drawn_by : Draw → Drawn

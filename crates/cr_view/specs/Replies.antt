@@ -1,5 +1,6 @@
 -- What a caller is told of a query.
-use Rattle.std.specs.Prelude.{ℕ, Bool, true, false, not, ◌&&◌, ◌≡◌, ◌≢◌, List, [], map, filter, Option, Some, None, unwrap_or, Result, Ok, Err, IsOk, if◌then◌else◌}
+use Rattle.std.specs.Prelude.{ℕ, Bool, true, false, not, ◌&&◌, ◌≡◌, ◌≢◌, List, []}
+use Rattle.std.specs.Prelude.{map, filter, Option, Some, None, unwrap_or, Result, Ok, Err, IsOk, if◌then◌else◌}
 use Rattle.std.specs.List.{flat_map}
 use Rattle.std.specs.Option.{option_map}
 use Rattle.cr_base.specs.declared.command.Query.TheVariants as queries

@@ -42,9 +42,9 @@ impl Live {
     ///
     /// Takes no memory: the command's texts and its content are moved. A registration, a naming, a
     /// conflict, an assignment and the end of one take one look-up by name, a submission one for each
-    /// co-author told; how the caller stands to a paper four binary searches, a conflict one besides, an
-    /// assignment and its end four besides and a step for each of the paper's seats, at most 26; and all
-    /// else a few reads by number.
+    /// co-author told. Where a paper is named, how the caller stands to it takes four binary searches of
+    /// ties and seats; a conflict takes three more at most, an assignment five, and its end one. All else
+    /// is a few reads by number.
     pub fn judge(&self, caller: &Option<UserNo>, command: Command) -> Result<Draw, Rule>
         requires caller { HasCaller caller.now command }
         requires few { HasFewAuthors command }

@@ -110,7 +110,8 @@ impl Live {
         by: &Standing,
         paper: PaperNo,
     ) -> Result<Option<Reviewers>, AllocError>
-        ensures { IfOk result (λ reviewers. reviewers ≡ where_told (gets_reviewers by.now) (Some (reviewers_of self.now.tables by.now (reviewers_in self.now.tables.seats paper)))) }
+        ensures { IfOk result (λ reviewers. reviewers
+            ≡ where_told (gets_reviewers by.now) (Some (reviewers_of self.now.tables by.now (reviewers_in self.now.tables.seats paper)))) }
     {
         if !gets_reviewers(by) {
             return Ok(None);

@@ -1,5 +1,5 @@
 use Rattle.std.proofs.Common.{◌≡◌, true, subst, sym}
-use Rattle.cr_base.specs.Papers.{PapersState, papers_after, paper_count, PapersFit}
+use Rattle.cr_base.specs.Papers.{PapersState, paper_count, PapersFit}
 use Rattle.cr_base.specs.Seats.{SeatsState, seats_after}
 use Rattle.cr_base.specs.Ties.{TiesState, ties_after, are_within, AreWithin}
 use Rattle.cr_base.proofs.SeatLaws.{seats-within}
@@ -13,10 +13,11 @@ invariant_of-self c =
     let maker = c.args.stamped.maker in
     let entry = c.args.stamped.entry in
     let fits = subst (λ (v : SeenTables). PapersFit v.tables.papers maker entry) (sym c.self.view_is) c.requires.fits.papers in
-    let papers = sym c.apply-5.ensures.after in
-    (subst (λ (ties : TiesState). AreWithin (paper_count c.apply-5.new.self.papers) ties) (sym c.apply-3.ensures.after)
-    (subst (λ (state : PapersState). AreWithin (paper_count state) (ties_after x.ties.ties maker entry)) papers
-    (within-after x.papers.papers x.ties.ties maker entry fits c.self.invariant.0)),
-    subst (λ (seats : SeatsState). are_within (paper_count c.apply-5.new.self.papers) seats ≡ true) (sym c.apply-4.ensures.after)
-    (subst (λ (state : PapersState). are_within (paper_count state) (seats_after x.seats.seats entry) ≡ true) papers
-    (seats-within x.papers.papers x.seats.seats maker entry fits c.self.invariant.1)))
+    let papers = sym c.apply-5.ensures.after in (
+      subst (λ (ties : TiesState). AreWithin (paper_count c.apply-5.new.self.papers) ties) (sym c.apply-3.ensures.after)
+          (subst (λ (state : PapersState). AreWithin (paper_count state) (ties_after x.ties.ties maker entry)) papers
+          (within-after x.papers.papers x.ties.ties maker entry fits c.self.invariant.0)),
+      subst (λ (seats : SeatsState). are_within (paper_count c.apply-5.new.self.papers) seats ≡ true) (sym c.apply-4.ensures.after)
+          (subst (λ (state : PapersState). are_within (paper_count state) (seats_after x.seats.seats entry) ≡ true) papers
+          (seats-within x.papers.papers x.seats.seats maker entry fits c.self.invariant.1)),
+    )

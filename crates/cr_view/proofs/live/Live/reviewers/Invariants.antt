@@ -3,4 +3,5 @@ use Rattle.cr_view.specs.Replies.{seated, reviewers_of}
 use Rattle.cr_view.proofs.live.Live.reviewers.Given as goal
 
 abbrev pub invariant-loop-seat : goal.invariant-loop-seat
-invariant-loop-seat l = l.reviewers.items ++ reviewers_of l.self.tables l.by (seated (drop l.seat-index l.seats)) ≡ reviewers_of l.self.tables l.by (seated l.seats)
+invariant-loop-seat l =
+    l.reviewers.items ++ reviewers_of l.self.tables l.by (seated (drop l.seat-index l.seats)) ≡ reviewers_of l.self.tables l.by (seated l.seats)
