@@ -66,10 +66,7 @@ impl Live {
     ) -> Result<Draw, Rule>
         ensures { drawn_or_rule result ≡ judge_by_role self.now.tables (Some maker) (commands.Bid paper.now value) }
     {
-        let named = match self.named(maker, paper) {
-            Ok(named) => named,
-            Err(rule) => return Err(rule),
-        };
+        let named = self.named(maker, paper)?;
         let kept = self
             .ties
             .judge_bid(&named.by, &Some(named.paper), named.withdrawn);
@@ -89,10 +86,7 @@ impl Live {
     ) -> Result<Draw, Rule>
         ensures { drawn_or_rule result ≡ conflict_at self.now.tables maker paper.now name.now on }
     {
-        let named = match self.named(maker, paper) {
-            Ok(named) => named,
-            Err(rule) => return Err(rule),
-        };
+        let named = self.named(maker, paper)?;
         let target = self.target(name);
         let Some((user, _)) = &target else {
             return Err(Rule::NoUser);
@@ -123,10 +117,7 @@ impl Live {
     ) -> Result<Draw, Rule>
         ensures { drawn_or_rule result ≡ assignment_at self.now.tables maker paper.now name.now kind }
     {
-        let named = match self.named(maker, paper) {
-            Ok(named) => named,
-            Err(rule) => return Err(rule),
-        };
+        let named = self.named(maker, paper)?;
         let target = self.target(name);
         let Some((user, _)) = &target else {
             return Err(Rule::NoUser);
@@ -159,10 +150,7 @@ impl Live {
     ) -> Result<Draw, Rule>
         ensures { drawn_or_rule result ≡ unassignment_at self.now.tables maker paper.now name.now }
     {
-        let named = match self.named(maker, paper) {
-            Ok(named) => named,
-            Err(rule) => return Err(rule),
-        };
+        let named = self.named(maker, paper)?;
         let target = self.target(name);
         let Some((user, _)) = &target else {
             return Err(Rule::NoUser);
