@@ -16,7 +16,8 @@ keeps : (text kept : List ℕ) (headers : List HeaderSpan) (block : Option (List
 keeps text kept headers block None is all = (refl, all)
 keeps text kept headers block (Some e) is all = absurd (cc)
 
-answers : (answer : RequestRead) (text kept : List ℕ) (headers : List HeaderSpan) (block : Option (List ℕ)) (request : Option Extent) → Lies answer text kept headers block request
+answers : (answer : RequestRead) (text kept : List ℕ) (headers : List HeaderSpan) (block : Option (List ℕ)) (request : Option Extent)
+    → Lies answer text kept headers block request
     → SaysOf answer text (inbox_text kept headers block request)
 answers reads.Whole text kept headers block None is = absurd is
 answers reads.Whole text kept headers block (Some e) is = is.1
@@ -35,7 +36,8 @@ ends_lie answer text headers block request none (inr is) f g = subst (λ (a : Re
 
 module _ {S : Type 0} (left : S → Option (List ℕ)) (gives : S → S → List ℕ → Type 0) where
   -- what one call says, where the inbox had these bytes
-  pub reads_lying : (source source' : S) (inbox : InboxText) (old kept : List ℕ) (headers : List HeaderSpan) (block : Option (List ℕ)) (request : Option Extent) (answer : RequestRead)
+  pub reads_lying : (source source' : S) (inbox : InboxText) (old kept : List ℕ) (headers : List HeaderSpan) (block : Option (List ℕ))
+      (request : Option Extent) (answer : RequestRead)
       → inbox.rest ≡ old → ReadsInto left gives source source' old kept headers block request answer → AtEndIfEnded answer (left source')
       → Reads left gives source source' inbox (inbox_text kept headers block request) answer
   reads_lying source source' inbox old kept headers block request answer rest into ended =
@@ -44,7 +46,8 @@ module _ {S : Type 0} (left : S → Option (List ℕ)) (gives : S → S → List
       record {
         got = m.got;
         given = m.given;
-        answers = subst (λ (t : List ℕ). SaysOf answer t (inbox_text kept headers block request)) came (answers answer into.text kept headers block request into.lies);
+        answers = subst (λ (t : List ℕ). SaysOf answer t (inbox_text kept headers block request)) came
+            (answers answer into.text kept headers block request into.lies);
         ended = ended;
         needed = subst (ReadsWhile left gives IsUnsettled source source' inbox.rest) came
             (subst (λ (t : List ℕ). ReadsWhile left gives IsUnsettled source source' t into.text) (sym rest) into.needed);
@@ -57,13 +60,15 @@ module _ {S : Type 0} (left : S → Option (List ℕ)) (gives : S → S → List
       record { text = text; moves = stays (left source) text; needed = inl (refl, refl); lies = lies }
 
   -- where all of the text is kept
-  pub reads_all : (source source' : S) (old text : List ℕ) (headers : List HeaderSpan) (block : Option (List ℕ)) (request : Option Extent) (answer : RequestRead)
+  pub reads_all : (source source' : S) (old text : List ℕ) (headers : List HeaderSpan) (block : Option (List ℕ)) (request : Option Extent)
+      (answer : RequestRead)
       → Moves (left source) (left source') old text → ReadsWhile left gives IsUnsettled source source' old text → Lies answer text text headers block request
       → ReadsInto left gives source source' old text headers block request answer
   reads_all source source' old text headers block request answer m needed lies = record { text = text; moves = m; needed = needed; lies = lies }
 
   -- first the one, and then the other
-  pub reads_into_on : (a b c : S) (old text kept : List ℕ) (headers : List HeaderSpan) (block : Option (List ℕ)) (request : Option Extent) (answer : RequestRead)
+  pub reads_into_on : (a b c : S) (old text kept : List ℕ) (headers : List HeaderSpan) (block : Option (List ℕ)) (request : Option Extent)
+      (answer : RequestRead)
       → Moves (left a) (left b) old text → ReadsWhile left gives IsUnsettled a b old text → ReadsInto left gives b c text kept headers block request answer
       → ReadsInto left gives a c old kept headers block request answer
   reads_into_on a b c old text kept headers block request answer m needed into = record {

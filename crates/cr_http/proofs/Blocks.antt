@@ -1,5 +1,5 @@
 -- What a read into the room behind the bytes of a block does to them.
-use Rattle.std.proofs.Common.{◌≡◌, ◌∙◌, ℕ, ◌+◌, ◌-◌, ◌≤◌, List, ◌++◌, length, take, drop, sym, ap, subst, arith, length-take, length-drop}
+use Rattle.std.proofs.Common.{◌≡◌, ◌∙◌, ℕ, ◌+◌, ◌-◌, ◌≤◌, List, [], ◌++◌, append-nil, length, take, drop, sym, ap, subst, arith, length-take, length-drop}
 use Rattle.std.proofs.lemmas.List.{drop-append-le, drop-take}
 use Rattle.std.proofs.Math.Seq.{take-add, take-append-add}
 
@@ -11,6 +11,12 @@ grown start end n items items' le within same =
     ap (drop start) (take-add end n items')
     ∙ drop-append-le start (take end items') (take n (drop end items')) (rw l le)
     ∙ ap (λ t. drop start t ++ take n (drop end items')) same
+
+-- the same where the read put none there
+pub not_grown : (start end : ℕ) (items items' before after : List ℕ) → after ≡ items' → take end items' ≡ take end items → items ≡ before
+    → drop start (take end after) ≡ drop start (take end before) ++ []
+not_grown start end items items' before after now same was =
+    ap (λ t. drop start (take end t)) now ∙ ap (drop start) same ∙ ap (λ t. drop start (take end t)) was ∙ sym (append-nil (drop start (take end before)))
 
 -- the bytes up to end, once others stand in the place of the first
 over : (end : ℕ) (front items : List ℕ) → length front ≤ end → take end (front ++ drop (length front) items) ≡ front ++ drop (length front) (take end items)

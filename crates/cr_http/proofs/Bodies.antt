@@ -1,5 +1,6 @@
 -- A body that is read beside the buffer, into a block of its own.
-use Rattle.std.proofs.Common.{◌≡◌, ◌∙◌, ℕ, ◌+◌, ◌<◌, ◌≤◌, List, [], ◌++◌, length, take, drop, Option, refl, sym, ap, subst, inl, inr, arith, append_assoc, append-nil, length-append, length-drop}
+use Rattle.std.proofs.Common.{◌≡◌, ◌∙◌, ℕ, ◌+◌, ◌<◌, ◌≤◌, List, [], ◌++◌, length, take, drop, Option, refl, sym, ap, subst, inl, inr, arith, append_assoc}
+use Rattle.std.proofs.Common.{append-nil, length-append, length-drop}
 use Rattle.std.specs.Prelude.{replicate}
 use Rattle.std.proofs.lemmas.List.{drop-append-le, take-append-le, take-append-drop, length-replicate}
 use Rattle.std.proofs.Math.Seq.{drop-append_seam}
@@ -32,7 +33,8 @@ behind head old block got b =
     let zeros = replicate head 0 in
     let l = beside-length head old block b in
     let w = b.within in
-    let seam : drop head (zeros ++ drop head old) ≡ drop head old = ap (λ n. drop n (zeros ++ drop head old)) (sym (length-replicate {A = ℕ} head 0)) ∙ drop-append_seam zeros (drop head old) in
+    let seam : drop head (zeros ++ drop head old) ≡ drop head old =
+    ap (λ n. drop n (zeros ++ drop head old)) (sym (length-replicate {A = ℕ} head 0)) ∙ drop-append_seam zeros (drop head old) in
     drop-append-le head block got (omega (arith, l, w))
     ∙ ap (λ t. t ++ got) (ap (drop head) b.is ∙ seam)
     ∙ sym (drop-append-le head old got w)
@@ -49,7 +51,8 @@ module _ {S : Type 0} (left : S → Option (List ℕ)) (gives : S → S → List
       inl (still.0, ap (λ g. old ++ g) none ∙ append-nil old)
   reads_beside end a b old block now m same (inr last) =
       let came = last.before.got in
-      let longer : length (old ++ came) ≡ length last.text = length-append old came ∙ ap (λ n. n + length came) (sym same) ∙ sym (length-append block came) ∙ ap length (sym last.before.kept) in
+      let longer : length (old ++ came) ≡ length last.text =
+      length-append old came ∙ ap (λ n. n + length came) (sym same) ∙ sym (length-append block came) ∙ ap length (sym last.before.kept) in
       let parts : m.got ≡ came ++ last.piece =
       cancel block m.got (came ++ last.piece) (sym m.kept ∙ last.kept ∙ ap (λ t. t ++ last.piece) last.before.kept ∙ append_assoc block came last.piece) in
       inr (record {
@@ -74,9 +77,11 @@ module _ {S : Type 0} (left : S → Option (List ℕ)) (gives : S → S → List
     holds = holds;
   }
 
-  all_length : (head : ℕ) (l l' : Option (List ℕ)) (old block now : List ℕ) → IsBeside head old block → (m : Moves l l' block now) → length (old ++ m.got) ≡ length now
+  all_length : (head : ℕ) (l l' : Option (List ℕ)) (old block now : List ℕ) → IsBeside head old block → (m : Moves l l' block now)
+      → length (old ++ m.got) ≡ length now
   all_length head l l' old block now beside m =
-      length-append old m.got ∙ ap (λ n. n + length m.got) (sym (beside-length head old block beside)) ∙ sym (length-append block m.got) ∙ ap length (sym m.kept)
+      length-append old m.got ∙ ap (λ n. n + length m.got) (sym (beside-length head old block beside)) ∙ sym (length-append block m.got)
+      ∙ ap length (sym m.kept)
 
   -- the block put in the place of the buffer has all that came
   put_back_is : (head : ℕ) (l l' : Option (List ℕ)) (old block now : List ℕ) → IsBeside head old block → (m : Moves l l' block now)
@@ -95,7 +100,8 @@ module _ {S : Type 0} (left : S → Option (List ℕ)) (gives : S → S → List
       → FillsBody left gives a b old kept head end answer
   fills_short head end a b old block now kept answer holds beside m needed is short =
       fills_beside head end a b old block now kept answer beside m needed
-      (holds (old ++ m.got) (is ∙ put_back_is head (left a) (left b) old block now beside m) (rw (all_length head (left a) (left b) old block now beside m) short))
+      (holds (old ++ m.got) (is ∙ put_back_is head (left a) (left b) old block now beside m)
+      (rw (all_length head (left a) (left b) old block now beside m) short))
 
   -- where it is
   pub fills_whole : (head end : ℕ) (a b : S) (old block now kept : List ℕ) (answer : BodyFill) → IsBeside head old block

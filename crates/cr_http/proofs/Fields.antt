@@ -4,7 +4,8 @@ use Rattle.std.specs.Prelude.{◌==◌, if◌then◌else◌}
 use Rattle.std.specs.List.{flat_map}
 use Rattle.std.proofs.lemmas.List.Sums.{sum_by-append}
 use Rattle.httparse.specs.Ascii.{colon, space}
-use Rattle.httparse.specs.Grammar.{LineEnd, crlf, lf, print_end, Field, print_field, print_section, print_blank, print_version, RequestHead, print_request, ReadsRequest}
+use Rattle.httparse.specs.Grammar.{LineEnd, crlf, lf, print_end, Field, print_field, print_section, print_blank, print_version, RequestHead, print_request}
+use Rattle.httparse.specs.Grammar.{ReadsRequest}
 use Rattle.cr_http.specs.Found.{line_feeds}
 
 line_feeds-append : (a b : List ℕ) → line_feeds (a ++ b) ≡ line_feeds a + line_feeds b
@@ -35,7 +36,8 @@ section_lines fields last =
 print_request_lines : (h : RequestHead) → length h.fields + 2 ≤ line_feeds (print_request h)
 unfolding print_request
 print_request_lines h =
-    let e = line_feeds-append (print_blank h.blank ++ h.method ++ space ∷ h.target ++ space ∷ print_version h.minor ++ print_end h.line_end) (print_section h.fields h.last) in
+    let e = line_feeds-append (print_blank h.blank ++ h.method ++ space ∷ h.target ++ space ∷ print_version h.minor ++ print_end h.line_end)
+    (print_section h.fields h.last) in
     let o = at_end (print_blank h.blank ++ h.method ++ space ∷ h.target ++ space ∷ print_version h.minor) h.line_end in
     let i = section_lines h.fields h.last in
     omega (arith, e, o, i)

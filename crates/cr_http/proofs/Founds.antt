@@ -1,5 +1,6 @@
 -- What stands at the front of a text stays there however the text goes on.
-use Rattle.std.proofs.Common.{◌≡◌, ℕ, ◌-◌, ◌<◌, ◌≤◌, List, ◌++◌, length, take, drop, Option, Some, None, Bool, true, false, refl, sym, ◌∙◌, ap, subst, arith, inl, inr, length-append, length-drop}
+use Rattle.std.proofs.Common.{◌≡◌, ℕ, ◌-◌, ◌<◌, ◌≤◌, List, ◌++◌, length, take, drop, Option, Some, None, Bool, true, false, refl, sym, ◌∙◌, ap, subst, arith}
+use Rattle.std.proofs.Common.{inl, inr, length-append, length-drop}
 use Rattle.std.specs.Prelude.{◌==◌, nat_lt, nat_le, if◌then◌else◌, slice_range, MatchBool}
 use Rattle.std.proofs.lemmas.List.{drop-append-le, take-append-le}
 use Rattle.cr_http.specs.declared.framing.Framing.{Framing}
@@ -29,7 +30,8 @@ with_body-back : (h : HeadText) (framing : Framing) (rest more : List ℕ) → I
     → found_and (with_body h framing rest) more ≡ with_body h framing (rest ++ more)
 with_body-back h framing rest more final = sym (with_body-append h framing rest more final)
 
-after-append : (bytes rest more : List ℕ) (found : Found) → IsFinal found → StandsAfter bytes rest found → StandsAfter bytes (rest ++ more) (found_and found more)
+after-append : (bytes rest more : List ℕ) (found : Found) → IsFinal found → StandsAfter bytes rest found
+    → StandsAfter bytes (rest ++ more) (found_and found more)
 after-append bytes rest more found final (inl is) =
     let final' : IsFinal (with_body (head_of is.0) (framing_of (head_of is.0)) rest) = subst IsFinal is.2 final in
     inl (is.0, is.1, ap (λ f. found_and f more) is.2 ∙ with_body-back (head_of is.0) (framing_of (head_of is.0)) rest more final')
@@ -68,7 +70,8 @@ from-append text more (Some range) found at final is =
     (many (nat_lt 66 (line_feeds (slice_range text range.0 range.1))) is)))
   where
     many : (t : Bool) → MatchBool t (found ≡ refused HeadTooLarge false) (StandsAfter (slice_range text range.0 range.1) (drop range.1 text) found)
-        → MatchBool t (found_and found more ≡ refused HeadTooLarge false) (StandsAfter (slice_range text range.0 range.1) (drop range.1 text ++ more) (found_and found more))
+        → MatchBool t (found_and found more ≡ refused HeadTooLarge false)
+        (StandsAfter (slice_range text range.0 range.1) (drop range.1 text ++ more) (found_and found more))
     many true is = ap (λ f. found_and f more) is
     many false is = after-append (slice_range text range.0 range.1) (drop range.1 text) more found final is
 

@@ -29,7 +29,8 @@ by_after : (bytes rest : List ℕ) (found : Found) (is_head : Bool) → StandsAf
 by_after bytes rest found is_head (inl is) tells = inl (is.0, is.1, by_body (head_of is.0) (framing_of (head_of is.0)) rest found is_head is.2 tells)
 by_after bytes rest found is_head (inr is) tells = inr (is.0, subst (λ (f : Found). TellsHead f is_head) is.1 tells)
 
-by_place : (text : List ℕ) (range : Option (ℕ × ℕ)) (found : Found) (is_head : Bool) → StandsFrom text range found → TellsHead found is_head → IsToHeadFrom text range is_head
+by_place : (text : List ℕ) (range : Option (ℕ × ℕ)) (found : Found) (is_head : Bool) → StandsFrom text range found → TellsHead found is_head
+    → IsToHeadFrom text range is_head
 by_place text None found is_head is tells = without (nat_lt (length text) 16384) (blank_end_from 0 text == length text) is
   where
     without : (t u : Bool) → found ≡ (if t then (if u then clean else cut) else refused HeadTooLarge false) → is_head ≡ false
@@ -48,7 +49,8 @@ pub to_head_of : (text : List ℕ) (found : Found) (is_head : Bool) → StandsAt
 to_head_of text found is_head is tells = by_place text (head_at text) found is_head is tells
 
 -- where a head was read, whose body hasn't come yet
-pub to_head_framed : (text : List ℕ) (start end : ℕ) (head : HeadText) (len : ℕ) (is_head : Bool) → IsFramed text start end head len → is_head ≡ is_head_method head
+pub to_head_framed : (text : List ℕ) (start end : ℕ) (head : HeadText) (len : ℕ) (is_head : Bool) → IsFramed text start end head len
+    → is_head ≡ is_head_method head
     → IsToHead text is_head
 to_head_framed text start end head len is_head f is =
     subst (λ (o : Option (ℕ × ℕ)). IsToHeadFrom text o is_head) (sym f.range)

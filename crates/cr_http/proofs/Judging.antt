@@ -1,5 +1,6 @@
 -- From what one call knows to what it says of the text.
-use Rattle.std.proofs.Common.{◌≡◌, ℕ, ◌+◌, ◌-◌, ◌<◌, ◌≤◌, List, ◌++◌, length, take, drop, Option, Some, None, Bool, true, false, refl, sym, ◌∙◌, ap, subst, arith, inl, inr, length-drop, length-take, length-take-le, take_all, take-append-drop, drop_of_length-le}
+use Rattle.std.proofs.Common.{◌≡◌, ℕ, ◌+◌, ◌-◌, ◌<◌, ◌≤◌, List, ◌++◌, length, take, drop, Option, Some, None, Bool, true, false, refl, sym, ◌∙◌, ap, subst}
+use Rattle.std.proofs.Common.{arith, inl, inr, length-drop, length-take, length-take-le, take_all, take-append-drop, drop_of_length-le}
 use Rattle.std.specs.Prelude.{◌⊎◌, nat_lt, nat_le, slice_range, MatchBool, if◌then◌else◌, ◌==◌}
 use Rattle.httparse.specs.declared.spans.HeaderSpan.{HeaderSpan}
 use Rattle.httparse.specs.declared.spans.RequestSpans.{RequestSpans}
@@ -21,7 +22,8 @@ use Rattle.cr_http.proofs.Unique.{StandsAt-unique}
 use Rattle.cr_http.specs.Head.{HeadText, framing_of}
 use Rattle.cr_http.specs.Filling.{IsStill, Moves, NeedsHead, ReadsWhile}
 use Rattle.cr_http.proofs.Moving.{reads_for}
-use Rattle.cr_http.specs.Found.{Found, whole, refused, cut, with_body, line_feeds, IsNoHead, StandsAfter, StandsFrom, StandsAt, IsFramed, IsFinal, without_head, clean}
+use Rattle.cr_http.specs.Found.{Found, whole, refused, cut, with_body, line_feeds, IsNoHead, StandsAfter, StandsFrom, StandsAt, IsFramed, IsFinal, without_head}
+use Rattle.cr_http.specs.Found.{clean}
 use Rattle.cr_http.proofs.Windows.{head_at-append, head_at_bounds}
 use Rattle.cr_http.proofs.Founds.{slice_range-append, settled-append}
 
@@ -53,7 +55,8 @@ framed_stands text start end head len f =
     stands_few text start end (with_body head (Body len) (drop end text)) f.range f.few
     (inl (f.tree, f.reads, ap (λ k. with_body head k (drop end text)) (sym f.framing) ∙ ap (λ h. with_body h (framing_of h) (drop end text)) f.head_is))
 
-pub IsFramed-append : (text more : List ℕ) (start end : ℕ) (head : HeadText) (len : ℕ) → IsFramed text start end head len → IsFramed (text ++ more) start end head len
+pub IsFramed-append : (text more : List ℕ) (start end : ℕ) (head : HeadText) (len : ℕ) → IsFramed text start end head len
+    → IsFramed (text ++ more) start end head len
 IsFramed-append text more start end head len f =
     let b = head_at_bounds text (start, end) f.range in
     let same : slice_range (text ++ more) start end ≡ slice_range text start end = slice_range-append text more start end b.0 b.1 in
@@ -71,14 +74,16 @@ pub framed_whole : (text : List ℕ) (start end : ℕ) (head : HeadText) (len : 
 framed_whole text start end head len f le =
     let d = length-drop end text in
     let enough : nat_le len (length (drop end text)) ≡ true = le_true len (length (drop end text)) (omega (arith, d, le)) in
-    subst (StandsAt text) (ap (λ b. if b then whole head (take len (drop end text)) (drop len (drop end text)) else cut) enough) (framed_stands text start end head len f)
+    subst (StandsAt text) (ap (λ b. if b then whole head (take len (drop end text)) (drop len (drop end text)) else cut) enough)
+    (framed_stands text start end head len f)
 
 pub framed_cut : (text : List ℕ) (start end : ℕ) (head : HeadText) (len : ℕ) → IsFramed text start end head len → length text < end + len → StandsAt text cut
 framed_cut text start end head len f lt =
     let b = head_at_bounds text (start, end) f.range in
     let d = length-drop end text in
     let short : nat_le len (length (drop end text)) ≡ false = le_false len (length (drop end text)) (omega (arith, d, b, lt)) in
-    subst (StandsAt text) (ap (λ b. if b then whole head (take len (drop end text)) (drop len (drop end text)) else cut) short) (framed_stands text start end head len f)
+    subst (StandsAt text) (ap (λ b. if b then whole head (take len (drop end text)) (drop len (drop end text)) else cut) short)
+    (framed_stands text start end head len f)
 
 -- a head that was framed is still framed once bytes have moved
 pub framed_moved : (left left' : Option (List ℕ)) (text moved : List ℕ) (start end : ℕ) (head : HeadText) (len : ℕ) → Moves left left' text moved
@@ -100,7 +105,8 @@ request_lies left left' old text headers range spans len m f within few full =
     let e = range.end in
     let b = head_at_bounds old (s, e) f.range in
     let same : slice_range text s e ≡ slice_range old s e = ap (λ t. slice_range t s e) m.kept ∙ slice_range-append old m.got s e b.0 b.1 in
-    let head : spans_head (slice_range old s e) headers spans ≡ spans_head (slice_range text s e) headers spans = ap (λ t. spans_head t headers spans) (sym same) in
+    let head : spans_head (slice_range old s e) headers spans ≡ spans_head (slice_range text s e) headers spans =
+    ap (λ t. spans_head t headers spans) (sym same) in
     let n : len ≡ e + len - e = omega arith in
     let body : take len (drop e text) ≡ slice_range text e (e + len) = ap (λ k. take k (drop e text)) n in
     let rest : drop len (drop e text) ≡ drop (e + len) text = drop-drop len e text in
@@ -110,7 +116,8 @@ request_lies left left' old text headers range spans len m f within few full =
     )
 
 -- the same in what is kept of the text, where that is all of it
-pub request_kept : (left left' : Option (List ℕ)) (old text kept : List ℕ) (headers : List HeaderSpan) (block : Option (List ℕ)) (range : HeadRange) (spans : RequestSpans) (len : ℕ)
+pub request_kept : (left left' : Option (List ℕ)) (old text kept : List ℕ) (headers : List HeaderSpan) (block : Option (List ℕ)) (range : HeadRange)
+    (spans : RequestSpans) (len : ℕ)
     → Moves left left' old text → IsFramed old range.start range.end (spans_head (slice_range old range.start range.end) headers spans) len
     → IsRequestWithin (slice_range old range.start range.end) headers spans → len ≤ 4194304 → block ≡ None → (kept ≡ text) × (range.end + len ≤ length text)
     → Lies reads.Whole text kept headers block (Some (record { range = range; spans = spans; end = range.end + len }))
@@ -135,12 +142,21 @@ block_lies left left' old text kept block headers range spans len m f within few
     let long : length block ≡ len = ap length is.1 ∙ length-drop e text ∙ left_of e len (length text) all in
     let whole_is : text ≡ kept ++ block = sym (take-append-drop e text) ∙ ap (λ t. t ++ drop e text) (sym is.0) ∙ ap (λ t. kept ++ t) (sym is.1) in
     let same : slice_range kept s e ≡ slice_range old s e =
-    sym (slice_range-append kept block s e b.0 (omega (arith, front))) ∙ ap (λ t. slice_range t s e) (sym whole_is ∙ m.kept) ∙ slice_range-append old m.got s e b.0 b.1 in
-    let head : spans_head (slice_range old s e) headers spans ≡ spans_head (slice_range kept s e) headers spans = ap (λ t. spans_head t headers spans) (sym same) in
+    sym (slice_range-append kept block s e b.0 (omega (arith, front))) ∙ ap (λ t. slice_range t s e) (sym whole_is ∙ m.kept)
+    ∙ slice_range-append old m.got s e b.0 b.1 in
+    let head : spans_head (slice_range old s e) headers spans ≡ spans_head (slice_range kept s e) headers spans =
+    ap (λ t. spans_head t headers spans) (sym same) in
     let body : take len (drop e text) ≡ block = ap (take len) (sym is.1) ∙ take_all len block (omega (arith, long)) in
-    let rest : drop len (drop e text) ≡ drop e kept = ap (drop len) (sym is.1) ∙ drop_of_length-le block (omega (arith, long)) ∙ sym (drop_of_length-le kept (omega (arith, front))) in
+    let rest : drop len (drop e text) ≡ drop e kept = ap (drop len) (sym is.1) ∙ drop_of_length-le block (omega (arith, long))
+    ∙ sym (drop_of_length-le kept (omega (arith, front))) in
     let stands = framed_whole text s e _ len (framed_moved left left' old text s e _ len m f) (omega (arith, all)) in (
-      record { head = omega (arith, b); body = omega arith; short = few_of 4194304 len (length block) long few; within = omega (arith, front); spans = rw same within },
+      record {
+        head = omega (arith, b);
+        body = omega arith;
+        short = few_of 4194304 len (length block) long few;
+        within = omega (arith, front);
+        spans = rw same within;
+      },
       subst (StandsAt text) (λ i. whole (head i) (body i) (rest i)) stands,
     )
   where
@@ -223,7 +239,8 @@ module _ {S : Type 0} (left : S → Option (List ℕ)) (gives : S → S → List
       → ReadsWhile left gives (λ text. length text < end + len) a b t u → ReadsWhile left gives IsUnsettled a b t u
   body_needed a b t u start end head len framed reads =
       reads_for left gives (λ text. length text < end + len) IsUnsettled a b t u
-      (λ text left' moves short settled. too_short text (settled_has_body text start end head len (framed_moved (left a) left' t text start end head len moves framed) settled) short) reads
+      (λ text left' moves short settled. too_short text (settled_has_body text start end head len
+      (framed_moved (left a) left' t text start end head len moves framed) settled) short) reads
     where
       too_short : (text : List ℕ) → end + len ≤ length text → length text < end + len → ⊥
       too_short text le lt = omega arith
@@ -235,7 +252,8 @@ module _ {S : Type 0} (left : S → Option (List ℕ)) (gives : S → S → List
       absurd (last.wants (subst IsSettled (sym last.before.kept) (settled-append t last.before.got settled)))
 
   -- what is read behind a head, where the answer is right of it
-  pub reads_body : (a b : S) (old kept : List ℕ) (start end : ℕ) (head : HeadText) (len : ℕ) (headers : List HeaderSpan) (block : Option (List ℕ)) (request : Option Extent)
+  pub reads_body : (a b : S) (old kept : List ℕ) (start end : ℕ) (head : HeadText) (len : ℕ) (headers : List HeaderSpan) (block : Option (List ℕ))
+      (request : Option Extent)
       (filled : BodyFill) (answer : RequestRead) → IsFramed old start end head len → (f : FillsBody left gives a b old kept end (end + len) filled)
       → Lies answer f.text kept headers block request → ReadsInto left gives a b old kept headers block request answer
   reads_body a b old kept start end head len headers block request filled answer framed f lies = record {

@@ -1,4 +1,4 @@
-use Rattle.std.proofs.Common.{◌≡◌, ◌∙◌, ℕ, List, [], ◌++◌, Option, Some, None, refl, sym, ap, subst, inl, inr, append_assoc, append-nil}
+use Rattle.std.proofs.Common.{◌≡◌, ◌∙◌, ℕ, List, [], ◌++◌, ◌<◌, length, Option, Some, None, refl, sym, ap, subst, inl, inr, append_assoc, append-nil}
 use Rattle.cr_ports.specs.Stream.{and_left}
 use Rattle.cr_http.specs.Filling.{Moves, ReadsWhile}
 
@@ -63,3 +63,8 @@ module _ {S : Type 0} (left : S → Option (List ℕ)) (gives : S → S → List
       → ReadsWhile left gives W a b t u → ReadsWhile left gives (λ text. text ≡ u) b c u v → ReadsWhile left gives W a c t v
   reads_once W a b c t u v m wants first once =
       reads_on W a b c t u v m first (reads_for (λ text. text ≡ u) W b c u v (λ text left' moves is. subst W (sym is) wants) once)
+
+  -- the same of a text that is shorter than wanted
+  pub reads_below : (len : ℕ) (a b c : S) (t u v : List ℕ) → Moves (left a) (left b) t u → ReadsWhile left gives (λ text. length text < len) a b t u
+      → length u < len → ReadsWhile left gives (λ text. text ≡ u) b c u v → ReadsWhile left gives (λ text. length text < len) a c t v
+  reads_below len a b c t u v m first short once = reads_once (λ text. length text < len) a b c t u v m short first once

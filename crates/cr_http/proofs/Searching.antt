@@ -1,5 +1,6 @@
 -- A search that goes on where it stopped finds what one from the start finds.
-use Rattle.std.proofs.Common.{◌≡◌, ℕ, ◌+◌, ◌<◌, ◌≤◌, List, [], ◌∷◌, ◌++◌, length, drop, get_or, Some, None, false, refl, sym, ◌∙◌, ap, subst, arith, length-append, length-drop, append-nil, append_assoc, suc}
+use Rattle.std.proofs.Common.{◌≡◌, ℕ, ◌+◌, ◌<◌, ◌≤◌, List, [], ◌∷◌, ◌++◌, length, drop, get_or, Some, None, false, refl, sym, ◌∙◌, ap, subst, arith}
+use Rattle.std.proofs.Common.{length-append, length-drop, append-nil, append_assoc, suc}
 use Rattle.std.proofs.Math.Seq.{drop-cons}
 use Rattle.std.proofs.Math.ListN.{drop_of_length-le}
 use Rattle.std.proofs.lemmas.List.{drop-append-le, drop-drop}
@@ -44,7 +45,8 @@ skips bytes from at n l line =
     goes_on more =
         let e = drop-append-le at bytes more l.within in
         let some : empty_line_len (drop at (bytes ++ more)) ≡ n = ap empty_line_len e ∙ line.2 more in
-        let on = blank_end_from-goes_on at (drop at (bytes ++ more)) (λ (none : empty_line_len (drop at (bytes ++ more)) ≡ 0). omega (arith, line.0, some, none)) in
+        let on = blank_end_from-goes_on at (drop at (bytes ++ more))
+        (λ (none : empty_line_len (drop at (bytes ++ more)) ≡ 0). omega (arith, line.0, some, none)) in
         on ∙ rw some (rw (drop-drop n at (bytes ++ more)) refl)
 
 -- the head begins where something else than an empty line does
@@ -121,7 +123,8 @@ stands_on text got from to s l = record { within = longer; same = same }
         rw (append_assoc text got more) (s.same (got ++ more) ∙ ap (found_from from) g.1 ∙ l.same g.0 ∙ ap (found_from to) (sym g.1))
 
 -- an empty line is skipped, where only the end of the empty lines is looked for
-pub skips_blank : (bytes : List ℕ) (at n : ℕ) → (blank_end_from at (drop at bytes) ≡ blank_end_from 0 bytes) × (at ≤ length bytes) → IsLine (lines.Empty n) (drop at bytes)
+pub skips_blank : (bytes : List ℕ) (at n : ℕ) → (blank_end_from at (drop at bytes) ≡ blank_end_from 0 bytes) × (at ≤ length bytes)
+    → IsLine (lines.Empty n) (drop at bytes)
     → (blank_end_from (at + n) (drop (at + n) bytes) ≡ blank_end_from 0 bytes) × (at + n ≤ length bytes)
 skips_blank bytes at n so_far line =
     let d = length-drop at bytes in
@@ -134,7 +137,8 @@ skips_blank bytes at n so_far line =
         ∙ rw len (rw (drop-drop n at bytes) refl)
 
 -- the empty lines end where none begins
-pub stops_blank : (bytes : List ℕ) (at : ℕ) (line : Line) → (blank_end_from at (drop at bytes) ≡ blank_end_from 0 bytes) × (at ≤ length bytes) → IsLine line (drop at bytes)
+pub stops_blank : (bytes : List ℕ) (at : ℕ) (line : Line) → (blank_end_from at (drop at bytes) ≡ blank_end_from 0 bytes) × (at ≤ length bytes)
+    → IsLine line (drop at bytes)
     → ((n : ℕ) → line ≡ lines.Empty n → ⊥) → at ≡ blank_end_from 0 bytes
 stops_blank bytes at (lines.Empty n) so_far is none = absurd (none n refl)
 stops_blank bytes at lines.Other so_far is none =

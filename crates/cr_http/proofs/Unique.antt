@@ -34,7 +34,8 @@ ends_unique (refused why head) end end' x y = x ∙ sym y
 ends_unique clean end end' x y = x ∙ sym y
 ends_unique cut end end' x y = x ∙ sym y
 
-not_whole : (text : List ℕ) (r : RequestText) (rest : List ℕ) (found : Found) (end : End) → StandsAt text (whole r.head r.body rest) → StandsAt text found → EndsBy found end → ⊥
+not_whole : (text : List ℕ) (r : RequestText) (rest : List ℕ) (found : Found) (end : End) → StandsAt text (whole r.head r.body rest) → StandsAt text found
+    → EndsBy found end → ⊥
 not_whole text r rest found end w s e =
     let same = StandsAt-unique text found (whole r.head r.body rest) s w in subst (λ (f : Found). EndsBy f end) same e
 

@@ -1,5 +1,6 @@
 -- A head that was found stays where it is, whatever bytes follow.
-use Rattle.std.proofs.Common.{◌≡◌, ℕ, ◌+◌, ◌-◌, ◌<◌, ◌≤◌, List, [], ◌∷◌, ◌++◌, length, take, drop, Option, Some, None, Bool, true, false, refl, sym, ap, arith, suc, zero, length-take, length-drop}
+use Rattle.std.proofs.Common.{◌≡◌, ℕ, ◌+◌, ◌-◌, ◌<◌, ◌≤◌, List, [], ◌∷◌, ◌++◌, length, take, drop, Option, Some, None, Bool, true, false, refl, sym, ap, arith}
+use Rattle.std.proofs.Common.{suc, zero, length-take, length-drop}
 use Rattle.std.specs.Prelude.{◌==◌, ◌&&◌, if◌then◌else◌}
 use Rattle.std.proofs.lemmas.List.{drop-append-le, take-append-le}
 use Rattle.cr_http.specs.HeadRange.{empty_line_len, blank_end_from, head_end_from, or_later, starting_at, head_within, head_at}
@@ -29,7 +30,8 @@ head_end_from-append at (a ∷ bytes) more end is = first (a == 10) (head_end_fr
   where
     first : (t : Bool) → (head_end_from (at + 1) bytes ≡ Some end → head_end_from (at + 1) (bytes ++ more) ≡ Some end)
         → (if t then or_later at (empty_line_len bytes) (head_end_from (at + 1) bytes) else head_end_from (at + 1) bytes) ≡ Some end
-        → (if t then or_later at (empty_line_len (bytes ++ more)) (head_end_from (at + 1) (bytes ++ more)) else head_end_from (at + 1) (bytes ++ more)) ≡ Some end
+        → (if t then or_later at (empty_line_len (bytes ++ more)) (head_end_from (at + 1) (bytes ++ more)) else head_end_from (at + 1) (bytes ++ more))
+        ≡ Some end
     first true go is = rw (same_empty at bytes more end is) (later (empty_line_len bytes == 0) _ end _ _ go is)
     first false go is = go is
 
@@ -89,7 +91,8 @@ blank_end_from-append at (a ∷ b ∷ bytes) more end is =
     (at_le_blank_end (at + 1) (b ∷ bytes)) (at_le_blank_end (at + 2) bytes) is
   where
     two : (t u : Bool)
-        → (behind_blank (at + 1) (blank_end_from (at + 1) (b ∷ bytes)) (b ∷ bytes) ≡ Some end → blank_end_from (at + 1) (b ∷ (bytes ++ more)) ≡ blank_end_from (at + 1) (b ∷ bytes))
+        → (behind_blank (at + 1) (blank_end_from (at + 1) (b ∷ bytes)) (b ∷ bytes) ≡ Some end
+        → blank_end_from (at + 1) (b ∷ (bytes ++ more)) ≡ blank_end_from (at + 1) (b ∷ bytes))
         → (behind_blank (at + 2) (blank_end_from (at + 2) bytes) bytes ≡ Some end → blank_end_from (at + 2) (bytes ++ more) ≡ blank_end_from (at + 2) bytes)
         → at + 1 ≤ blank_end_from (at + 1) (b ∷ bytes) → at + 2 ≤ blank_end_from (at + 2) bytes
         → behind_blank at (if t then blank_end_from (at + 1) (b ∷ bytes) else if u then blank_end_from (at + 2) bytes else at) (a ∷ b ∷ bytes) ≡ Some end
@@ -164,7 +167,8 @@ head_within-append bytes more range is =
     let same : blank_end_from 0 (bytes ++ more) ≡ blank_end_from 0 bytes =
     blank_end_from-append 0 bytes more range.1 (let z : blank_end_from 0 bytes - 0 ≡ blank_end_from 0 bytes = omega arith in rw z at.1) in
     let end : head_end_from (blank_end_from 0 bytes) (drop (blank_end_from 0 bytes) (bytes ++ more)) ≡ Some range.1 =
-    rw (drop-append-le (blank_end_from 0 bytes) bytes more le) (head_end_from-append (blank_end_from 0 bytes) (drop (blank_end_from 0 bytes) bytes) more range.1 at.1) in
+    rw (drop-append-le (blank_end_from 0 bytes) bytes more le)
+    (head_end_from-append (blank_end_from 0 bytes) (drop (blank_end_from 0 bytes) bytes) more range.1 at.1) in
     rw same (rw end (ap Some (λ i. (sym at.0 i, range.1))))
 
 -- a front of a longer text is a front of the text, and maybe more

@@ -1,9 +1,9 @@
 -- The bytes of a body, wherever they lie.
 use Rattle.std.specs.Prelude.{ℕ, ◌≤◌, List, length}
-use Rattle.cr_http.specs.declared.body.Place.{Place}
-use Rattle.cr_http.specs.declared.body.Place.TheVariants.{Buffer, Block}
+use Rattle.cr_http.specs.declared.body.BodyPlace.{BodyPlace}
+use Rattle.cr_http.specs.declared.body.BodyPlace.TheVariants.{Buffer, Block}
 
-abbrev pub place_bytes : Place → List ℕ
+abbrev pub place_bytes : BodyPlace → List ℕ
 place_bytes (Buffer bytes) = bytes.now
 place_bytes (Block blob) = blob.now
 

@@ -68,11 +68,13 @@ Lies (reads.Refused why is_head) text kept headers block request = (request ≡ 
 Lies reads.Clean text kept headers block request = (request ≡ None) × (kept ≡ text) × StandsAt text clean
 Lies reads.Cut text kept headers block request = (request ≡ None) × (kept ≡ text) × StandsAt text cut
 Lies reads.ReadFault text kept headers block request = (request ≡ None) × (kept ≡ text) × (StandsAt text clean ⊎ StandsAt text cut)
-Lies (reads.OutOfMemory is_head) text kept headers block request = (request ≡ None) × (kept ≡ text) × (StandsAt text clean ⊎ StandsAt text cut) × IsToHead text is_head
+Lies (reads.OutOfMemory is_head) text kept headers block request =
+    (request ≡ None) × (kept ≡ text) × (StandsAt text clean ⊎ StandsAt text cut) × IsToHead text is_head
 
 -- The source gave what makes this text of the bytes that were there, and the answer stands at its front.
 pub record ReadsInto {S : Type 0} (left : S → Option (List ℕ)) (gives : S → S → List ℕ → Type 0)
-    (source source' : S) (old kept : List ℕ) (headers : List HeaderSpan) (block : Option (List ℕ)) (request : Option Extent) (answer : RequestRead) : Type 0 where
+    (source source' : S) (old kept : List ℕ) (headers : List HeaderSpan) (block : Option (List ℕ)) (request : Option Extent)
+    (answer : RequestRead) : Type 0 where
   pub text : List ℕ
   pub moves : Moves (left source) (left source') old text
   pub needed : ReadsWhile left gives IsUnsettled source source' old text

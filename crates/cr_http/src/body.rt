@@ -8,7 +8,7 @@ use std::marker::Model;
 
 /// Where the bytes of a body are.
 #[derive(Drop)]
-pub(crate) enum Place<'b> {
+pub(crate) enum BodyPlace<'b> {
     /// Among those that were read.
     Buffer(&'b [u8]),
     /// In a block of their own.
@@ -18,7 +18,7 @@ pub(crate) enum Place<'b> {
 /// The body of a request, lent: at most 4,194,304 bytes. Contracts see the list of its bytes.
 #[derive(Drop)]
 pub struct Body<'b> {
-    place: Place<'b>,
+    place: BodyPlace<'b>,
 }
 
 impl<'b> Model for Body<'b> {
@@ -39,7 +39,7 @@ impl<'b> Body<'b> {
         ensures { result ≡ bytes.now }
     {
         Body {
-            place: Place::Buffer(bytes),
+            place: BodyPlace::Buffer(bytes),
         }
     }
 
@@ -49,7 +49,7 @@ impl<'b> Body<'b> {
         ensures { result ≡ bytes.now }
     {
         Body {
-            place: Place::Block(bytes),
+            place: BodyPlace::Block(bytes),
         }
     }
 
@@ -59,8 +59,8 @@ impl<'b> Body<'b> {
         ensures short { IsBody self.now }
     {
         match &self.place {
-            Place::Buffer(bytes) => bytes,
-            Place::Block(blob) => blob.as_slice(),
+            BodyPlace::Buffer(bytes) => bytes,
+            BodyPlace::Block(blob) => blob.as_slice(),
         }
     }
 
@@ -71,8 +71,8 @@ impl<'b> Body<'b> {
         ensures short { IsBody self.now }
     {
         match &self.place {
-            Place::Buffer(bytes) => Blob::from_slice(alloc, bytes),
-            Place::Block(blob) => blob.copy(),
+            BodyPlace::Buffer(bytes) => Blob::from_slice(alloc, bytes),
+            BodyPlace::Block(blob) => blob.copy(),
         }
     }
 }

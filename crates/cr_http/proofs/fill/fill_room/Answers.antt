@@ -1,26 +1,20 @@
-use Rattle.std.proofs.Common.{◌∙◌, ◌<◌, length, arith}
-use Rattle.cr_http.specs.Buffer.{text_of}
-use Rattle.cr_http.proofs.Moving.{moves_on, reads_once}
+use Rattle.std.proofs.Common.{◌∙◌, arith}
+use Rattle.cr_http.proofs.Moving.{moves_on, reads_below}
 use Rattle.cr_http.proofs.fill.fill_room.Goals as goal
 
 pub returns-then-ne-clause-needed : goal.returns-then-ne-clause-needed
 returns-then-ne-clause-needed g c =
     let m = c.reading.invariant in
-    let once = c.read_within-step.ensures.once in
-    let wants : length (text_of c.reading.buffer) < c.args.len = omega arith in
-    reads_once g.S.Source.left g.S.Source.read_gives (λ text. length text < c.args.len) c.args.source.now c.reading.source c.read_within-step.new.source
-    (text_of c.args.buffer.now) (text_of c.reading.buffer) (text_of c.read_within-step.new.self) m.moves wants m.needed once
+    reads_below _ _ _ _ _ _ _ _ _ m.moves m.needed (omega arith) c.read_within-step.ensures.once
 
 pub reading-preserved : goal.reading-preserved
 reading-preserved g c =
     let m = c.reading.invariant in
-    let once = c.read_within-step.ensures.once in
-    let wants : length (text_of c.reading.buffer) < c.args.len = omega arith in
+    let step = c.read_within-step.ensures in
     record {
-      moves = moves_on _ _ _ _ _ _ m.moves c.read_within-step.ensures.moves;
-      needed = reads_once g.S.Source.left g.S.Source.read_gives (λ text. length text < c.args.len) c.args.source.now c.reading.source c.read_within-step.new.source
-          (text_of c.args.buffer.now) (text_of c.reading.buffer) (text_of c.read_within-step.new.self) m.moves wants m.needed once;
+      moves = moves_on _ _ _ _ _ _ m.moves step.moves;
+      needed = reads_below _ _ _ _ _ _ _ _ _ m.moves m.needed (omega arith) step.once;
       room = c.read_within-step.ensures.room;
       count = omega arith;
-      steady = c.read_within-step.ensures.steady (λ is. let e = rw is at c.ne.ensures in let f = c.if-ne.false in cc (e, f)) ∙ m.steady;
+      steady = step.steady (λ is. let e = rw is at c.ne.ensures in let f = c.if-ne.false in cc (e, f)) ∙ m.steady;
     }

@@ -13,6 +13,7 @@ between-bytes-requires-clause-within c = (head_at_bounds c.args.text.now (c.args
 
 pub returns-in_default : goal.returns-in_default
 returns-in_default c =
-    let few : line_feeds (slice_range c.args.text.now c.args.range.start c.args.range.end) ≤ 66 = rw (← c.between-bytes.ensures) (let n = c.count_lines.ensures in omega (arith, n)) in
+    let few : line_feeds (slice_range c.args.text.now c.args.range.start c.args.range.end) ≤ 66 =
+    rw (← c.between-bytes.ensures) (let n = c.count_lines.ensures in omega (arith, n)) in
     let none = rw (c.in_default.is, c.between-bytes.ensures) at c.parse_spans.ensures.none in
     stands_no_head c.args.text.now c.args.range.start c.args.range.end c.requires.range few none
