@@ -7,7 +7,8 @@ use Rattle.cr_ports.specs.Doors.{share_of, shares_below}
 use Rattle.cr_ports.specs.MemoryDoors.{Doored, calls_below, listed_at}
 use Rattle.std.specs.Prelude.{slice_get}
 
-pub shares_below-next : (i workers connections : ℕ) → shares_below (i + 1) workers connections ≡ shares_below i workers connections ++ share_of i workers connections ∷ []
+pub shares_below-next : (i workers connections : ℕ) → shares_below (i + 1) workers connections ≡ shares_below i workers connections
+    ++ share_of i workers connections ∷ []
 shares_below-next i workers connections = let e : i + 1 ≡ suc i = omega arith in ap (λ (n : ℕ). shares_below n workers connections) e
 
 pub calls_below-next : (i : ℕ) (failing : List (List ℕ)) → calls_below (i + 1) failing ≡ calls_below i failing ++ listed_at (slice_get failing i) ∷ []

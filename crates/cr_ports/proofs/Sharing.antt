@@ -1,5 +1,6 @@
 -- The shares of doors add up to the connections.
-use Rattle.std.proofs.Common.{◌≡◌, ◌∙◌, ℕ, zero, suc, ◌+◌, ◌-◌, ◌*◌, ◌/◌, ◌%◌, ◌<◌, ◌≤◌, min, sum, [], ◌∷◌, length, Bool, true, false, nat_lt, if◌then◌else◌, refl, sym, ap, arith, suc-mul, mul-le-mul_right, mod-lt, div-add-mod', ltb-true, ltb-false, subst}
+use Rattle.std.proofs.Common.{◌≡◌, ◌∙◌, ℕ, zero, suc, ◌+◌, ◌-◌, ◌*◌, ◌/◌, ◌%◌, ◌<◌, ◌≤◌, min, sum, [], ◌∷◌, length, Bool, true, false, nat_lt, if◌then◌else◌}
+use Rattle.std.proofs.Common.{refl, sym, ap, arith, suc-mul, mul-le-mul_right, mod-lt, div-add-mod', ltb-true, ltb-false, subst}
 use Rattle.std.proofs.lemmas.List.{length_push}
 use Rattle.std.proofs.lemmas.List.Sums.{sum_by-append}
 use Rattle.std.proofs.Math.Nat.{mul_comm}
@@ -9,10 +10,12 @@ use Rattle.cr_ports.specs.Doors.{share_of, shares, shares_below}
 abbrev pub given_below : ℕ → ℕ → ℕ → ℕ
 given_below i workers connections = sum (shares_below i workers connections)
 
-pub given_below-next : (i workers connections : ℕ) → given_below (suc i) workers connections ≡ given_below i workers connections + share_of i workers connections
+pub given_below-next : (i workers connections : ℕ) → given_below (suc i) workers connections ≡ given_below i workers connections
+    + share_of i workers connections
 given_below-next i workers connections =
     let one : 0 + share_of i workers connections ≡ share_of i workers connections = omega arith in
-    sum_by-append (λ x. x) (shares_below i workers connections) (share_of i workers connections ∷ []) ∙ ap (λ (n : ℕ). given_below i workers connections + n) one
+    sum_by-append (λ x. x) (shares_below i workers connections) (share_of i workers connections ∷ [])
+    ∙ ap (λ (n : ℕ). given_below i workers connections + n) one
 
 -- one door more: a quotient more, and one where the remainder isn't used up
 one_more : (b : Bool) (i q r total : ℕ) → nat_lt i r ≡ b → total ≡ i * q + min i r → total + (q + (if b then 1 else 0)) ≡ (i * q + q) + min (suc i) r
@@ -46,7 +49,8 @@ share_fits i workers connections less =
     let q = connections / workers in
     let more = sym (given_below-next i workers connections) ∙ given_below-is (suc i) workers connections in
     let up : suc i ≤ workers = omega (arith, less) in
-    fits (given_below i workers connections + share_of i workers connections) (suc i * q) (workers * q) (q * workers) (suc i) (connections % workers) connections
+    fits (given_below i workers connections + share_of i workers connections) (suc i * q) (workers * q) (q * workers) (suc i)
+    (connections % workers) connections
     more (mul-le-mul_right q up) (mul_comm workers q) (div-add-mod' connections workers)
   where
     fits : (total a b b' m r c : ℕ) → total ≡ a + min m r → a ≤ b → b ≡ b' → b' + r ≡ c → total ≤ c
@@ -57,13 +61,15 @@ pub enough_left : (connections total share len : ℕ) → connections ≤ total 
 enough_left connections total share len enough fits = omega (arith, enough, fits)
 
 -- the same, of the doors below the next number
-pub enough_behind : (i workers connections share len rest : ℕ) → given_below (suc i) workers connections ≡ given_below i workers connections + share_of i workers connections
+pub enough_behind : (i workers connections share len rest : ℕ)
+    → given_below (suc i) workers connections ≡ given_below i workers connections + share_of i workers connections
     → share ≡ share_of i workers connections → connections ≤ (given_below i workers connections + share) + (len - share) → rest ≡ len - share
     → connections ≤ given_below (i + 1) workers connections + rest
 enough_behind i workers connections share len rest more is left len_is =
     let e : i + 1 ≡ suc i = omega arith in
     subst (λ (n : ℕ). connections ≤ given_below n workers connections + rest) (sym e)
-    (sums (given_below (suc i) workers connections) (given_below i workers connections) (share_of i workers connections) share (len - share) rest connections more is left len_is)
+    (sums (given_below (suc i) workers connections) (given_below i workers connections) (share_of i workers connections) share
+    (len - share) rest connections more is left len_is)
   where
     sums : (total before s share room rest c : ℕ) → total ≡ before + s → share ≡ s → c ≤ (before + share) + room → rest ≡ room → c ≤ total + rest
     sums total before s share room rest c more is left room_is = omega (arith, more, is, left, room_is)

@@ -22,6 +22,7 @@ mod sinks;
 mod source;
 mod sources;
 mod streams;
+mod unread;
 mod writing;
 
 pub use calls::Calls;

@@ -1,11 +1,12 @@
 //! Sources in memory, which tell all that they hold.
-ghost use Rattle.std.specs.Prelude.{◌≡◌, ◌≢◌, ◌<◌, ◌≤◌, ℕ, List, [], Some, length, take, drop, vec_len, IfOk, IfSome};
+ghost use Rattle.std.specs.Prelude.{◌≡◌, ◌≢◌, ◌<◌, ◌≤◌, ℕ, List, [], Some, length, IfOk, IfSome};
 ghost use Rattle.cr_ports.specs.Count.{Rises};
 ghost use Rattle.cr_ports.specs.Memory.{Input, PlainReadGives, ReadGives, plain_step, read_step, read_faults};
 ghost use Rattle.cr_ports.specs.Script.{FollowsScript};
 ghost use Rattle.cr_ports.specs.Stream.{and_left, gave, FillsWithin};
 
 use crate::script::Script;
+use crate::unread::Unread;
 use crate::{ReadStep, Source};
 use std::alloc::AllocError;
 use std::marker::Model;
@@ -16,17 +17,14 @@ use std::marker::Model;
 /// Contracts see the bytes that are left and the lists.
 #[derive(Drop)]
 pub struct MemSource {
-    bytes: Vec<u8>,
-    at: usize,
+    bytes: Unread,
     script: Script,
 }
 
 impl Model for MemSource {
     ghost Value = { Input };
 
-    ghost view = { λ s. record { left = drop s.at s.bytes.items; script = s.script } };
-
-    ghost invariant = { λ s. s.at ≤ vec_len s.bytes };
+    ghost view = { λ s. record { left = s.bytes; script = s.script } };
 }
 
 impl MemSource {
@@ -42,8 +40,7 @@ impl MemSource {
         ensures faults { result.script.faults ≡ 0 }
     {
         MemSource {
-            bytes,
-            at: 0,
+            bytes: Unread::new(bytes),
             script: Script::new(pieces, failing),
         }
     }
@@ -52,30 +49,17 @@ impl MemSource {
     pub(crate) fn copy(&self) -> Result<Self, AllocError>
         ensures { IfOk result (λ copy. copy ≡ self.now) }
     {
-        let bytes = self.bytes.clone()?;
+        let bytes = self.bytes.copy()?;
         let script = self.script.copy()?;
-        Ok(MemSource {
-            bytes,
-            at: self.at,
-            script,
-        })
+        Ok(MemSource { bytes, script })
     }
 
     /// The bytes that no read has given yet.
     pub fn unread(&self) -> &[u8]
         ensures { result.now ≡ self.now.left }
     {
-        &self.bytes[self.at..]
+        self.bytes.as_slice()
     }
-}
-
-/// Copies the first `n` bytes of `left` to the front of `buf`.
-fn copy_front(left: &[u8], buf: &mut [u8], n: usize)
-    requires has { n ≤ length left.now }
-    requires fits { n ≤ length buf.old }
-    ensures { take n buf.new ≡ take n left.now }
-{
-    buf[..n].copy_from_slice(&left[..n]);
 }
 
 impl Source for MemSource {
@@ -101,18 +85,15 @@ impl Source for MemSource {
         ensures script { FollowsScript self.old.script self.new.script }
         ensures faults { self.new.script.faults ≡ read_faults result self.old.script.faults }
     {
-        let n = self
-            .script
-            .moved((self.bytes.len() - self.at).min(buf.len()));
+        let n = self.script.moved(self.bytes.len().min(buf.len()));
         if self.script.begin() {
             self.script.fail();
             return ReadStep::Failed;
         }
-        if self.at == self.bytes.len() {
+        if self.bytes.len() == 0 {
             return ReadStep::End;
         }
-        copy_front(&self.bytes[self.at..], buf, n);
-        self.at += n;
+        self.bytes.give(buf, n);
         ReadStep::Got(n)
     }
 }
@@ -122,16 +103,13 @@ impl Source for MemSource {
 /// Contracts see the bytes that are left.
 #[derive(Drop)]
 pub struct PlainSource {
-    bytes: Vec<u8>,
-    at: usize,
+    bytes: Unread,
 }
 
 impl Model for PlainSource {
     ghost Value = { List ℕ };
 
-    ghost view = { λ s. drop s.at s.bytes.items };
-
-    ghost invariant = { λ s. s.at ≤ vec_len s.bytes };
+    ghost view = { λ s. s.bytes };
 }
 
 impl PlainSource {
@@ -139,7 +117,9 @@ impl PlainSource {
     pub fn new(bytes: Vec<u8>) -> Self
         ensures { result ≡ bytes.items }
     {
-        PlainSource { bytes, at: 0 }
+        PlainSource {
+            bytes: Unread::new(bytes),
+        }
     }
 }
 
@@ -163,12 +143,11 @@ impl Source for PlainSource {
 
         ensures step { result ≡ plain_step (length self.old) (length buf.old) }
     {
-        if self.at == self.bytes.len() {
+        if self.bytes.len() == 0 {
             return ReadStep::End;
         }
-        let n = (self.bytes.len() - self.at).min(buf.len());
-        copy_front(&self.bytes[self.at..], buf, n);
-        self.at += n;
+        let n = self.bytes.len().min(buf.len());
+        self.bytes.give(buf, n);
         ReadStep::Got(n)
     }
 }

@@ -14,7 +14,8 @@ filling-preserved c =
     let later = c.filling.invariant.later in
     let within : length old < c.args.connections = search rules in
     record {
-      items = filled_more xs old new c.in_ok-silent_connection.field-0 silent (length old - length xs) (length new - length xs) c.filling.invariant.items pushed c.in_ok-silent_connection.ensures
+      items = filled_more xs old new c.in_ok-silent_connection.field-0 silent (length old - length xs)
+          (length new - length xs) c.filling.invariant.items pushed c.in_ok-silent_connection.ensures
           (omega (arith, longer, later));
       later = omega (arith, longer, later);
       within = omega (arith, longer, later, within);

@@ -31,7 +31,8 @@ making-preserved c =
           (ap length first ∙ length-take-le share coming fits ∙ c.share.ensures) ∙ sym (shares_below-next i c.args.workers c.args.connections);
       logs = all_pushed (λ (d : Doored). d.log ≡ unasked) doors c.push.new.self.items door pushed c.making.invariant.logs c.in_ok-new.ensures.log;
       faults = all_pushed (λ (d : Doored). d.faults ≡ 0) doors c.push.new.self.items door pushed c.making.invariant.faults c.in_ok-new.ensures.faults;
-      coming = flat_map_pushed (λ (d : Doored). d.coming) doors c.push.new.self.items door _ coming rest share pushed first c.in_ok-first.ensures.rest c.making.invariant.coming;
+      coming = flat_map_pushed (λ (d : Doored). d.coming) doors c.push.new.self.items door _ coming rest share pushed first c.in_ok-first.ensures.rest
+          c.making.invariant.coming;
       calls = map_pushed (λ (d : Doored). d.calls) doors c.push.new.self.items door _ _ pushed c.making.invariant.calls
           (c.in_ok-new.ensures.calls ∙ c.in_ok-list.ensures) ∙ sym (calls_below-next i _);
       enough =

@@ -18,10 +18,12 @@ writing-preserved g c = record {
 
 pub returns-in-Failed-clause-failed : goal.returns-in-Failed-clause-failed
 returns-in-Failed-clause-failed g c =
-    wrote_part _ (outlet_of g.O.Sink.taken g.O.Sink.faults c.writing.sink) _ c.args.bytes.now c.writing.at c.writing-test.true c.writing.invariant.taken c.writing.invariant.steady
+    wrote_part _ (outlet_of g.O.Sink.taken g.O.Sink.faults c.writing.sink) _ c.args.bytes.now c.writing.at c.writing-test.true c.writing.invariant.taken
+    c.writing.invariant.steady
     c.in-Failed.ensures.bytes c.in-Failed.ensures.count (c.in-Failed.ensures.failed refl)
 
 pub returns-clause-whole : goal.returns-clause-whole
 returns-clause-whole g c =
-    wrote_whole (outlet_of g.O.Sink.taken g.O.Sink.faults c.args.sink.now) (outlet_of g.O.Sink.taken g.O.Sink.faults c.writing.sink) c.args.bytes.now c.writing.at
+    wrote_whole (outlet_of g.O.Sink.taken g.O.Sink.faults c.args.sink.now)
+    (outlet_of g.O.Sink.taken g.O.Sink.faults c.writing.sink) c.args.bytes.now c.writing.at
     c.writing-test.false c.writing.invariant.taken c.writing.invariant.steady
