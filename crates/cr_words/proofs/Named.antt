@@ -1,5 +1,6 @@
 -- Words that the command takes name one of its jobs, whose numbers lie within their ranges.
-use Rattle.std.proofs.Common.{◌≡◌, ◌≢◌, ◌∙◌, ℕ, arith, ◌&&◌, ◌||◌, List, [], ◌∷◌, Bool, true, false, not, cond, Option, Some, None, is_some, inl, inr, Result, Err, IfOk, refl, sym, ap, subst, codes}
+use Rattle.std.proofs.Common.{◌≡◌, ◌≢◌, ◌∙◌, ℕ, arith, ◌&&◌, ◌||◌, List, [], ◌∷◌, Bool, true, false, not, cond, Option, Some, None, is_some, inl, inr, Result}
+use Rattle.std.proofs.Common.{Err, IfOk, refl, sym, ap, subst, codes}
 use Rattle.std.specs.Prelude.{option_map}
 use Rattle.std.specs.Str.{bytes_eq}
 use Rattle.std.specs.Option.{option_and_then, option_map_or, ok_or}
@@ -14,7 +15,8 @@ use Rattle.clap.specs.Takes.{is_given}
 use Rattle.clap.specs.Faults.{check_fault, entered_fault, level_fault}
 use Rattle.clap.proofs.OnLiterals.{clap_on_literals}
 use Rattle.cr_words.specs.Words.{pipe, serve, view, confd_words}
-use Rattle.cr_words.specs.Job.{NamedJob, serve_job, view_job, IsInRange, IsNamed, job_named, job_of, job_seen, number_at, serve_named, view_named, with_all, with_both}
+use Rattle.cr_words.specs.Job.{NamedJob, serve_job, view_job, IsInRange, IsNamed, job_named, job_of, job_seen, number_at, serve_named, view_named, with_all}
+use Rattle.cr_words.specs.Job.{with_both}
 use Rattle.cr_words.specs.Numbers.{spelt, number_of, are_workers, are_connections}
 use Rattle.cr_words.proofs.Numbers.{IsNumber, is_number}
 use Rattle.cr_words.specs.declared.read.Job.{Job}

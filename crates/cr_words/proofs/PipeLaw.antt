@@ -1,19 +1,11 @@
 -- The words of `pipe`, by clap's own definitions.
-use Rattle.std.proofs.Common.{◌≡◌, [], ◌∷◌, Some, None, true, refl}
+use Rattle.std.proofs.Common.{[], ◌∷◌, None, refl}
 use Rattle.std.specs.Prelude.{codes}
-use Rattle.clap.specs.Words.{Text, fault_of, takes}
+use Rattle.clap.specs.Words.{Text}
 use Rattle.clap.proofs.OnLiterals.{clap_on_literals}
 use Rattle.cr_words.specs.Words.{pipe, serve, view, confd_words}
-use Rattle.cr_words.specs.Job.{job_of, pipe_job}
+use Rattle.cr_words.specs.Job.{AreTakenFor, pipe_job}
 
-pub taken : (name : Text) → fault_of confd_words (name ∷ codes "pipe" ∷ []) ≡ []
+pub pipe_taken : (name : Text) → AreTakenFor (name ∷ codes "pipe" ∷ []) (pipe_job None)
 unfolding clap_on_literals confd_words pipe serve view
-taken name = refl
-
-pub passes : (name : Text) → takes confd_words (name ∷ codes "pipe" ∷ []) ≡ true
-unfolding clap_on_literals confd_words pipe serve view
-passes name = refl
-
-pub job : (name : Text) → job_of (name ∷ codes "pipe" ∷ []) ≡ Some (pipe_job None)
-unfolding clap_on_literals confd_words pipe serve view
-job name = refl
+pipe_taken name = record { taken = refl; passes = refl; named = refl }

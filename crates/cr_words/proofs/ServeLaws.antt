@@ -17,7 +17,7 @@ use Rattle.clap.specs.declared.parser.matches.ValueSource.TheVariants.{CommandLi
 use Rattle.clap.proofs.OnLiterals.{clap_on_literals}
 use Rattle.cr_words.specs.Words.{pipe, view, confd_words, is_plain_text, most_workers, most_connections, serve_word, serve_words, store_words}
 use Rattle.cr_words.specs.Numbers.{spelt, number_of, are_workers, are_connections}
-use Rattle.cr_words.specs.Job.{job_named, job_of, serve_job, with_all}
+use Rattle.cr_words.specs.Job.{AreTakenFor, job_named, serve_job, with_all}
 use Rattle.cr_words.proofs.ServeBy.{serve_by, words_by, job_by, first_range, second_range, number_fault, walk_faults, faults_by}
 use Rattle.cr_words.proofs.ServeBy.{number_passes, walk_passes_by, passes_by, faults_are, both_pass, job_is}
 use Rattle.cr_words.proofs.Values.{number_plain, after_value, goes_on, faults_go_on, passes_on}
@@ -31,7 +31,8 @@ one_word name listen workers connections file = name ∷ codes "serve" ∷ serve
 -- ---- options as one word
 
 module _ (p q : ValueParser) (name listen workers connections file : Text) where
-  attached_faults : fault_of (words_by p q) (one_word name listen workers connections file) ≡ faults_by (refused_kind p) (refused_kind q) (accepts false p workers) (accepts false q connections)
+  attached_faults : fault_of (words_by p q) (one_word name listen workers connections file)
+      ≡ faults_by (refused_kind p) (refused_kind q) (accepts false p workers) (accepts false q connections)
   unfolding clap_on_literals pipe view
   attached_faults = refl
 
@@ -48,15 +49,13 @@ module _ (name listen workers connections file : Text) where
       → fault_of confd_words (one_word name listen workers connections file) ≡ faults_by ValueValidation ValueValidation b c
   attached b c few some = faults_are _ workers connections b c few some (attached_faults first_range second_range name listen workers connections file)
 
-  pub attached_taken : are_workers workers ≡ true → are_connections connections ≡ true → fault_of confd_words (one_word name listen workers connections file) ≡ []
-  attached_taken few some = attached true true few some
-
-  pub attached_passes : are_workers workers ≡ true → are_connections connections ≡ true → takes confd_words (one_word name listen workers connections file) ≡ true
-  attached_passes few some = both_pass _ workers connections few some (attached_both first_range second_range name listen workers connections file)
-
-  pub attached_job : are_workers workers ≡ true → are_connections connections ≡ true
-      → job_of (one_word name listen workers connections file) ≡ Some (serve_job listen (spelt workers) (spelt connections) file)
-  attached_job few some = job_is _ listen workers connections file few some (attached_named first_range second_range name listen workers connections file)
+  pub attached_taken : are_workers workers ≡ true → are_connections connections ≡ true
+      → AreTakenFor (one_word name listen workers connections file) (serve_job listen (spelt workers) (spelt connections) file)
+  attached_taken few some = record {
+    taken = attached true true few some;
+    passes = both_pass _ workers connections few some (attached_both first_range second_range name listen workers connections file);
+    named = job_is _ listen workers connections file few some (attached_named first_range second_range name listen workers connections file);
+  }
 
   pub attached_bad_workers : are_workers workers ≡ false → fault_of confd_words (one_word name listen workers connections file) ≡ ValueValidation ∷ []
   attached_bad_workers many = attached false (are_connections connections) many refl
@@ -123,12 +122,15 @@ module _ (p q : ValueParser) (name listen workers connections file : Text) (list
   abbrev second_fault : Kinds
   second_fault = number_fault (refused_kind q) (accepts false q connections)
 
-  faults_walked : walk_fault leaf [] (walk_from nothing_held) words ≡ walk_faults (refused_kind p) (refused_kind q) (accepts false p workers) (accepts false q connections)
+  faults_walked : walk_fault leaf [] (walk_from nothing_held) words
+      ≡ walk_faults (refused_kind p) (refused_kind q) (accepts false p workers) (accepts false q connections)
   unfolding clap_on_literals pipe view
   faults_walked = faults_go_on leaf (codes "listen") listen (held_with [] (codes "listen")) from_workers listen_plain
       ∙ (faults_go_on leaf (codes "workers") workers (held_with one_row (codes "workers")) from_connections workers_plain
-      ∙ (ap (or_else first_fault) (faults_go_on leaf (codes "connections") connections (held_with two_rows (codes "connections")) (store_words file) connections_plain)
-      ∙ ap (λ (k : Kinds). or_else first_fault (or_else second_fault k)) (faults_go_on leaf (codes "store") file (held_with three_rows (codes "store")) [] file_plain)))
+      ∙ (ap (or_else first_fault) (faults_go_on leaf (codes "connections") connections (held_with two_rows (codes "connections"))
+      (store_words file) connections_plain)
+      ∙ ap (λ (k : Kinds). or_else first_fault (or_else second_fault k))
+      (faults_go_on leaf (codes "store") file (held_with three_rows (codes "store")) [] file_plain)))
 
   abbrev first_passes : Bool
   first_passes = number_passes (accepts false p workers)
@@ -140,7 +142,8 @@ module _ (p q : ValueParser) (name listen workers connections file : Text) (list
   unfolding clap_on_literals pipe view
   passes_walked = passes_on leaf (codes "listen") listen (held_with [] (codes "listen")) from_workers listen_plain
       ∙ (passes_on leaf (codes "workers") workers (held_with one_row (codes "workers")) from_connections workers_plain
-      ∙ (ap (λ (b : Bool). first_passes && b) (passes_on leaf (codes "connections") connections (held_with two_rows (codes "connections")) (store_words file) connections_plain)
+      ∙ (ap (λ (b : Bool). first_passes && b) (passes_on leaf (codes "connections") connections (held_with two_rows (codes "connections"))
+      (store_words file) connections_plain)
       ∙ ap (λ (b : Bool). first_passes && (second_passes && b)) (passes_on leaf (codes "store") file (held_with three_rows (codes "store")) [] file_plain)))
 
   -- the whole is its one level below the top
@@ -154,7 +157,8 @@ module _ (p q : ValueParser) (name listen workers connections file : Text) (list
   unfolding clap_on_literals pipe view
   last_faults = refl
 
-  faults : fault_of (words_by p q) (two_words name listen workers connections file) ≡ faults_by (refused_kind p) (refused_kind q) (accepts false p workers) (accepts false q connections)
+  faults : fault_of (words_by p q) (two_words name listen workers connections file)
+      ≡ faults_by (refused_kind p) (refused_kind q) (accepts false p workers) (accepts false q connections)
   faults = level_faults ∙ ((λ i. or_else (level_by leaf (faults_walked i) (ends i).held) []) ∙ last_faults)
 
   level_passes : takes (words_by p q) (two_words name listen workers connections file)
@@ -162,14 +166,16 @@ module _ (p q : ValueParser) (name listen workers connections file : Text) (list
   unfolding clap_on_literals pipe view
   level_passes = refl
 
-  last_passes : (level_passes_by leaf (walk_passes_by (accepts false p workers) (accepts false q connections)) last.held && true) ≡ passes_by (accepts false p workers) (accepts false q connections)
+  last_passes : (level_passes_by leaf (walk_passes_by (accepts false p workers) (accepts false q connections)) last.held && true)
+      ≡ passes_by (accepts false p workers) (accepts false q connections)
   unfolding clap_on_literals pipe view
   last_passes = refl
 
   both : takes (words_by p q) (two_words name listen workers connections file) ≡ passes_by (accepts false p workers) (accepts false q connections)
   both = level_passes ∙ ((λ i. level_passes_by leaf (passes_walked i) (ends i).held && true) ∙ last_passes)
 
-  level_named : job_by p q (two_words name listen workers connections file) ≡ job_named (codes "serve", finished leaf.rules (walk leaf.rules [] nothing_held words).held)
+  level_named : job_by p q (two_words name listen workers connections file)
+      ≡ job_named (codes "serve", finished leaf.rules (walk leaf.rules [] nothing_held words).held)
   unfolding clap_on_literals pipe view
   level_named = refl
 
@@ -186,17 +192,18 @@ module _ (name listen workers connections file : Text) (listen_plain : is_plain_
   apart workers_plain connections_plain b c few some = faults_are _ workers connections b c few some
       (faults first_range second_range name listen workers connections file listen_plain workers_plain connections_plain file_plain)
 
-  pub taken : are_workers workers ≡ true → are_connections connections ≡ true → fault_of confd_words (two_words name listen workers connections file) ≡ []
-  taken few some = apart (number_plain 1 most_workers workers few) (number_plain 1 most_connections connections some) true true few some
-
-  pub passes : are_workers workers ≡ true → are_connections connections ≡ true → takes confd_words (two_words name listen workers connections file) ≡ true
-  passes few some = both_pass _ workers connections few some
-      (both first_range second_range name listen workers connections file listen_plain (number_plain 1 most_workers workers few) (number_plain 1 most_connections connections some) file_plain)
-
-  pub job : are_workers workers ≡ true → are_connections connections ≡ true
-      → job_of (two_words name listen workers connections file) ≡ Some (serve_job listen (spelt workers) (spelt connections) file)
-  job few some = job_is _ listen workers connections file few some
-      (named first_range second_range name listen workers connections file listen_plain (number_plain 1 most_workers workers few) (number_plain 1 most_connections connections some) file_plain)
+  pub taken : are_workers workers ≡ true → are_connections connections ≡ true
+      → AreTakenFor (two_words name listen workers connections file) (serve_job listen (spelt workers) (spelt connections) file)
+  taken few some =
+      let workers_plain = number_plain 1 most_workers workers few in
+      let connections_plain = number_plain 1 most_connections connections some in
+      record {
+        taken = apart workers_plain connections_plain true true few some;
+        passes = both_pass _ workers connections few some
+            (both first_range second_range name listen workers connections file listen_plain workers_plain connections_plain file_plain);
+        named = job_is _ listen workers connections file few some
+            (named first_range second_range name listen workers connections file listen_plain workers_plain connections_plain file_plain);
+      }
 
   pub bad_workers : is_plain_text workers ≡ true → is_plain_text connections ≡ true → are_workers workers ≡ false
       → fault_of confd_words (two_words name listen workers connections file) ≡ ValueValidation ∷ []

@@ -3,10 +3,10 @@ use Rattle.std.proofs.Common.{◌≡◌, [], ◌∷◌, ◌++◌, Bool, Some, No
 use Rattle.std.specs.Prelude.{codes}
 use Rattle.std.specs.Str.{bytes_eq}
 use Rattle.clap.specs.Lexer.{strip_byte}
-use Rattle.clap.specs.Words.{Text, fault_of, takes}
+use Rattle.clap.specs.Words.{Text}
 use Rattle.clap.proofs.OnLiterals.{clap_on_literals}
 use Rattle.cr_words.specs.Words.{pipe, serve, view, confd_words, is_plain_text, store_word, user_word, store_words, user_words}
-use Rattle.cr_words.specs.Job.{job_of, pipe_job, view_job}
+use Rattle.cr_words.specs.Job.{AreTakenFor, pipe_job, view_job}
 
 -- ---- what clap tests of a word that may be an option
 
@@ -24,79 +24,39 @@ not_stripped (b ∷ rest) plain = ap (λ t. cond t (Some rest) None) (no_hyphen 
 
 -- ---- options as two words
 
-pub pipe_taken : (name file : Text) → is_plain_text file ≡ true → fault_of confd_words (name ∷ codes "pipe" ∷ store_words file) ≡ []
+pub pipe_store_taken : (name file : Text) → is_plain_text file ≡ true → AreTakenFor (name ∷ codes "pipe" ∷ store_words file) (pipe_job (Some file))
 unfolding clap_on_literals confd_words pipe serve view
-pipe_taken name file file_plain =
-    rw (not_dashes file file_plain, not_stripped file file_plain, not_stripped file file_plain) refl
-
-pub pipe_passes : (name file : Text) → is_plain_text file ≡ true → takes confd_words (name ∷ codes "pipe" ∷ store_words file) ≡ true
-unfolding clap_on_literals confd_words pipe serve view
-pipe_passes name file file_plain =
-    rw (not_dashes file file_plain, not_stripped file file_plain, not_stripped file file_plain) refl
-
-pub pipe_job_is : (name file : Text) → is_plain_text file ≡ true → job_of (name ∷ codes "pipe" ∷ store_words file) ≡ Some (pipe_job (Some file))
-unfolding clap_on_literals confd_words pipe serve view
-pipe_job_is name file file_plain =
-    rw (not_dashes file file_plain, not_stripped file file_plain, not_stripped file file_plain) refl
+pipe_store_taken name file file_plain =
+    let d = not_dashes file file_plain in
+    let s = not_stripped file file_plain in
+    record { taken = rw (d, s, s) refl; passes = rw (d, s, s) refl; named = rw (d, s, s) refl }
 
 pub view_taken : (name file user : Text) → is_plain_text file ≡ true → is_plain_text user ≡ true
-    → fault_of confd_words (name ∷ codes "view" ∷ store_words file ++ user_words user) ≡ []
+    → AreTakenFor (name ∷ codes "view" ∷ store_words file ++ user_words user) (view_job file user)
 unfolding clap_on_literals confd_words pipe serve view
 view_taken name file user file_plain user_plain =
-    rw (not_dashes file file_plain, not_stripped file file_plain, not_stripped file file_plain, not_dashes user user_plain, not_stripped user user_plain, not_stripped user user_plain) refl
-
-pub view_passes : (name file user : Text) → is_plain_text file ≡ true → is_plain_text user ≡ true
-    → takes confd_words (name ∷ codes "view" ∷ store_words file ++ user_words user) ≡ true
-unfolding clap_on_literals confd_words pipe serve view
-view_passes name file user file_plain user_plain =
-    rw (not_dashes file file_plain, not_stripped file file_plain, not_stripped file file_plain, not_dashes user user_plain, not_stripped user user_plain, not_stripped user user_plain) refl
-
-pub view_job_is : (name file user : Text) → is_plain_text file ≡ true → is_plain_text user ≡ true
-    → job_of (name ∷ codes "view" ∷ store_words file ++ user_words user) ≡ Some (view_job file user)
-unfolding clap_on_literals confd_words pipe serve view
-view_job_is name file user file_plain user_plain =
-    rw (not_dashes file file_plain, not_stripped file file_plain, not_stripped file file_plain, not_dashes user user_plain, not_stripped user user_plain, not_stripped user user_plain) refl
+    let d = not_dashes file file_plain in
+    let s = not_stripped file file_plain in
+    let e = not_dashes user user_plain in
+    let t = not_stripped user user_plain in
+    record { taken = rw (d, s, s, e, t, t) refl; passes = rw (d, s, s, e, t, t) refl; named = rw (d, s, s, e, t, t) refl }
 
 pub user_first_taken : (name file user : Text) → is_plain_text file ≡ true → is_plain_text user ≡ true
-    → fault_of confd_words (name ∷ codes "view" ∷ user_words user ++ store_words file) ≡ []
+    → AreTakenFor (name ∷ codes "view" ∷ user_words user ++ store_words file) (view_job file user)
 unfolding clap_on_literals confd_words pipe serve view
 user_first_taken name file user file_plain user_plain =
-    rw (not_dashes user user_plain, not_stripped user user_plain, not_stripped user user_plain, not_dashes file file_plain, not_stripped file file_plain, not_stripped file file_plain) refl
-
-pub user_first_passes : (name file user : Text) → is_plain_text file ≡ true → is_plain_text user ≡ true
-    → takes confd_words (name ∷ codes "view" ∷ user_words user ++ store_words file) ≡ true
-unfolding clap_on_literals confd_words pipe serve view
-user_first_passes name file user file_plain user_plain =
-    rw (not_dashes user user_plain, not_stripped user user_plain, not_stripped user user_plain, not_dashes file file_plain, not_stripped file file_plain, not_stripped file file_plain) refl
-
-pub user_first_job : (name file user : Text) → is_plain_text file ≡ true → is_plain_text user ≡ true
-    → job_of (name ∷ codes "view" ∷ user_words user ++ store_words file) ≡ Some (view_job file user)
-unfolding clap_on_literals confd_words pipe serve view
-user_first_job name file user file_plain user_plain =
-    rw (not_dashes user user_plain, not_stripped user user_plain, not_stripped user user_plain, not_dashes file file_plain, not_stripped file file_plain, not_stripped file file_plain) refl
+    let d = not_dashes file file_plain in
+    let s = not_stripped file file_plain in
+    let e = not_dashes user user_plain in
+    let t = not_stripped user user_plain in
+    record { taken = rw (e, t, t, d, s, s) refl; passes = rw (e, t, t, d, s, s) refl; named = rw (e, t, t, d, s, s) refl }
 
 -- ---- options as one word
 
-pub pipe_attached_taken : (name file : Text) → fault_of confd_words (name ∷ codes "pipe" ∷ store_word file ∷ []) ≡ []
+pub pipe_attached_taken : (name file : Text) → AreTakenFor (name ∷ codes "pipe" ∷ store_word file ∷ []) (pipe_job (Some file))
 unfolding clap_on_literals confd_words pipe serve view
-pipe_attached_taken name file = refl
+pipe_attached_taken name file = record { taken = refl; passes = refl; named = refl }
 
-pub pipe_attached_passes : (name file : Text) → takes confd_words (name ∷ codes "pipe" ∷ store_word file ∷ []) ≡ true
+pub view_attached_taken : (name file user : Text) → AreTakenFor (name ∷ codes "view" ∷ store_word file ∷ user_word user ∷ []) (view_job file user)
 unfolding clap_on_literals confd_words pipe serve view
-pipe_attached_passes name file = refl
-
-pub pipe_attached_job : (name file : Text) → job_of (name ∷ codes "pipe" ∷ store_word file ∷ []) ≡ Some (pipe_job (Some file))
-unfolding clap_on_literals confd_words pipe serve view
-pipe_attached_job name file = refl
-
-pub view_attached_taken : (name file user : Text) → fault_of confd_words (name ∷ codes "view" ∷ store_word file ∷ user_word user ∷ []) ≡ []
-unfolding clap_on_literals confd_words pipe serve view
-view_attached_taken name file user = refl
-
-pub view_attached_passes : (name file user : Text) → takes confd_words (name ∷ codes "view" ∷ store_word file ∷ user_word user ∷ []) ≡ true
-unfolding clap_on_literals confd_words pipe serve view
-view_attached_passes name file user = refl
-
-pub view_attached_job : (name file user : Text) → job_of (name ∷ codes "view" ∷ store_word file ∷ user_word user ∷ []) ≡ Some (view_job file user)
-unfolding clap_on_literals confd_words pipe serve view
-view_attached_job name file user = refl
+view_attached_taken name file user = record { taken = refl; passes = refl; named = refl }

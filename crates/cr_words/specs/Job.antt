@@ -1,8 +1,8 @@
 -- The job that the words name.
-use Rattle.std.specs.Prelude.{◌≡◌, ℕ, ◌≤◌, ⊤, List, Option, Some, None, if◌then◌else◌, codes, option_map}
+use Rattle.std.specs.Prelude.{◌≡◌, ℕ, ◌≤◌, ⊤, List, [], true, Option, Some, None, if◌then◌else◌, codes, option_map}
 use Rattle.std.specs.Option.{option_and_then}
 use Rattle.std.specs.Str.{bytes_eq}
-use Rattle.clap.specs.Words.{Row, Text, first_of, subcommand_of}
+use Rattle.clap.specs.Words.{Row, Text, fault_of, first_of, subcommand_of, takes}
 use Rattle.cr_words.specs.Words.{confd_words, most_workers, most_connections}
 use Rattle.cr_words.specs.Numbers.{number_of}
 use Rattle.cr_words.specs.declared.read.Job.{Job}
@@ -61,3 +61,9 @@ job_named sub =
 -- the job of the subcommand that clap finds among the words
 abbrev pub job_of : List Text → Option NamedJob
 job_of words = option_and_then job_named (subcommand_of confd_words words)
+
+-- clap finds no fault in these words, its own test passes, and they name this job
+pub record AreTakenFor (words : List Text) (job : NamedJob) : Type 0 where
+  pub taken : fault_of confd_words words ≡ []
+  pub passes : takes confd_words words ≡ true
+  pub named : job_of words ≡ Some job

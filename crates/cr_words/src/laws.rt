@@ -1,49 +1,33 @@
 //! Laws over the definitions alone: which words are taken, and the job that each names, with no run.
 ghost use Rattle.std.specs.Prelude.{◌≡◌, [], ◌∷◌, ◌++◌, Some, None, codes, true, false, List};
-ghost use Rattle.clap.specs.Words.{Text, fault_of, takes};
+ghost use Rattle.clap.specs.Words.{Text, fault_of};
 ghost use Rattle.clap.specs.declared.error.kind.ErrorKind.TheVariants.{ValueValidation};
-ghost use Rattle.cr_words.specs.Job.{IsNamed, job_of, pipe_job, serve_job, view_job};
+ghost use Rattle.cr_words.specs.Job.{AreTakenFor, IsNamed, job_of, pipe_job, serve_job, view_job};
 ghost use Rattle.cr_words.specs.Numbers.{spelt, are_workers, are_connections};
 ghost use Rattle.cr_words.specs.Words.{confd_words, is_plain_text, serve_word, serve_words, store_word, user_word, store_words, user_words};
 
 /// `pipe` alone, behind the program's name, whatever that is.
 pub fn law_pipe()
-    ensures taken { (name : Text) → fault_of confd_words (name ∷ codes "pipe" ∷ []) ≡ [] }
-    ensures passes { (name : Text) → takes confd_words (name ∷ codes "pipe" ∷ []) ≡ true }
-    ensures job { (name : Text) → job_of (name ∷ codes "pipe" ∷ []) ≡ Some (pipe_job None) }
+    ensures { (name : Text) → AreTakenFor (name ∷ codes "pipe" ∷ []) (pipe_job None) }
 {}
 
 /// `pipe --store FILE`, where FILE doesn't begin with a hyphen.
 pub fn law_pipe_store()
-    ensures taken { (name file : Text) → is_plain_text file ≡ true → fault_of confd_words (name ∷ codes "pipe" ∷ store_words file) ≡ [] }
-    ensures passes { (name file : Text) → is_plain_text file ≡ true → takes confd_words (name ∷ codes "pipe" ∷ store_words file) ≡ true }
-    ensures job { (name file : Text) → is_plain_text file ≡ true → job_of (name ∷ codes "pipe" ∷ store_words file) ≡ Some (pipe_job (Some file)) }
+    ensures { (name file : Text) → is_plain_text file ≡ true → AreTakenFor (name ∷ codes "pipe" ∷ store_words file) (pipe_job (Some file)) }
 {}
 
 /// `view --store FILE --user NAME`, in either order, where neither value begins with a hyphen.
 pub fn law_view()
-    ensures taken { (name file user : Text) → is_plain_text file ≡ true → is_plain_text user ≡ true
-        → fault_of confd_words (name ∷ codes "view" ∷ store_words file ++ user_words user) ≡ [] }
-    ensures passes { (name file user : Text) → is_plain_text file ≡ true → is_plain_text user ≡ true
-        → takes confd_words (name ∷ codes "view" ∷ store_words file ++ user_words user) ≡ true }
-    ensures job { (name file user : Text) → is_plain_text file ≡ true → is_plain_text user ≡ true
-        → job_of (name ∷ codes "view" ∷ store_words file ++ user_words user) ≡ Some (view_job file user) }
-    ensures user_first_taken { (name file user : Text) → is_plain_text file ≡ true → is_plain_text user ≡ true
-        → fault_of confd_words (name ∷ codes "view" ∷ user_words user ++ store_words file) ≡ [] }
-    ensures user_first_passes { (name file user : Text) → is_plain_text file ≡ true → is_plain_text user ≡ true
-        → takes confd_words (name ∷ codes "view" ∷ user_words user ++ store_words file) ≡ true }
-    ensures user_first_job { (name file user : Text) → is_plain_text file ≡ true → is_plain_text user ≡ true
-        → job_of (name ∷ codes "view" ∷ user_words user ++ store_words file) ≡ Some (view_job file user) }
+    ensures store_first { (name file user : Text) → is_plain_text file ≡ true → is_plain_text user ≡ true
+        → AreTakenFor (name ∷ codes "view" ∷ store_words file ++ user_words user) (view_job file user) }
+    ensures user_first { (name file user : Text) → is_plain_text file ≡ true → is_plain_text user ≡ true
+        → AreTakenFor (name ∷ codes "view" ∷ user_words user ++ store_words file) (view_job file user) }
 {}
 
 /// `pipe --store=FILE` and `view --store=FILE --user=NAME`, whatever the values are.
 pub fn law_attached()
-    ensures pipe_taken { (name file : Text) → fault_of confd_words (name ∷ codes "pipe" ∷ store_word file ∷ []) ≡ [] }
-    ensures pipe_passes { (name file : Text) → takes confd_words (name ∷ codes "pipe" ∷ store_word file ∷ []) ≡ true }
-    ensures pipe_job { (name file : Text) → job_of (name ∷ codes "pipe" ∷ store_word file ∷ []) ≡ Some (pipe_job (Some file)) }
-    ensures view_taken { (name file user : Text) → fault_of confd_words (name ∷ codes "view" ∷ store_word file ∷ user_word user ∷ []) ≡ [] }
-    ensures view_passes { (name file user : Text) → takes confd_words (name ∷ codes "view" ∷ store_word file ∷ user_word user ∷ []) ≡ true }
-    ensures view_job { (name file user : Text) → job_of (name ∷ codes "view" ∷ store_word file ∷ user_word user ∷ []) ≡ Some (view_job file user) }
+    ensures pipe { (name file : Text) → AreTakenFor (name ∷ codes "pipe" ∷ store_word file ∷ []) (pipe_job (Some file)) }
+    ensures view { (name file user : Text) → AreTakenFor (name ∷ codes "view" ∷ store_word file ∷ user_word user ∷ []) (view_job file user) }
 {}
 
 /// `serve` with its four options as two words each, where no value begins with a hyphen, as no number does that is within its
@@ -51,14 +35,8 @@ pub fn law_attached()
 pub fn law_serve()
     ensures taken { (name listen workers connections file : Text) → is_plain_text listen ≡ true → is_plain_text file ≡ true
         → are_workers workers ≡ true → are_connections connections ≡ true
-        → fault_of confd_words (name ∷ codes "serve" ∷ serve_words listen workers connections file) ≡ [] }
-    ensures passes { (name listen workers connections file : Text) → is_plain_text listen ≡ true → is_plain_text file ≡ true
-        → are_workers workers ≡ true → are_connections connections ≡ true
-        → takes confd_words (name ∷ codes "serve" ∷ serve_words listen workers connections file) ≡ true }
-    ensures job { (name listen workers connections file : Text) → is_plain_text listen ≡ true → is_plain_text file ≡ true
-        → are_workers workers ≡ true → are_connections connections ≡ true
-        → job_of (name ∷ codes "serve" ∷ serve_words listen workers connections file)
-        ≡ Some (serve_job listen (spelt workers) (spelt connections) file) }
+        → AreTakenFor (name ∷ codes "serve" ∷ serve_words listen workers connections file)
+        (serve_job listen (spelt workers) (spelt connections) file) }
     ensures bad_workers { (name listen workers connections file : Text) → is_plain_text listen ≡ true → is_plain_text file ≡ true
         → is_plain_text workers ≡ true → is_plain_text connections ≡ true → are_workers workers ≡ false
         → fault_of confd_words (name ∷ codes "serve" ∷ serve_words listen workers connections file) ≡ ValueValidation ∷ [] }
@@ -70,12 +48,8 @@ pub fn law_serve()
 /// `serve` with a word for each of its options: the same, whatever address and store are.
 pub fn law_serve_attached()
     ensures taken { (name listen workers connections file : Text) → are_workers workers ≡ true → are_connections connections ≡ true
-        → fault_of confd_words (name ∷ codes "serve" ∷ serve_word listen workers connections file) ≡ [] }
-    ensures passes { (name listen workers connections file : Text) → are_workers workers ≡ true → are_connections connections ≡ true
-        → takes confd_words (name ∷ codes "serve" ∷ serve_word listen workers connections file) ≡ true }
-    ensures job { (name listen workers connections file : Text) → are_workers workers ≡ true → are_connections connections ≡ true
-        → job_of (name ∷ codes "serve" ∷ serve_word listen workers connections file)
-        ≡ Some (serve_job listen (spelt workers) (spelt connections) file) }
+        → AreTakenFor (name ∷ codes "serve" ∷ serve_word listen workers connections file)
+        (serve_job listen (spelt workers) (spelt connections) file) }
     ensures bad_workers { (name listen workers connections file : Text) → are_workers workers ≡ false
         → fault_of confd_words (name ∷ codes "serve" ∷ serve_word listen workers connections file) ≡ ValueValidation ∷ [] }
     ensures bad_connections { (name listen workers connections file : Text) → are_workers workers ≡ true → are_connections connections ≡ false

@@ -11,7 +11,9 @@ returns c =
     let first : app_of c.disable_help_subcommand.result ≡ required (app_of c.new.result) =
     rw (c.disable_help_subcommand.ensures, c.subcommand_required.ensures) refl in
     let program = first ∙ ap required c.new.ensures.app in
-    let with_pipe = c.in_ok-subcommand.ensures.shape c.in_ok-pipe_command.ensures.local ∙ ap₂ with_subcommand program (ap top c.in_ok-pipe_command.ensures.shape) in
-    let with_serve = c.in_ok-subcommand-2.ensures.shape c.in_ok-serve_command.ensures.local ∙ ap₂ with_subcommand with_pipe (ap top c.in_ok-serve_command.ensures.shape) in
+    let with_pipe = c.in_ok-subcommand.ensures.shape c.in_ok-pipe_command.ensures.local
+    ∙ ap₂ with_subcommand program (ap top c.in_ok-pipe_command.ensures.shape) in
+    let with_serve = c.in_ok-subcommand-2.ensures.shape c.in_ok-serve_command.ensures.local
+    ∙ ap₂ with_subcommand with_pipe (ap top c.in_ok-serve_command.ensures.shape) in
     IfOk-weaker c.subcommand-3.result _ _
     (λ m h. h.shape c.in_ok-view_command.ensures.local ∙ ap₂ with_subcommand with_serve (ap top c.in_ok-view_command.ensures.shape)) c.subcommand-3.ensures

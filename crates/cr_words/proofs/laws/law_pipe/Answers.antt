@@ -1,5 +1,5 @@
-use Rattle.cr_words.proofs.PipeLaw.{taken, passes, job}
+use Rattle.cr_words.proofs.PipeLaw.{pipe_taken}
 use Rattle.cr_words.proofs.laws.law_pipe.Goals as goal
 
 pub returns : goal.returns
-returns c = record { taken = taken; passes = passes; job = job }
+returns c = pipe_taken
