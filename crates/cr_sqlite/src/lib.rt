@@ -5,6 +5,7 @@
 //! tables. A row stands at its place, its number from 0 in the one list of them all.
 #![tactic(auto)]
 
+mod faults;
 mod keeper;
 mod lanes;
 mod reason;
@@ -13,6 +14,7 @@ mod schema;
 mod shelf;
 mod table;
 
+pub use faults::Faults;
 pub use keeper::SqliteKeeper;
-pub use reason::{Reason, StoreError};
+pub use reason::Reason;
 pub use shelf::SqliteShelf;
