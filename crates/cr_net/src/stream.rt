@@ -27,7 +27,7 @@ const PIECE: usize = 16_384;
 
 /// What the two ends of a connection share.
 #[derive(Drop)]
-pub(crate) struct Line {
+pub(crate) struct SharedStream {
     stream: TcpStream,
     // Whether an answer went out whole since the last read.
     answered: AtomicBool,
@@ -42,18 +42,18 @@ pub(crate) fn ends_of(
 ) -> io::Result<(TcpSource, TcpSink)> {
     stream.set_nodelay(true)?;
     let answered = AtomicBool::new(false);
-    let ours = Arc::new(alloc, Line { stream, answered })?;
+    let ours = Arc::new(alloc, SharedStream { stream, answered })?;
     let theirs = Arc::try_clone(&ours)?;
     Ok((TcpSource::new(rt, ours), TcpSink::new(rt, theirs)))
 }
 
-/// What one end works with: the line, the time for what it is at, and its faults.
+/// What one end works with: what the two share, the time for what it is at, and its faults.
 ///
 /// Contracts see the count of faults.
 #[derive(Drop)]
 struct Half {
     rt: HostRuntime,
-    line: Arc<Line, Global>,
+    shared: Arc<SharedStream, Global>,
     time: Span,
     faults: u64,
 }
@@ -68,12 +68,12 @@ impl Model for Half {
 
 impl Half {
     /// An end whose time has not begun, with no fault counted.
-    fn new(rt: &HostRuntime, line: Arc<Line, Global>) -> Half
+    fn new(rt: &HostRuntime, shared: Arc<SharedStream, Global>) -> Half
         ensures { result ≡ 0 }
     {
         Half {
             rt: *rt,
-            line,
+            shared,
             time: Span::new(LIMIT),
             faults: 0,
         }
@@ -114,9 +114,9 @@ impl Model for TcpSource {
 }
 
 impl TcpSource {
-    fn new(rt: &HostRuntime, line: Arc<Line, Global>) -> TcpSource {
+    fn new(rt: &HostRuntime, shared: Arc<SharedStream, Global>) -> TcpSource {
         TcpSource {
-            half: Half::new(rt, line),
+            half: Half::new(rt, shared),
             is_ended: false,
         }
     }
@@ -127,21 +127,21 @@ impl TcpSource {
         ensures length { length buf.new ≡ length buf.old }
         ensures same { self.new ≡ self.old }
     {
-        if self.half.line.answered.swap(false, Ordering::SeqCst) {
+        if self.half.shared.answered.swap(false, Ordering::SeqCst) {
             self.half.time.reset();
         }
         let left = self.half.left()?;
-        self.half.line.stream.set_read_timeout(Some(left))?;
-        (&self.half.line.stream).read(buf)
+        self.half.shared.stream.set_read_timeout(Some(left))?;
+        (&self.half.shared.stream).read(buf)
     }
 
     /// Ends the connection so that the client sees the last answer: what it still sends is read and dropped, for a
     /// second at most. Where a stream is closed before its bytes were read, the client's system may drop the answer.
     pub(crate) fn end(mut self) {
-        if self.is_ended || self.half.line.stream.shutdown(Shutdown::Write).is_err() {
+        if self.is_ended || self.half.shared.stream.shutdown(Shutdown::Write).is_err() {
             return;
         }
-        self.half.line.answered.store(false, Ordering::SeqCst);
+        self.half.shared.answered.store(false, Ordering::SeqCst);
         self.half.time = Span::new(ENDING);
         let mut piece = [0; PIECE];
         let mut dropped = 0;
@@ -194,9 +194,9 @@ impl Model for TcpSink {
 }
 
 impl TcpSink {
-    fn new(rt: &HostRuntime, line: Arc<Line, Global>) -> TcpSink {
+    fn new(rt: &HostRuntime, shared: Arc<SharedStream, Global>) -> TcpSink {
         TcpSink {
-            half: Half::new(rt, line),
+            half: Half::new(rt, shared),
         }
     }
 
@@ -206,8 +206,8 @@ impl TcpSink {
         ensures same { self.new ≡ self.old }
     {
         let left = self.half.left()?;
-        self.half.line.stream.set_write_timeout(Some(left))?;
-        (&self.half.line.stream).write(piece)
+        self.half.shared.stream.set_write_timeout(Some(left))?;
+        (&self.half.shared.stream).write(piece)
     }
 }
 
@@ -222,7 +222,7 @@ impl Sink for TcpSink {
         match self.write_in_time(piece) {
             Ok(n) if n == piece.len() => {
                 self.half.time.reset();
-                self.half.line.answered.store(true, Ordering::SeqCst);
+                self.half.shared.answered.store(true, Ordering::SeqCst);
                 WriteStep::Took(n)
             }
             Ok(n) if n > 0 => WriteStep::Took(n),
