@@ -11,7 +11,7 @@
 //! | `# TEXT`, or empty | nothing |
 //! | `== TITLE` | a case begins |
 //! | `$ WORDS` | the words of the command line, where they aren't `confd pipe` |
-//! | `> NAME METHOD PATH [BODY]` | NAME sends a request with her secret `NAME-secret-000001`; a NAME with a point is the token `NAME.SECRET`, and `-` sends none |
+//! | `> NAME METHOD PATH [BODY]` | NAME sends a request with her secret `NAME-secret-000001`; a NAME with a point is the token `NAME.SECRET`, `-` sends none |
 //! | `< CODE CONTENT` | an answer is due; `<!` where the connection closes behind it |
 //! | `< CODE HEAD CONTENT` | an answer to HEAD is due: the head alone of what GET would be answered |
 //! | `< CODE Allow: METHODS; CONTENT` | the same with the field Allow |
