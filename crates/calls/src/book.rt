@@ -5,7 +5,7 @@ use cr_base::{PaperNo, Query, Reply, Short, UserNo};
 use cr_book::Book;
 use cr_lock::{HistoryLock, Pass};
 use cr_ports::{Keeper, MemSink, PlainKeeper, PlainSource, write_all};
-use cr_session::{Ending, Inbox, WishRead, read_wish, serve_connection};
+use cr_session::{Ending, RoutedInbox, WishRead, read_wish, serve_connection};
 use std::alloc::{AllocError, Global};
 use std::sync::Wait;
 use std::test::Fail;
@@ -166,7 +166,7 @@ fn a_book_of_two_connections(rt: HostRuntime) -> Result<(), Fail> {
 /// Whether a request's wish is read, and then the end of its stream.
 fn reads_a_wish_and_the_end(alloc: Global) -> Result<bool, Fail> {
     let mut source = PlainSource::new(joined(alloc, &[GET_PHASE])?);
-    let mut inbox = Inbox::new(alloc)?;
+    let mut inbox = RoutedInbox::new(alloc)?;
     let first = read_wish(alloc, &mut source, &mut inbox);
     let second = read_wish(alloc, &mut source, &mut inbox);
     Ok(matches!(first, WishRead::Wish(_)) && matches!(second, WishRead::Clean))

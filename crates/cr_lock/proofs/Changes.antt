@@ -1,5 +1,6 @@
 -- Each step keeps the rule of the lock.
-use Rattle.std.proofs.Common.{◌≡◌, ◌≢◌, ◌⊎◌, inl, inr, ⊎_elim, ℕ, zero, suc, ◌+◌, ◌-◌, ◌*◌, ◌%◌, ◌^◌, ◌<◌, ◌≤◌, Option, Some, List, [], ◌∷◌, length, get_or, set, if◌then◌else◌, refl, ap, sym, ◌∙◌, subst, arith, mod-eq_of_lt, mul-add, mul-one, add-mul, mul-le-mul_left}
+use Rattle.std.proofs.Common.{◌≡◌, ◌≢◌, ◌⊎◌, inl, inr, ⊎_elim, ℕ, zero, suc, ◌+◌, ◌-◌, ◌*◌, ◌%◌, ◌^◌, ◌<◌, ◌≤◌, Option, Some, List, [], ◌∷◌, length, get_or}
+use Rattle.std.proofs.Common.{set, if◌then◌else◌, refl, ap, sym, ◌∙◌, subst, arith, mod-eq_of_lt, mul-add, mul-one, add-mul, mul-le-mul_left}
 use mathlib.Core.Logic.{dite}
 use mathlib.Core.List.{IsPrefix}
 use mathlib.Core.Option.{some, none, some-injective, some-ne-none}
@@ -7,36 +8,37 @@ use native.Mathlib.Decide.{dec_le}
 use lib.ListN.{get_elem?}
 use Rattle.atomic_table.specs.Table.{State, Me, step, keeps, opening, Allows}
 use Rattle.atomic_table.proofs.Lists.{at_set, set_again}
-use Rattle.cr_lock.specs.declared.view.Turn.{Turn}
-use Rattle.cr_lock.specs.declared.view.Role.{Role}
-use Rattle.cr_lock.specs.declared.view.Role.TheVariants.{Idle, Waiting, Holding, Joined}
-use Rattle.cr_lock.specs.declared.view.View.{View}
+use Rattle.cr_lock.specs.declared.pass_state.Turn.{Turn}
+use Rattle.cr_lock.specs.declared.pass_state.Activity.{Activity}
+use Rattle.cr_lock.specs.declared.pass_state.Activity.TheVariants.{Idle, Waiting, Holding, Joined}
+use Rattle.cr_lock.specs.declared.pass_state.PassState.{PassState}
 use Rattle.cr_lock.specs.Counts.{last_count, within, total}
 use Rattle.cr_lock.specs.Turns.{groups_with, marks}
-use Rattle.cr_lock.specs.Views.{first_view, spent_view}
-use Rattle.cr_lock.specs.Rule.{holds_ticket, has_value, FitsRole, Fits, Risen, Home, Away, OneHistory}
+use Rattle.cr_lock.specs.PassStates.{first_state, spent_state}
+use Rattle.cr_lock.specs.Rule.{holds_ticket, has_value, FitsActivity, FitsLock, Risen, Home, Away, OneHistory}
 use Rattle.cr_lock.specs.Steps.{Drew, Rang}
 use Rattle.cr_lock.proofs.Prefixes.{prefix_self, prefix_trans}
 use Rattle.cr_lock.proofs.Sums.{total_set, within_join, within_out}
 
 -- what a pass knows stays so where the history goes on, unless it has the value
-fits_role : {E : Type 0} (start : ℕ) (log more : List E) (serving next : ℕ) (risen risen' : ℕ → Type 0) (v : View E) (role : Role E) → IsPrefix log more
-    → ((t n : ℕ) → role ≡ Holding t n → (t ≡ serving) × (v.seen ≡ log) × risen n → (t ≡ next) × (v.seen ≡ more) × risen' n)
-    → FitsRole start log serving risen v role → FitsRole start more next risen' v role
-fits_role start log more serving next risen risen' v Idle p on f = tt
-fits_role start log more serving next risen risen' v (Waiting u) p on f = tt
-fits_role start log more serving next risen risen' v (Holding u n) p on f = on u n refl f
-fits_role start log more serving next risen risen' v (Joined a b m o) p on f = (prefix_trans a log more f.0 p, prefix_trans b log more f.1 p, f.2)
+fits_activity : {E : Type 0} (start : ℕ) (log more : List E) (serving next : ℕ) (risen risen' : ℕ → Type 0) (v : PassState E) (activity : Activity E)
+    → IsPrefix log more
+    → ((t n : ℕ) → activity ≡ Holding t n → (t ≡ serving) × (v.seen ≡ log) × risen n → (t ≡ next) × (v.seen ≡ more) × risen' n)
+    → FitsActivity start log serving risen v activity → FitsActivity start more next risen' v activity
+fits_activity start log more serving next risen risen' v Idle p on f = tt
+fits_activity start log more serving next risen risen' v (Waiting u) p on f = tt
+fits_activity start log more serving next risen risen' v (Holding u n) p on f = on u n refl f
+fits_activity start log more serving next risen risen' v (Joined a b m o) p on f = (prefix_trans a log more f.0 p, prefix_trans b log more f.1 p, f.2)
 
-pub fits_on : {E : Type 0} (start : ℕ) (log more : List E) (serving next : ℕ) (risen risen' : ℕ → Type 0) (v : View E) → IsPrefix log more
-    → ((t n : ℕ) → v.role ≡ Holding t n → (t ≡ serving) × (v.seen ≡ log) × risen n → (t ≡ next) × (v.seen ≡ more) × risen' n)
-    → Fits start log serving risen v → Fits start more next risen' v
+pub fits_on : {E : Type 0} (start : ℕ) (log more : List E) (serving next : ℕ) (risen risen' : ℕ → Type 0) (v : PassState E) → IsPrefix log more
+    → ((t n : ℕ) → v.activity ≡ Holding t n → (t ≡ serving) × (v.seen ≡ log) × risen n → (t ≡ next) × (v.seen ≡ more) × risen' n)
+    → FitsLock start log serving risen v → FitsLock start more next risen' v
 fits_on start log more serving next risen risen' v p on f = record {
   seen = prefix_trans v.seen log more f.seen p;
   few = f.few;
   stand = f.stand;
   sorted = f.sorted;
-  role = fits_role start log more serving next risen risen' v v.role p on f.role;
+  activity = fits_activity start log more serving next risen risen' v v.activity p on f.activity;
   alive = f.alive;
 }
 
@@ -47,7 +49,8 @@ set_behind a b c ws (suc (suc zero)) n behind = absurd (omega arith)
 set_behind a b c ws (suc (suc (suc i))) n behind = ap (λ (k : ℕ). a ∷ b ∷ c ∷ set ws k n) (let e : i ≡ suc (suc (suc i)) - 3 = omega arith in e)
 
 -- the turns of few passes are few
-products : {E : Type 0} (most : ℕ) (vs : List (View E)) → ((j : ℕ) (u : View E) → get_elem? vs j ≡ some u → u.turns ≤ most) → total (λ u. u.share * u.turns) vs ≤ total (λ u. u.share) vs * most
+products : {E : Type 0} (most : ℕ) (vs : List (PassState E)) → ((j : ℕ) (u : PassState E) → get_elem? vs j ≡ some u → u.turns ≤ most)
+    → total (λ u. u.share * u.turns) vs ≤ total (λ u. u.share) vs * most
 products most [] few = omega arith
 products most (u ∷ us) few =
     let r : total (λ u. u.share * u.turns) us ≤ total (λ u. u.share) us * most = products most us (λ j. few (suc j)) in
@@ -57,7 +60,7 @@ products most (u ∷ us) few =
 
 module _ {T E : Type 0} (list : T → List E) (faults : T → ℕ) (first : T) where
   abbrev V : Type 0
-  V = View E
+  V = PassState E
 
   abbrev St : Type 0
   St = State (Option T) V
@@ -75,19 +78,20 @@ module _ {T E : Type 0} (list : T → List E) (faults : T → ℕ) (first : T) w
   marked v = marks v.mine
 
   abbrev pub has : V → ℕ
-  has v = has_value v.role
+  has v = has_value v.activity
 
   abbrev pub holding : ℕ → V → ℕ
-  holding t v = holds_ticket t v.role
+  holding t v = holds_ticket t v.activity
 
   -- the turns of all passes weigh the same, however they are weighed
   abbrev pub WeighAlike : List V → List V → Type 0
   WeighAlike vs ws = (f : Turn E → ℕ) → total (λ (u : V). total f u.mine) vs ≡ total (λ (u : V). total f u.mine) ws
 
-  -- one view changes, and its turns stay
+  -- one state changes, and its turns stay
   pub alike_set : (vs : List V) (id : ℕ) (v w : V) → get_elem? vs id ≡ some v → w.mine ≡ v.mine → WeighAlike vs (set vs id w)
   alike_set vs id v w at same f =
-      let c : total (λ (u : V). total f u.mine) (set vs id w) + total f v.mine ≡ total (λ (u : V). total f u.mine) vs + total f w.mine = total_set (λ (u : V). total f u.mine) vs id v w at in
+      let c : total (λ (u : V). total f u.mine) (set vs id w) + total f v.mine ≡ total (λ (u : V). total f u.mine) vs + total f w.mine =
+      total_set (λ (u : V). total f u.mine) vs id v w at in
       let e : total f w.mine ≡ total f v.mine = ap (total f) same in omega arith
 
   pub risen_same : (vs ws : List V) (n : ℕ) → WeighAlike vs ws → Rose vs n → Rose ws n
@@ -103,11 +107,12 @@ module _ {T E : Type 0} (list : T → List E) (faults : T → ℕ) (first : T) w
       (λ (t : (j ≢ me) × (get_elem? vs j ≡ some u)). on j u t.0 t.1 (all j u t.1)) (at_set vs me j w u e)
 
   pub ticket_small : (s : St) (r : Rule s) → r.ticket ≤ 70368744177664
-  ticket_small s r = let p : total (λ (u : V). u.share * u.turns) s.views ≤ total (λ (u : V). u.share) s.views * 1099511627776 = products 1099511627776 s.views (λ j u e. (r.each j u e).few) in
+  ticket_small s r = let p : total (λ (u : V). u.share * u.turns) s.views ≤ total (λ (u : V). u.share) s.views * 1099511627776 =
+      products 1099511627776 s.views (λ j u e. (r.each j u e).few) in
       let q = r.drawn in let h = r.shares in
       let e : total (λ (u : V). u.share) s.views * 1099511627776 ≡ 64 * 1099511627776 = ap (λ (k : ℕ). k * 1099511627776) h in omega arith
 
-  -- one view changes, and the rule is kept
+  -- one state changes, and the rule is kept
   pub change : (s : St) (r : Rule s) (id : ℕ) (v w : V) → get_elem? s.views id ≡ some v
       → (log : List E) (ticket serving : ℕ) (ws : List ℕ) (homes : List (mathlib.Core.Option.Option (Option T)))
       → ws ≡ ticket ∷ serving ∷ length log ∷ r.bells
@@ -117,9 +122,11 @@ module _ {T E : Type 0} (list : T → List E) (faults : T → ℕ) (first : T) w
       → w.share ≡ v.share
       → ticket + v.share * v.turns ≤ r.ticket + w.share * w.turns
       → ((k : ℕ) → within start (length r.log) k + groups_with k w.mine ≡ within start (length log) k + groups_with k v.mine)
-      → Fits start log serving (Rose (set s.views id w)) w
-      → ((j : ℕ) (u : V) → j ≢ id → get_elem? s.views j ≡ some u → (t n : ℕ) → u.role ≡ Holding t n → (t ≡ r.serving) × (u.seen ≡ r.log) × Rose s.views n → (t ≡ serving) × (u.seen ≡ log) × Rose (set s.views id w) n)
-      → Home list faults first log record { words = ws; homes = homes; views = set s.views id w } ⊎ Away list faults first record { words = ws; homes = homes; views = set s.views id w }
+      → FitsLock start log serving (Rose (set s.views id w)) w
+      → ((j : ℕ) (u : V) → j ≢ id → get_elem? s.views j ≡ some u → (t n : ℕ) → u.activity ≡ Holding t n → (t ≡ r.serving) × (u.seen ≡ r.log) × Rose s.views n
+      → (t ≡ serving) × (u.seen ≡ log) × Rose (set s.views id w) n)
+      → Home list faults first log record { words = ws; homes = homes; views = set s.views id w }
+      ⊎ Away list faults first record { words = ws; homes = homes; views = set s.views id w }
       → Rule record { words = ws; homes = homes; views = set s.views id w }
   change s r id v w at log ticket serving ws homes words order grows tick share drawn grp fits others value = record {
     log = log;
@@ -129,27 +136,33 @@ module _ {T E : Type 0} (list : T → List E) (faults : T → ℕ) (first : T) w
     words = words;
     order = order;
     begins = prefix_trans (list first) r.log log r.begins grows;
-    tickets = λ t. (let a = tick t in let b = r.tickets t in let c : total (holding t) (set s.views id w) + holding t v ≡ total (holding t) s.views + holding t w = total_set (holding t) s.views id v w at in omega arith);
-    shares = (let b = r.shares in let c : total (λ (u : V). u.share) (set s.views id w) + v.share ≡ total (λ (u : V). u.share) s.views + w.share = total_set (λ (u : V). u.share) s.views id v w at in omega arith);
-    drawn = (let b = r.drawn in let c : total (λ (u : V). u.share * u.turns) (set s.views id w) + v.share * v.turns ≡ total (λ (u : V). u.share * u.turns) s.views + w.share * w.turns = total_set (λ (u : V). u.share * u.turns) s.views id v w at in omega arith);
-    groups = λ k. (let a = grp k in let b = r.groups k in let c : total (λ (u : V). groups_with k u.mine) (set s.views id w) + groups_with k v.mine ≡ total (λ (u : V). groups_with k u.mine) s.views + groups_with k w.mine = total_set (λ (u : V). groups_with k u.mine) s.views id v w at in omega arith);
-    each = each_set (Fits start r.log r.serving (Rose s.views)) (Fits start log serving (Rose (set s.views id w))) s.views id w fits
+    tickets = λ t. (let a = tick t in let b = r.tickets t in
+        let c : total (holding t) (set s.views id w) + holding t v ≡ total (holding t) s.views + holding t w = total_set (holding t) s.views id v w at in
+        omega arith);
+    shares = (let b = r.shares in let c : total (λ (u : V). u.share) (set s.views id w) + v.share ≡ total (λ (u : V). u.share) s.views + w.share =
+        total_set (λ (u : V). u.share) s.views id v w at in omega arith);
+    drawn = (let b = r.drawn in let c : total (λ (u : V). u.share * u.turns) (set s.views id w) + v.share * v.turns
+        ≡ total (λ (u : V). u.share * u.turns) s.views + w.share * w.turns = total_set (λ (u : V). u.share * u.turns) s.views id v w at in omega arith);
+    groups = λ k. (let a = grp k in let b = r.groups k in
+        let c : total (λ (u : V). groups_with k u.mine) (set s.views id w) + groups_with k v.mine ≡ total (λ (u : V). groups_with k u.mine) s.views
+        + groups_with k w.mine = total_set (λ (u : V). groups_with k u.mine) s.views id v w at in omega arith);
+    each = each_set (FitsLock start r.log r.serving (Rose s.views)) (FitsLock start log serving (Rose (set s.views id w))) s.views id w fits
         (λ j u ne e f. fits_on start r.log log r.serving serving (Rose s.views) (Rose (set s.views id w)) u grows (others j u ne e) f) r.each;
     value = value;
   }
 
-  opens_each : (j : ℕ) (u : V) → get_elem? (first_view (list first) ∷ []) j ≡ some u → Fits start (list first) 0 (Rose (first_view (list first) ∷ [])) u
-  opens_each zero u e = subst (Fits start (list first) 0 (Rose (first_view (list first) ∷ []))) (some-injective (first_view (list first)) u e) (record {
+  opens_each : (j : ℕ) (u : V) → get_elem? (first_state (list first) ∷ []) j ≡ some u → FitsLock start (list first) 0 (Rose (first_state (list first) ∷ [])) u
+  opens_each zero u e = subst (FitsLock start (list first) 0 (Rose (first_state (list first) ∷ []))) (some-injective (first_state (list first)) u e) (record {
     seen = prefix_self (list first);
     few = omega arith;
     stand = tt;
     sorted = tt;
-    role = tt;
+    activity = tt;
     alive = inl (omega arith, omega arith);
   })
   opens_each (suc j) u e = absurd (some-ne-none u (sym e))
 
-  pub opens : (ws bells : List ℕ) → ws ≡ 0 ∷ 0 ∷ length (list first) ∷ bells → Rule (opening ws (Some first ∷ []) (first_view (list first)))
+  pub opens : (ws bells : List ℕ) → ws ≡ 0 ∷ 0 ∷ length (list first) ∷ bells → Rule (opening ws (Some first ∷ []) (first_state (list first)))
   opens ws bells e = record {
     log = list first;
     ticket = 0;
@@ -166,10 +179,13 @@ module _ {T E : Type 0} (list : T → List E) (faults : T → ℕ) (first : T) w
     value = inl (first, refl, refl, record { count = omega arith; marks = inl (omega arith) }, refl);
   }
 
-  -- the same value, where no view's marks change and the passes that have the value are as many
+  -- the same value, where no state's marks change and the passes that have the value are as many
   pub value_same : (log : List E) (s : St) (ws : List ℕ) (vs : List V) → total has vs ≡ total has s.views → WeighAlike s.views vs
-      → Home list faults first log s ⊎ Away list faults first s → Home list faults first log record { words = ws; homes = s.homes; views = vs } ⊎ Away list faults first record { words = ws; homes = s.homes; views = vs }
-  value_same log s ws vs e m h = ⊎_elim (λ (a : Home list faults first log s). inl (a.0, a.1, a.2, risen_same s.views vs (faults a.0) m a.3, e ∙ a.4)) (λ (a : Away list faults first s). inr (a.0, e ∙ a.1)) h
+      → Home list faults first log s ⊎ Away list faults first s
+      → Home list faults first log record { words = ws; homes = s.homes; views = vs }
+      ⊎ Away list faults first record { words = ws; homes = s.homes; views = vs }
+  value_same log s ws vs e m h = ⊎_elim (λ (a : Home list faults first log s). inl (a.0, a.1, a.2, risen_same s.views vs (faults a.0) m a.3, e ∙ a.4))
+      (λ (a : Away list faults first s). inr (a.0, e ∙ a.1)) h
 
   -- a word behind the first three may become anything
   bell_keeps : (s : St) (r : Rule s) (i n : ℕ) → 3 ≤ i → Rule record { words = set s.words i n; homes = s.homes; views = s.views }
@@ -195,35 +211,57 @@ module _ {T E : Type 0} (list : T → List E) (faults : T → ℕ) (first : T) w
     me.0,
     keeps,
     tt,
-    subst (λ (vs : List V). Rule record { words = set s.words i ((get_or s.words i 0 + 1) % 2 ^ 64); homes = s.homes; views = vs }) (sym (set_again s.views id me.0 at)) (bell_keeps s r i ((get_or s.words i 0 + 1) % 2 ^ 64) behind),
+    subst (λ (vs : List V). Rule record { words = set s.words i ((get_or s.words i 0 + 1) % 2 ^ 64); homes = s.homes; views = vs })
+        (sym (set_again s.views id me.0 at)) (bell_keeps s r i ((get_or s.words i 0 + 1) % 2 ^ 64) behind),
     refl,
   )
 
-  draw_keeps : (s : St) (r : Rule s) (id : ℕ) (v : V) (m : ℕ) → v.role ≡ Idle → 0 < v.share → v.turns < 1099511627776 → get_elem? s.views id ≡ some v → m ≡ r.ticket
-      → Rule record { words = set s.words 0 ((m + 1) % 2 ^ 64); homes = s.homes; views = set s.views id (record v { turns = v.turns + 1; role = Waiting m }) }
+  draw_keeps : (s : St) (r : Rule s) (id : ℕ) (v : V) (m : ℕ) → v.activity ≡ Idle → 0 < v.share → v.turns < 1099511627776 → get_elem? s.views id ≡ some v
+      → m ≡ r.ticket
+      → Rule record {
+        words = set s.words 0 ((m + 1) % 2 ^ 64);
+        homes = s.homes;
+        views = set s.views id (record v { turns = v.turns + 1; activity = Waiting m });
+      }
   draw_keeps s r id v m idle some_share few at is =
-      let w : V = record v { turns = v.turns + 1; role = Waiting m } in
+      let w : V = record v { turns = v.turns + 1; activity = Waiting m } in
       let f = r.each id v at in
       let small = ticket_small s r in
       let k : (m + 1) % 2 ^ 64 ≡ r.ticket + 1 = mod-eq_of_lt (omega arith) ∙ ap (λ (z : ℕ). z + 1) is in
-      let no : has_value v.role ≡ 0 = ap has_value idle in
+      let no : has_value v.activity ≡ 0 = ap has_value idle in
       let same = alike_set s.views id v w at refl in
-      let same' : total has (set s.views id w) ≡ total has s.views = (let c : total has (set s.views id w) + has v ≡ total has s.views + has w = total_set has s.views id v w at in omega arith) in
+      let same' : total has (set s.views id w) ≡ total has s.views =
+      (let c : total has (set s.views id w) + has v ≡ total has s.views + has w = total_set has s.views id v w at in omega arith) in
       change s r id v w at r.log (r.ticket + 1) r.serving (set s.words 0 ((m + 1) % 2 ^ 64)) s.homes
       (ap (λ (ws : List ℕ). set ws 0 ((m + 1) % 2 ^ 64)) r.words ∙ ap (λ (z : ℕ). z ∷ r.serving ∷ length r.log ∷ r.bells) k)
       (let o = r.order in omega arith)
       (prefix_self r.log)
-      (λ t. (let a : within r.serving r.ticket t + within r.ticket (r.ticket + 1) t ≡ within r.serving (r.ticket + 1) t = within_join r.serving r.ticket (r.ticket + 1) t r.order (omega arith) in
+      (λ t. (let a : within r.serving r.ticket t + within r.ticket (r.ticket + 1) t ≡ within r.serving (r.ticket + 1) t =
+      within_join r.serving r.ticket (r.ticket + 1) t r.order (omega arith) in
       let b : holding t v ≡ 0 = ap (holds_ticket t) idle in
       let c : holding t w ≡ within r.ticket (r.ticket + 1) t = ap (λ (z : ℕ). within z (z + 1) t) is in omega arith))
       refl
-      (let e : v.share * (v.turns + 1) ≡ v.share * v.turns + v.share * 1 = mul-add v.share v.turns 1 in let e' : v.share * 1 ≡ v.share = mul-one v.share in omega arith)
+      (let e : v.share * (v.turns + 1) ≡ v.share * v.turns + v.share * 1 = mul-add v.share v.turns 1 in
+      let e' : v.share * 1 ≡ v.share = mul-one v.share in omega arith)
       (λ k. refl)
-      (record { seen = f.seen; few = omega arith; stand = f.stand; sorted = f.sorted; role = tt; alive = ⊎_elim (λ (a : (0 < v.share) × (start ≤ length v.seen)). inl a) (λ (a : v ≡ spent_view). absurd (let z : v.share ≡ 0 = ap (λ (u : V). u.share) a in omega arith)) f.alive })
+      (record {
+        seen = f.seen;
+        few = omega arith;
+        stand = f.stand;
+        sorted = f.sorted;
+        activity = tt;
+        alive = ⊎_elim (λ (a : (0 < v.share) × (start ≤ length v.seen)). inl a)
+            (λ (a : v ≡ spent_state). absurd (let z : v.share ≡ 0 = ap (λ (u : V). u.share) a in omega arith)) f.alive;
+      })
       (λ j u ne e t n is' g. (g.0, g.1, risen_same s.views (set s.views id w) n same g.2))
       (value_same r.log s (set s.words 0 ((m + 1) % 2 ^ 64)) (set s.views id w) same' same r.value)
 
-  pub draws : (slots id : ℕ) (v : V) (cs : List (ℕ × Option T)) → v.role ≡ Idle → 0 < v.share → v.turns < 1099511627776
+  pub draws : (slots id : ℕ) (v : V) (cs : List (ℕ × Option T)) → v.activity ≡ Idle → 0 < v.share → v.turns < 1099511627776
       → Allows Rule slots id (v, cs) 0 (λ n. (n + 1) % 2 ^ 64) (Drew (step slots 0 1 0 none) (v, cs))
-  draws slots id v cs idle some_share few s r _ at _ =
-      (record v { turns = v.turns + 1; role = Waiting (get_or s.words 0 0) }, keeps, tt, draw_keeps s r id v (get_or s.words 0 0) idle some_share few at (ap (λ (ws : List ℕ). get_or ws 0 0) r.words), refl)
+  draws slots id v cs idle some_share few s r _ at _ = (
+    record v { turns = v.turns + 1; activity = Waiting (get_or s.words 0 0) },
+    keeps,
+    tt,
+    draw_keeps s r id v (get_or s.words 0 0) idle some_share few at (ap (λ (ws : List ℕ). get_or ws 0 0) r.words),
+    refl,
+  )

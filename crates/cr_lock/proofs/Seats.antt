@@ -1,5 +1,6 @@
 -- Splits, joins and the end keep the rule.
-use Rattle.std.proofs.Common.{◌≡◌, ◌≢◌, ◌⊎◌, inl, inr, ⊎_elim, ℕ, ◌+◌, ◌-◌, ◌*◌, ◌/◌, ◌<◌, ◌≤◌, Bool, true, false, nat_lt, if◌then◌else◌, Option, Some, List, [], ◌∷◌, ◌++◌, length, get_or, set, max, refl, ap, sym, ◌∙◌, subst, arith, add-mul, mul-le-mul_left, length-append}
+use Rattle.std.proofs.Common.{◌≡◌, ◌≢◌, ◌⊎◌, inl, inr, ⊎_elim, ℕ, ◌+◌, ◌-◌, ◌*◌, ◌/◌, ◌<◌, ◌≤◌, Bool, true, false, nat_lt, if◌then◌else◌, Option, Some, List}
+use Rattle.std.proofs.Common.{[], ◌∷◌, ◌++◌, length, get_or, set, max, refl, ap, sym, ◌∙◌, subst, arith, add-mul, mul-le-mul_left, length-append}
 use Rattle.std.proofs.lemmas.Bool.Decides.{nat_tests}
 use mathlib.Core.Logic.{dite}
 use mathlib.Core.List.{IsPrefix}
@@ -10,23 +11,24 @@ use lib.Seq.{set-get_or}
 use Rattle.atomic_table.specs.Seated.{TableId}
 use Rattle.atomic_table.specs.Table.{State, Me, step, keeps, Allows, Splits, Joins, Final, Seen}
 use Rattle.atomic_table.proofs.Lists.{at_set, at_snoc, set_else}
-use Rattle.cr_lock.specs.declared.view.Turn.{Turn}
-use Rattle.cr_lock.specs.declared.view.Role.{Role}
-use Rattle.cr_lock.specs.declared.view.Role.TheVariants.{Idle, Holding, Joined}
-use Rattle.cr_lock.specs.declared.view.View.{View}
+use Rattle.cr_lock.specs.declared.pass_state.Turn.{Turn}
+use Rattle.cr_lock.specs.declared.pass_state.Activity.{Activity}
+use Rattle.cr_lock.specs.declared.pass_state.Activity.TheVariants.{Idle, Holding, Joined}
+use Rattle.cr_lock.specs.declared.pass_state.PassState.{PassState}
 use Rattle.cr_lock.specs.Counts.{last_count, within, total, Every}
 use Rattle.cr_lock.specs.Turns.{InOrder, end_of, groups_with, marks, rises, StandsIn, longer, InCommon}
-use Rattle.cr_lock.specs.Views.{left_half, right_half, joining, spent_view}
+use Rattle.cr_lock.specs.PassStates.{left_half, right_half, joining, spent_state}
 use Rattle.cr_lock.specs.Passes.{Known}
 use Rattle.cr_lock.specs.Closing.{Closes}
-use Rattle.cr_lock.specs.Rule.{holds_ticket, has_value, FitsRole, Fits, Home, Away}
+use Rattle.cr_lock.specs.Rule.{holds_ticket, has_value, FitsActivity, FitsLock, Home, Away}
 use Rattle.cr_lock.specs.Steps.{LookedAfterJoin}
 use Rattle.cr_lock.proofs.Prefixes.{prefix_self, prefix_shorter, prefix_length, prefix_either, prefix_whole, prefix_drop, every_longer}
 use Rattle.cr_lock.proofs.Order.{follows, merged_in_order}
 use Rattle.cr_lock.proofs.Sums.{total_append, total_set, total_at, total_two, total_only, total_merged, every_merged, within_one, within_in, within_is}
 use Rattle.cr_lock.proofs.Changes.{Rule, Rose, WeighAlike, change, alike_set, risen_same, value_same, fits_on}
 
-unmoved_risen : {E : Type 0} (P Q : ℕ → Type 0) (serving : ℕ) (v : View E) (log : List E) → ((n : ℕ) → P n → Q n) → (t n : ℕ) → v.role ≡ Holding t n → (t ≡ serving) × (v.seen ≡ log) × P n → (t ≡ serving) × (v.seen ≡ log) × Q n
+unmoved_risen : {E : Type 0} (P Q : ℕ → Type 0) (serving : ℕ) (v : PassState E) (log : List E) → ((n : ℕ) → P n → Q n) → (t n : ℕ) → v.activity ≡ Holding t n
+    → (t ≡ serving) × (v.seen ≡ log) × P n → (t ≡ serving) × (v.seen ≡ log) × Q n
 unmoved_risen P Q serving v log on t n is g = (g.0, g.1, on n g.2)
 
 -- an entry in a group that stands in a list has its number in the list
@@ -34,7 +36,8 @@ covered : {E : Type 0} (k : ℕ) (ts : List (Turn E)) (log : List E) → Every (
 covered k [] log e h = absurd (omega arith)
 covered k (t ∷ ts) log e h = dite (ℕ_discrete (within t.place (end_of t) k) 0)
     (λ none_here. covered k ts log e.1 (omega arith))
-    (λ here. let a = within_is t.place (end_of t) k (omega arith) in let s = e.0 in let b : length (s.0 ++ t.group) ≤ length log = prefix_length (s.0 ++ t.group) log s.2 in
+    (λ here. let a = within_is t.place (end_of t) k (omega arith) in let s = e.0 in
+    let b : length (s.0 ++ t.group) ≤ length log = prefix_length (s.0 ++ t.group) log s.2 in
     let c : length (s.0 ++ t.group) ≡ length s.0 + length t.group = length-append s.0 t.group in let p = s.1 in let q = a.1 in omega arith)
 
 max_left : (a b : ℕ) → a ≤ max a b
@@ -46,17 +49,19 @@ max_right a b = omega arith
 max_few : (a b : ℕ) → a ≤ 1099511627776 → b ≤ 1099511627776 → max a b ≤ 1099511627776
 max_few a b p q = omega arith
 
-longer_is : {A : Type 0} (xs ys zs : List A) (b : Bool) → (b ≡ true → length xs ≤ length ys) → (b ≡ false → length ys ≤ length xs) → IsPrefix xs zs → IsPrefix ys zs
+longer_is : {A : Type 0} (xs ys zs : List A) (b : Bool) → (b ≡ true → length xs ≤ length ys) → (b ≡ false → length ys ≤ length xs) → IsPrefix xs zs
+    → IsPrefix ys zs
     → IsPrefix xs (if b then ys else xs) × IsPrefix ys (if b then ys else xs) × IsPrefix (if b then ys else xs) zs
 longer_is xs ys zs true up down p q = (prefix_shorter xs ys zs p q (up refl), prefix_self ys, q)
 longer_is xs ys zs false up down p q = (prefix_self xs, prefix_shorter ys xs zs q p (down refl), p)
 
-longer_of : {A : Type 0} (xs ys zs : List A) → IsPrefix xs zs → IsPrefix ys zs → IsPrefix xs (longer xs ys) × IsPrefix ys (longer xs ys) × IsPrefix (longer xs ys) zs
+longer_of : {A : Type 0} (xs ys zs : List A) → IsPrefix xs zs → IsPrefix ys zs
+    → IsPrefix xs (longer xs ys) × IsPrefix ys (longer xs ys) × IsPrefix (longer xs ys) zs
 longer_of xs ys zs p q = longer_is xs ys zs (nat_lt (length xs) (length ys)) (λ e. grind (arith, nat_tests)) (λ e. grind (arith, nat_tests)) p q
 
 module _ {T E : Type 0} (list : T → List E) (faults : T → ℕ) (first : T) where
   abbrev V : Type 0
-  V = View E
+  V = PassState E
 
   abbrev St : Type 0
   St = State (Option T) V
@@ -70,15 +75,16 @@ module _ {T E : Type 0} (list : T → List E) (faults : T → ℕ) (first : T) w
   abbrev Up : List V → ℕ → Type 0
   Up = Rose list faults first
 
-  alive_some : (v : V) → 0 < v.share → ((0 < v.share) × (start ≤ length v.seen)) ⊎ (v ≡ spent_view) → start ≤ length v.seen
-  alive_some v some_share a = ⊎_elim (λ (h : (0 < v.share) × (start ≤ length v.seen)). h.1) (λ (h : v ≡ spent_view). absurd (let z : v.share ≡ 0 = ap (λ (u : V). u.share) h in omega arith)) a
+  alive_some : (v : V) → 0 < v.share → ((0 < v.share) × (start ≤ length v.seen)) ⊎ (v ≡ spent_state) → start ≤ length v.seen
+  alive_some v some_share a = ⊎_elim (λ (h : (0 < v.share) × (start ≤ length v.seen)). h.1)
+      (λ (h : v ≡ spent_state). absurd (let z : v.share ≡ 0 = ap (λ (u : V). u.share) h in omega arith)) a
 
-  -- what a sum becomes where a view is cut in two
+  -- what a sum becomes where a state is cut in two
   cut : (F : V → ℕ) (vs : List V) (id : ℕ) (v l r : V) → get_elem? vs id ≡ some v → F l + F r ≡ F v → total F (set vs id l ++ r ∷ []) ≡ total F vs
   cut F vs id v l r at e = let a : total F (set vs id l ++ r ∷ []) ≡ total F (set vs id l) + (F r + 0) = total_append F (set vs id l) (r ∷ []) in
       let b : total F (set vs id l) + F v ≡ total F vs + F l = total_set F vs id v l at in omega arith
 
-  pub splits : (id : ℕ) (v : V) → v.role ≡ Idle → 1 < v.share → Splits R id v (left_half v) (right_half v)
+  pub splits : (id : ℕ) (v : V) → v.activity ≡ Idle → 1 < v.share → Splits R id v (left_half v) (right_half v)
   splits id v idle more s r at =
       let l : V = left_half v in
       let o : V = right_half v in
@@ -87,13 +93,15 @@ module _ {T E : Type 0} (list : T → List E) (faults : T → ℕ) (first : T) w
       let half : v.share / 2 ≤ v.share = omega arith in
       let same : WeighAlike list faults first s.views vs' = λ f. sym (cut (λ (u : V). total f u.mine) s.views id v l o at (omega arith)) in
       let long = alive_some v (omega arith) f.alive in
-      let holders : total (λ (u : V). has_value u.role) vs' ≡ total (λ (u : V). has_value u.role) s.views = (let z : has_value v.role ≡ 0 = ap has_value idle in cut (λ (u : V). has_value u.role) s.views id v l o at (omega arith)) in
-      let fits_idle : (u : V) → u.role ≡ Idle → u.seen ≡ v.seen → u.turns ≡ v.turns → Every (StandsIn v.seen) u.mine → InOrder u.mine → 0 < u.share → Fits start r.log r.serving (Up vs') u = λ u is seen turns stand sorted some_share. record {
+      let holders : total (λ (u : V). has_value u.activity) vs' ≡ total (λ (u : V). has_value u.activity) s.views =
+      (let z : has_value v.activity ≡ 0 = ap has_value idle in cut (λ (u : V). has_value u.activity) s.views id v l o at (omega arith)) in
+      let fits_idle : (u : V) → u.activity ≡ Idle → u.seen ≡ v.seen → u.turns ≡ v.turns → Every (StandsIn v.seen) u.mine → InOrder u.mine → 0 < u.share
+      → FitsLock start r.log r.serving (Up vs') u = λ u is seen turns stand sorted some_share. record {
         sorted = sorted;
         seen = subst (λ z. IsPrefix z r.log) (sym seen) f.seen;
         few = subst (λ (z : ℕ). z ≤ 1099511627776) (sym turns) f.few;
         stand = subst (λ z. Every (StandsIn z) u.mine) (sym seen) stand;
-        role = subst (λ z. FitsRole start r.log r.serving (Up vs') u z) (sym is) tt;
+        activity = subst (λ z. FitsActivity start r.log r.serving (Up vs') u z) (sym is) tt;
         alive = inl (some_share, subst (λ z. start ≤ length z) (sym seen) long);
       } in record {
         log = r.log;
@@ -103,59 +111,71 @@ module _ {T E : Type 0} (list : T → List E) (faults : T → ℕ) (first : T) w
         words = r.words;
         order = r.order;
         begins = r.begins;
-        tickets = λ t. (let z : holds_ticket t v.role ≡ 0 = ap (holds_ticket t) idle in cut (λ (u : V). holds_ticket t u.role) s.views id v l o at (omega arith)) ∙ r.tickets t;
+        tickets = λ t. (let z : holds_ticket t v.activity ≡ 0 = ap (holds_ticket t) idle in
+            cut (λ (u : V). holds_ticket t u.activity) s.views id v l o at (omega arith)) ∙ r.tickets t;
         shares = cut (λ (u : V). u.share) s.views id v l o at (omega arith) ∙ r.shares;
-        drawn = (let e : total (λ (u : V). u.share * u.turns) vs' ≡ total (λ (u : V). u.share * u.turns) s.views = cut (λ (u : V). u.share * u.turns) s.views id v l o at
-            (sym (add-mul (v.share - v.share / 2) (v.share / 2) v.turns) ∙ ap (λ (z : ℕ). z * v.turns) (let q : v.share - v.share / 2 + v.share / 2 ≡ v.share = omega arith in q)) in let d = r.drawn in omega arith);
+        drawn = (let e : total (λ (u : V). u.share * u.turns) vs' ≡ total (λ (u : V). u.share * u.turns) s.views =
+            cut (λ (u : V). u.share * u.turns) s.views id v l o at
+            (sym (add-mul (v.share - v.share / 2) (v.share / 2) v.turns)
+            ∙ ap (λ (z : ℕ). z * v.turns) (let q : v.share - v.share / 2 + v.share / 2 ≡ v.share = omega arith in q)) in let d = r.drawn in omega arith);
         groups = λ k. cut (λ (u : V). groups_with k u.mine) s.views id v l o at (omega arith) ∙ r.groups k;
         each = λ j u e. ⊎_elim
             (λ (a : get_elem? (set s.views id l) j ≡ some u). ⊎_elim
-            (λ (b : (j ≡ id) × (l ≡ u)). subst (Fits start r.log r.serving (Up vs')) b.1 (fits_idle l idle refl refl f.stand f.sorted (omega arith)))
-            (λ (b : (j ≢ id) × (get_elem? s.views j ≡ some u)). fits_on start r.log r.log r.serving r.serving (Up s.views) (Up vs') u (prefix_self r.log) (unmoved_risen (Up s.views) (Up vs') r.serving u r.log (λ n. risen_same list faults first s.views vs' n same)) (r.each j u b.1))
+            (λ (b : (j ≡ id) × (l ≡ u)). subst (FitsLock start r.log r.serving (Up vs')) b.1 (fits_idle l idle refl refl f.stand f.sorted (omega arith)))
+            (λ (b : (j ≢ id) × (get_elem? s.views j ≡ some u)). fits_on start r.log r.log r.serving r.serving (Up s.views) (Up vs') u (prefix_self r.log)
+            (unmoved_risen (Up s.views) (Up vs') r.serving u r.log (λ n. risen_same list faults first s.views vs' n same)) (r.each j u b.1))
             (at_set s.views id j l u a))
-            (λ (a : o ≡ u). subst (Fits start r.log r.serving (Up vs')) a (fits_idle o idle refl refl tt tt (omega arith)))
+            (λ (a : o ≡ u). subst (FitsLock start r.log r.serving (Up vs')) a (fits_idle o idle refl refl tt tt (omega arith)))
             (at_snoc (set s.views id l) o u j e);
         value = value_same list faults first r.log s s.words vs' holders same r.value;
       }
 
-  -- what a sum becomes where two views are made one
-  glue : (F : V → ℕ) (vs : List V) (id other : ℕ) (v w b : V) → get_elem? vs id ≡ some v → get_elem? (set vs id b) other ≡ some w → F b ≡ F v + F w → F spent_view ≡ 0
-      → total F (set (set vs id b) other spent_view) ≡ total F vs
-  glue F vs id other v w b at at' e z = let p : total F (set (set vs id b) other spent_view) + F w ≡ total F (set vs id b) + F spent_view = total_set F (set vs id b) other w spent_view at' in
+  -- what a sum becomes where two states are made one
+  glue : (F : V → ℕ) (vs : List V) (id other : ℕ) (v w b : V) → get_elem? vs id ≡ some v → get_elem? (set vs id b) other ≡ some w → F b ≡ F v + F w
+      → F spent_state ≡ 0
+      → total F (set (set vs id b) other spent_state) ≡ total F vs
+  glue F vs id other v w b at at' e z = let p : total F (set (set vs id b) other spent_state) + F w ≡ total F (set vs id b) + F spent_state =
+      total_set F (set vs id b) other w spent_state at' in
       let q : total F (set vs id b) + F v ≡ total F vs + F b = total_set F vs id v b at in omega arith
 
-  spent_fits : (log : List E) (serving : ℕ) (risen : ℕ → Type 0) → Fits start log serving risen spent_view
-  spent_fits log serving risen = record { seen = (log, refl); few = omega arith; stand = tt; sorted = tt; role = tt; alive = inr refl }
+  spent_fits : (log : List E) (serving : ℕ) (risen : ℕ → Type 0) → FitsLock start log serving risen spent_state
+  spent_fits log serving risen = record { seen = (log, refl); few = omega arith; stand = tt; sorted = tt; activity = tt; alive = inr refl }
 
   -- a list in which each group stands and that has what was there at first, where each later entry is in a group, has all entries
-  seen_all : (seen log : List E) (mine : List (Turn E)) → Every (StandsIn seen) mine → start ≤ length seen → ((k : ℕ) → groups_with k mine ≡ within start (length log) k) → length log ≤ length seen
+  seen_all : (seen log : List E) (mine : List (Turn E)) → Every (StandsIn seen) mine → start ≤ length seen
+      → ((k : ℕ) → groups_with k mine ≡ within start (length log) k) → length log ≤ length seen
   seen_all seen log mine stand more counted = dite (dec_le (length log) (length seen)) (λ le. le) (λ gt.
       let one : within start (length log) (length seen) ≡ 1 = within_in start (length log) (length seen) more (omega arith) in
       let c = counted (length seen) in absurd (let z : length seen < length seen = covered (length seen) mine seen stand (omega arith) in omega arith))
 
-  pub joins : (id : ℕ) (v : V) (other : ℕ) (w : V) → v.role ≡ Idle → w.role ≡ Idle → 0 < v.share → 0 < w.share → Joins R id v other w (joining v w) spent_view
+  pub joins : (id : ℕ) (v : V) (other : ℕ) (w : V) → v.activity ≡ Idle → w.activity ≡ Idle → 0 < v.share → 0 < w.share
+      → Joins R id v other w (joining v w) spent_state
   joins id v other w idle idle' some_share some_share' s r at ne at' =
       let b : V = joining v w in
       let at_w : get_elem? s.views other ≡ some w = sym (set_else s.views id other b ne) ∙ at' in
       let f = r.each id v at in
       let h = r.each other w at_w in
-      let vs' = set (set s.views id b) other spent_view in
-      let no : has_value v.role ≡ 0 = ap has_value idle in
-      let no' : has_value w.role ≡ 0 = ap has_value idle' in
-      let same : WeighAlike list faults first s.views vs' = λ f. sym (glue (λ (u : V). total f u.mine) s.views id other v w b at at' (total_merged f v.mine w.mine) refl) in
-      let holders : total (λ (u : V). has_value u.role) vs' ≡ total (λ (u : V). has_value u.role) s.views = glue (λ (u : V). has_value u.role) s.views id other v w b at at' (omega arith) refl in
+      let vs' = set (set s.views id b) other spent_state in
+      let no : has_value v.activity ≡ 0 = ap has_value idle in
+      let no' : has_value w.activity ≡ 0 = ap has_value idle' in
+      let same : WeighAlike list faults first s.views vs' =
+      λ f. sym (glue (λ (u : V). total f u.mine) s.views id other v w b at at' (total_merged f v.mine w.mine) refl) in
+      let holders : total (λ (u : V). has_value u.activity) vs' ≡ total (λ (u : V). has_value u.activity) s.views =
+      glue (λ (u : V). has_value u.activity) s.views id other v w b at at' (omega arith) refl in
       let long = longer_of v.seen w.seen r.log f.seen h.seen in
       let l : length v.seen ≤ length (longer v.seen w.seen) = prefix_length v.seen (longer v.seen w.seen) long.0 in
       let st = alive_some v some_share f.alive in
-      let fits_b : Fits start r.log r.serving (Up vs') b = record {
+      let fits_b : FitsLock start r.log r.serving (Up vs') b = record {
         seen = long.2;
         few = max_few v.turns w.turns f.few h.few;
-        stand = every_merged (StandsIn (longer v.seen w.seen)) v.mine w.mine (every_longer v.seen (longer v.seen w.seen) v.mine long.0 f.stand) (every_longer w.seen (longer v.seen w.seen) w.mine long.1 h.stand);
+        stand = every_merged (StandsIn (longer v.seen w.seen)) v.mine w.mine (every_longer v.seen (longer v.seen w.seen) v.mine long.0 f.stand)
+            (every_longer w.seen (longer v.seen w.seen) w.mine long.1 h.stand);
         sorted = merged_in_order v.mine w.mine h.sorted;
-        role = (
+        activity = (
           f.seen,
           h.seen,
-          λ k. (let a : groups_with k v.mine + groups_with k w.mine ≤ total (λ (u : V). groups_with k u.mine) s.views = total_two (λ (u : V). groups_with k u.mine) s.views id other v w (λ e. ne (sym e)) at at_w in
+          λ k. (let a : groups_with k v.mine + groups_with k w.mine ≤ total (λ (u : V). groups_with k u.mine) s.views =
+              total_two (λ (u : V). groups_with k u.mine) s.views id other v w (λ e. ne (sym e)) at at_w in
               let c = r.groups k in let d : within start (length r.log) k ≤ 1 = within_one start (length r.log) k in omega arith),
         );
         alive = inl (omega arith, omega arith);
@@ -167,85 +187,111 @@ module _ {T E : Type 0} (list : T → List E) (faults : T → ℕ) (first : T) w
         words = r.words;
         order = r.order;
         begins = r.begins;
-        tickets = λ t. (let z : holds_ticket t v.role ≡ 0 = ap (holds_ticket t) idle in let z' : holds_ticket t w.role ≡ 0 = ap (holds_ticket t) idle' in glue (λ (u : V). holds_ticket t u.role) s.views id other v w b at at' (omega arith) refl) ∙ r.tickets t;
+        tickets = λ t. (let z : holds_ticket t v.activity ≡ 0 = ap (holds_ticket t) idle in
+            let z' : holds_ticket t w.activity ≡ 0 = ap (holds_ticket t) idle' in
+            glue (λ (u : V). holds_ticket t u.activity) s.views id other v w b at at' (omega arith) refl) ∙ r.tickets t;
         shares = glue (λ (u : V). u.share) s.views id other v w b at at' refl refl ∙ r.shares;
-        drawn = (let p : total (λ (u : V). u.share * u.turns) vs' + w.share * w.turns ≡ total (λ (u : V). u.share * u.turns) (set s.views id b) + 0 * 0 = total_set (λ (u : V). u.share * u.turns) (set s.views id b) other w spent_view at' in
-            let q : total (λ (u : V). u.share * u.turns) (set s.views id b) + v.share * v.turns ≡ total (λ (u : V). u.share * u.turns) s.views + (v.share + w.share) * max v.turns w.turns = total_set (λ (u : V). u.share * u.turns) s.views id v b at in
-            let x : (v.share + w.share) * max v.turns w.turns ≡ v.share * max v.turns w.turns + w.share * max v.turns w.turns = add-mul v.share w.share (max v.turns w.turns) in
+        drawn = (let p : total (λ (u : V). u.share * u.turns) vs' + w.share * w.turns ≡ total (λ (u : V). u.share * u.turns) (set s.views id b) + 0 * 0 =
+            total_set (λ (u : V). u.share * u.turns) (set s.views id b) other w spent_state at' in
+            let q : total (λ (u : V). u.share * u.turns) (set s.views id b) + v.share * v.turns ≡ total (λ (u : V). u.share * u.turns) s.views
+            + (v.share + w.share) * max v.turns w.turns = total_set (λ (u : V). u.share * u.turns) s.views id v b at in
+            let x : (v.share + w.share) * max v.turns w.turns ≡ v.share * max v.turns w.turns + w.share * max v.turns w.turns =
+            add-mul v.share w.share (max v.turns w.turns) in
             let y : v.share * v.turns ≤ v.share * max v.turns w.turns = mul-le-mul_left v.share (max_left v.turns w.turns) in
             let z : w.share * w.turns ≤ w.share * max v.turns w.turns = mul-le-mul_left w.share (max_right v.turns w.turns) in let d = r.drawn in omega arith);
-        groups = λ k. glue (λ (u : V). groups_with k u.mine) s.views id other v w b at at' (total_merged (λ (z : Turn E). within z.place (end_of z) k) v.mine w.mine) refl ∙ r.groups k;
+        groups = λ k. glue (λ (u : V). groups_with k u.mine) s.views id other v w b at at'
+            (total_merged (λ (z : Turn E). within z.place (end_of z) k) v.mine w.mine) refl ∙ r.groups k;
         each = λ j u e. ⊎_elim
-            (λ (a : (j ≡ other) × (spent_view ≡ u)). subst (Fits start r.log r.serving (Up vs')) a.1 (spent_fits r.log r.serving (Up vs')))
+            (λ (a : (j ≡ other) × (spent_state ≡ u)). subst (FitsLock start r.log r.serving (Up vs')) a.1 (spent_fits r.log r.serving (Up vs')))
             (λ (a : (j ≢ other) × (get_elem? (set s.views id b) j ≡ some u)). ⊎_elim
-            (λ (c : (j ≡ id) × (b ≡ u)). subst (Fits start r.log r.serving (Up vs')) c.1 fits_b)
-            (λ (c : (j ≢ id) × (get_elem? s.views j ≡ some u)). fits_on start r.log r.log r.serving r.serving (Up s.views) (Up vs') u (prefix_self r.log) (unmoved_risen (Up s.views) (Up vs') r.serving u r.log (λ n. risen_same list faults first s.views vs' n same)) (r.each j u c.1))
+            (λ (c : (j ≡ id) × (b ≡ u)). subst (FitsLock start r.log r.serving (Up vs')) c.1 fits_b)
+            (λ (c : (j ≢ id) × (get_elem? s.views j ≡ some u)). fits_on start r.log r.log r.serving r.serving (Up s.views) (Up vs') u (prefix_self r.log)
+            (unmoved_risen (Up s.views) (Up vs') r.serving u r.log (λ n. risen_same list faults first s.views vs' n same)) (r.each j u c.1))
             (at_set s.views id j b u a.1))
-            (at_set (set s.views id b) other j spent_view u e);
+            (at_set (set s.views id b) other j spent_state u e);
         value = value_same list faults first r.log s s.words vs' holders same r.value;
       }
 
-  settle_keeps : (s : St) (r : R s) (id : ℕ) (v : V) (a b : List E) (m o : List (Turn E)) → get_elem? s.views id ≡ some v → v.role ≡ Joined a b m o
-      → R record { words = set s.words 1 (get_or s.words 1 0); homes = s.homes; views = set s.views id (record v { role = Idle }) }
+  settle_keeps : (s : St) (r : R s) (id : ℕ) (v : V) (a b : List E) (m o : List (Turn E)) → get_elem? s.views id ≡ some v → v.activity ≡ Joined a b m o
+      → R record { words = set s.words 1 (get_or s.words 1 0); homes = s.homes; views = set s.views id (record v { activity = Idle }) }
   settle_keeps s r id v a b m o at is =
-      let w : V = record v { role = Idle } in
+      let w : V = record v { activity = Idle } in
       let f = r.each id v at in
       let vs' = set s.views id w in
-      let no : has_value v.role ≡ 0 = ap has_value is in
+      let no : has_value v.activity ≡ 0 = ap has_value is in
       let same = alike_set list faults first s.views id v w at refl in
-      let holders : total (λ (u : V). has_value u.role) vs' ≡ total (λ (u : V). has_value u.role) s.views = (let c : total (λ (u : V). has_value u.role) vs' + has_value v.role ≡ total (λ (u : V). has_value u.role) s.views + 0 = total_set (λ (u : V). has_value u.role) s.views id v w at in omega arith) in
+      let holders : total (λ (u : V). has_value u.activity) vs' ≡ total (λ (u : V). has_value u.activity) s.views =
+      (let c : total (λ (u : V). has_value u.activity) vs' + has_value v.activity ≡ total (λ (u : V). has_value u.activity) s.views + 0 =
+      total_set (λ (u : V). has_value u.activity) s.views id v w at in omega arith) in
       change list faults first s r id v w at r.log r.ticket r.serving (set s.words 1 (get_or s.words 1 0)) s.homes
       (set-get_or s.words 1 0 ∙ r.words)
       r.order
       (prefix_self r.log)
-      (λ k. (let z : holds_ticket k v.role ≡ 0 = ap (holds_ticket k) is in omega arith))
+      (λ k. (let z : holds_ticket k v.activity ≡ 0 = ap (holds_ticket k) is in omega arith))
       refl
       (omega arith)
       (λ k. refl)
-      (record { seen = f.seen; few = f.few; stand = f.stand; sorted = f.sorted; role = tt; alive = inl (⊎_elim (λ (h : (0 < v.share) × (start ≤ length v.seen)). h) (λ (h : v ≡ spent_view). absurd (let e : v.role ≡ Idle = ap (λ (u : V). u.role) h in cc (e, is))) f.alive) })
+      (record {
+        seen = f.seen;
+        few = f.few;
+        stand = f.stand;
+        sorted = f.sorted;
+        activity = tt;
+        alive = inl (⊎_elim (λ (h : (0 < v.share) × (start ≤ length v.seen)). h)
+            (λ (h : v ≡ spent_state). absurd (let e : v.activity ≡ Idle = ap (λ (u : V). u.activity) h in cc (e, is))) f.alive);
+      })
       (λ j u ne e t n is' g. unmoved_risen (Up s.views) (Up vs') r.serving u r.log (λ k. risen_same list faults first s.views vs' k same) t n is' g)
       (value_same list faults first r.log s (set s.words 1 (get_or s.words 1 0)) vs' holders same r.value)
 
-  same_four : (a b : List E) (m o : List (Turn E)) (a' b' : List E) (m' o' : List (Turn E)) {role : Role E} → role ≡ Joined a b m o → role ≡ Joined a' b' m' o'
+  same_four : (a b : List E) (m o : List (Turn E)) (a' b' : List E) (m' o' : List (Turn E)) {activity : Activity E} → activity ≡ Joined a b m o
+      → activity ≡ Joined a' b' m' o'
       → ◌≡◌ {A = List E × List E × List (Turn E) × List (Turn E)} (a, b, m, o) (a', b', m', o')
-  same_four a b m o a' b' m' o' e e' = let p : a ≡ a' = cc (e, e') in let q : b ≡ b' = cc (e, e') in let t : m ≡ m' = cc (e, e') in let u : o ≡ o' = cc (e, e') in λ i. (p i, q i, t i, u i)
+  same_four a b m o a' b' m' o' e e' = let p : a ≡ a' = cc (e, e') in let q : b ≡ b' = cc (e, e') in let t : m ≡ m' = cc (e, e') in
+      let u : o ≡ o' = cc (e, e') in λ i. (p i, q i, t i, u i)
 
-  settles_at : (slots id : ℕ) (v : V) (a b : List E) (m o : List (Turn E)) → v.role ≡ Joined a b m o → Allows R slots id (v, []) 1 (λ n. n) (LookedAfterJoin (step slots 1 0 0 none) (v, []))
+  settles_at : (slots id : ℕ) (v : V) (a b : List E) (m o : List (Turn E)) → v.activity ≡ Joined a b m o
+      → Allows R slots id (v, []) 1 (λ n. n) (LookedAfterJoin (step slots 1 0 0 none) (v, []))
   settles_at slots id v a b m o is s r _ at _ =
       let f = r.each id v at in
-      let g : FitsRole start r.log r.serving (Up s.views) v (Joined a b m o) = subst (FitsRole start r.log r.serving (Up s.views) v) is f.role in
+      let g : FitsActivity start r.log r.serving (Up s.views) v (Joined a b m o) = subst (FitsActivity start r.log r.serving (Up s.views) v) is f.activity in
       let share : v.share ≤ total (λ (u : V). u.share) s.views = total_at (λ (u : V). u.share) s.views id v at in
       let all = r.shares in (
-        record v { role = Idle },
+        record v { activity = Idle },
         keeps,
         tt,
         settle_keeps s r id v a b m o at is,
         λ a' b' m' o' is'. (
-          subst (λ (z : List E × List E × List (Turn E) × List (Turn E)). InCommon z.0 z.1 z.2 z.3) (same_four a b m o a' b' m' o' is is') (prefix_either a b r.log g.0 g.1, g.2),
+          subst (λ (z : List E × List E × List (Turn E) × List (Turn E)). InCommon z.0 z.1 z.2 z.3) (same_four a b m o a' b' m' o' is is')
+              (prefix_either a b r.log g.0 g.1, g.2),
           omega arith,
           f.stand,
           refl,
         ),
       )
 
-  pub settles : (slots id : ℕ) (me : Me (Option T) V) (a b : List E) (m o : List (Turn E)) → me.0.role ≡ Joined a b m o → me.1 ≡ [] → Allows R slots id me 1 (λ n. n) (LookedAfterJoin (step slots 1 0 0 none) me)
-  settles slots id me a b m o is held = subst (λ (m : Me (Option T) V). Allows R slots id m 1 (λ n. n) (LookedAfterJoin (step slots 1 0 0 none) m)) (λ i. (me.0, sym held i)) (settles_at slots id me.0 a b m o is)
+  pub settles : (slots id : ℕ) (me : Me (Option T) V) (a b : List E) (m o : List (Turn E)) → me.0.activity ≡ Joined a b m o → me.1 ≡ []
+      → Allows R slots id me 1 (λ n. n) (LookedAfterJoin (step slots 1 0 0 none) me)
+  settles slots id me a b m o is held = subst (λ (m : Me (Option T) V). Allows R slots id m 1 (λ n. n) (LookedAfterJoin (step slots 1 0 0 none) m))
+      (λ i. (me.0, sym held i)) (settles_at slots id me.0 a b m o is)
 
   -- the end
   abbrev known : TableId → V → Known E
   known lock v = record { lock = lock; share = v.share; turns = v.turns; seen = v.seen; mine = v.mine }
 
-  pub ends : (lock : TableId) (id : ℕ) (v : V) (ws : List ℕ) (xs : List (Option T)) → v.role ≡ Idle → v.share ≡ 64 → Final (Seen R id v) ws xs
+  pub ends : (lock : TableId) (id : ℕ) (v : V) (ws : List ℕ) (xs : List (Option T)) → v.activity ≡ Idle → v.share ≡ 64 → Final (Seen R id v) ws xs
       → (x : T) × (get_elem? xs 0 ≡ some (Some x)) × Closes list faults first (known lock v) x
   ends lock id v ws xs idle whole fin =
       let s : St = fin.0 in
       let r : R s = fin.1.0 in
       let at : get_elem? s.views id ≡ some v = fin.1.1 in
       let f = r.each id v at in
-      let only : (F : V → ℕ) → F spent_view ≡ 0 → total F s.views ≡ F v = λ F zero_spent. total_only F (λ (u : V). u.share) s.views id v at (r.shares ∙ sym whole)
-      (λ j u e z. ⊎_elim (λ (h : (0 < u.share) × (start ≤ length u.seen)). absurd (let a = h.0 in omega arith)) (λ (h : u ≡ spent_view). ap F h ∙ zero_spent) (r.each j u e).alive) in
-      let nobody : total (λ (u : V). has_value u.role) s.views ≡ 0 = only (λ (u : V). has_value u.role) refl ∙ ap has_value idle in
-      let home : Home list faults first r.log s = ⊎_elim (λ (a : Home list faults first r.log s). a) (λ (a : Away list faults first s). absurd (let o = a.1 in omega arith)) r.value in
+      let only : (F : V → ℕ) → F spent_state ≡ 0 → total F s.views ≡ F v =
+      λ F zero_spent. total_only F (λ (u : V). u.share) s.views id v at (r.shares ∙ sym whole)
+      (λ j u e z. ⊎_elim (λ (h : (0 < u.share) × (start ≤ length u.seen)). absurd (let a = h.0 in omega arith)) (λ (h : u ≡ spent_state). ap F h ∙ zero_spent)
+      (r.each j u e).alive) in
+      let nobody : total (λ (u : V). has_value u.activity) s.views ≡ 0 = only (λ (u : V). has_value u.activity) refl ∙ ap has_value idle in
+      let home : Home list faults first r.log s = ⊎_elim (λ (a : Home list faults first r.log s). a)
+      (λ (a : Away list faults first s). absurd (let o = a.1 in omega arith)) r.value in
       let x : T = home.0 in
       let counted : (k : ℕ) → groups_with k v.mine ≡ within start (length r.log) k = λ k. sym (only (λ (u : V). groups_with k u.mine) refl) ∙ r.groups k in
       let all_seen : v.seen ≡ r.log = prefix_whole v.seen r.log f.seen (seen_all v.seen r.log v.mine f.stand (alive_some v (omega arith) f.alive) counted) in
@@ -257,8 +303,11 @@ module _ {T E : Type 0} (list : T → List E) (faults : T → ℕ) (first : T) w
           begins = subst (λ z. IsPrefix (list first) z) (sym all_seen) r.begins;
           groups = λ k. counted k ∙ ap (λ z. within start (length z) k) (sym all_seen);
           places = f.stand;
-          whole = home.2 ∙ (sym (prefix_drop (list first) r.log r.begins) ∙ ap (λ z. list first ++ z) (follows r.log v.mine start (length r.log) f.sorted (every_longer v.seen r.log v.mine f.seen f.stand) refl (prefix_length (list first) r.log r.begins) counted));
-          marks = ⊎_elim (λ (a : faults first + total (λ (u : V). marks u.mine) s.views ≤ faults x). inl (omega arith)) (λ (a : last_count ≤ faults x). inr a) home.3.marks;
+          whole = home.2 ∙ (sym (prefix_drop (list first) r.log r.begins)
+              ∙ ap (λ z. list first ++ z) (follows r.log v.mine start (length r.log) f.sorted (every_longer v.seen r.log v.mine f.seen f.stand) refl
+              (prefix_length (list first) r.log r.begins) counted));
+          marks = ⊎_elim (λ (a : faults first + total (λ (u : V). marks u.mine) s.views ≤ faults x). inl (omega arith))
+              (λ (a : last_count ≤ faults x). inr a) home.3.marks;
           count = home.3.count ∙ ap (λ (k : ℕ). faults first + k) (only (λ (u : V). rises u.mine) refl);
         },
       )

@@ -1,9 +1,9 @@
--- Sums over the views of all passes.
+-- Sums over the states of all passes.
 use Rattle.std.proofs.Common.{◌≡◌, ◌≢◌, ℕ, zero, suc, ◌+◌, ◌<◌, ◌≤◌, true, false, List, [], ◌∷◌, ◌++◌, set, refl, ap, sym, arith, ◌⊎◌, ⊎_elim, if◌then◌else◌}
 use Rattle.std.proofs.lemmas.Bool.Decides.{nat_tests}
 use mathlib.Core.Option.{some, some-injective, some-ne-none}
 use lib.ListN.{get_elem?}
-use Rattle.cr_lock.specs.declared.view.Turn.{Turn}
+use Rattle.cr_lock.specs.declared.pass_state.Turn.{Turn}
 use Rattle.cr_lock.specs.Counts.{within, total, Every}
 use Rattle.cr_lock.specs.Turns.{insert_turn, merged, comes_after}
 
@@ -39,23 +39,29 @@ module _ {X : Type 0} (f : X → ℕ) where
   total_le g (z ∷ xs) le = let a : g z ≤ f z = le 0 z refl in let r : total g xs ≤ total f xs = total_le g xs (λ i y. le (suc i) y) in omega arith
 
   -- where g is at most f at each, the sums are as far apart as at x
-  pub total_gap : (g : X → ℕ) (xs : List X) (j : ℕ) (x : X) → ((i : ℕ) (y : X) → get_elem? xs i ≡ some y → g y ≤ f y) → get_elem? xs j ≡ some x → total g xs + f x ≤ total f xs + g x
+  pub total_gap : (g : X → ℕ) (xs : List X) (j : ℕ) (x : X) → ((i : ℕ) (y : X) → get_elem? xs i ≡ some y → g y ≤ f y) → get_elem? xs j ≡ some x
+      → total g xs + f x ≤ total f xs + g x
   total_gap g [] j x le e = absurd (some-ne-none x (sym e))
-  total_gap g (z ∷ xs) zero x le e = let same : f z ≡ f x = ap f (some-injective z x e) in let same' : g z ≡ g x = ap g (some-injective z x e) in let r : total g xs ≤ total f xs = total_le g xs (λ i y. le (suc i) y) in omega arith
-  total_gap g (z ∷ xs) (suc j) x le e = let a : g z ≤ f z = le 0 z refl in let r : total g xs + f x ≤ total f xs + g x = total_gap g xs j x (λ i y. le (suc i) y) e in omega arith
+  total_gap g (z ∷ xs) zero x le e = let same : f z ≡ f x = ap f (some-injective z x e) in let same' : g z ≡ g x = ap g (some-injective z x e) in
+      let r : total g xs ≤ total f xs = total_le g xs (λ i y. le (suc i) y) in omega arith
+  total_gap g (z ∷ xs) (suc j) x le e = let a : g z ≤ f z = le 0 z refl in
+      let r : total g xs + f x ≤ total f xs + g x = total_gap g xs j x (λ i y. le (suc i) y) e in omega arith
 
   total_none : (weight : X → ℕ) (xs : List X) → total weight xs ≡ 0 → ((i : ℕ) (y : X) → get_elem? xs i ≡ some y → weight y ≡ 0 → f y ≡ 0) → total f xs ≡ 0
   total_none weight [] t zeros = refl
-  total_none weight (z ∷ xs) t zeros = let here : f z ≡ 0 = zeros 0 z refl (omega arith) in let r : total f xs ≡ 0 = total_none weight xs (omega arith) (λ i y. zeros (suc i) y) in omega arith
+  total_none weight (z ∷ xs) t zeros = let here : f z ≡ 0 = zeros 0 z refl (omega arith) in
+      let r : total f xs ≡ 0 = total_none weight xs (omega arith) (λ i y. zeros (suc i) y) in omega arith
 
   -- where x alone has a weight, the sum of f is that of x
   pub total_only : (weight : X → ℕ) (xs : List X) (j : ℕ) (x : X) → get_elem? xs j ≡ some x → total weight xs ≡ weight x
       → ((i : ℕ) (y : X) → get_elem? xs i ≡ some y → weight y ≡ 0 → f y ≡ 0) → total f xs ≡ f x
   total_only weight [] j x e t zeros = absurd (some-ne-none x (sym e))
-  total_only weight (z ∷ xs) zero x e t zeros = let same : f z ≡ f x = ap f (some-injective z x e) in let same' : weight z ≡ weight x = ap weight (some-injective z x e) in
+  total_only weight (z ∷ xs) zero x e t zeros = let same : f z ≡ f x = ap f (some-injective z x e) in
+      let same' : weight z ≡ weight x = ap weight (some-injective z x e) in
       let r : total f xs ≡ 0 = total_none weight xs (omega arith) (λ i y. zeros (suc i) y) in omega arith
   total_only weight (z ∷ xs) (suc j) x e t zeros = let at : weight x ≤ total weight xs = weight_at weight xs j x e in
-      let r : total f xs ≡ f x = total_only weight xs j x e (omega arith) (λ i y. zeros (suc i) y) in let here : f z ≡ 0 = zeros 0 z refl (omega arith) in omega arith
+      let r : total f xs ≡ f x = total_only weight xs j x e (omega arith) (λ i y. zeros (suc i) y) in
+      let here : f z ≡ 0 = zeros 0 z refl (omega arith) in omega arith
 
 -- f of a merged list
 module _ {E : Type 0} (f : Turn E → ℕ) where
@@ -66,12 +72,14 @@ module _ {E : Type 0} (f : Turn E → ℕ) where
 
   pub total_merged : (ts us : List (Turn E)) → total f (merged ts us) ≡ total f ts + total f us
   total_merged [] us = omega arith
-  total_merged (t ∷ ts) us = let r : total f (merged ts us) ≡ total f ts + total f us = total_merged ts us in let p : total f (insert_turn t (merged ts us)) ≡ f t + total f (merged ts us) = total_insert t (merged ts us) in omega arith
+  total_merged (t ∷ ts) us = let r : total f (merged ts us) ≡ total f ts + total f us = total_merged ts us in
+      let p : total f (insert_turn t (merged ts us)) ≡ f t + total f (merged ts us) = total_insert t (merged ts us) in omega arith
 
 module _ {E : Type 0} (P : Turn E → Type 0) where
   pub every_insert : (t : Turn E) (us : List (Turn E)) → P t → Every P us → Every P (insert_turn t us)
   every_insert t [] p e = (p, tt)
-  every_insert t (u ∷ us) p e = elim (comes_after t u) as (λ b. Every P (if b then u ∷ insert_turn t us else t ∷ u ∷ us)) [ true ↦ (e.0, every_insert t us p e.1) | false ↦ (p, e) ]
+  every_insert t (u ∷ us) p e = elim (comes_after t u) as
+      (λ b. Every P (if b then u ∷ insert_turn t us else t ∷ u ∷ us)) [ true ↦ (e.0, every_insert t us p e.1) | false ↦ (p, e) ]
 
   pub every_merged : (ts us : List (Turn E)) → Every P ts → Every P us → Every P (merged ts us)
   every_merged [] us e d = d

@@ -1,5 +1,6 @@
 -- The steps of a turn keep the rule.
-use Rattle.std.proofs.Common.{◌≡◌, ◌≢◌, ◌⊎◌, inl, inr, ⊎_elim, ℕ, ◌+◌, ◌-◌, ◌%◌, ◌^◌, ◌<◌, ◌≤◌, Bool, if◌then◌else◌, Option, Some, None, List, [], ◌∷◌, ◌++◌, length, get_or, set, drop, refl, ap, sym, ◌∙◌, subst, arith, mod-eq_of_lt, append-nil, length-drop}
+use Rattle.std.proofs.Common.{◌≡◌, ◌≢◌, ◌⊎◌, inl, inr, ⊎_elim, ℕ, ◌+◌, ◌-◌, ◌%◌, ◌^◌, ◌<◌, ◌≤◌, Bool, if◌then◌else◌, Option, Some, None, List, [], ◌∷◌, ◌++◌}
+use Rattle.std.proofs.Common.{length, get_or, set, drop, refl, ap, sym, ◌∙◌, subst, arith, mod-eq_of_lt, append-nil, length-drop}
 use Rattle.std.proofs.lemmas.Bool.Decides.{nat_tests}
 use mathlib.Core.Logic.{dite}
 use mathlib.Core.List.{IsPrefix}
@@ -9,14 +10,14 @@ use lib.ListN.{get_elem?}
 use lib.Seq.{set-get_or}
 use Rattle.atomic_table.specs.Table.{State, Me, step, keeps, takes, gives, rest, Allows}
 use Rattle.atomic_table.proofs.Lists.{set_again}
-use Rattle.cr_lock.specs.declared.view.Turn.{Turn}
-use Rattle.cr_lock.specs.declared.view.Role.{Role}
-use Rattle.cr_lock.specs.declared.view.Role.TheVariants.{Idle, Waiting, Holding, Joined}
-use Rattle.cr_lock.specs.declared.view.View.{View}
+use Rattle.cr_lock.specs.declared.pass_state.Turn.{Turn}
+use Rattle.cr_lock.specs.declared.pass_state.Activity.{Activity}
+use Rattle.cr_lock.specs.declared.pass_state.Activity.TheVariants.{Idle, Waiting, Holding, Joined}
+use Rattle.cr_lock.specs.declared.pass_state.PassState.{PassState}
 use Rattle.cr_lock.specs.Counts.{last_count, has_risen, within, total, Every}
 use Rattle.cr_lock.specs.Turns.{turn_at, end_of, groups_with, marks, rises, StandsIn}
-use Rattle.cr_lock.specs.Views.{spent_view}
-use Rattle.cr_lock.specs.Rule.{holds_ticket, has_value, FitsRole, Fits, Home, Away}
+use Rattle.cr_lock.specs.PassStates.{spent_state}
+use Rattle.cr_lock.specs.Rule.{holds_ticket, has_value, FitsActivity, FitsLock, Home, Away}
 use Rattle.cr_lock.specs.Steps.{Looked, Noted, noted_at, WentOn}
 use Rattle.cr_lock.proofs.Prefixes.{prefix_self, prefix_length, prefix_drop, every_longer, every_snoc}
 use Rattle.cr_lock.proofs.Order.{snoc_in_order, places_below}
@@ -24,26 +25,30 @@ use Rattle.cr_lock.proofs.Sums.{total_append, total_set, total_at, total_two, to
 use Rattle.cr_lock.proofs.Changes.{Rule, Rose, has, marked, change, alike_set, risen_same, ticket_small}
 
 -- a turn on a value that stood for the list xs and stands for ys
-abbrev pub after_turn : {E : Type 0} → View E → List E → List E → ℕ → ℕ → View E
+abbrev pub after_turn : {E : Type 0} → PassState E → List E → List E → ℕ → ℕ → PassState E
 after_turn v xs ys m n = record v { turns = v.turns + 1; seen = ys; mine = v.mine ++ turn_at (length xs) (drop (length xs) ys) m n ∷ [] }
 
 -- a pass that has the value holds the ticket that is served
-has_at_most : {E : Type 0} (start : ℕ) (log : List E) (serving : ℕ) (risen : ℕ → Type 0) (v : View E) (role : Role E) → FitsRole start log serving risen v role → has_value role ≤ holds_ticket serving role
+has_at_most : {E : Type 0} (start : ℕ) (log : List E) (serving : ℕ) (risen : ℕ → Type 0) (v : PassState E) (activity : Activity E)
+    → FitsActivity start log serving risen v activity → has_value activity ≤ holds_ticket serving activity
 has_at_most start log serving risen v Idle f = omega arith
 has_at_most start log serving risen v (Waiting u) f = omega arith
-has_at_most start log serving risen v (Holding u n) f = let e : within u (u + 1) serving ≡ 1 = (let z = f.0 in within_in u (u + 1) serving (omega arith) (omega arith)) in omega arith
+has_at_most start log serving risen v (Holding u n) f = let e : within u (u + 1) serving ≡ 1 =
+    (let z = f.0 in within_in u (u + 1) serving (omega arith) (omega arith)) in omega arith
 has_at_most start log serving risen v (Joined a b m o) f = omega arith
 
-served : {E : Type 0} (start : ℕ) (log : List E) (serving : ℕ) (risen : ℕ → Type 0) (v : View E) (t n : ℕ) → v.role ≡ Holding t n → Fits start log serving risen v → (t ≡ serving) × (v.seen ≡ log) × risen n
-served start log serving risen v t n e f = subst (λ role. FitsRole start log serving risen v role) e f.role
+served : {E : Type 0} (start : ℕ) (log : List E) (serving : ℕ) (risen : ℕ → Type 0) (v : PassState E) (t n : ℕ) → v.activity ≡ Holding t n
+    → FitsLock start log serving risen v → (t ≡ serving) × (v.seen ≡ log) × risen n
+served start log serving risen v t n e f = subst (λ activity. FitsActivity start log serving risen v activity) e f.activity
 
 -- the count of faults has risen by one more mark, where it has risen
 marked_more : (a n c : ℕ) → n ≤ c → (a ≤ n) ⊎ (last_count ≤ n) → (a + (if has_risen n c then 1 else 0) ≤ c) ⊎ (last_count ≤ c)
-marked_more a n c le h = ⊎_elim (λ (p : a ≤ n). dite (dec_le last_count c) (λ full. inr full) (λ less. inl (grind (arith, nat_tests)))) (λ (p : last_count ≤ n). inr (omega arith)) h
+marked_more a n c le h = ⊎_elim (λ (p : a ≤ n). dite (dec_le last_count c) (λ full. inr full) (λ less. inl (grind (arith, nat_tests))))
+    (λ (p : last_count ≤ n). inr (omega arith)) h
 
 module _ {T E : Type 0} (list : T → List E) (faults : T → ℕ) (first : T) where
   abbrev V : Type 0
-  V = View E
+  V = PassState E
 
   abbrev St : Type 0
   St = State (Option T) V
@@ -57,31 +62,39 @@ module _ {T E : Type 0} (list : T → List E) (faults : T → ℕ) (first : T) w
   abbrev Up : List V → ℕ → Type 0
   Up = Rose list faults first
 
-  alive_share : (v : V) → v.role ≢ Idle → ((0 < v.share) × (start ≤ length v.seen)) ⊎ (v ≡ spent_view) → (0 < v.share) × (start ≤ length v.seen)
-  alive_share v busy a = ⊎_elim (λ (h : (0 < v.share) × (start ≤ length v.seen)). h) (λ (h : v ≡ spent_view). absurd (busy (ap (λ (u : V). u.role) h))) a
+  alive_share : (v : V) → v.activity ≢ Idle → ((0 < v.share) × (start ≤ length v.seen)) ⊎ (v ≡ spent_state) → (0 < v.share) × (start ≤ length v.seen)
+  alive_share v busy a = ⊎_elim (λ (h : (0 < v.share) × (start ≤ length v.seen)). h) (λ (h : v ≡ spent_state). absurd (busy (ap (λ (u : V). u.activity) h))) a
 
   -- who waits for the ticket that is served finds the value at home
-  at_home : (s : St) (r : R s) (id : ℕ) (v : V) (t : ℕ) → get_elem? s.views id ≡ some v → v.role ≡ Waiting t → t ≡ r.serving → total (λ (u : V). has_value u.role) s.views ≡ 0
+  at_home : (s : St) (r : R s) (id : ℕ) (v : V) (t : ℕ) → get_elem? s.views id ≡ some v → v.activity ≡ Waiting t → t ≡ r.serving
+      → total (λ (u : V). has_value u.activity) s.views ≡ 0
   at_home s r id v t at waits e =
-      let F : V → ℕ = λ u. holds_ticket r.serving u.role in
-      let G : V → ℕ = λ u. has_value u.role in
-      let p : total G s.views + holds_ticket r.serving v.role ≤ total F s.views + has_value v.role = total_gap F G s.views id v (λ j u a. has_at_most start r.log r.serving (Up s.views) u u.role (r.each j u a).role) at in
-      let a : holds_ticket r.serving v.role ≡ 1 = ap (holds_ticket r.serving) waits ∙ within_in t (t + 1) r.serving (omega arith) (omega arith) in
-      let b : has_value v.role ≡ 0 = ap has_value waits in
+      let F : V → ℕ = λ u. holds_ticket r.serving u.activity in
+      let G : V → ℕ = λ u. has_value u.activity in
+      let p : total G s.views + holds_ticket r.serving v.activity ≤ total F s.views + has_value v.activity =
+      total_gap F G s.views id v (λ j u a. has_at_most start r.log r.serving (Up s.views) u u.activity (r.each j u a).activity) at in
+      let a : holds_ticket r.serving v.activity ≡ 1 = ap (holds_ticket r.serving) waits ∙ within_in t (t + 1) r.serving (omega arith) (omega arith) in
+      let b : has_value v.activity ≡ 0 = ap has_value waits in
       let c = r.tickets r.serving in
       let d : within r.serving r.ticket r.serving ≤ 1 = within_one r.serving r.ticket r.serving in omega arith
 
-  look_takes : (s : St) (r : R s) (id : ℕ) (v : V) (t : ℕ) (x : T) → get_elem? s.views id ≡ some v → v.role ≡ Waiting t → t ≡ r.serving
+  look_takes : (s : St) (r : R s) (id : ℕ) (v : V) (t : ℕ) (x : T) → get_elem? s.views id ≡ some v → v.activity ≡ Waiting t → t ≡ r.serving
       → s.homes ≡ some (Some x) ∷ [] → list x ≡ r.log → Up s.views (faults x)
-      → R record { words = set s.words 1 (get_or s.words 1 0); homes = set s.homes 0 none; views = set s.views id (record v { seen = list x; role = Holding t (faults x) }) }
+      → R record {
+        words = set s.words 1 (get_or s.words 1 0);
+        homes = set s.homes 0 none;
+        views = set s.views id (record v { seen = list x; activity = Holding t (faults x) });
+      }
   look_takes s r id v t x at waits e home stands up =
-      let w : V = record v { seen = list x; role = Holding t (faults x) } in
+      let w : V = record v { seen = list x; activity = Holding t (faults x) } in
       let f = r.each id v at in
       let vs' = set s.views id w in
-      let nobody : total (λ (u : V). has_value u.role) s.views ≡ 0 = at_home s r id v t at waits e in
-      let no : has_value v.role ≡ 0 = ap has_value waits in
+      let nobody : total (λ (u : V). has_value u.activity) s.views ≡ 0 = at_home s r id v t at waits e in
+      let no : has_value v.activity ≡ 0 = ap has_value waits in
       let same = alike_set list faults first s.views id v w at refl in
-      let one : total (λ (u : V). has_value u.role) vs' ≡ 1 = (let c : total (λ (u : V). has_value u.role) vs' + has_value v.role ≡ total (λ (u : V). has_value u.role) s.views + 1 = total_set (λ (u : V). has_value u.role) s.views id v w at in omega arith) in
+      let one : total (λ (u : V). has_value u.activity) vs' ≡ 1 =
+      (let c : total (λ (u : V). has_value u.activity) vs' + has_value v.activity ≡ total (λ (u : V). has_value u.activity) s.views + 1 =
+      total_set (λ (u : V). has_value u.activity) s.views id v w at in omega arith) in
       let seen : IsPrefix v.seen (list x) = subst (λ z. IsPrefix v.seen z) (sym stands) f.seen in
       let longer : length v.seen ≤ length (list x) = prefix_length v.seen (list x) seen in
       let alive = alive_share v (λ idle. absurd (cc (idle, waits))) f.alive in
@@ -89,35 +102,53 @@ module _ {T E : Type 0} (list : T → List E) (faults : T → ℕ) (first : T) w
       (set-get_or s.words 1 0 ∙ r.words)
       r.order
       (prefix_self r.log)
-      (λ k. (let a : holds_ticket k v.role ≡ within t (t + 1) k = ap (holds_ticket k) waits in omega arith))
+      (λ k. (let a : holds_ticket k v.activity ≡ within t (t + 1) k = ap (holds_ticket k) waits in omega arith))
       refl
       (omega arith)
       (λ k. refl)
-      (record { seen = subst (λ z. IsPrefix z r.log) (sym stands) (prefix_self r.log); few = f.few; stand = every_longer v.seen (list x) v.mine seen f.stand; sorted = f.sorted; role = (e, stands, risen_same list faults first s.views vs' (faults x) same up); alive = inl (alive.0, omega arith) })
-      (λ j u ne a k n is' g. absurd (let h : has_value u.role ≡ 1 = ap has_value is' in let q : has_value u.role ≤ total (λ (z : V). has_value z.role) s.views = total_at (λ (z : V). has_value z.role) s.views j u a in omega arith))
+      (record {
+        seen = subst (λ z. IsPrefix z r.log) (sym stands) (prefix_self r.log);
+        few = f.few;
+        stand = every_longer v.seen (list x) v.mine seen f.stand;
+        sorted = f.sorted;
+        activity = (e, stands, risen_same list faults first s.views vs' (faults x) same up);
+        alive = inl (alive.0, omega arith);
+      })
+      (λ j u ne a k n is' g. absurd (let h : has_value u.activity ≡ 1 = ap has_value is' in
+      let q : has_value u.activity ≤ total (λ (z : V). has_value z.activity) s.views = total_at (λ (z : V). has_value z.activity) s.views j u a in
+      omega arith))
       (inr (ap (λ hs. set hs 0 none) home, one))
 
-  look_finds : (s : St) (r : R s) (id : ℕ) (v : V) (t : ℕ) → get_elem? s.views id ≡ some v → v.role ≡ Waiting t → t ≡ r.serving → Home list faults first r.log s ⊎ Away list faults first s → Home list faults first r.log s
-  look_finds s r id v t at waits e h = ⊎_elim (λ (a : Home list faults first r.log s). a) (λ (a : Away list faults first s). absurd (let z : total (λ (u : V). has_value u.role) s.views ≡ 0 = at_home s r id v t at waits e in let o = a.1 in omega arith)) h
+  look_finds : (s : St) (r : R s) (id : ℕ) (v : V) (t : ℕ) → get_elem? s.views id ≡ some v → v.activity ≡ Waiting t → t ≡ r.serving
+      → Home list faults first r.log s ⊎ Away list faults first s → Home list faults first r.log s
+  look_finds s r id v t at waits e h = ⊎_elim (λ (a : Home list faults first r.log s). a)
+      (λ (a : Away list faults first s). absurd (let z : total (λ (u : V). has_value u.activity) s.views ≡ 0 = at_home s r id v t at waits e in
+      let o = a.1 in omega arith)) h
 
-  yes_is : (t u : ℕ) {role : Role E} → role ≡ Waiting t → role ≡ Waiting u → t ≡ u
+  yes_is : (t u : ℕ) {activity : Activity E} → activity ≡ Waiting t → activity ≡ Waiting u → t ≡ u
   yes_is t u a b = cc (a, b)
 
-  unmoved : (s : St) (id : ℕ) (v : V) → get_elem? s.views id ≡ some v → s ≡ record { words = set s.words 1 (get_or s.words 1 0); homes = s.homes; views = set s.views id v }
-  unmoved s id v at = sym (ap (λ (ws : List ℕ). record { words = ws; homes = s.homes; views = set s.views id v }) (set-get_or s.words 1 0) ∙ ap (λ (vs : List V). record { words = s.words; homes = s.homes; views = vs }) (set_again s.views id v at))
+  unmoved : (s : St) (id : ℕ) (v : V) → get_elem? s.views id ≡ some v
+      → s ≡ record { words = set s.words 1 (get_or s.words 1 0); homes = s.homes; views = set s.views id v }
+  unmoved s id v at = sym (ap (λ (ws : List ℕ). record { words = ws; homes = s.homes; views = set s.views id v }) (set-get_or s.words 1 0)
+      ∙ ap (λ (vs : List V). record { words = s.words; homes = s.homes; views = vs }) (set_again s.views id v at))
 
-  looks_at : (slots id : ℕ) (v : V) (t : ℕ) → v.role ≡ Waiting t → Allows R slots id (v, []) 1 (λ n. n) (Looked list faults (step slots 1 0 0 none) (v, []))
+  looks_at : (slots id : ℕ) (v : V) (t : ℕ) → v.activity ≡ Waiting t → Allows R slots id (v, []) 1 (λ n. n) (Looked list faults (step slots 1 0 0 none) (v, []))
   looks_at slots id v t waits s r _ at _ =
       let m : ℕ = get_or s.words 1 0 in
       let here : m ≡ r.serving = ap (λ (ws : List ℕ). get_or ws 1 0) r.words in
       dite (ℕ_discrete m t)
       (λ yes. let h = look_finds s r id v t at waits (sym yes ∙ here) r.value in let x : T = h.0 in let f = r.each id v at in (
-        record v { seen = list x; role = Holding t (faults x) },
+        record v { seen = list x; activity = Holding t (faults x) },
         takes 0 (Some x),
         ap (λ hs. get_elem? hs 0) h.1,
         look_takes s r id v t x at waits (sym yes ∙ here) h.1 h.2 h.3,
         λ u e. (
-          λ is. (x, subst (λ z. IsPrefix v.seen z) (sym h.2) f.seen, ap (λ (k : ℕ). (record v { seen = list x; role = Holding k (faults x) }, (0, Some x) ∷ [])) (yes_is t u waits e)),
+          λ is. (
+            x,
+            subst (λ z. IsPrefix v.seen z) (sym h.2) f.seen,
+            ap (λ (k : ℕ). (record v { seen = list x; activity = Holding k (faults x) }, (0, Some x) ∷ [])) (yes_is t u waits e),
+          ),
           λ no. absurd (no (yes ∙ yes_is t u waits e)),
         ),
       ))
@@ -129,21 +160,30 @@ module _ {T E : Type 0} (list : T → List E) (faults : T → ℕ) (first : T) w
         λ u e. (λ is. absurd (no (is ∙ yes_is u t e waits)), λ _. refl),
       ))
 
-  same_turn : (t n t' n' : ℕ) (x y : T) {role : Role E} → role ≡ Holding t n → role ≡ Holding t' n' → ◌≡◌ {A = List (ℕ × Option T)} ((0, Some x) ∷ []) ((0, Some y) ∷ []) → ◌≡◌ {A = ℕ × ℕ × T} (t, n, x) (t', n', y)
-  same_turn t n t' n' x y a b c = let p : t ≡ t' = cc (a, b) in let q : n ≡ n' = cc (a, b) in let d : ◌≡◌ {A = ℕ × Option T} (0, Some x) (0, Some y) = cc (c) in let e : ◌≡◌ {A = Option T} (Some x) (Some y) = ap (λ (z : ℕ × Option T). z.1) d in let o : x ≡ y = cc (e) in λ i. (p i, q i, o i)
+  same_turn : (t n t' n' : ℕ) (x y : T) {activity : Activity E} → activity ≡ Holding t n → activity ≡ Holding t' n'
+      → ◌≡◌ {A = List (ℕ × Option T)} ((0, Some x) ∷ []) ((0, Some y) ∷ []) → ◌≡◌ {A = ℕ × ℕ × T} (t, n, x) (t', n', y)
+  same_turn t n t' n' x y a b c = let p : t ≡ t' = cc (a, b) in let q : n ≡ n' = cc (a, b) in
+      let d : ◌≡◌ {A = ℕ × Option T} (0, Some x) (0, Some y) = cc (c) in let e : ◌≡◌ {A = Option T} (Some x) (Some y) = ap (λ (z : ℕ × Option T). z.1) d in
+      let o : x ≡ y = cc (e) in λ i. (p i, q i, o i)
 
   -- where the pass has the value, it is away, and no other pass has it
-  away : (s : St) (r : R s) (id : ℕ) (v : V) (t n : ℕ) → get_elem? s.views id ≡ some v → v.role ≡ Holding t n → Home list faults first r.log s ⊎ Away list faults first s → Away list faults first s
-  away s r id v t n at has h = ⊎_elim (λ (a : Home list faults first r.log s). absurd (let one : has_value v.role ≡ 1 = ap has_value has in let q : has_value v.role ≤ total (λ (z : V). has_value z.role) s.views = total_at (λ (z : V). has_value z.role) s.views id v at in let z = a.4 in omega arith))
+  away : (s : St) (r : R s) (id : ℕ) (v : V) (t n : ℕ) → get_elem? s.views id ≡ some v → v.activity ≡ Holding t n
+      → Home list faults first r.log s ⊎ Away list faults first s → Away list faults first s
+  away s r id v t n at has h = ⊎_elim (λ (a : Home list faults first r.log s). absurd (let one : has_value v.activity ≡ 1 = ap has_value has in
+      let q : has_value v.activity ≤ total (λ (z : V). has_value z.activity) s.views = total_at (λ (z : V). has_value z.activity) s.views id v at in
+      let z = a.4 in omega arith))
       (λ (a : Away list faults first s). a) h
 
-  no_other : (s : St) (id : ℕ) (v : V) (t n : ℕ) → get_elem? s.views id ≡ some v → v.role ≡ Holding t n → total (λ (z : V). has_value z.role) s.views ≡ 1
-      → (j : ℕ) (u : V) → j ≢ id → get_elem? s.views j ≡ some u → (k m : ℕ) → u.role ≡ Holding k m → ⊥
+  no_other : (s : St) (id : ℕ) (v : V) (t n : ℕ) → get_elem? s.views id ≡ some v → v.activity ≡ Holding t n
+      → total (λ (z : V). has_value z.activity) s.views ≡ 1
+      → (j : ℕ) (u : V) → j ≢ id → get_elem? s.views j ≡ some u → (k m : ℕ) → u.activity ≡ Holding k m → ⊥
   no_other s id v t n at has one j u ne a k m is =
-      let p : has_value v.role ≡ 1 = ap has_value has in let q : has_value u.role ≡ 1 = ap has_value is in
-      let two : has_value u.role + has_value v.role ≤ total (λ (z : V). has_value z.role) s.views = total_two (λ (z : V). has_value z.role) s.views j id u v ne a at in omega arith
+      let p : has_value v.activity ≡ 1 = ap has_value has in let q : has_value u.activity ≡ 1 = ap has_value is in
+      let two : has_value u.activity + has_value v.activity ≤ total (λ (z : V). has_value z.activity) s.views =
+      total_two (λ (z : V). has_value z.activity) s.views j id u v ne a at in omega arith
 
-  note_keeps : (s : St) (r : R s) (id : ℕ) (v : V) (t n : ℕ) (x : T) (k : ℕ) → get_elem? s.views id ≡ some v → v.role ≡ Holding t n → IsPrefix v.seen (list x) → n ≤ faults x
+  note_keeps : (s : St) (r : R s) (id : ℕ) (v : V) (t n : ℕ) (x : T) (k : ℕ) → get_elem? s.views id ≡ some v → v.activity ≡ Holding t n
+      → IsPrefix v.seen (list x) → n ≤ faults x
       → length v.seen + k ≡ length (list x) → length (list x) < 2 ^ 64
       → R record { words = set s.words 2 ((get_or s.words 2 0 + k) % 2 ^ 64); homes = s.homes; views = set s.views id (noted_at list faults t n v x) }
   note_keeps s r id v t n x k at has seen le len small =
@@ -161,41 +201,55 @@ module _ {T E : Type 0} (list : T → List E) (faults : T → ℕ) (first : T) w
       let longer : length r.log ≤ length (list x) = prefix_length r.log (list x) grows in
       let glen : length group ≡ length (list x) - length v.seen = length-drop (length v.seen) (list x) in
       let here : get_or s.words 2 0 ≡ length r.log = ap (λ (ws : List ℕ). get_or ws 2 0) r.words in
-      let now : (get_or s.words 2 0 + k) % 2 ^ 64 ≡ length (list x) = (let e : get_or s.words 2 0 + k ≡ length (list x) = omega arith in let q : (get_or s.words 2 0 + k) % 2 ^ 64 ≡ get_or s.words 2 0 + k = mod-eq_of_lt (omega arith) in q ∙ e) in
-      let more : total (λ (u : V). marks u.mine) vs' + marks v.mine ≡ total (λ (u : V). marks u.mine) s.views + marks w.mine = total_set (λ (u : V). marks u.mine) s.views id v w at in
-      let mark : marks w.mine ≡ marks v.mine + (if flag then 1 else 0) = (let a : marks (v.mine ++ turn ∷ []) ≡ marks v.mine + ((if flag then 1 else 0) + 0) = total_append (λ (z : Turn E). if z.marked then 1 else 0) v.mine (turn ∷ []) in omega arith) in
+      let now : (get_or s.words 2 0 + k) % 2 ^ 64 ≡ length (list x) =
+      (let e : get_or s.words 2 0 + k ≡ length (list x) = omega arith in
+      let q : (get_or s.words 2 0 + k) % 2 ^ 64 ≡ get_or s.words 2 0 + k = mod-eq_of_lt (omega arith) in q ∙ e) in
+      let more : total (λ (u : V). marks u.mine) vs' + marks v.mine ≡ total (λ (u : V). marks u.mine) s.views + marks w.mine =
+      total_set (λ (u : V). marks u.mine) s.views id v w at in
+      let mark : marks w.mine ≡ marks v.mine + (if flag then 1 else 0) =
+      (let a : marks (v.mine ++ turn ∷ []) ≡ marks v.mine + ((if flag then 1 else 0) + 0) =
+      total_append (λ (z : Turn E). if z.marked then 1 else 0) v.mine (turn ∷ []) in omega arith) in
       let up : Up vs' (faults x) = record {
         marks = (let h = marked_more (faults first + total (λ (u : V). marks u.mine) s.views) n (faults x) le mine.2.marks in
-            ⊎_elim (λ (a : faults first + total (λ (u : V). marks u.mine) s.views + (if flag then 1 else 0) ≤ faults x). inl (omega arith)) (λ (a : last_count ≤ faults x). inr a) h);
+            ⊎_elim (λ (a : faults first + total (λ (u : V). marks u.mine) s.views + (if flag then 1 else 0) ≤ faults x). inl (omega arith))
+            (λ (a : last_count ≤ faults x). inr a) h);
         count = (let h = mine.2.count in
-            let c : total (λ (u : V). rises u.mine) vs' + rises v.mine ≡ total (λ (u : V). rises u.mine) s.views + rises w.mine = total_set (λ (u : V). rises u.mine) s.views id v w at in
+            let c : total (λ (u : V). rises u.mine) vs' + rises v.mine ≡ total (λ (u : V). rises u.mine) s.views + rises w.mine =
+            total_set (λ (u : V). rises u.mine) s.views id v w at in
             let up : rises w.mine ≡ rises v.mine + (faults x - n + 0) = total_append (λ (z : Turn E). z.rise) v.mine (turn ∷ []) in omega arith);
       } in
-      let one : total (λ (u : V). has_value u.role) vs' ≡ 1 = (let a : has_value v.role ≡ 1 = ap has_value has in let b = out.1 in
-      let c : total (λ (u : V). has_value u.role) vs' + has_value v.role ≡ total (λ (u : V). has_value u.role) s.views + 1 = total_set (λ (u : V). has_value u.role) s.views id v w at in omega arith) in
+      let one : total (λ (u : V). has_value u.activity) vs' ≡ 1 = (let a : has_value v.activity ≡ 1 = ap has_value has in let b = out.1 in
+      let c : total (λ (u : V). has_value u.activity) vs' + has_value v.activity ≡ total (λ (u : V). has_value u.activity) s.views + 1 =
+      total_set (λ (u : V). has_value u.activity) s.views id v w at in omega arith) in
       let alive = alive_share v (λ idle. absurd (cc (idle, has))) f.alive in
       change list faults first s r id v w at (list x) r.ticket r.serving (set s.words 2 ((get_or s.words 2 0 + k) % 2 ^ 64)) s.homes
       (ap (λ (ws : List ℕ). set ws 2 ((get_or s.words 2 0 + k) % 2 ^ 64)) r.words ∙ ap (λ (z : ℕ). r.ticket ∷ r.serving ∷ z ∷ r.bells) now)
       r.order
       grows
-      (λ j. (let a : holds_ticket j v.role ≡ within t (t + 1) j = ap (holds_ticket j) has in omega arith))
+      (λ j. (let a : holds_ticket j v.activity ≡ within t (t + 1) j = ap (holds_ticket j) has in omega arith))
       refl
       (omega arith)
-      (λ j. (let a : within start (length r.log) j + within (length r.log) (length (list x)) j ≡ within start (length (list x)) j = within_join start (length r.log) (length (list x)) j begun longer in
-      let b : groups_with j (v.mine ++ turn ∷ []) ≡ groups_with j v.mine + (within (length v.seen) (length v.seen + length group) j + 0) = total_append (λ (z : Turn E). within z.place (end_of z) j) v.mine (turn ∷ []) in
-      let c : within (length v.seen) (length v.seen + length group) j ≡ within (length r.log) (length (list x)) j = ap (λ (z : ℕ × ℕ). within z.0 z.1 j) (λ i. (seen_length i, (let e : length v.seen + length group ≡ length (list x) = omega arith in e) i)) in omega arith))
+      (λ j. (let a : within start (length r.log) j + within (length r.log) (length (list x)) j ≡ within start (length (list x)) j =
+      within_join start (length r.log) (length (list x)) j begun longer in
+      let b : groups_with j (v.mine ++ turn ∷ []) ≡ groups_with j v.mine + (within (length v.seen) (length v.seen + length group) j + 0) =
+      total_append (λ (z : Turn E). within z.place (end_of z) j) v.mine (turn ∷ []) in
+      let c : within (length v.seen) (length v.seen + length group) j ≡ within (length r.log) (length (list x)) j =
+      ap (λ (z : ℕ × ℕ). within z.0 z.1 j) (λ i. (seen_length i, (let e : length v.seen + length group ≡ length (list x) = omega arith in e) i)) in
+      omega arith))
       (record {
         seen = prefix_self (list x);
         few = f.few;
-        stand = every_snoc (StandsIn (list x)) v.mine turn (every_longer v.seen (list x) v.mine seen f.stand) (v.seen, refl, ([], append-nil (v.seen ++ group) ∙ prefix_drop v.seen (list x) seen));
+        stand = every_snoc (StandsIn (list x)) v.mine turn (every_longer v.seen (list x) v.mine seen f.stand)
+            (v.seen, refl, ([], append-nil (v.seen ++ group) ∙ prefix_drop v.seen (list x) seen));
         sorted = snoc_in_order v.mine turn f.sorted (places_below v.seen v.mine f.stand);
-        role = (mine.0, refl, up);
+        activity = (mine.0, refl, up);
         alive = inl (alive.0, (let a = alive.1 in omega arith));
       })
       (λ j u ne a i m is g. absurd (no_other s id v t n at has out.1 j u ne a i m is))
       (inr (out.0, one))
 
-  notes_at : (slots id : ℕ) (v : V) (t n : ℕ) (x : T) (k : ℕ) → v.role ≡ Holding t n → IsPrefix v.seen (list x) → n ≤ faults x → length v.seen + k ≡ length (list x) → length (list x) < 2 ^ 64
+  notes_at : (slots id : ℕ) (v : V) (t n : ℕ) (x : T) (k : ℕ) → v.activity ≡ Holding t n → IsPrefix v.seen (list x) → n ≤ faults x
+      → length v.seen + k ≡ length (list x) → length (list x) < 2 ^ 64
       → Allows R slots id (v, (0, Some x) ∷ []) 2 (λ m. (m + k) % 2 ^ 64) (Noted list faults (step slots 2 k 0 none) (v, (0, Some x) ∷ []))
   notes_at slots id v t n x k has seen le len small s r _ at _ = (
     noted_at list faults t n v x,
@@ -205,74 +259,120 @@ module _ {T E : Type 0} (list : T → List E) (faults : T → ℕ) (first : T) w
     λ t' n' y has' is. ap (λ (z : ℕ × ℕ × T). (noted_at list faults z.0 z.1 v z.2, (0, Some x) ∷ [])) (same_turn t n t' n' x y has has' is),
   )
 
-  next_keeps : (s : St) (r : R s) (id : ℕ) (v : V) (t n : ℕ) (x : T) → get_elem? s.views id ≡ some v → v.role ≡ Holding t n → list x ≡ v.seen → faults x ≡ n
-      → R record { words = set s.words 1 ((get_or s.words 1 0 + 1) % 2 ^ 64); homes = set s.homes 0 (some (Some x)); views = set s.views id (record v { role = Idle }) }
+  next_keeps : (s : St) (r : R s) (id : ℕ) (v : V) (t n : ℕ) (x : T) → get_elem? s.views id ≡ some v → v.activity ≡ Holding t n → list x ≡ v.seen → faults x ≡ n
+      → R record {
+        words = set s.words 1 ((get_or s.words 1 0 + 1) % 2 ^ 64);
+        homes = set s.homes 0 (some (Some x));
+        views = set s.views id (record v { activity = Idle });
+      }
   next_keeps s r id v t n x at has stands counts =
-      let w : V = record v { role = Idle } in
+      let w : V = record v { activity = Idle } in
       let f = r.each id v at in
       let mine = served start r.log r.serving (Up s.views) v t n has f in
       let vs' = set s.views id w in
       let out = away s r id v t n at has r.value in
       let same = alike_set list faults first s.views id v w at refl in
-      let nobody : total (λ (u : V). has_value u.role) vs' ≡ 0 = (let a : has_value v.role ≡ 1 = ap has_value has in let b = out.1 in
-      let c : total (λ (u : V). has_value u.role) vs' + has_value v.role ≡ total (λ (u : V). has_value u.role) s.views + 0 = total_set (λ (u : V). has_value u.role) s.views id v w at in omega arith) in
-      let below : (r.serving ≤ r.serving) × (r.serving < r.ticket) = (let a : holds_ticket r.serving v.role ≡ 1 = ap (holds_ticket r.serving) has ∙ (let z = mine.0 in within_in t (t + 1) r.serving (omega arith) (omega arith)) in
-      let b : holds_ticket r.serving v.role ≤ total (λ (u : V). holds_ticket r.serving u.role) s.views = total_at (λ (u : V). holds_ticket r.serving u.role) s.views id v at in
+      let nobody : total (λ (u : V). has_value u.activity) vs' ≡ 0 = (let a : has_value v.activity ≡ 1 = ap has_value has in let b = out.1 in
+      let c : total (λ (u : V). has_value u.activity) vs' + has_value v.activity ≡ total (λ (u : V). has_value u.activity) s.views + 0 =
+      total_set (λ (u : V). has_value u.activity) s.views id v w at in omega arith) in
+      let below : (r.serving ≤ r.serving) × (r.serving < r.ticket) =
+      (let a : holds_ticket r.serving v.activity ≡ 1 = ap (holds_ticket r.serving) has
+      ∙ (let z = mine.0 in within_in t (t + 1) r.serving (omega arith) (omega arith)) in
+      let b : holds_ticket r.serving v.activity ≤ total (λ (u : V). holds_ticket r.serving u.activity) s.views =
+      total_at (λ (u : V). holds_ticket r.serving u.activity) s.views id v at in
       let c = r.tickets r.serving in within_is r.serving r.ticket r.serving (omega arith)) in
       let few = ticket_small list faults first s r in
       let here : get_or s.words 1 0 ≡ r.serving = ap (λ (ws : List ℕ). get_or ws 1 0) r.words in
-      let now : (get_or s.words 1 0 + 1) % 2 ^ 64 ≡ r.serving + 1 = (let b = below.1 in let q : (get_or s.words 1 0 + 1) % 2 ^ 64 ≡ get_or s.words 1 0 + 1 = mod-eq_of_lt (omega arith) in q ∙ ap (λ (z : ℕ). z + 1) here) in
+      let now : (get_or s.words 1 0 + 1) % 2 ^ 64 ≡ r.serving + 1 =
+      (let b = below.1 in let q : (get_or s.words 1 0 + 1) % 2 ^ 64 ≡ get_or s.words 1 0 + 1 = mod-eq_of_lt (omega arith) in
+      q ∙ ap (λ (z : ℕ). z + 1) here) in
       change list faults first s r id v w at r.log r.ticket (r.serving + 1) (set s.words 1 ((get_or s.words 1 0 + 1) % 2 ^ 64)) (set s.homes 0 (some (Some x)))
       (ap (λ (ws : List ℕ). set ws 1 ((get_or s.words 1 0 + 1) % 2 ^ 64)) r.words ∙ ap (λ (z : ℕ). r.ticket ∷ z ∷ length r.log ∷ r.bells) now)
       (let b = below.1 in omega arith)
       (prefix_self r.log)
-      (λ j. (let a : holds_ticket j v.role ≡ within t (t + 1) j = ap (holds_ticket j) has in
+      (λ j. (let a : holds_ticket j v.activity ≡ within t (t + 1) j = ap (holds_ticket j) has in
       let b : within t (t + 1) j ≡ within r.serving (r.serving + 1) j = ap (λ (z : ℕ). within z (z + 1) j) mine.0 in
-      let c : within r.serving (r.serving + 1) j + within (r.serving + 1) r.ticket j ≡ within r.serving r.ticket j = within_join r.serving (r.serving + 1) r.ticket j (omega arith) (let z = below.1 in omega arith) in omega arith))
+      let c : within r.serving (r.serving + 1) j + within (r.serving + 1) r.ticket j ≡ within r.serving r.ticket j =
+      within_join r.serving (r.serving + 1) r.ticket j (omega arith) (let z = below.1 in omega arith) in omega arith))
       refl
       (omega arith)
       (λ j. refl)
-      (record { seen = f.seen; few = f.few; stand = f.stand; sorted = f.sorted; role = tt; alive = inl (alive_share v (λ idle. absurd (cc (idle, has))) f.alive) })
+      (record {
+        seen = f.seen;
+        few = f.few;
+        stand = f.stand;
+        sorted = f.sorted;
+        activity = tt;
+        alive = inl (alive_share v (λ idle. absurd (cc (idle, has))) f.alive);
+      })
       (λ j u ne a i m is g. absurd (no_other s id v t n at has out.1 j u ne a i m is))
-      (inl (x, ap (λ hs. set hs 0 (some (Some x))) out.0, stands ∙ mine.1, risen_same list faults first s.views vs' (faults x) same (subst (Up s.views) (sym counts) mine.2), nobody))
+      (inl (
+        x,
+        ap (λ hs. set hs 0 (some (Some x))) out.0,
+        stands
+            ∙ mine.1,
+        risen_same list faults first s.views vs' (faults x) same (subst (Up s.views) (sym counts) mine.2),
+        nobody,
+      ))
 
-  goes_on_at : (slots id : ℕ) (v : V) (t n : ℕ) (x : T) → v.role ≡ Holding t n → list x ≡ v.seen → faults x ≡ n
+  goes_on_at : (slots id : ℕ) (v : V) (t n : ℕ) (x : T) → v.activity ≡ Holding t n → list x ≡ v.seen → faults x ≡ n
       → Allows R slots id (v, (0, Some x) ∷ []) 1 (λ m. (m + 1) % 2 ^ 64) (WentOn (step slots 1 1 0 none) (v, (0, Some x) ∷ []))
-  goes_on_at slots id v t n x has stands counts s r _ at _ = (record v { role = Idle }, gives, tt, next_keeps s r id v t n x at has stands counts, (refl, (r.each id v at).stand))
+  goes_on_at slots id v t n x has stands counts s r _ at _ =
+      (record v { activity = Idle }, gives, tt, next_keeps s r id v t n x at has stands counts, (refl, (r.each id v at).stand))
 
-  pub looks : (slots id : ℕ) (me : Me (Option T) V) (t : ℕ) → me.0.role ≡ Waiting t → me.1 ≡ [] → Allows R slots id me 1 (λ n. n) (Looked list faults (step slots 1 0 0 none) me)
-  looks slots id me t waits held = subst (λ (m : Me (Option T) V). Allows R slots id m 1 (λ n. n) (Looked list faults (step slots 1 0 0 none) m)) (λ i. (me.0, sym held i)) (looks_at slots id me.0 t waits)
+  pub looks : (slots id : ℕ) (me : Me (Option T) V) (t : ℕ) → me.0.activity ≡ Waiting t → me.1 ≡ []
+      → Allows R slots id me 1 (λ n. n) (Looked list faults (step slots 1 0 0 none) me)
+  looks slots id me t waits held = subst (λ (m : Me (Option T) V). Allows R slots id m 1 (λ n. n) (Looked list faults (step slots 1 0 0 none) m))
+      (λ i. (me.0, sym held i)) (looks_at slots id me.0 t waits)
 
-  pub notes : (slots id : ℕ) (me : Me (Option T) V) (t n : ℕ) (x : T) (k : ℕ) → me.0.role ≡ Holding t n → me.1 ≡ (0, Some x) ∷ [] → IsPrefix me.0.seen (list x) → n ≤ faults x → length me.0.seen + k ≡ length (list x) → length (list x) < 2 ^ 64
+  pub notes : (slots id : ℕ) (me : Me (Option T) V) (t n : ℕ) (x : T) (k : ℕ) → me.0.activity ≡ Holding t n → me.1 ≡ (0, Some x) ∷ []
+      → IsPrefix me.0.seen (list x) → n ≤ faults x → length me.0.seen + k ≡ length (list x) → length (list x) < 2 ^ 64
       → Allows R slots id me 2 (λ m. (m + k) % 2 ^ 64) (Noted list faults (step slots 2 k 0 none) me)
-  notes slots id me t n x k has held seen le len small = subst (λ (m : Me (Option T) V). Allows R slots id m 2 (λ m. (m + k) % 2 ^ 64) (Noted list faults (step slots 2 k 0 none) m)) (λ i. (me.0, sym held i)) (notes_at slots id me.0 t n x k has seen le len small)
+  notes slots id me t n x k has held seen le len small =
+      subst (λ (m : Me (Option T) V). Allows R slots id m 2 (λ m. (m + k) % 2 ^ 64) (Noted list faults (step slots 2 k 0 none) m)) (λ i. (me.0, sym held i))
+      (notes_at slots id me.0 t n x k has seen le len small)
 
-  pub goes_on : (slots id : ℕ) (me : Me (Option T) V) (t n : ℕ) (x : T) → me.0.role ≡ Holding t n → me.1 ≡ (0, Some x) ∷ [] → list x ≡ me.0.seen → faults x ≡ n
+  pub goes_on : (slots id : ℕ) (me : Me (Option T) V) (t n : ℕ) (x : T) → me.0.activity ≡ Holding t n → me.1 ≡ (0, Some x) ∷ [] → list x ≡ me.0.seen
+      → faults x ≡ n
       → Allows R slots id me 1 (λ m. (m + 1) % 2 ^ 64) (WentOn (step slots 1 1 0 none) me)
-  goes_on slots id me t n x has held stands counts = subst (λ (m : Me (Option T) V). Allows R slots id m 1 (λ m. (m + 1) % 2 ^ 64) (WentOn (step slots 1 1 0 none) m)) (λ i. (me.0, sym held i)) (goes_on_at slots id me.0 t n x has stands counts)
+  goes_on slots id me t n x has held stands counts = subst
+      (λ (m : Me (Option T) V). Allows R slots id m 1 (λ m. (m + 1) % 2 ^ 64) (WentOn (step slots 1 1 0 none) m)) (λ i. (me.0, sym held i))
+      (goes_on_at slots id me.0 t n x has stands counts)
 
   -- the pass with the value, as it has been given back to the slot
-  pub put_back : (v w : V) (held : List (ℕ × Option T)) (me : Me (Option T) V) (y : T) → w ≡ v → held ≡ (0, None) ∷ [] → me ≡ (w, (0, Some y) ∷ rest held) → me ≡ (v, (0, Some y) ∷ [])
+  pub put_back : (v w : V) (held : List (ℕ × Option T)) (me : Me (Option T) V) (y : T) → w ≡ v → held ≡ (0, None) ∷ [] → me ≡ (w, (0, Some y) ∷ rest held)
+      → me ≡ (v, (0, Some y) ∷ [])
   put_back v w held me y a b e = e ∙ (λ i. (a i, (0, Some y) ∷ rest (b i)))
 
-  pub notes_from : (slots id : ℕ) (me : Me (Option T) V) (v : V) (t : ℕ) (x y : T) (before after : ℕ) → me ≡ (record v { turns = v.turns + 1; seen = list x; role = Holding t (faults x) }, (0, Some y) ∷ [])
+  pub notes_from : (slots id : ℕ) (me : Me (Option T) V) (v : V) (t : ℕ) (x y : T) (before after : ℕ)
+      → me ≡ (record v { turns = v.turns + 1; seen = list x; activity = Holding t (faults x) }, (0, Some y) ∷ [])
       → IsPrefix (list x) (list y) → faults x ≤ faults y → before ≡ length (list x) → after ≡ length (list y) → after < 2 ^ 64
       → Allows R slots id me 2 (λ m. (m + (after - before)) % 2 ^ 64) (Noted list faults (step slots 2 (after - before) 0 none) me)
-  notes_from slots id me v t x y before after is grows le b a small = let longer : length (list x) ≤ length (list y) = prefix_length (list x) (list y) grows in let seen : length me.0.seen ≡ length (list x) = ap (λ (m : Me (Option T) V). length m.0.seen) is in
-      notes slots id me t (faults x) y (after - before) (ap (λ (m : Me (Option T) V). m.0.role) is) (ap (λ (m : Me (Option T) V). m.1) is) (subst (λ (m : Me (Option T) V). IsPrefix m.0.seen (list y)) (sym is) grows) le (omega arith) (omega arith)
+  notes_from slots id me v t x y before after is grows le b a small = let longer : length (list x) ≤ length (list y) = prefix_length (list x) (list y) grows in
+      let seen : length me.0.seen ≡ length (list x) = ap (λ (m : Me (Option T) V). length m.0.seen) is in
+      notes slots id me t (faults x) y (after - before) (ap (λ (m : Me (Option T) V). m.0.activity) is) (ap (λ (m : Me (Option T) V). m.1) is)
+      (subst (λ (m : Me (Option T) V). IsPrefix m.0.seen (list y)) (sym is) grows) le (omega arith) (omega arith)
 
-  pub noted_from : (me next : Me (Option T) V) (v : V) (t k slots found : ℕ) (x y : T) → me ≡ (record v { turns = v.turns + 1; seen = list x; role = Holding t (faults x) }, (0, Some y) ∷ []) → Noted list faults (step slots 2 k 0 none) me found next
-      → next ≡ (record (after_turn v (list x) (list y) (faults x) (faults y)) { role = Holding t (faults y) }, (0, Some y) ∷ [])
-  noted_from me next v t k slots found x y is told = told t (faults x) y (ap (λ (m : Me (Option T) V). m.0.role) is) (ap (λ (m : Me (Option T) V). m.1) is) ∙ ap (λ (m : Me (Option T) V). (noted_at list faults t (faults x) m.0 y, m.1)) is
+  pub noted_from : (me next : Me (Option T) V) (v : V) (t k slots found : ℕ) (x y : T)
+      → me ≡ (record v { turns = v.turns + 1; seen = list x; activity = Holding t (faults x) }, (0, Some y) ∷ [])
+      → Noted list faults (step slots 2 k 0 none) me found next
+      → next ≡ (record (after_turn v (list x) (list y) (faults x) (faults y)) { activity = Holding t (faults y) }, (0, Some y) ∷ [])
+  noted_from me next v t k slots found x y is told = told t (faults x) y (ap (λ (m : Me (Option T) V). m.0.activity) is) (ap (λ (m : Me (Option T) V). m.1) is)
+      ∙ ap (λ (m : Me (Option T) V). (noted_at list faults t (faults x) m.0 y, m.1)) is
 
-  pub goes_on_from : (slots id : ℕ) (me : Me (Option T) V) (v : V) (t : ℕ) (x y : T) → me ≡ (record (after_turn v (list x) (list y) (faults x) (faults y)) { role = Holding t (faults y) }, (0, Some y) ∷ [])
+  pub goes_on_from : (slots id : ℕ) (me : Me (Option T) V) (v : V) (t : ℕ) (x y : T)
+      → me ≡ (record (after_turn v (list x) (list y) (faults x) (faults y)) { activity = Holding t (faults y) }, (0, Some y) ∷ [])
       → Allows R slots id me 1 (λ m. (m + 1) % 2 ^ 64) (WentOn (step slots 1 1 0 none) me)
-  goes_on_from slots id me v t x y is = goes_on slots id me t (faults y) y (ap (λ (m : Me (Option T) V). m.0.role) is) (ap (λ (m : Me (Option T) V). m.1) is) (sym (ap (λ (m : Me (Option T) V). m.0.seen) is)) refl
+  goes_on_from slots id me v t x y is = goes_on slots id me t (faults y) y (ap (λ (m : Me (Option T) V). m.0.activity) is)
+      (ap (λ (m : Me (Option T) V). m.1) is) (sym (ap (λ (m : Me (Option T) V). m.0.seen) is)) refl
 
   -- after next the pass rests, and a ring leaves it as it is
-  pub went_from : (me next end : Me (Option T) V) (v : V) (t slots found : ℕ) (x y : T) → v.role ≡ Idle → me ≡ (record (after_turn v (list x) (list y) (faults x) (faults y)) { role = Holding t (faults y) }, (0, Some y) ∷ []) → WentOn (step slots 1 1 0 none) me found next → end ≡ next
+  pub went_from : (me next end : Me (Option T) V) (v : V) (t slots found : ℕ) (x y : T) → v.activity ≡ Idle
+      → me ≡ (record (after_turn v (list x) (list y) (faults x) (faults y)) { activity = Holding t (faults y) }, (0, Some y) ∷ [])
+      → WentOn (step slots 1 1 0 none) me found next → end ≡ next
       → (end ≡ (after_turn v (list x) (list y) (faults x) (faults y), [])) × Every (StandsIn end.0.seen) end.0.mine
   went_from me next end v t slots found x y idle is told rang = (
-    rang ∙ (told.0 ∙ (ap (λ (m : Me (Option T) V). (record m.0 { role = Idle }, [])) is ∙ ap (λ (r : Role E). (record (after_turn v (list x) (list y) (faults x) (faults y)) { role = r }, [])) (sym idle))),
+    rang ∙ (told.0 ∙ (ap (λ (m : Me (Option T) V). (record m.0 { activity = Idle }, [])) is
+        ∙ ap (λ (r : Activity E). (record (after_turn v (list x) (list y) (faults x) (faults y)) { activity = r }, [])) (sym idle))),
     subst (λ (m : Me (Option T) V). Every (StandsIn m.0.seen) m.0.mine) (sym (rang ∙ told.0)) told.1,
   )

@@ -1,6 +1,6 @@
 pub mod Counts
 pub mod Turns
-pub mod Views
+pub mod PassStates
 pub mod Passes
 pub mod Closing
 pub mod Rule

@@ -2,8 +2,8 @@
 use Rattle.std.specs.Prelude.{ℕ, ◌+◌, ◌-◌, ◌/◌, List, [], ◌∷◌, ◌++◌, length, drop, max, Option}
 use Rattle.atomic_table.specs.Seated.{TableId}
 use Rattle.atomic_table.specs.declared.shared.Seat.{Seat}
-use Rattle.cr_lock.specs.declared.view.Turn.{Turn}
-use Rattle.cr_lock.specs.declared.view.View.{View}
+use Rattle.cr_lock.specs.declared.pass_state.Turn.{Turn}
+use Rattle.cr_lock.specs.declared.pass_state.PassState.{PassState}
 use Rattle.cr_lock.specs.Counts.{Every}
 use Rattle.cr_lock.specs.Turns.{turn_at, merged, longer, StandsIn, InCommon}
 
@@ -21,7 +21,7 @@ pub record Known (E : Type 0) : Type 0 where
   pub mine : List (Turn E)
 
 -- what is shown of a pass's seat
-abbrev pub known_of : {T E : Type 0} → Seat (Option T) (View E) → Known E
+abbrev pub known_of : {T E : Type 0} → Seat (Option T) (PassState E) → Known E
 known_of seat = record { lock = seat.table_id; share = seat.me.0.share; turns = seat.me.0.turns; seen = seat.me.0.seen; mine = seat.me.0.mine }
 
 module _ {E : Type 0} where

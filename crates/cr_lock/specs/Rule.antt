@@ -1,42 +1,44 @@
--- The rule of the table. Its first words are the next ticket to be drawn, the ticket that is served and the length of the history; of those behind them it says nothing. Its slot has the value.
+-- The rule of the table. Its first words are the next ticket to be drawn, the ticket that is served and the length of the history; of those behind them it
+-- says nothing. Its slot has the value.
 use Rattle.std.specs.Prelude.{◌≡◌, ℕ, ◌+◌, ◌*◌, ◌<◌, ◌≤◌, ◌⊎◌, List, [], ◌∷◌, length, Option, Some}
 use mathlib.Core.Option.{some, none}
 use mathlib.Core.List.{IsPrefix}
 use lib.ListN.{get_elem?}
 use Rattle.atomic_table.specs.Table.{State}
-use Rattle.cr_lock.specs.declared.view.Role.{Role}
-use Rattle.cr_lock.specs.declared.view.Role.TheVariants.{Idle, Waiting, Holding, Joined}
-use Rattle.cr_lock.specs.declared.view.View.{View}
+use Rattle.cr_lock.specs.declared.pass_state.Activity.{Activity}
+use Rattle.cr_lock.specs.declared.pass_state.Activity.TheVariants.{Idle, Waiting, Holding, Joined}
+use Rattle.cr_lock.specs.declared.pass_state.PassState.{PassState}
 use Rattle.cr_lock.specs.Counts.{last_count, within, total, Every}
 use Rattle.cr_lock.specs.Turns.{InOrder, groups_with, marks, rises, StandsIn}
-use Rattle.cr_lock.specs.Views.{spent_view}
+use Rattle.cr_lock.specs.PassStates.{spent_state}
 
 module _ {E : Type 0} where
   -- 1 where the pass holds this ticket
-  abbrev pub holds_ticket : ℕ → Role E → ℕ
+  abbrev pub holds_ticket : ℕ → Activity E → ℕ
   holds_ticket t Idle = 0
   holds_ticket t (Waiting u) = within u (u + 1) t
   holds_ticket t (Holding u n) = within u (u + 1) t
   holds_ticket t (Joined a b m o) = 0
 
   -- 1 where the pass has the value
-  abbrev pub has_value : Role E → ℕ
+  abbrev pub has_value : Activity E → ℕ
   has_value Idle = 0
   has_value (Waiting u) = 0
   has_value (Holding u n) = 1
   has_value (Joined a b m o) = 0
 
--- of a view v, where `log` is the history, of which `start` entries were there at first, `serving` the ticket that is served, and n may be the count of faults where `risen n`
-module _ {E : Type 0} (start : ℕ) (log : List E) (serving : ℕ) (risen : ℕ → Type 0) (v : View E) where
+-- of a state v, where `log` is the history, of which `start` entries were there at first, `serving` the ticket that is served, and n may be the count of
+-- faults where `risen n`
+module _ {E : Type 0} (start : ℕ) (log : List E) (serving : ℕ) (risen : ℕ → Type 0) (v : PassState E) where
   -- what the pass is doing agrees with what the table has
-  abbrev pub FitsRole : Role E → Type 0
-  FitsRole Idle = Unit {0}
-  FitsRole (Waiting u) = Unit {0}
-  FitsRole (Holding u n) = (u ≡ serving) × (v.seen ≡ log) × risen n
-  FitsRole (Joined a b m o) = IsPrefix a log × IsPrefix b log × ((k : ℕ) → groups_with k m + groups_with k o ≤ 1)
+  abbrev pub FitsActivity : Activity E → Type 0
+  FitsActivity Idle = Unit {0}
+  FitsActivity (Waiting u) = Unit {0}
+  FitsActivity (Holding u n) = (u ≡ serving) × (v.seen ≡ log) × risen n
+  FitsActivity (Joined a b m o) = IsPrefix a log × IsPrefix b log × ((k : ℕ) → groups_with k m + groups_with k o ≤ 1)
 
   -- what the pass knows is so
-  pub record Fits : Type 0 where
+  pub record FitsLock : Type 0 where
     -- it has seen a beginning of the history
     pub seen : IsPrefix v.seen log
     -- it has made at most 2^40 turns
@@ -45,28 +47,28 @@ module _ {E : Type 0} (start : ℕ) (log : List E) (serving : ℕ) (risen : ℕ 
     pub stand : Every (StandsIn v.seen) v.mine
     -- in the order of their places
     pub sorted : InOrder v.mine
-    pub role : FitsRole v.role
+    pub activity : FitsActivity v.activity
     -- it has a share and has seen what was there at first, or it was joined to another
-    pub alive : ((0 < v.share) × (start ≤ length v.seen)) ⊎ (v ≡ spent_view)
+    pub alive : ((0 < v.share) × (start ≤ length v.seen)) ⊎ (v ≡ spent_state)
 
 module _ {T E : Type 0} (list : T → List E) (faults : T → ℕ) (first : T) where
   -- n may be the count of faults
-  pub record Risen (views : List (View E)) (n : ℕ) : Type 0 where
+  pub record Risen (states : List (PassState E)) (n : ℕ) : Type 0 where
     -- it has risen since `first` by what it rose in the turns of all passes
-    pub count : n ≡ faults first + total (λ v. rises v.mine) views
+    pub count : n ≡ faults first + total (λ v. rises v.mine) states
     -- and so by at least the number of marks, its last value aside
-    pub marks : (faults first + total (λ v. marks v.mine) views ≤ n) ⊎ (last_count ≤ n)
+    pub marks : (faults first + total (λ v. marks v.mine) states ≤ n) ⊎ (last_count ≤ n)
 
   -- the value is in the slot and stands for the history, and no pass has it
-  abbrev pub Home : List E → State (Option T) (View E) → Type 0
-  Home log s = (x : T) × (s.homes ≡ some (Some x) ∷ []) × (list x ≡ log) × Risen s.views (faults x) × (total (λ v. has_value v.role) s.views ≡ 0)
+  abbrev pub Home : List E → State (Option T) (PassState E) → Type 0
+  Home log s = (x : T) × (s.homes ≡ some (Some x) ∷ []) × (list x ≡ log) × Risen s.views (faults x) × (total (λ v. has_value v.activity) s.views ≡ 0)
 
   -- the value is not in the slot, and one pass has it
-  abbrev pub Away : State (Option T) (View E) → Type 0
-  Away s = (s.homes ≡ none ∷ []) × (total (λ v. has_value v.role) s.views ≡ 1)
+  abbrev pub Away : State (Option T) (PassState E) → Type 0
+  Away s = (s.homes ≡ none ∷ []) × (total (λ v. has_value v.activity) s.views ≡ 1)
 
   -- there is one history, of which each pass has seen a beginning and in which its turns stand
-  pub record OneHistory (s : State (Option T) (View E)) : Type 0 where
+  pub record OneHistory (s : State (Option T) (PassState E)) : Type 0 where
     pub log : List E
     pub ticket : ℕ
     pub serving : ℕ
@@ -77,11 +79,11 @@ module _ {T E : Type 0} (list : T → List E) (faults : T → ℕ) (first : T) w
     -- the history begins with what was there at first
     pub begins : IsPrefix (list first) log
     -- the tickets from `serving` to below `ticket` are each held by one pass, and no others are
-    pub tickets : (t : ℕ) → total (λ v. holds_ticket t v.role) s.views ≡ within serving ticket t
+    pub tickets : (t : ℕ) → total (λ v. holds_ticket t v.activity) s.views ≡ within serving ticket t
     pub shares : total (λ v. v.share) s.views ≡ 64
     -- so a ticket is at most 64 times 2^40, and no word wraps
     pub drawn : ticket ≤ total (λ v. v.share * v.turns) s.views
     -- each entry behind what was there at first is in one group of one pass
     pub groups : (k : ℕ) → total (λ v. groups_with k v.mine) s.views ≡ within (length (list first)) (length log) k
-    pub each : (j : ℕ) (v : View E) → get_elem? s.views j ≡ some v → Fits (length (list first)) log serving (Risen s.views) v
+    pub each : (j : ℕ) (v : PassState E) → get_elem? s.views j ≡ some v → FitsLock (length (list first)) log serving (Risen s.views) v
     pub value : Home log s ⊎ Away s

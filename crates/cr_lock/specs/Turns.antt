@@ -1,7 +1,7 @@
 -- The turns of a pass, and how those of two passes are merged.
 use Rattle.std.specs.Prelude.{◌≡◌, ℕ, ◌+◌, ◌-◌, ◌≤◌, ◌⊎◌, Bool, ◌&&◌, ◌||◌, nat_lt, ◌==◌, if◌then◌else◌, List, [], ◌∷◌, ◌++◌, length}
 use mathlib.Core.List.{IsPrefix}
-use Rattle.cr_lock.specs.declared.view.Turn.{Turn}
+use Rattle.cr_lock.specs.declared.pass_state.Turn.{Turn}
 use Rattle.cr_lock.specs.Counts.{has_risen, within, total, Every}
 
 module _ {E : Type 0} where

@@ -48,14 +48,14 @@
 
 mod lock;
 mod pass;
+mod pass_state;
 mod rule;
 mod stands;
 mod steps;
 #[cfg(test)]
 mod tests;
-mod view;
 
 pub use lock::{HistoryLock, SplitError};
 pub use pass::Pass;
+pub use pass_state::Turn;
 pub use stands::Stands;
-pub use view::Turn;

@@ -2,16 +2,16 @@
 ghost use Rattle.std.specs.Prelude.{◌≡◌, ℕ, Some, None, ◌+◌, ◌-◌, ◌/◌, ◌^◌, ◌<◌, ◌≤◌, ◌⊎◌, [], ◌∷◌, List, length, IfOk, IfErr, MatchResult};
 ghost use Rattle.std.specs.Fn.{FnOnceReturnsAtMut, FnOnceTakesAtMut};
 ghost use mathlib.Core.List.{IsPrefix};
-ghost use Rattle.cr_lock.specs.declared.view.Role.TheVariants.{Idle, Holding};
-ghost use Rattle.cr_lock.specs.Steps.{view};
+ghost use Rattle.cr_lock.specs.declared.pass_state.Activity.TheVariants.{Idle, Holding};
+ghost use Rattle.cr_lock.specs.Steps.{state};
 ghost use Rattle.cr_lock.specs.Passes.{first_pass, larger_half, smaller_half, united, after_turn, Agree, Stand};
 ghost use Rattle.cr_lock.specs.Closing.{Closes};
 
 use crate::pass::Pass;
+use crate::pass_state::PassState;
 use crate::rule::HistoryRule;
 use crate::stands::Stands;
-use crate::steps::{Draw, Halve, Look, LookAfterJoin, Next, Note, Ring, Unite};
-use crate::view::View;
+use crate::steps::{DrawTicket, Halve, LookAfterJoin, LookForTurn, Next, Note, Ring, Unite};
 use atomic_table::{Refused, Seat, Shared, Table};
 use std::alloc::{AllocError, AllocFailed, Global};
 use std::marker::Model;
@@ -40,7 +40,7 @@ const VALUE: usize = 0;
 const WHOLE: u64 = 64;
 
 /// The words and the slot, as the passes step on them.
-type Board<T> = Shared<Option<T>, View<<T as Stands>::Entry>, Snapshot<T>, HistoryRule<T>>;
+type Board<T> = Shared<Option<T>, PassState<<T as Stands>::Entry>, Snapshot<T>, HistoryRule<T>>;
 
 /// One value, with which passes take turns.
 ///
@@ -48,7 +48,7 @@ type Board<T> = Shared<Option<T>, View<<T as Stands>::Entry>, Snapshot<T>, Histo
 /// each of them knows is in its [`Pass`]. The crate's page tells a turn step by step.
 #[derive(Drop)]
 pub struct HistoryLock<T: Stands> {
-    table: Table<Option<T>, View<T::Entry>, Snapshot<T>, HistoryRule<T>, Global>,
+    table: Table<Option<T>, PassState<T::Entry>, Snapshot<T>, HistoryRule<T>, Global>,
 }
 
 impl<T: Stands> Model for HistoryLock<T> {
@@ -97,24 +97,24 @@ fn bell_of(ticket: u64) -> usize
 fn wait_and_take<T: Stands, R: Wait>(
     rt: &R,
     shared: &Board<T>,
-    seat: &mut Seat<Option<T>, View<T::Entry>>,
+    seat: &mut Seat<Option<T>, PassState<T::Entry>>,
 ) -> T
     requires own { (seat.old.table_id ≡ shared.now.table_id) × (seat.old.me.1 ≡ []) × (shared.now.table_id.words ≡ 67) }
-    requires rests { ((view seat.old).role ≡ Idle) × (0 < (view seat.old).share) × ((view seat.old).turns < 2 ^ 40) }
+    requires rests { ((state seat.old).activity ≡ Idle) × (0 < (state seat.old).share) × ((state seat.old).turns < 2 ^ 40) }
     ensures seat { (seat.new.table_id ≡ seat.old.table_id) × (seat.new.me.1 ≡ (0, None) ∷ []) }
-    ensures view { (t : ℕ) × (view seat.new ≡ record (view seat.old) {
-      turns = (view seat.old).turns + 1;
+    ensures state { (t : ℕ) × (state seat.new ≡ record (state seat.old) {
+      turns = (state seat.old).turns + 1;
       seen = T.list result;
-      role = Holding t (T.faults result);
+      activity = Holding t (T.faults result);
     }) }
-    ensures seen { IsPrefix (view seat.old).seen (T.list result) }
+    ensures seen { IsPrefix (state seat.old).seen (T.list result) }
 {
-    let ticket = shared.fetch_add::<Draw>(seat, TICKET, 1);
+    let ticket = shared.fetch_add::<DrawTicket>(seat, TICKET, 1);
     let bell = bell_of(ticket);
     for _ in rt.forever() {
         // The bell is read before the look, so no ring in between is missed; see `ring_next`.
         let rung = shared.peek(bell);
-        let serving = shared.load::<Look<T>>(seat, SERVING);
+        let serving = shared.load::<LookForTurn<T>>(seat, SERVING);
         if serving == ticket {
             return shared.exchange(seat, VALUE, None).unwrap();
         }
@@ -138,7 +138,11 @@ fn wait_and_take<T: Stands, R: Wait>(
 /// Passes are at most 64, as are the tickets drawn and not served, so only one pass sleeps on a bell, and waking one wakes
 /// it. A pass late with its ring for an earlier ticket wakes whoever has the bell by then: that one looks again, and
 /// sleeps again. The sleep compares half the word, which is enough: a bell rings at most 64 times while one pass waits.
-fn ring_next<T: Stands>(shared: &Board<T>, seat: &mut Seat<Option<T>, View<T::Entry>>, served: u64)
+fn ring_next<T: Stands>(
+    shared: &Board<T>,
+    seat: &mut Seat<Option<T>, PassState<T::Entry>>,
+    served: u64,
+)
     requires { (seat.old.table_id ≡ shared.now.table_id) × (shared.now.table_id.words ≡ 67) }
     ensures { (seat.new.table_id ≡ seat.old.table_id) × (seat.new.me ≡ seat.old.me) }
 {

@@ -1,6 +1,6 @@
 //! The rule of the lock's table.
+use crate::pass_state::PassState;
 use crate::stands::Stands;
-use crate::view::View;
 use atomic_table::TableRule;
 use std::marker::PhantomData;
 use std::snapshot::Snapshot;
@@ -11,11 +11,11 @@ pub(crate) struct HistoryRule<T> {
     of: PhantomData<T>,
 }
 
-impl<T: Stands> TableRule<Option<T>, View<T::Entry>, Snapshot<T>> for HistoryRule<T> {
-    ghost use Rattle.cr_lock.specs.Views.{first_view};
+impl<T: Stands> TableRule<Option<T>, PassState<T::Entry>, Snapshot<T>> for HistoryRule<T> {
+    ghost use Rattle.cr_lock.specs.PassStates.{first_state};
     ghost use Rattle.cr_lock.specs.Rule.{OneHistory};
 
     ghost holds = { λ key. OneHistory T.list T.faults key.value };
 
-    ghost first = { λ key. first_view (T.list key.value) };
+    ghost first = { λ key. first_state (T.list key.value) };
 }

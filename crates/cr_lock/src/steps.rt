@@ -1,25 +1,25 @@
 //! The kinds of step on the lock's table. Each says what it tells the pass that makes it.
-ghost use Rattle.cr_lock.specs.Views.{left_half, right_half, joining, spent_view};
+ghost use Rattle.cr_lock.specs.PassStates.{left_half, right_half, joining, spent_state};
 ghost use Rattle.cr_lock.specs.Steps.{Drew, Looked, Noted, WentOn, Rang, LookedAfterJoin};
 
+use crate::pass_state::PassState;
 use crate::stands::Stands;
-use crate::view::View;
 use atomic_table::{Join, Play, Split};
 use std::marker::PhantomData;
 
 /// Draws a ticket: `fetch_add` on the tickets.
-pub(crate) struct Draw;
+pub(crate) struct DrawTicket;
 
-impl<T, E> Play<Option<T>, View<E>> for Draw {
+impl<T, E> Play<Option<T>, PassState<E>> for DrawTicket {
     ghost then = { Drew };
 }
 
 /// Looks which ticket is served: a load of that word. Where it is the pass's own, the value is the pass's.
-pub(crate) struct Look<T> {
+pub(crate) struct LookForTurn<T> {
     of: PhantomData<T>,
 }
 
-impl<T: Stands> Play<Option<T>, View<T::Entry>> for Look<T> {
+impl<T: Stands> Play<Option<T>, PassState<T::Entry>> for LookForTurn<T> {
     ghost then = { Looked T.list T.faults };
 }
 
@@ -28,35 +28,35 @@ pub(crate) struct Note<T> {
     of: PhantomData<T>,
 }
 
-impl<T: Stands> Play<Option<T>, View<T::Entry>> for Note<T> {
+impl<T: Stands> Play<Option<T>, PassState<T::Entry>> for Note<T> {
     ghost then = { Noted T.list T.faults };
 }
 
 /// Serves the next ticket: `fetch_add` on the ticket that is served.
 pub(crate) struct Next;
 
-impl<T, E> Play<Option<T>, View<E>> for Next {
+impl<T, E> Play<Option<T>, PassState<E>> for Next {
     ghost then = { WentOn };
 }
 
 /// Rings a bell: `fetch_add` on the word that one waiter sleeps on. The rule doesn't speak of such words.
 pub(crate) struct Ring;
 
-impl<T, E> Play<Option<T>, View<E>> for Ring {
+impl<T, E> Play<Option<T>, PassState<E>> for Ring {
     ghost then = { Rang };
 }
 
 /// Looks after a join: a load, by which the pass learns what the two had in common.
 pub(crate) struct LookAfterJoin;
 
-impl<T, E> Play<Option<T>, View<E>> for LookAfterJoin {
+impl<T, E> Play<Option<T>, PassState<E>> for LookAfterJoin {
     ghost then = { LookedAfterJoin };
 }
 
 /// Cuts a pass in two.
 pub(crate) struct Halve;
 
-impl<E> Split<View<E>> for Halve {
+impl<E> Split<PassState<E>> for Halve {
     ghost left = { left_half };
 
     ghost right = { right_half };
@@ -65,8 +65,8 @@ impl<E> Split<View<E>> for Halve {
 /// Makes two passes one.
 pub(crate) struct Unite;
 
-impl<E> Join<View<E>> for Unite {
+impl<E> Join<PassState<E>> for Unite {
     ghost both = { joining };
 
-    ghost spent = { spent_view };
+    ghost spent = { spent_state };
 }

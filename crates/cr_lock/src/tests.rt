@@ -171,17 +171,24 @@ fn act_in_all<R: Threads + Wait + Sync>(
     Ok((close_all(lock, pass), turns))
 }
 
+/// A lock over no acts, and its one pass.
+fn unused(alloc: Global) -> Result<(HistoryLock<Acts>, Pass<Acts>), AllocError>
+    ensures own { IfOk result (λ made. made.1.lock ≡ made.0.lock) }
+    ensures fresh { IfOk result (λ made. (made.1.share ≡ 64) × (made.1.turns ≡ 0) × (made.0.first.log.items ≡ [])) }
+{
+    let acts = Acts {
+        log: Vec::new(alloc),
+    };
+    match HistoryLock::new(alloc, acts) {
+        Ok(made) => Ok(made),
+        Err(_) => Err(AllocError),
+    }
+}
+
 #[test]
 fn splits_to_the_last_share_and_joins_again(rt: HostRuntime) -> Result<(), AllocError> {
     let alloc: Global = rt.alloc();
-    let Ok((lock, pass)) = HistoryLock::new(
-        alloc,
-        Acts {
-            log: Vec::new(alloc),
-        },
-    ) else {
-        return Err(AllocError);
-    };
+    let (lock, pass) = unused(alloc)?;
     let mut passes = Vec::new(alloc);
     spread(&lock, pass, &mut passes)?;
     assert_eq!(rt; passes.len(), 64);
@@ -199,14 +206,7 @@ fn splits_to_the_last_share_and_joins_again(rt: HostRuntime) -> Result<(), Alloc
 #[test]
 fn sixty_four_threads_share_one_history(rt: HostRuntime) -> Result<(), Fail> {
     let alloc: Global = rt.alloc();
-    let Ok((lock, pass)) = HistoryLock::new(
-        alloc,
-        Acts {
-            log: Vec::new(alloc),
-        },
-    ) else {
-        return Err(AllocError.into());
-    };
+    let (lock, pass) = unused(alloc)?;
     let (acts, turns) = act_in_all(&rt, lock, pass)?;
     assert_eq!(rt; turns, TURNS);
     assert_eq!(rt; acts.log.len(), 64 * TURNS as usize);

@@ -1,9 +1,10 @@
 -- Where one pass took all the turns of its lock, no other turn came between two of them: so its turns are Replay.
-use Rattle.std.proofs.Common.{◌≡◌, ◌∙◌, ◌≤◌, ◌<◌, ◌^◌, ◌-◌, ◌⊎◌, inl, inr, ℕ, zero, suc, ◌+◌, List, [], ◌∷◌, ◌++◌, length, drop, Bool, true, false, cond, refl, sym, ap, subst, arith, append-nil, append_assoc, length-append}
+use Rattle.std.proofs.Common.{◌≡◌, ◌∙◌, ◌≤◌, ◌<◌, ◌^◌, ◌-◌, ◌⊎◌, inl, inr, ℕ, zero, suc, ◌+◌, List, [], ◌∷◌, ◌++◌, length, drop, Bool, true, false, cond, refl}
+use Rattle.std.proofs.Common.{sym, ap, subst, arith, append-nil, append_assoc, length-append}
 use mathlib.Core.List.{IsPrefix}
 use Rattle.cr_base.specs.declared.entry.Stamped.{Stamped}
 use Rattle.cr_base.specs.History.{History}
-use Rattle.cr_lock.specs.declared.view.Turn.{Turn}
+use Rattle.cr_lock.specs.declared.pass_state.Turn.{Turn}
 use Rattle.cr_lock.specs.Closing.{Closes}
 use Rattle.cr_lock.specs.Counts.{last_count}
 use Rattle.cr_lock.specs.Turns.{turn_at, groups_of, rises, marks}
@@ -130,7 +131,8 @@ ledger p faults = record { history = p.seen; faults = faults }
 same-ledger : (p q : KnownPass) (f g : ℕ) → q ≡ p → g ≡ f → ledger q g ≡ ledger p f
 same-ledger p q f g a b = ap (λ (x : KnownPass). ledger x g) a ∙ ap (ledger p) b
 
-turned-alone : (j : JudgedWish) (p q : KnownPass) (f g : ℕ) (t : TakesTurn j p q) → length j.seen ≤ length p.seen → CountsLoss j.lost f g → Turned j (ledger p f) (ledger q g)
+turned-alone : (j : JudgedWish) (p q : KnownPass) (f g : ℕ) (t : TakesTurn j p q) → length j.seen ≤ length p.seen → CountsLoss j.lost f g
+    → Turned j (ledger p f) (ledger q g)
 turned-alone j p q f g t none c = record {
   seen = sym (prefix_whole p.seen j.seen t.saw none);
   lost = t.lost;
@@ -139,7 +141,8 @@ turned-alone j p q f g t none c = record {
 }
 
 -- where what was seen grew by the groups alone
-replays-alone : (js : List JudgedWish) (p q : KnownPass) (f g : ℕ) → TakesTurns js p q → length q.seen + grown p ≤ length p.seen + grown q → Counts (lost_count js) f g
+replays-alone : (js : List JudgedWish) (p q : KnownPass) (f g : ℕ) → TakesTurns js p q → length q.seen + grown p ≤ length p.seen + grown q
+    → Counts (lost_count js) f g
     → Replays js (ledger p f) (ledger q g)
 replays-alone [] p q f g r alone c = same-ledger p q f g r (c.still refl)
 replays-alone (j ∷ js) p q f g r alone c =
@@ -177,7 +180,8 @@ drop-all (e ∷ es) = drop-all es
 pub behind-vain : (w : Wish) (q p : KnownPass) → TurnsInVain w q p → StaysBehind q p
 behind-vain w q p v = record {
   saw = subst (λ (H : History). IsPrefix q.seen H) (sym (ap (λ (x : KnownPass). x.seen) v.turn)) v.saw;
-  group = ap (λ (x : KnownPass). grown x) v.turn ∙ ap length (groups-snoc q.mine turn ∙ ap (λ g. groups_of q.mine ++ g) (drop-all v.seen) ∙ append-nil (groups_of q.mine));
+  group = ap (λ (x : KnownPass). grown x) v.turn ∙ ap length
+      (groups-snoc q.mine turn ∙ ap (λ g. groups_of q.mine ++ g) (drop-all v.seen) ∙ append-nil (groups_of q.mine));
   rise = (let e = ap (λ (x : KnownPass). rises x.mine) v.turn ∙ rises-snoc q.mine turn in omega (arith, e));
   mark = (let e = ap (λ (x : KnownPass). marks x.mine) v.turn ∙ marks-snoc q.mine turn in omega (arith, e));
 }
@@ -186,12 +190,14 @@ behind-vain w q p v = record {
     turn = turn_at (length v.seen) (drop (length v.seen) v.seen) v.faults v.faults
 
 -- the one pass of a lock that is closed, which had no turn at first, and whose turns for wishes led to q
-module _ {T : Type 0} (list : T → List Stamped) (faults : T → ℕ) (first x : T) (start q p : KnownPass) (opens : start.seen ≡ list first) (bare : start.mine ≡ [])
+module _ {T : Type 0} (list : T → List Stamped) (faults : T → ℕ) (first x : T) (start q p : KnownPass) (opens : start.seen ≡ list first)
+    (bare : start.mine ≡ [])
     (closes : Closes list faults first p x) (behind : StaysBehind q p) (js : List JudgedWish) (r : TakesTurns js start q) where
   counts-closed : Counts (lost_count js) (faults first) (faults x)
   counts-closed = record {
     later = (let c = closes.count in omega (arith, c));
-    still = λ none. (let c = closes.count in let n = none-rises js start q r none in let e = behind.rise in let zero_rise = ap rises bare in omega (arith, c, n, e, zero_rise));
+    still = λ none. (let c = closes.count in let n = none-rises js start q r none in let e = behind.rise in let zero_rise = ap rises bare in
+        omega (arith, c, n, e, zero_rise));
     many = by closes.marks;
   }
     where

@@ -1,5 +1,6 @@
 -- What a connection did goes on behind what it did before.
-use Rattle.std.proofs.Common.{◌≡◌, ◌∙◌, ◌⊎◌, ℕ, ◌+◌, List, [], ◌∷◌, ◌++◌, length, Option, Some, None, Bool, refl, sym, ap, subst, append_assoc, arith, inl, inr, length-append}
+use Rattle.std.proofs.Common.{◌≡◌, ◌∙◌, ◌⊎◌, ℕ, ◌+◌, List, [], ◌∷◌, ◌++◌, length, Option, Some, None, Bool, refl, sym, ap, subst, append_assoc, arith, inl, inr}
+use Rattle.std.proofs.Common.{length-append}
 use Rattle.cr_base.specs.Lists.{listed}
 use Rattle.cr_ports.specs.Stream.{and_left}
 use Rattle.cr_http.specs.Requests.{ended_clean, ended_cut, asked, closed}
@@ -31,7 +32,8 @@ wrote_on : (n : ℕ) (js ks : List JudgedWish) (more : List ℕ) (s t u : Outlet
 wrote_on n js ks more s t u x y =
     subst (λ (b : List ℕ). Writes b s u) (answers_on n js ks more) (writes-append (answers n js) (answers (n + length js) ks ++ more) s t u x y)
 
-wrote_all : (n : ℕ) (js ks : List JudgedWish) (s t u : Outlet) → Writes (answers n js) s t → Writes (answers (n + length js) ks) t u → Writes (answers n (js ++ ks)) s u
+wrote_all : (n : ℕ) (js ks : List JudgedWish) (s t u : Outlet) → Writes (answers n js) s t → Writes (answers (n + length js) ks) t u
+    → Writes (answers n (js ++ ks)) s u
 wrote_all n js ks s t u x y =
     subst (λ (b : List ℕ). Writes b s u) (sym (answers-append n js ks)) (writes-append (answers n js) (answers (n + length js) ks) s t u x y)
 
@@ -49,12 +51,14 @@ noted n js ks head s t u x (inr is) = inr (broke_off n js ks (no_memory_text hea
 
 ends_on : (ending : Ending) (n : ℕ) (text rest : List ℕ) (js ks : List JudgedWish) (failed : Option JudgedWish) (p p' : KnownPass) (s t u : Outlet)
     → Reaches n text (wishes_of js) rest → Writes (answers n js) s t
-    → EndsAs TakesTurns TurnsInVain ending (n + length js) rest rest ks failed p p' t u → EndsAs TakesTurns TurnsInVain ending n text text (js ++ ks) failed p p' s u
+    → EndsAs TakesTurns TurnsInVain ending (n + length js) rest rest ks failed p p' t u
+    → EndsAs TakesTurns TurnsInVain ending n text text (js ++ ks) failed p p' s u
 ends_on ending n text rest js ks (Some j) p p' s t u reach first e =
     let number : n + length js + length ks ≡ n + length (js ++ ks) = let l = length-append js ks in omega (arith, l) in (
       e.0,
       subst (λ (all : List JudgedWish). Begins n text (wishes_of all)) (sym (append_assoc js ks (j ∷ []))) (begins_on n text rest js (ks ++ j ∷ []) reach e.1),
-      broke_off n js ks (answer_to (n + length (js ++ ks)) j) s t u first (subst (λ (k : ℕ). BreaksOff (answers (n + length js) ks) (answer_to k j) t u) number e.2),
+      broke_off n js ks (answer_to (n + length (js ++ ks)) j) s t u first
+          (subst (λ (k : ℕ). BreaksOff (answers (n + length js) ks) (answer_to k j) t u) number e.2),
     )
 ends_on endings.Clean n text rest js ks None p p' s t u reach first e =
     (spells_on n text rest js ks ended_clean reach e.0, wrote_all n js ks s t u first e.1)
@@ -80,7 +84,8 @@ counts_on ending f g h same c = subst (λ (x : ℕ). CountsReads ending x h) sam
 
 -- ---- one part behind another
 
-reach_now : (n : ℕ) (a g k : List ℕ) (js : List JudgedWish) (i : List ℕ) → Reaches n (a ++ g) (wishes_of js) i → Reaches n (a ++ (g ++ k)) (wishes_of js) (i ++ k)
+reach_now : (n : ℕ) (a g k : List ℕ) (js : List JudgedWish) (i : List ℕ) → Reaches n (a ++ g) (wishes_of js) i
+    → Reaches n (a ++ (g ++ k)) (wishes_of js) (i ++ k)
 reach_now n a g k js i is = subst (λ (t : List ℕ). Reaches n t (wishes_of js) (i ++ k)) (append_assoc a g k) (Reaches-more n (a ++ g) k (wishes_of js) i is)
 
 number_of : (c : ℕ) (js : List JudgedWish) → length js ≡ c → c ≡ 0 + length js
@@ -88,7 +93,8 @@ number_of c js e = omega (arith, e)
 
 module _ {S : Type 0} (left : S → Option (List ℕ)) (gives : S → S → List ℕ → Type 0) where
   -- reads from a request's number on, however the number is told
-  from_number : (c k : ℕ) (ks : List JudgedWish) (p q : S) (old new : List ℕ) → c ≡ k → ReadsNoFurther left gives c ks p q old new → ReadsNoFurther left gives k ks p q old new
+  from_number : (c k : ℕ) (ks : List JudgedWish) (p q : S) (old new : List ℕ) → c ≡ k → ReadsNoFurther left gives c ks p q old new
+      → ReadsNoFurther left gives k ks p q old new
   from_number c k ks p q old new e x = subst (λ (m : ℕ). ReadsNoFurther left gives m ks p q old new) e x
 
   -- what a connection did up to its end, behind what it did before
@@ -107,7 +113,8 @@ module _ {S : Type 0} (left : S → Option (List ℕ)) (gives : S → S → List
         settled = y.settled;
         ends = ends_on ending 0 (a ++ (x.got ++ y.got)) (b ++ y.got) x.answered y.answered y.failed y.judged u.state w.sink v.sink u.sink
             (reach_now 0 a x.got y.got x.answered b x.reaches) x.writes
-            (subst (λ (k : ℕ). EndsAs TakesTurns TurnsInVain ending k (b ++ y.got) (b ++ y.got) y.answered y.failed y.judged u.state v.sink u.sink) number y.ends);
+            (subst (λ (k : ℕ). EndsAs TakesTurns TurnsInVain ending k (b ++ y.got) (b ++ y.got) y.answered y.failed y.judged u.state v.sink u.sink) number
+            y.ends);
         ended = y.ended;
         counts = counts_on ending w.read_faults v.read_faults u.read_faults x.counts y.counts;
         needed = no_further-append left gives 0 x.answered y.answered w.source v.source u.source a b x.got y.got x.given x.reaches x.needed
@@ -127,7 +134,8 @@ module _ {S : Type 0} (left : S → Option (List ℕ)) (gives : S → S → List
         turns = takes-append x.answered y.answered w.state v.state u.state x.turns y.turns;
         reaches = reaches_on 0 (a ++ (x.got ++ y.got)) (b ++ y.got) e x.answered y.answered (reach_now 0 a x.got y.got x.answered b x.reaches)
             (subst (λ (k : ℕ). Reaches k (b ++ y.got) (wishes_of y.answered) e) number y.reaches);
-        writes = wrote_all 0 x.answered y.answered w.sink v.sink u.sink x.writes (subst (λ (k : ℕ). Writes (answers k y.answered) v.sink u.sink) number y.writes);
+        writes = wrote_all 0 x.answered y.answered w.sink v.sink u.sink x.writes
+            (subst (λ (k : ℕ). Writes (answers k y.answered) v.sink u.sink) number y.writes);
         counts = y.counts ∙ x.counts;
         needed = no_further-append left gives 0 x.answered y.answered w.source v.source u.source a b x.got y.got x.given x.reaches x.needed
             (from_number c (0 + length x.answered) y.answered v.source u.source b (b ++ y.got) number y.needed);

@@ -1,5 +1,5 @@
 -- How turns end: what is true of a pass, and what of the ledger of a lock that is closed.
-use Rattle.std.proofs.Common.{◌≡◌, ◌∙◌, inl, inr, ℕ, List, [], ◌++◌, Option, Some, None, refl, sym, ap, subst}
+use Rattle.std.proofs.Common.{◌≡◌, ◌∙◌, ◌⊎◌, ⊎_elim, inl, inr, ℕ, List, [], ◌++◌, Option, Some, None, refl, sym, ap, subst}
 use Rattle.cr_base.specs.declared.entry.Stamped.{Stamped}
 use Rattle.cr_base.specs.Lists.{listed}
 use Rattle.cr_base.specs.History.{History}
@@ -24,20 +24,27 @@ no_turns endings.ReadFault b b' same = same
 no_turns endings.WriteFault b b' same = same
 no_turns endings.OutOfMemory b b' same = tt
 
--- or one in vain at most
+-- no turn was taken behind those for wishes, or the one for which memory ran out
+pub behind_judged : {B : Type 0} (Judges : List JudgedWish → B → B → Type 0) (Lacks : Wish → B → B → Type 0)
+    (ending : Ending) (n : ℕ) (came text : List ℕ) (answered : List JudgedWish) (failed : Option JudgedWish) (b b' : B) (s s' : Outlet)
+    → EndsTurns ending b b' → EndsAs Judges Lacks ending n came text answered failed b b' s s' → (b' ≡ b) ⊎ ((w : Wish) × Lacks w b b')
+behind_judged Judges Lacks endings.Clean n came text answered failed b b' s s' same e = inl same
+behind_judged Judges Lacks endings.Cut n came text answered failed b b' s s' same e = inl same
+behind_judged Judges Lacks (endings.Closed why) n came text answered failed b b' s s' same e = inl same
+behind_judged Judges Lacks endings.ReadFault n came text answered failed b b' s s' same e = inl same
+behind_judged Judges Lacks endings.WriteFault n came text answered failed b b' s s' same e = inl same
+behind_judged Judges Lacks endings.OutOfMemory n came text answered (Some failed) b b' s s' same e = absurd (cc (e.0))
+behind_judged Judges Lacks endings.OutOfMemory n came text answered None b b' s s' same e = by e.2
+  where
+    by : MayLackMemory Judges Lacks b b' e.0 → (b' ≡ b) ⊎ ((w : Wish) × Lacks w b b')
+    by (inl lacks) = inl lacks.1
+    by (inr lacks) = inr (lacks.0, lacks.3)
+
 stays_behind : (ending : Ending) (n : ℕ) (came text : List ℕ) (answered : List JudgedWish) (failed : Option JudgedWish) (q p : KnownPass) (s s' : Outlet)
     → EndsTurns ending q p → EndsAs TakesTurns TurnsInVain ending n came text answered failed q p s s' → StaysBehind q p
-stays_behind endings.Clean n came text answered failed q p s s' same e = behind-none q p same
-stays_behind endings.Cut n came text answered failed q p s s' same e = behind-none q p same
-stays_behind (endings.Closed why) n came text answered failed q p s s' same e = behind-none q p same
-stays_behind endings.ReadFault n came text answered failed q p s s' same e = behind-none q p same
-stays_behind endings.WriteFault n came text answered failed q p s s' same e = behind-none q p same
-stays_behind endings.OutOfMemory n came text answered (Some failed) q p s s' same e = absurd (cc (e.0))
-stays_behind endings.OutOfMemory n came text answered None q p s s' same e = by e.2
-  where
-    by : MayLackMemory TakesTurns TurnsInVain q p e.0 → StaysBehind q p
-    by (inl lacks) = behind-none q p lacks.1
-    by (inr lacks) = behind-vain lacks.0 q p lacks.3
+stays_behind ending n came text answered failed q p s s' settled ends =
+    ⊎_elim (λ same. behind-none q p same) (λ turn. behind-vain turn.0 q p turn.1)
+    (behind_judged TakesTurns TurnsInVain ending n came text answered failed q p s s' settled ends)
 
 -- what is wanted of a pass is wanted of the ledger
 lacks_alike : (q p : KnownPass) (b : Ledger) (rest : List ℕ) → ((w : Wish) → TurnsInVain w q p → MayWantMemory b.history w)
@@ -45,7 +52,8 @@ lacks_alike : (q p : KnownPass) (b : Ledger) (rest : List ℕ) → ((w : Wish) �
 lacks_alike q p b rest vain (inl lacks) = inl (lacks.0, refl)
 lacks_alike q p b rest vain (inr lacks) = inr (lacks.0, lacks.1, lacks.2, (refl, vain lacks.0 lacks.3))
 
-ends_alike : (ending : Ending) (n : ℕ) (came text : List ℕ) (answered : List JudgedWish) (failed : Option JudgedWish) (q p : KnownPass) (b : Ledger) (s s' : Outlet)
+ends_alike : (ending : Ending) (n : ℕ) (came text : List ℕ) (answered : List JudgedWish) (failed : Option JudgedWish) (q p : KnownPass) (b : Ledger)
+    (s s' : Outlet)
     → ((w : Wish) → TurnsInVain w q p → MayWantMemory b.history w)
     → EndsAs TakesTurns TurnsInVain ending n came text answered failed q p s s' → EndsAs Replays StaysInVain ending n came text answered failed b b s s'
 ends_alike ending n came text answered (Some failed) q p b s s' vain e = e
@@ -60,17 +68,8 @@ ends_alike endings.OutOfMemory n came text answered None q p b s s' vain e = (e.
 -- a ledger stays behind the turns of the wishes
 pub ledger_stays : (ending : Ending) (n : ℕ) (came text : List ℕ) (answered : List JudgedWish) (failed : Option JudgedWish) (b b' : Ledger) (s s' : Outlet)
     → EndsTurns ending b b' → EndsAs Replays StaysInVain ending n came text answered failed b b' s s' → b' ≡ b
-ledger_stays endings.Clean n came text answered failed b b' s s' same e = same
-ledger_stays endings.Cut n came text answered failed b b' s s' same e = same
-ledger_stays (endings.Closed why) n came text answered failed b b' s s' same e = same
-ledger_stays endings.ReadFault n came text answered failed b b' s s' same e = same
-ledger_stays endings.WriteFault n came text answered failed b b' s s' same e = same
-ledger_stays endings.OutOfMemory n came text answered (Some failed) b b' s s' same e = absurd (cc (e.0))
-ledger_stays endings.OutOfMemory n came text answered None b b' s s' same e = by e.2
-  where
-    by : MayLackMemory Replays StaysInVain b b' e.0 → b' ≡ b
-    by (inl lacks) = lacks.1
-    by (inr lacks) = lacks.3.0
+ledger_stays ending n came text answered failed b b' s s' settled ends =
+    ⊎_elim (λ same. same) (λ turn. turn.1.0) (behind_judged Replays StaysInVain ending n came text answered failed b b' s s' settled ends)
 
 -- so Replay leads to the ledger at the end
 pub replayed : {S : Type 0} (left : S → Option (List ℕ)) (gives : S → S → List ℕ → Type 0) (ending : Ending) (n : ℕ) (i : List ℕ) (w w' : World Ledger S)
@@ -86,7 +85,8 @@ replayed_whole left ending b w w' c =
     (sym (ledger_stays ending 0 c.came b c.answered c.failed c.judged w'.state w.sink w'.sink c.settled c.ends)) c.turns
 
 -- On the one pass of a lock that is closed, ConnectionInHistory is ConnectionBytes, from the first ledger to the last.
-module _ {T S : Type 0} (list : T → List Stamped) (faults : T → ℕ) (first x : T) (left : S → Option (List ℕ)) (gives : S → S → List ℕ → Type 0) (ending : Ending)
+module _ {T S : Type 0} (list : T → List Stamped) (faults : T → ℕ) (first x : T) (left : S → Option (List ℕ)) (gives : S → S → List ℕ → Type 0)
+    (ending : Ending)
     (p p' : KnownPass) (source source' : S) (f f' : ℕ) (s s' : Outlet) where
   -- the world about the pass, and about the ledger
   abbrev in_history : KnownPass → S → ℕ → Outlet → World KnownPass S

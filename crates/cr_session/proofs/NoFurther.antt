@@ -54,7 +54,8 @@ module _ {S : Type 0} (left : S → Option (List ℕ)) (gives : S → S → List
       inl (still.0, ap (λ (g : List ℕ). u ++ g) none ∙ append-nil u)
   reads_behind V W p q t u got f (inr last) =
       let parts : got ≡ last.before.got ++ last.piece =
-      append_cancel_left t got (last.before.got ++ last.piece) (last.kept ∙ ap (λ (x : List ℕ). x ++ last.piece) last.before.kept ∙ append_assoc t last.before.got last.piece) in
+      append_cancel_left t got (last.before.got ++ last.piece)
+      (last.kept ∙ ap (λ (x : List ℕ). x ++ last.piece) last.before.kept ∙ append_assoc t last.before.got last.piece) in
       inr (record {
         at = last.at;
         text = u ++ last.before.got;
@@ -76,7 +77,8 @@ module _ {S : Type 0} (left : S → Option (List ℕ)) (gives : S → S → List
   no_further-still n answered p old = inl (refl, refl)
 
   -- of what came before, and of what came then
-  pub no_further-append : (n : ℕ) (js ks : List JudgedWish) (p q r : S) (a b got more : List ℕ) → left p ≡ and_left got (left q) → Reaches n (a ++ got) (wishes_of js) b
+  pub no_further-append : (n : ℕ) (js ks : List JudgedWish) (p q r : S) (a b got more : List ℕ) → left p ≡ and_left got (left q)
+      → Reaches n (a ++ got) (wishes_of js) b
       → ReadsNoFurther left gives n js p q a (a ++ got) → ReadsNoFurther left gives (n + length js) ks q r b (b ++ more)
       → ReadsNoFurther left gives n (js ++ ks) p r a (a ++ (got ++ more))
   no_further-append n js ks p q r a b got more given reach x y =
@@ -84,7 +86,8 @@ module _ {S : Type 0} (left : S → Option (List ℕ)) (gives : S → S → List
       (
       reads_on left gives (WantsBehind n (wishes_of (js ++ ks))) p q r a (a ++ got) ((a ++ got) ++ more)
       (record { got = got; given = given; kept = refl })
-      (reads_for left gives (WantsBehind n (wishes_of js)) (WantsBehind n (wishes_of (js ++ ks))) p q a (a ++ got) (λ text left' moves. wants-wider n js ks text) x)
+      (reads_for left gives (WantsBehind n (wishes_of js)) (WantsBehind n (wishes_of (js ++ ks))) p q a (a ++ got)
+      (λ text left' moves. wants-wider n js ks text) x)
       (reads_behind (WantsBehind (n + length js) (wishes_of ks)) (WantsBehind n (wishes_of (js ++ ks))) q r b (a ++ got) more
       (λ m wants. wants-later n js ks ((a ++ got) ++ m) (b ++ m) (Reaches-more n (a ++ got) m (wishes_of js) b reach) wants) y)
       )

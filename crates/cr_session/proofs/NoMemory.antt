@@ -9,7 +9,8 @@ use Rattle.cr_session.specs.Replay.{JudgedWish}
 use Rattle.cr_session.specs.Serving.{World, Connection, TellsWantOfMemory, MayLackMemory, ReadsNoFurther}
 use Rattle.cr_session.proofs.NoFurther.{no_further-still}
 
-module _ {B : Type 0} (Judges : List JudgedWish → B → B → Type 0) (Lacks : Wish → B → B → Type 0) (none : (b : B) → Judges [] b b) {S : Type 0} (left : S → Option (List ℕ)) (gives : S → S → List ℕ → Type 0) where
+module _ {B : Type 0} (Judges : List JudgedWish → B → B → Type 0) (Lacks : Wish → B → B → Type 0) (none : (b : B) → Judges [] b b) {S : Type 0} (left : S
+    → Option (List ℕ)) (gives : S → S → List ℕ → Type 0) where
   pub no_memory : (n : ℕ) (i got : List ℕ) (head : Bool) (w w' : World B S) → IsToHead (i ++ got) head → MayLackMemory Judges Lacks w.state w'.state (i ++ got)
       → left w.source ≡ and_left got (left w'.source) → TellsWantOfMemory [] head w.sink w'.sink → w'.read_faults ≡ w.read_faults
       → ReadsNoFurther left gives n [] w.source w'.source i (i ++ got) → Connection Judges Lacks left gives endings.OutOfMemory n i w w'
@@ -28,7 +29,8 @@ module _ {B : Type 0} (Judges : List JudgedWish → B → B → Type 0) (Lacks :
   }
 
   -- before anything was read
-  pub round_unbegun : (n : ℕ) (w w' : World B S) → w'.source ≡ w.source → w'.state ≡ w.state → TellsWantOfMemory [] false w.sink w'.sink → w'.read_faults ≡ w.read_faults
+  pub round_unbegun : (n : ℕ) (w w' : World B S) → w'.source ≡ w.source → w'.state ≡ w.state → TellsWantOfMemory [] false w.sink w'.sink
+      → w'.read_faults ≡ w.read_faults
       → Connection Judges Lacks left gives endings.OutOfMemory n [] w w'
   round_unbegun n w w' source same notes counts =
       no_memory n [] [] false w w' refl (inl (inl (inl refl), same)) (sym (ap left source) ∙ sym (and_left-nil (left w'.source))) notes counts

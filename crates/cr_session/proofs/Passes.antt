@@ -1,11 +1,12 @@
 -- Turns of one pass, one after another.
-use Rattle.std.proofs.Common.{◌≡◌, ◌∙◌, ◌≤◌, ◌<◌, ◌^◌, ◌-◌, ℕ, ◌+◌, List, [], ◌∷◌, ◌++◌, length, drop, Bool, true, false, cond, Option, Some, None, refl, ap, subst, arith}
+use Rattle.std.proofs.Common.{◌≡◌, ◌∙◌, ◌≤◌, ◌<◌, ◌^◌, ◌-◌, ℕ, ◌+◌, List, [], ◌∷◌, ◌++◌, length, drop, Bool, true, false, cond, Option, Some, None, refl, ap}
+use Rattle.std.proofs.Common.{subst, arith}
 use Rattle.std.specs.Prelude.{◌||◌, nat_lt, nat_le}
 use mathlib.Core.List.{IsPrefix}
 use Rattle.cr_base.specs.declared.entry.Stamped.{Stamped}
 use Rattle.cr_base.specs.History.{History}
 use Rattle.cr_base.specs.Drawn.{Drawn}
-use Rattle.cr_lock.specs.declared.view.Turn.{Turn}
+use Rattle.cr_lock.specs.declared.pass_state.Turn.{Turn}
 use Rattle.cr_lock.specs.Counts.{has_risen, last_count}
 use Rattle.cr_lock.specs.Turns.{turn_at, marks}
 use Rattle.cr_lock.specs.Passes.{after_turn}
@@ -80,7 +81,8 @@ marks-snoc (u ∷ us) t = let i = marks-snoc us t in omega (arith, i)
 
 marks-turn : (j : JudgedWish) (p q : KnownPass) → TakesTurn j p q → marks p.mine + cond j.lost 1 0 ≤ marks q.mine
 marks-turn j p q t =
-    let n = ap (λ (x : KnownPass). marks x.mine) t.turn ∙ marks-snoc p.mine (turn_at (length j.seen) (drop (length j.seen) (history_after j)) t.faults t.faults') in
+    let n = ap (λ (x : KnownPass). marks x.mine) t.turn ∙ marks-snoc p.mine
+    (turn_at (length j.seen) (drop (length j.seen) (history_after j)) t.faults t.faults') in
     let m = marks-one j.lost t.faults t.faults' t.counted in
     omega (arith, n, m)
 

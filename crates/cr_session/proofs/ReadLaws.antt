@@ -57,7 +57,8 @@ module _ {S : Type 0} (left : S → Option (List ℕ)) (gives : S → S → List
 
   -- a whole request was read, and this is its wish, or memory ran out for it
   pub read_whole : (source source' : S) (old : List ℕ) (inbox inbox' : InboxText) (answer : WishRead) → old ≡ inbox.rest
-      → Reads left gives source source' inbox inbox' requests.Whole → IsAtHand answer inbox'.request → ReadsWish left gives source source' old inbox'.rest answer
+      → Reads left gives source source' inbox inbox' requests.Whole → IsAtHand answer inbox'.request
+      → ReadsWish left gives source source' old inbox'.rest answer
   read_whole source source' old inbox inbox' answer same x at_hand =
       read_as source source' old inbox'.rest inbox inbox' requests.Whole answer same x
       (says answer (inbox.rest ++ x.got) inbox'.rest inbox'.request x.answers at_hand) (ended answer (left source') inbox'.request at_hand)

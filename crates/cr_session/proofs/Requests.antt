@@ -4,12 +4,12 @@ use mathlib.Core.List.{IsPrefix}
 use Rattle.cr_base.specs.History.{History}
 use Rattle.cr_lock.specs.Passes.{after_turn}
 use Rattle.cr_wire.specs.declared.what.Wish.{Wish}
-use Rattle.cr_session.specs.declared.turn.Turn.{Turn}
-use Rattle.cr_session.specs.declared.turn.Turn.TheVariants as turns
-use Rattle.cr_session.specs.declared.serve.Served.{Served}
-use Rattle.cr_session.specs.declared.serve.Served.TheVariants as served
+use Rattle.cr_session.specs.declared.turn.TurnResult.{TurnResult}
+use Rattle.cr_session.specs.declared.turn.TurnResult.TheVariants as turns
+use Rattle.cr_session.specs.declared.serve.RequestOutcome.{RequestOutcome}
+use Rattle.cr_session.specs.declared.serve.RequestOutcome.TheVariants as served
 use Rattle.cr_session.specs.Told.{form_of, told, unkept, after_wish}
-use Rattle.cr_session.specs.Replay.{JudgedWish, Ledger, answer_to, history_after}
+use Rattle.cr_session.specs.Replay.{JudgedWish, Ledger, Turned, answer_to, history_after}
 use Rattle.cr_session.specs.Passing.{KnownPass}
 use Rattle.cr_wire.specs.Wishes.{closes}
 use Rattle.cr_ports.specs.Writing.{Outlet, Writes, BreaksOff}
@@ -36,7 +36,7 @@ history_after-lost w old = refl
 -- One turn of the pass on a ledger, which it left so.
 module _ (w : Wish) (b b' : Ledger) (p p' : KnownPass) (saw : IsPrefix p.seen b.history) (is : p' ≡ after_turn p b.history b'.history b.faults b'.faults) where
   -- it came to this, and the request was judged with that answer
-  record WasJudged (turn : Turn) (n : ℕ) : Type 0 where
+  record WasJudged (turn : TurnResult) (n : ℕ) : Type 0 where
     judges : JudgesInTurn w p p'
     text : turn_text turn (form_of w (closes n w)) ≡ answer_to n judges.judged
 
@@ -44,52 +44,45 @@ module _ (w : Wish) (b b' : Ledger) (p p' : KnownPass) (saw : IsPrefix p.seen b.
   turned : (H : History) → b'.history ≡ H → p' ≡ after_turn p b.history H b.faults b'.faults
   turned H e = is ∙ ap (λ (h : History). after_turn p b.history h b.faults b'.faults) e
 
-  kept-judged : (turn : Turn) (n : ℕ) → AnswersWish turn w b b' → WasJudged turn n
-  kept-judged turn n a =
-      let j : JudgedWish = record { wish = w; seen = b.history; lost = false } in
-      record {
-        judges = record {
-          judged = j;
-          wish = refl;
-          turned = record {
-            saw = saw;
-            lost = tt;
-            faults = b.faults;
-            faults' = b'.faults;
-            counted = a.steady;
-            turn = turned (history_after j) (a.stepped ∙ sym (history_after-kept w b.history));
-          };
-        };
-        text = a.told_is (closes n w) ∙ sym (answer_to-kept n w b.history);
-      }
+  -- the wish as it was judged, and whether what it added was lost
+  abbrev judged_so : Bool → JudgedWish
+  judged_so lost = record { wish = w; seen = b.history; lost = lost }
 
-  was_judged : (turn : Turn) (n : ℕ) → (turn ≡ turns.OutOfMemory → ⊥) → Turns turn w b b' → WasJudged turn n
+  -- what is so of the ledger is so of the pass
+  abbrev in_turn : (lost : Bool) → Turned (judged_so lost) b b' → JudgesInTurn w p p'
+  in_turn lost t = record {
+    judged = judged_so lost;
+    wish = refl;
+    turned = record {
+      saw = saw;
+      lost = t.lost;
+      faults = b.faults;
+      faults' = b'.faults;
+      counted = t.counted;
+      turn = turned (history_after (judged_so lost)) t.history;
+    };
+  }
+
+  kept-judged : (turn : TurnResult) (n : ℕ) → AnswersWish turn w b b' → WasJudged turn n
+  kept-judged turn n a = record {
+    judges = in_turn false (record { seen = refl; lost = tt; history = a.stepped ∙ sym (history_after-kept w b.history); counted = a.steady });
+    text = a.told_is (closes n w) ∙ sym (answer_to-kept n w b.history);
+  }
+
+  was_judged : (turn : TurnResult) (n : ℕ) → (turn ≡ turns.OutOfMemory → ⊥) → Turns turn w b b' → WasJudged turn n
   was_judged (turns.Refused refused) n memory t = kept-judged (turns.Refused refused) n t
   was_judged (turns.Accepted receipt) n memory t = kept-judged (turns.Accepted receipt) n t
   was_judged (turns.Answered reply) n memory t = kept-judged (turns.Answered reply) n t.0
-  was_judged turns.Lost n memory t =
-      let j : JudgedWish = record { wish = w; seen = b.history; lost = true } in
-      record {
-        judges = record {
-          judged = j;
-          wish = refl;
-          turned = record {
-            saw = saw;
-            lost = t.0;
-            faults = b.faults;
-            faults' = b'.faults;
-            counted = t.2;
-            turn = turned (history_after j) (t.1 ∙ sym (history_after-lost w b.history));
-          };
-        };
-        text = sym (answer_to-lost n w b.history);
-      }
+  was_judged turns.Lost n memory t = record {
+    judges = in_turn true (record { seen = refl; lost = t.0; history = t.1 ∙ sym (history_after-lost w b.history); counted = t.2 });
+    text = sym (answer_to-lost n w b.history);
+  }
   was_judged turns.OutOfMemory n memory t = absurd (memory refl)
 
   -- ---- what was served
 
   -- the answer was sent
-  pub serves_sent : (turn : Turn) (sent : Served) (n : ℕ) (close : Bool) (reply : List ℕ) (s s' : Outlet) → (turn ≡ turns.OutOfMemory → ⊥)
+  pub serves_sent : (turn : TurnResult) (sent : RequestOutcome) (n : ℕ) (close : Bool) (reply : List ℕ) (s s' : Outlet) → (turn ≡ turns.OutOfMemory → ⊥)
       → Turns turn w b b' → close ≡ closes n w → reply ≡ turn_text turn (form_of w close) → Sends sent close reply s s' → ServesRequest sent n w p p' s s'
   serves_sent turn sent n close reply s s' memory t closing text_is sends = by sent sends
     where
@@ -99,7 +92,7 @@ module _ (w : Wish) (b b' : Ledger) (p p' : KnownPass) (saw : IsPrefix p.seen b.
       text : reply ≡ answer_to n j.judges.judged
       text = text_is ∙ ap (λ (c : Bool). turn_text turn (form_of w c)) closing ∙ j.text
 
-      by : (x : Served) → Sends x close reply s s' → ServesRequest x n w p p' s s'
+      by : (x : RequestOutcome) → Sends x close reply s s' → ServesRequest x n w p p' s s'
       by served.Goes x = (j.judges, sym closing ∙ x.0, subst (λ (r : List ℕ). Writes r s s') text x.1)
       by served.Closes x = (j.judges, sym closing ∙ x.0, subst (λ (r : List ℕ). Writes r s s') text x.1)
       by served.WriteFault x = (j.judges, subst (λ (r : List ℕ). BreaksOff [] r s s') text x)
@@ -115,11 +108,11 @@ module _ (w : Wish) (b b' : Ledger) (p p' : KnownPass) (saw : IsPrefix p.seen b.
     turn = is ∙ ap (λ (x : Ledger). after_turn p b.history x.history b.faults x.faults) same;
   }
 
-  pub turned_in_vain : (turn : Turn) → turn ≡ turns.OutOfMemory → Turns turn w b b' → TurnsInVain w p p'
-  turned_in_vain turn none t = let stays = subst (λ (x : Turn). Turns x w b b') none t in vain stays.0 stays.1
+  pub turned_in_vain : (turn : TurnResult) → turn ≡ turns.OutOfMemory → Turns turn w b b' → TurnsInVain w p p'
+  turned_in_vain turn none t = let stays = subst (λ (x : TurnResult). Turns x w b b') none t in vain stays.0 stays.1
 
   -- or in writing its answer
-  pub unprinted : (turn : Turn) → Turns turn w b b' → MayWantToPrint turn → TurnsInVain w p p'
+  pub unprinted : (turn : TurnResult) → Turns turn w b b' → MayWantToPrint turn → TurnsInVain w p p'
   unprinted (turns.Refused refused) t may = absurd may
   unprinted (turns.Accepted receipt) t may = absurd may
   unprinted (turns.Answered reply) t may = vain t.1 (t.2 may)

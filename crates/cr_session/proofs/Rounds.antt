@@ -1,5 +1,6 @@
 -- From what one request did to one round of the loop.
-use Rattle.std.proofs.Common.{◌≡◌, ◌∙◌, ◌⊎◌, ℕ, ◌+◌, List, [], ◌∷◌, ◌++◌, length, map, Option, Some, None, Bool, true, false, refl, sym, ap, subst, append-nil, arith, inl, inr}
+use Rattle.std.proofs.Common.{◌≡◌, ◌∙◌, ◌⊎◌, ℕ, ◌+◌, List, [], ◌∷◌, ◌++◌, length, map, Option, Some, None, Bool, true, false, refl, sym, ap, subst, append-nil}
+use Rattle.std.proofs.Common.{arith, inl, inr}
 use Rattle.std.specs.Prelude.{MatchBool, ◌||◌, ◌==◌}
 use Rattle.cr_http.specs.declared.refusal.Refusal.{Refusal}
 use Rattle.cr_http.specs.Found.{whole, refused, clean, cut, StandsAt}
@@ -11,7 +12,7 @@ use Rattle.cr_session.specs.declared.reading.WishRead.{WishRead}
 use Rattle.cr_session.specs.declared.reading.WishRead.TheVariants as reads
 use Rattle.cr_session.specs.declared.serve.Ending.{Ending}
 use Rattle.cr_session.specs.declared.serve.Ending.TheVariants as endings
-use Rattle.cr_session.specs.declared.serve.Served.TheVariants as served
+use Rattle.cr_session.specs.declared.serve.RequestOutcome.TheVariants as served
 use Rattle.cr_session.specs.declared.serve.Why.TheVariants as whys
 use Rattle.cr_session.specs.Reading.{ReadsWish, StandsWish}
 use Rattle.cr_session.specs.Replay.{JudgedWish, answer_to, wishes_of}
@@ -41,8 +42,10 @@ closes-behind n r w b is e = ap (closes n) (sym is) ∙ e
 one_wish : (j : JudgedWish) (w : Wish) (r : RequestText) → j.wish ≡ w → w ≡ wish_text r → wishes_of (j ∷ []) ≡ map wish_text (r ∷ [])
 one_wish j w r a b = ap (λ (x : Wish). x ∷ []) (a ∙ b)
 
-last-closes : (n : ℕ) (rest : List ℕ) (b : Bool) → b ≡ true → MatchBool b (◌≡◌ {A = List RequestText} [] [] × (asked ≡ asked)) (SpellsFrom closes_behind (n + 1) rest [] asked)
-last-closes n rest b e = subst (λ (c : Bool). MatchBool c (◌≡◌ {A = List RequestText} [] [] × (asked ≡ asked)) (SpellsFrom closes_behind (n + 1) rest [] asked)) (sym e) (refl, refl)
+last-closes : (n : ℕ) (rest : List ℕ) (b : Bool) → b ≡ true
+    → MatchBool b (◌≡◌ {A = List RequestText} [] [] × (asked ≡ asked)) (SpellsFrom closes_behind (n + 1) rest [] asked)
+last-closes n rest b e = subst (λ (c : Bool). MatchBool c (◌≡◌ {A = List RequestText} [] [] × (asked ≡ asked))
+    (SpellsFrom closes_behind (n + 1) rest [] asked)) (sym e) (refl, refl)
 
 either : (b : Bool) → MatchBool b (◌≡◌ {A = List RequestText} [] []) (Unit {0})
 either true = refl
@@ -84,7 +87,8 @@ module _ {S : Type 0} (left : S → Option (List ℕ)) (gives : S → S → List
   }
 
   pub round_closes : (n : ℕ) (wish : Wish) (i i' : List ℕ) (w w' : World KnownPass S) → ReadsWish left gives w.source w'.source i i' (reads.Wish wish)
-      → ServesRequest served.Closes n wish w.state w'.state w.sink w'.sink → w'.read_faults ≡ w.read_faults → ConnectionInHistory left gives (endings.Closed whys.Asked) n i w w'
+      → ServesRequest served.Closes n wish w.state w'.state w.sink w'.sink → w'.read_faults ≡ w.read_faults
+      → ConnectionInHistory left gives (endings.Closed whys.Asked) n i w w'
   round_closes n wish i i' w w' x y counts = record {
     got = x.got;
     given = x.given;
@@ -107,7 +111,8 @@ module _ {S : Type 0} (left : S → Option (List ℕ)) (gives : S → S → List
   }
 
   pub round_write_fault : (n : ℕ) (wish : Wish) (i i' : List ℕ) (w w' : World KnownPass S) → ReadsWish left gives w.source w'.source i i' (reads.Wish wish)
-      → ServesRequest served.WriteFault n wish w.state w'.state w.sink w'.sink → w'.read_faults ≡ w.read_faults → ConnectionInHistory left gives endings.WriteFault n i w w'
+      → ServesRequest served.WriteFault n wish w.state w'.state w.sink w'.sink → w'.read_faults ≡ w.read_faults
+      → ConnectionInHistory left gives endings.WriteFault n i w w'
   round_write_fault n wish i i' w w' x y counts = record {
     got = x.got;
     given = x.given;
@@ -133,18 +138,22 @@ module _ {S : Type 0} (left : S → Option (List ℕ)) (gives : S → S → List
   -- ---- no memory
 
   -- a request was read, and memory ran out in its turn
-  pub round_no_memory : (n : ℕ) (wish : Wish) (i i' : List ℕ) (w w' : World KnownPass S) (s : Outlet) → ReadsWish left gives w.source w'.source i i' (reads.Wish wish)
-      → ServesRequest served.OutOfMemory n wish w.state w'.state w.sink s → TellsWantOfMemory [] wish.is_head s w'.sink → w'.read_faults ≡ w.read_faults → ConnectionInHistory left gives endings.OutOfMemory n i w w'
+  pub round_no_memory : (n : ℕ) (wish : Wish) (i i' : List ℕ) (w w' : World KnownPass S) (s : Outlet)
+      → ReadsWish left gives w.source w'.source i i' (reads.Wish wish)
+      → ServesRequest served.OutOfMemory n wish w.state w'.state w.sink s → TellsWantOfMemory [] wish.is_head s w'.sink → w'.read_faults ≡ w.read_faults
+      → ConnectionInHistory left gives endings.OutOfMemory n i w w'
   round_no_memory n wish i i' w w' s x y notes counts =
       no_memory TakesTurns TurnsInVain (λ p. refl) left gives n i x.got wish.is_head w w' (to_wish (i ++ x.got) wish i' x.says) (inr (wish, i', x.says, y.1))
       x.given (subst (λ (o : Outlet). TellsWantOfMemory [] wish.is_head o w'.sink) y.0 notes) counts
       (no_further-one left gives n [] w.source w'.source i (i ++ x.got) x.needed)
 
   -- memory ran out in reading
-  pub round_unread : (n : ℕ) (head : Bool) (i i' : List ℕ) (w w' : World KnownPass S) → ReadsWish left gives w.source w'.source i i' (reads.OutOfMemory head) → w'.state ≡ w.state
+  pub round_unread : (n : ℕ) (head : Bool) (i i' : List ℕ) (w w' : World KnownPass S) → ReadsWish left gives w.source w'.source i i' (reads.OutOfMemory head)
+      → w'.state ≡ w.state
       → TellsWantOfMemory [] head w.sink w'.sink → w'.read_faults ≡ w.read_faults → ConnectionInHistory left gives endings.OutOfMemory n i w w'
   round_unread n head i i' w w' x same notes counts =
-      no_memory TakesTurns TurnsInVain (λ p. refl) left gives n i x.got head w w' x.says.0 (inl (x.says.1, same)) x.given notes counts (no_further-one left gives n [] w.source w'.source i (i ++ x.got) x.needed)
+      no_memory TakesTurns TurnsInVain (λ p. refl) left gives n i x.got head w w' x.says.0 (inl (x.says.1, same)) x.given notes counts
+      (no_further-one left gives n [] w.source w'.source i (i ++ x.got) x.needed)
 
   -- ---- no request
 
@@ -166,7 +175,8 @@ module _ {S : Type 0} (left : S → Option (List ℕ)) (gives : S → S → List
     needed = no_further-one left gives n [] w.source w'.source i (i ++ x.got) x.needed;
   }
 
-  pub round_refused : (ending : Ending) (n : ℕ) (why : Refusal) (head : Bool) (i i' : List ℕ) (w w' : World KnownPass S) → ReadsWish left gives w.source w'.source i i' (reads.Malformed why head)
+  pub round_refused : (ending : Ending) (n : ℕ) (why : Refusal) (head : Bool) (i i' : List ℕ) (w w' : World KnownPass S)
+      → ReadsWish left gives w.source w'.source i i' (reads.Malformed why head)
       → WritesRefusal ending why head w.sink w'.sink → w'.state ≡ w.state → w'.read_faults ≡ w.read_faults → ConnectionInHistory left gives ending n i w w'
   round_refused endings.Clean n why head i i' w w' x y same counts = absurd y
   round_refused endings.Cut n why head i i' w w' x y same counts = absurd y
@@ -185,21 +195,24 @@ module _ {S : Type 0} (left : S → Option (List ℕ)) (gives : S → S → List
       (why, head, spells-none n (i ++ x.got) (closed why head) (refused why head, x.says, refl), y)
       tt counts same
 
-  pub round_cut : (n : ℕ) (i i' : List ℕ) (w w' : World KnownPass S) → ReadsWish left gives w.source w'.source i i' reads.Cut → w'.state ≡ w.state → w'.sink ≡ w.sink
+  pub round_cut : (n : ℕ) (i i' : List ℕ) (w w' : World KnownPass S) → ReadsWish left gives w.source w'.source i i' reads.Cut → w'.state ≡ w.state
+      → w'.sink ≡ w.sink
       → w'.read_faults ≡ w.read_faults → ConnectionInHistory left gives endings.Cut n i w w'
   round_cut n i i' w w' x same sink counts =
       unanswered endings.Cut n i i' w w' reads.Cut x
       (spells-none n (i ++ x.got) ended_cut (cut, x.says, refl), unwritten w.sink w'.sink sink)
       x.ended counts same
 
-  pub round_clean : (n : ℕ) (i i' : List ℕ) (w w' : World KnownPass S) → ReadsWish left gives w.source w'.source i i' reads.Clean → w'.state ≡ w.state → w'.sink ≡ w.sink
+  pub round_clean : (n : ℕ) (i i' : List ℕ) (w w' : World KnownPass S) → ReadsWish left gives w.source w'.source i i' reads.Clean → w'.state ≡ w.state
+      → w'.sink ≡ w.sink
       → w'.read_faults ≡ w.read_faults → ConnectionInHistory left gives endings.Clean n i w w'
   round_clean n i i' w w' x same sink counts =
       unanswered endings.Clean n i i' w w' reads.Clean x
       (spells-none n (i ++ x.got) ended_clean (clean, x.says, refl), unwritten w.sink w'.sink sink)
       x.ended counts same
 
-  pub round_read_fault : (n : ℕ) (i i' : List ℕ) (w w' : World KnownPass S) → ReadsWish left gives w.source w'.source i i' reads.ReadFault → CountsReads endings.ReadFault w.read_faults w'.read_faults
+  pub round_read_fault : (n : ℕ) (i i' : List ℕ) (w w' : World KnownPass S) → ReadsWish left gives w.source w'.source i i' reads.ReadFault
+      → CountsReads endings.ReadFault w.read_faults w'.read_faults
       → w'.state ≡ w.state → w'.sink ≡ w.sink → ConnectionInHistory left gives endings.ReadFault n i w w'
   round_read_fault n i i' w w' x rises same sink =
       unanswered endings.ReadFault n i i' w w' reads.ReadFault x (which x.says, unwritten w.sink w'.sink sink) tt rises same
@@ -217,7 +230,8 @@ module _ {S : Type 0} (left : S → Option (List ℕ)) (gives : S → S → List
       or_true true q e f = cc
       or_true false q e f = cc
 
-      one : (js : List JudgedWish) (rs : List RequestText) → length js ≡ 1 → wishes_of js ≡ map wish_text rs → ReachesFrom closes_behind n (i ++ x.got) rs i' → ⊥
+      one : (js : List JudgedWish) (rs : List RequestText) → length js ≡ 1 → wishes_of js ≡ map wish_text rs → ReachesFrom closes_behind n (i ++ x.got) rs i'
+          → ⊥
       one [] rs e f r = omega arith
       one (j ∷ js) [] e f r = cc
       one (j ∷ js) (q ∷ rs) e f r = or_true (wish_text q).asks_close (n == 1048575) (ap (λ k. k == 1048575) last) (sym (closes_behind-is n q) ∙ r.2)

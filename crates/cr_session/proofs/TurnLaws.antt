@@ -21,8 +21,8 @@ use Rattle.cr_wire.specs.declared.what.What.{What}
 use Rattle.cr_wire.specs.declared.what.What.TheVariants as whats
 use Rattle.cr_wire.specs.declared.what.Wish.{Wish}
 use Rattle.cr_wire.specs.Caller.{caller, reads_credentials, user_told, wants_login}
-use Rattle.cr_session.specs.declared.turn.Turn.{Turn}
-use Rattle.cr_session.specs.declared.turn.Turn.TheVariants as turns
+use Rattle.cr_session.specs.declared.turn.TurnResult.{TurnResult}
+use Rattle.cr_session.specs.declared.turn.TurnResult.TheVariants as turns
 use Rattle.cr_session.specs.Told.{form_of, told, told_to, served_to, is_unauthorized, reply_of, drawn, drawn_for, drawn_of, accepted, and_drawn, after_wish}
 use Rattle.cr_session.specs.Replay.{Ledger}
 use Rattle.cr_session.specs.Turning.{Turns, AnswersWish, JudgesCommand, AnswersQuery, WantsRoom, MayWantFor, MayWantMemory}
@@ -31,14 +31,16 @@ use Rattle.cr_base.specs.declared.reply.Reply.{Reply}
 use Rattle.cr_base.specs.declared.reply.Reply.TheVariants as replies
 
 -- what a wish is told, by what it is and who gives it, where she may
-told-by : (H : History) (w : Wish) (u : Option ℕ) (what : What) (close : Bool) → w.what ≡ what → u ≡ caller H w → is_unauthorized u what ≡ false → told H w close ≡ served_to u (view u H) (form_of w close) what
+told-by : (H : History) (w : Wish) (u : Option ℕ) (what : What) (close : Bool) → w.what ≡ what → u ≡ caller H w → is_unauthorized u what ≡ false
+    → told H w close ≡ served_to u (view u H) (form_of w close) what
 unfolding told
 told-by H w u what close is by may =
     ap (told_to (caller H w) (view (caller H w) H) (form_of w close)) is
     ∙ ap (λ v. told_to v (view v H) (form_of w close) what) (sym by)
     ∙ ap (λ b. cond b (refusal_text refused.Unauthorized (form_of w close)) (served_to u (view u H) (form_of w close) what)) may
 
-drawn-by : (H : History) (w : Wish) (u : Option ℕ) (what : What) → w.what ≡ what → u ≡ caller H w → is_unauthorized u what ≡ false → drawn H w ≡ drawn_of u (view u H) what
+drawn-by : (H : History) (w : Wish) (u : Option ℕ) (what : What) → w.what ≡ what → u ≡ caller H w → is_unauthorized u what ≡ false
+    → drawn H w ≡ drawn_of u (view u H) what
 unfolding drawn
 drawn-by H w u what is by may =
     ap (drawn_for (caller H w) (view (caller H w) H)) is
@@ -46,19 +48,22 @@ drawn-by H w u what is by may =
     ∙ ap (λ b. cond b None (drawn_of u (view u H) what)) may
 
 -- who wishes it may, and it wants room
-may-want : (H : History) (w : Wish) (u : Option ℕ) (what : What) → w.what ≡ what → u ≡ caller H w → is_unauthorized u what ≡ false → WantsRoom u (view u H) what → MayWantMemory H w
+may-want : (H : History) (w : Wish) (u : Option ℕ) (what : What) → w.what ≡ what → u ≡ caller H w → is_unauthorized u what ≡ false
+    → WantsRoom u (view u H) what → MayWantMemory H w
 may-want H w u what is by may wants =
     subst (λ (v : Option ℕ). MayWantFor v (view v H) w.what) by (subst (λ (x : What). MayWantFor u (view u H) x) (sym is) (may, wants))
 
 -- ---- nobody, where a login is wanted
 
-pub unauthorized : (w : Wish) (b : Ledger) (u : Option ℕ) → u ≡ caller b.history w → is_unauthorized u w.what ≡ true → AnswersWish (turns.Refused refused.Unauthorized) w b b
+pub unauthorized : (w : Wish) (b : Ledger) (u : Option ℕ) → u ≡ caller b.history w → is_unauthorized u w.what ≡ true
+    → AnswersWish (turns.Refused refused.Unauthorized) w b b
 unfolding told drawn
 unauthorized w b u by is =
     let old : History = b.history in
     let now : is_unauthorized (caller old w) w.what ≡ true = ap (λ v. is_unauthorized v w.what) (sym by) ∙ is in
     record {
-      told_is = λ close. sym (ap (λ t. cond t (refusal_text refused.Unauthorized (form_of w close)) (served_to (caller old w) (view (caller old w) old) (form_of w close) w.what)) now);
+      told_is = λ close. sym (ap (λ t. cond t (refusal_text refused.Unauthorized (form_of w close))
+          (served_to (caller old w) (view (caller old w) old) (form_of w close) w.what)) now);
       stepped = sym (ap (λ t. and_drawn old (cond t None (drawn_of (caller old w) (view (caller old w) old) w.what))) now);
       steady = refl;
     }
@@ -75,23 +80,28 @@ refused-turn r w u what b is by may text none = record {
   steady = refl;
 }
 
-pub no_route : (w : Wish) (u : Option ℕ) (b : Ledger) → w.what ≡ whats.NoRoute → u ≡ caller b.history w → is_unauthorized u whats.NoRoute ≡ false → AnswersWish (turns.Refused refused.NoRoute) w b b
+pub no_route : (w : Wish) (u : Option ℕ) (b : Ledger) → w.what ≡ whats.NoRoute → u ≡ caller b.history w → is_unauthorized u whats.NoRoute ≡ false
+    → AnswersWish (turns.Refused refused.NoRoute) w b b
 no_route w u b is by may = refused-turn refused.NoRoute w u whats.NoRoute b is by may (λ close. refl) refl
 
-pub wrong_method : (w : Wish) (u : Option ℕ) (b : Ledger) (place : Place) → w.what ≡ whats.WrongMethod place → u ≡ caller b.history w → is_unauthorized u (whats.WrongMethod place) ≡ false → AnswersWish (turns.Refused (refused.WrongMethod place)) w b b
+pub wrong_method : (w : Wish) (u : Option ℕ) (b : Ledger) (place : Place) → w.what ≡ whats.WrongMethod place → u ≡ caller b.history w
+    → is_unauthorized u (whats.WrongMethod place) ≡ false → AnswersWish (turns.Refused (refused.WrongMethod place)) w b b
 wrong_method w u b place is by may = refused-turn (refused.WrongMethod place) w u (whats.WrongMethod place) b is by may (λ close. refl) refl
 
-pub bad_body : (w : Wish) (u : Option ℕ) (b : Ledger) (ask : Ask) → w.what ≡ whats.BadBody ask → u ≡ caller b.history w → is_unauthorized u (whats.BadBody ask) ≡ false → AnswersWish (turns.Refused refused.BadBody) w b b
+pub bad_body : (w : Wish) (u : Option ℕ) (b : Ledger) (ask : Ask) → w.what ≡ whats.BadBody ask → u ≡ caller b.history w
+    → is_unauthorized u (whats.BadBody ask) ≡ false → AnswersWish (turns.Refused refused.BadBody) w b b
 bad_body w u b ask is by may = refused-turn refused.BadBody w u (whats.BadBody ask) b is by may (λ close. refl) refl
 
 -- ---- commands
 
-told-command : (H : History) (w : Wish) (u : Option ℕ) (command : Command) (r : Result Drawn Rule) (close : Bool) → w.what ≡ whats.Command command → u ≡ caller H w → is_unauthorized u (whats.Command command) ≡ false
+told-command : (H : History) (w : Wish) (u : Option ℕ) (command : Command) (r : Result Drawn Rule) (close : Bool) → w.what ≡ whats.Command command
+    → u ≡ caller H w → is_unauthorized u (whats.Command command) ≡ false
     → judge u (view u H) command ≡ r → reply_text (reply_of r) (form_of w close) ≡ told H w close
 told-command H w u command r close is by may e =
     ap (λ x. reply_text (reply_of x) (form_of w close)) (sym e) ∙ sym (told-by H w u (whats.Command command) close is by may)
 
-stepped-command : (H : History) (w : Wish) (u : Option ℕ) (command : Command) (r : Result Drawn Rule) → w.what ≡ whats.Command command → u ≡ caller H w → is_unauthorized u (whats.Command command) ≡ false
+stepped-command : (H : History) (w : Wish) (u : Option ℕ) (command : Command) (r : Result Drawn Rule) → w.what ≡ whats.Command command → u ≡ caller H w
+    → is_unauthorized u (whats.Command command) ≡ false
     → judge u (view u H) command ≡ r → after_wish H w ≡ and_drawn H (accepted r)
 stepped-command H w u command r is by may e = ap (and_drawn H) (drawn-by H w u (whats.Command command) is by may ∙ ap accepted e)
 
@@ -99,7 +109,8 @@ is_ok-accepted : (r : Result Drawn Rule) → IsOk r → IsSome (accepted r)
 is_ok-accepted (Ok d) h = refl
 is_ok-accepted (Err rule) h = h
 
-pub command-turn : (turn : Turn) (w : Wish) (u : Option ℕ) (command : Command) (b b' : Ledger) → w.what ≡ whats.Command command → u ≡ caller b.history w → is_unauthorized u (whats.Command command) ≡ false
+pub command-turn : (turn : TurnResult) (w : Wish) (u : Option ℕ) (command : Command) (b b' : Ledger) → w.what ≡ whats.Command command → u ≡ caller b.history w
+    → is_unauthorized u (whats.Command command) ≡ false
     → JudgesCommand turn u command b b' → Turns turn w b b'
 command-turn (turns.Refused (refused.Rule rule)) w u command b b' is by may j = record {
   told_is = λ close. sym (append-nil (refusal_text (refused.Rule rule) (form_of w close))) ∙ told-command b.history w u command (Err rule) close is by may j.0;
@@ -114,13 +125,15 @@ command-turn (turns.Refused refused.BadBody) w u command b b' is by may j = absu
 command-turn (turns.Refused refused.KeeperFault) w u command b b' is by may j = absurd j
 command-turn (turns.Refused refused.NoMemory) w u command b b' is by may j = absurd j
 command-turn (turns.Accepted receipt) w u command b b' is by may j = record {
-  told_is = λ close. ap (λ x. receipt_text x (form_of w close)) j.0.receipt_is ∙ sym (append-nil (receipt_text j.0.drawn.receipt (form_of w close))) ∙ told-command b.history w u command (Ok j.0.drawn) close is by may j.0.judged;
+  told_is = λ close. ap (λ x. receipt_text x (form_of w close)) j.0.receipt_is ∙ sym (append-nil (receipt_text j.0.drawn.receipt (form_of w close)))
+      ∙ told-command b.history w u command (Ok j.0.drawn) close is by may j.0.judged;
   stepped = j.0.added ∙ sym (stepped-command b.history w u command (Ok j.0.drawn) is by may j.0.judged);
   steady = j.1;
 }
 command-turn (turns.Answered reply) w u command b b' is by may j = absurd j
 command-turn turns.Lost w u command b b' is by may j = (
-  subst (λ (o : Option Drawn). IsSome o) (sym (drawn-by b.history w u (whats.Command command) is by may)) (is_ok-accepted (judge u (view u b.history) command) j.0),
+  subst (λ (o : Option Drawn). IsSome o) (sym (drawn-by b.history w u (whats.Command command) is by may))
+      (is_ok-accepted (judge u (view u b.history) command) j.0),
   j.1,
   j.2,
 )
@@ -132,7 +145,8 @@ command-turn turns.OutOfMemory w u command b b' is by may j = (j.0, may-want b.h
 not_refused : (reply told : Reply) (rule : Rule) → (IsBrief reply → ⊥) → reply ≡ told → told ≡ replies.Refused rule → ⊥
 not_refused reply told rule long is e = long (subst IsBrief (sym (is ∙ e)) tt)
 
-pub query-turn : (turn : Turn) (w : Wish) (u : Option ℕ) (query : Query) (b : Ledger) → w.what ≡ whats.Query query → u ≡ caller b.history w → is_unauthorized u (whats.Query query) ≡ false
+pub query-turn : (turn : TurnResult) (w : Wish) (u : Option ℕ) (query : Query) (b : Ledger) → w.what ≡ whats.Query query → u ≡ caller b.history w
+    → is_unauthorized u (whats.Query query) ≡ false
     → AnswersQuery turn u query b.history → Turns turn w b b
 query-turn (turns.Refused r) w u query b is by may j = absurd j
 query-turn (turns.Accepted receipt) w u query b is by may j = absurd j
@@ -168,7 +182,8 @@ may-ask H w None what by may = may
 may-ask H w (Some v) what by may = caller-registered H w v (sym by)
 
 -- so she may ask
-pub may-query : (H : History) (w : Wish) (u : Option ℕ) (query : Query) → u ≡ caller H w → is_unauthorized u (whats.Query query) ≡ false → MayAsk H (query_wants_login query) u
+pub may-query : (H : History) (w : Wish) (u : Option ℕ) (query : Query) → u ≡ caller H w → is_unauthorized u (whats.Query query) ≡ false
+    → MayAsk H (query_wants_login query) u
 may-query H w u query by may = may-ask H w u (whats.Query query) by may
 
 is-user : (H : History) (u : Option ℕ) → MayAsk H true u → IsUser H u
@@ -176,6 +191,7 @@ is-user H None h = absurd (cc)
 is-user H (Some v) h = h
 
 -- nobody registers, and every other command is a registered user's
-pub caller-command : (H : History) (w : Wish) (u : Option ℕ) (command : Command) → w.what ≡ whats.Command command → u ≡ caller H w → is_unauthorized u (whats.Command command) ≡ false → IsCaller H u command
+pub caller-command : (H : History) (w : Wish) (u : Option ℕ) (command : Command) → w.what ≡ whats.Command command → u ≡ caller H w
+    → is_unauthorized u (whats.Command command) ≡ false → IsCaller H u command
 caller-command H w u (Register name digest) is by may = by ∙ ap (λ (x : What). cond (reads_credentials x) (user_told w.credentials H) None) is
 caller-command H w u command is by may = is-user H u (may-ask H w u (whats.Command command) by may)

@@ -1,5 +1,6 @@
 -- Wishes that are judged one after another.
-use Rattle.std.proofs.Common.{◌≡◌, ◌∙◌, ◌≤◌, ◌<◌, ◌^◌, ◌-◌, ℕ, ◌+◌, List, [], ◌∷◌, ◌++◌, length, Bool, true, false, cond, refl, sym, ap, subst, append_assoc, arith, zero, suc}
+use Rattle.std.proofs.Common.{◌≡◌, ◌∙◌, ◌≤◌, ◌<◌, ◌^◌, ◌-◌, ℕ, ◌+◌, List, [], ◌∷◌, ◌++◌, length, Bool, true, false, cond, refl, sym, ap, subst, append_assoc}
+use Rattle.std.proofs.Common.{arith, zero, suc}
 use Rattle.cr_session.specs.Replay.{JudgedWish, Ledger, Turned, CountsLoss, answer_to, answers, lost_count, Replays}
 
 pub answers-append : (n : ℕ) (js ks : List JudgedWish) → answers n (js ++ ks) ≡ answers n js ++ answers (n + length js) ks

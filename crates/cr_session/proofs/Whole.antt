@@ -35,12 +35,17 @@ begins_all : (came b rest : List ℕ) (ws : List Wish) → b ≡ came ++ rest �
 begins_all came b rest ws is s = subst (λ (t : List ℕ). Begins 0 t ws) (sym is) (Begins-more 0 came rest ws s)
 
 module _ {B : Type 0} (Judges : List JudgedWish → B → B → Type 0) (Lacks : Wish → B → B → Type 0) where
-  ends_whole : (ending : Ending) (came b rest : List ℕ) (left' : Option (List ℕ)) (answered : List JudgedWish) (failed : Option JudgedWish) (p p' : B) (s s' : Outlet)
-      → left' ≡ Some rest → b ≡ came ++ rest → EndsSource ending left' → EndsAs Judges Lacks ending 0 came came answered failed p p' s s' → EndsAs Judges Lacks ending 0 came b answered failed p p' s s'
+  ends_whole : (ending : Ending) (came b rest : List ℕ) (left' : Option (List ℕ)) (answered : List JudgedWish) (failed : Option JudgedWish) (p p' : B)
+      (s s' : Outlet)
+      → left' ≡ Some rest → b ≡ came ++ rest → EndsSource ending left' → EndsAs Judges Lacks ending 0 came came answered failed p p' s s'
+      → EndsAs Judges Lacks ending 0 came b answered failed p p' s s'
   ends_whole ending came b rest left' answered (Some j) p p' s s' told is end e = (e.0, begins_all came b rest (wishes_of (answered ++ j ∷ [])) is e.1, e.2)
-  ends_whole endings.Clean came b rest left' answered None p p' s s' told is end e = (spells_all came b rest left' (wishes_of answered) ended_clean told is end e.0, e.1)
-  ends_whole endings.Cut came b rest left' answered None p p' s s' told is end e = (spells_all came b rest left' (wishes_of answered) ended_cut told is end e.0, e.1)
-  ends_whole (endings.Closed whys.Asked) came b rest left' answered None p p' s s' told is end e = (spells_closed came b rest (wishes_of answered) asked is tt e.0, e.1)
+  ends_whole endings.Clean came b rest left' answered None p p' s s' told is end e =
+      (spells_all came b rest left' (wishes_of answered) ended_clean told is end e.0, e.1)
+  ends_whole endings.Cut came b rest left' answered None p p' s s' told is end e =
+      (spells_all came b rest left' (wishes_of answered) ended_cut told is end e.0, e.1)
+  ends_whole (endings.Closed whys.Asked) came b rest left' answered None p p' s s' told is end e =
+      (spells_closed came b rest (wishes_of answered) asked is tt e.0, e.1)
   ends_whole (endings.Closed (whys.Refused why)) came b rest left' answered None p p' s s' told is end e =
       (e.0, spells_closed came b rest (wishes_of answered) (closed why e.0) is tt e.1, e.2)
   ends_whole endings.ReadFault came b rest left' answered None p p' s s' told is end e = e
@@ -68,7 +73,8 @@ module _ {B : Type 0} (Judges : List JudgedWish → B → B → Type 0) (Lacks :
       by endings.OutOfMemory x = Reaches-begins 0 came (wishes_of answered) x.0 x.1
 
   module _ {S : Type 0} (left : S → Option (List ℕ)) (gives : S → S → List ℕ → Type 0) where
-    pub whole_text : (ending : Ending) (b : List ℕ) (w w' : World B S) → Connection Judges Lacks left gives ending 0 [] w w' → left w.source ≡ Some b → WholeText Judges Lacks left ending b w w'
+    pub whole_text : (ending : Ending) (b : List ℕ) (w w' : World B S) → Connection Judges Lacks left gives ending 0 [] w w' → left w.source ≡ Some b
+        → WholeText Judges Lacks left ending b w w'
     whole_text ending b w w' c told =
         let rest = told_rest (left w'.source) c.got b (sym told ∙ c.given) in
         record {
@@ -81,18 +87,22 @@ module _ {B : Type 0} (Judges : List JudgedWish → B → B → Type 0) (Lacks :
           judged = c.judged;
           turns = c.turns;
           settled = c.settled;
-          begins = begins_all c.got b rest.0 (wishes_of (c.answered ++ listed c.failed)) rest.2 (begins_judged ending c.got c.answered c.failed c.judged w'.state w.sink w'.sink c.ends);
+          begins = begins_all c.got b rest.0 (wishes_of (c.answered ++ listed c.failed)) rest.2
+              (begins_judged ending c.got c.answered c.failed c.judged w'.state w.sink w'.sink c.ends);
           ends = ends_whole ending c.got b rest.0 (left w'.source) c.answered c.failed c.judged w'.state w.sink w'.sink rest.1 rest.2 c.ended c.ends;
         }
 
     -- the causes of faults
-    pub read_rises : (ending : Ending) (n : ℕ) (i : List ℕ) (w w' : World B S) → Connection Judges Lacks left gives ending n i w w' → ending ≡ endings.ReadFault → Rises w.read_faults w'.read_faults
+    pub read_rises : (ending : Ending) (n : ℕ) (i : List ℕ) (w w' : World B S) → Connection Judges Lacks left gives ending n i w w'
+        → ending ≡ endings.ReadFault → Rises w.read_faults w'.read_faults
     read_rises ending n i w w' c is = (subst (λ (e : Ending). CountsReads e w.read_faults w'.read_faults) is c.counts).1
 
-    pub write_rises : (ending : Ending) (n : ℕ) (i : List ℕ) (w w' : World B S) → Connection Judges Lacks left gives ending n i w w' → ending ≡ endings.WriteFault → Rises w.sink.faults w'.sink.faults
+    pub write_rises : (ending : Ending) (n : ℕ) (i : List ℕ) (w w' : World B S) → Connection Judges Lacks left gives ending n i w w'
+        → ending ≡ endings.WriteFault → Rises w.sink.faults w'.sink.faults
     write_rises ending n i w w' c is =
         by c.failed (subst (λ (e : Ending). EndsAs Judges Lacks e n (i ++ c.got) (i ++ c.got) c.answered c.failed c.judged w'.state w.sink w'.sink) is c.ends)
       where
-        by : (failed : Option JudgedWish) → EndsAs Judges Lacks endings.WriteFault n (i ++ c.got) (i ++ c.got) c.answered failed c.judged w'.state w.sink w'.sink → Rises w.sink.faults w'.sink.faults
+        by : (failed : Option JudgedWish) → EndsAs Judges Lacks endings.WriteFault n (i ++ c.got)
+            (i ++ c.got) c.answered failed c.judged w'.state w.sink w'.sink → Rises w.sink.faults w'.sink.faults
         by (Some j) e = e.2.rises
         by None e = e.3.rises

@@ -69,12 +69,17 @@ pub reaches_on : (n : ℕ) (text rest rest' : List ℕ) (js ks : List JudgedWish
     → Reaches (n + length js) rest (wishes_of ks) rest' → Reaches n text (wishes_of (js ++ ks)) rest'
 reaches_on n text rest rest' js ks reach reaches =
     subst (λ (ws : List Wish). Reaches n text ws rest') (wishes_of-append js ks)
-    (reaches_wishes n text (wishes_of js) rest (wishes_of ks) rest' reach (subst (λ (k : ℕ). Reaches k rest (wishes_of ks) rest') (counted_wishes n js) reaches))
+    (reaches_wishes n text (wishes_of js) rest (wishes_of ks) rest' reach
+    (subst (λ (k : ℕ). Reaches k rest (wishes_of ks) rest') (counted_wishes n js) reaches))
 
 -- ---- bytes behind the text
 
 pub Spells-more : (n : ℕ) (text more : List ℕ) (ws : List Wish) (end : End) → IsClosing end → Spells n text ws end → Spells n (text ++ more) ws end
-Spells-more n text more ws end closing s = record { requests = s.requests; wish = s.wish; spells = spells_more closes_behind n text more s.requests end closing s.spells }
+Spells-more n text more ws end closing s = record {
+  requests = s.requests;
+  wish = s.wish;
+  spells = spells_more closes_behind n text more s.requests end closing s.spells;
+}
 
 pub Begins-more : (n : ℕ) (text more : List ℕ) (ws : List Wish) → Begins n text ws → Begins n (text ++ more) ws
 Begins-more n text more ws s = record { requests = s.requests; wish = s.wish; begins = begins_more closes_behind n text more s.requests s.begins }

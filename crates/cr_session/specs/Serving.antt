@@ -134,7 +134,8 @@ module _ {B : Type 0} (Judges : List JudgedWish → B → B → Type 0) (Lacks :
       × (head : Bool) × IsToHead rest head × TellsWantOfMemory (answers n answered) head s s'
 
   -- A connection from request number n on, with these bytes in the inbox, up to its ending.
-  pub record Connection {S : Type 0} (left : S → Option (List ℕ)) (gives : S → S → List ℕ → Type 0) (ending : Ending) (n : ℕ) (inbox : List ℕ) (w w' : World B S) : Type 0 where
+  pub record Connection {S : Type 0} (left : S → Option (List ℕ)) (gives : S → S → List ℕ → Type 0) (ending : Ending) (n : ℕ) (inbox : List ℕ)
+      (w w' : World B S) : Type 0 where
     -- the bytes that the source gave
     pub got : List ℕ
     pub given : left w.source ≡ and_left got (left w'.source)
@@ -151,7 +152,8 @@ module _ {B : Type 0} (Judges : List JudgedWish → B → B → Type 0) (Lacks :
     pub needed : ReadsNoFurther left gives n answered w.source w'.source inbox (inbox ++ got)
 
   -- The same up to a request that doesn't close, behind so many requests.
-  pub record GoesOn {S : Type 0} (left : S → Option (List ℕ)) (gives : S → S → List ℕ → Type 0) (count n : ℕ) (inbox inbox' : List ℕ) (w w' : World B S) : Type 0 where
+  pub record GoesOn {S : Type 0} (left : S → Option (List ℕ)) (gives : S → S → List ℕ → Type 0) (count n : ℕ) (inbox inbox' : List ℕ)
+      (w w' : World B S) : Type 0 where
     pub got : List ℕ
     pub given : left w.source ≡ and_left got (left w'.source)
     pub answered : List JudgedWish
@@ -178,7 +180,8 @@ module _ {B : Type 0} (Judges : List JudgedWish → B → B → Type 0) (Lacks :
 
 -- ---- the turns of a pass: between them others may take theirs
 
-abbrev pub ConnectionInHistory : {S : Type 0} → (S → Option (List ℕ)) → (S → S → List ℕ → Type 0) → Ending → ℕ → List ℕ → World KnownPass S → World KnownPass S → Type 0
+abbrev pub ConnectionInHistory : {S : Type 0} → (S → Option (List ℕ)) → (S → S → List ℕ → Type 0) → Ending → ℕ → List ℕ → World KnownPass S → World KnownPass S
+    → Type 0
 ConnectionInHistory left gives ending n inbox w w' = Connection TakesTurns TurnsInVain left gives ending n inbox w w'
 
 -- the same of the whole text that the source had left
@@ -186,11 +189,13 @@ abbrev pub WholeInHistory : {S : Type 0} → (S → Option (List ℕ)) → Endin
 WholeInHistory left ending b w w' = WholeText TakesTurns TurnsInVain left ending b w w'
 
 -- up to a request that doesn't close
-abbrev pub GoesOnInHistory : {S : Type 0} → (S → Option (List ℕ)) → (S → S → List ℕ → Type 0) → ℕ → ℕ → List ℕ → List ℕ → World KnownPass S → World KnownPass S → Type 0
+abbrev pub GoesOnInHistory : {S : Type 0} → (S → Option (List ℕ)) → (S → S → List ℕ → Type 0) → ℕ → ℕ → List ℕ → List ℕ → World KnownPass S → World KnownPass S
+    → Type 0
 GoesOnInHistory left gives count n inbox inbox' w w' = GoesOn TakesTurns TurnsInVain left gives count n inbox inbox' w w'
 
 -- what one round of the loop did
-abbrev pub OneRound : {S : Type 0} → (S → Option (List ℕ)) → (S → S → List ℕ → Type 0) → Option Ending → ℕ → List ℕ → List ℕ → World KnownPass S → World KnownPass S → Type 0
+abbrev pub OneRound : {S : Type 0} → (S → Option (List ℕ)) → (S → S → List ℕ → Type 0) → Option Ending → ℕ → List ℕ → List ℕ → World KnownPass S
+    → World KnownPass S → Type 0
 OneRound left gives None n inbox inbox' w w' = GoesOnInHistory left gives 1 n inbox inbox' w w'
 OneRound left gives (Some ending) n inbox inbox' w w' = ConnectionInHistory left gives ending n inbox w w'
 

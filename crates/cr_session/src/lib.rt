@@ -7,5 +7,5 @@ mod serve;
 mod turn;
 
 pub use laws::{law_counted_faults, law_marked_losses, law_two_runs};
-pub use reading::{Inbox, WishRead, read_wish};
+pub use reading::{RoutedInbox, WishRead, read_wish};
 pub use serve::{Ending, Why, note_no_memory, serve_connection};

@@ -3,7 +3,7 @@ ghost use Rattle.std.specs.Prelude.{◌≡◌, ◌≢◌, ◌≤◌, [], IfOk, I
 ghost use Rattle.cr_ports.specs.Count.{Rises};
 ghost use Rattle.cr_session.specs.Reading.{ReadsWish, IsBoundedRead, IsAtHand};
 
-use cr_http::{Refusal, Request, RequestRead, read_request};
+use cr_http::{Inbox, Refusal, Request, RequestRead, read_request};
 use cr_ports::Source;
 use cr_routes::Routes;
 use cr_wire::{Wish, wish_of};
@@ -14,12 +14,12 @@ use std::marker::Model;
 ///
 /// Contracts see the bytes that were read and not used.
 #[derive(Drop)]
-pub struct Inbox {
-    requests: cr_http::Inbox,
+pub struct RoutedInbox {
+    requests: Inbox,
     routes: Routes,
 }
 
-impl Model for Inbox {
+impl Model for RoutedInbox {
     ghost use Rattle.std.specs.Prelude.{List, ℕ};
 
     ghost Value = { List ℕ };
@@ -27,13 +27,13 @@ impl Model for Inbox {
     ghost view = { λ i. i.requests.rest };
 }
 
-impl Inbox {
+impl RoutedInbox {
     /// An inbox with no bytes; an error only for lack of memory, which the router takes.
-    pub fn new(alloc: Global) -> Result<Inbox, AllocError>
+    pub fn new(alloc: Global) -> Result<RoutedInbox, AllocError>
         ensures { IfOk result (λ inbox. inbox ≡ []) }
     {
-        Ok(Inbox {
-            requests: cr_http::Inbox::new(alloc),
+        Ok(RoutedInbox {
+            requests: Inbox::new(alloc),
             routes: Routes::new(alloc)?,
         })
     }
@@ -73,7 +73,7 @@ pub enum WishRead {
 /// value, and with every other answer that count is as it was. `OutOfMemory` comes for lack of memory
 /// alone, and only where more bytes are needed or a body is looked at. Costs the reads, a few looks at
 /// each byte of the head, and one reading of a JSON body where one is wanted.
-pub fn read_wish<S: Source>(alloc: Global, source: &mut S, inbox: &mut Inbox) -> WishRead
+pub fn read_wish<S: Source>(alloc: Global, source: &mut S, inbox: &mut RoutedInbox) -> WishRead
     ensures reads { ReadsWish S.left S.read_gives source.old source.new inbox.old inbox.new result }
     ensures bounded { IsBoundedRead result }
     ensures count { S.faults source.old ≤ S.faults source.new }
@@ -92,7 +92,7 @@ pub fn read_wish<S: Source>(alloc: Global, source: &mut S, inbox: &mut Inbox) ->
 }
 
 /// The wish of the request that the inbox lends.
-fn wish_at_hand(alloc: Global, routes: &Routes, requests: &cr_http::Inbox) -> WishRead
+fn wish_at_hand(alloc: Global, routes: &Routes, requests: &Inbox) -> WishRead
     requires { IsSome requests.now.request }
     ensures wish { IsAtHand result requests.now.request }
     ensures bounded { IsBoundedRead result }

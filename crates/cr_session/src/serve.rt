@@ -8,8 +8,8 @@ ghost use Rattle.cr_session.specs.Serving.{ConnectionInHistory, TellsWantOfMemor
 ghost use Rattle.cr_session.specs.Turning.{Sends, ServesRequest};
 ghost use Rattle.cr_ports.specs.Writing.{outlet_of};
 
-use crate::reading::{Inbox, WishRead, read_wish};
-use crate::turn::{Turn, block_of, in_turn, print_turn};
+use crate::reading::{RoutedInbox, WishRead, read_wish};
+use crate::turn::{TurnResult, block_of, in_turn, print_turn};
 use cr_book::Book;
 use cr_http::Refusal;
 use cr_lock::{HistoryLock, Pass};
@@ -47,7 +47,7 @@ pub enum Ending {
 
 /// What became of one request.
 #[derive(Clone, Copy, Debug, PartialEq, Eq)]
-pub enum Served {
+pub enum RequestOutcome {
     /// It was answered, and the connection goes on.
     Goes,
     /// It was answered, and the connection closes.
@@ -77,7 +77,7 @@ fn serve_request<R: Wait, K: Keeper, O: Sink>(
     reply: &mut Vec<u8>,
     wish: Wish,
     number: usize,
-) -> Served
+) -> RequestOutcome
     requires own { pass.old.lock ≡ lock.now.lock }
     requires few { pass.old.turns < 2 ^ 40 }
     requires bounded { IsBoundedWhat wish.what }
@@ -93,27 +93,27 @@ fn serve_request<R: Wait, K: Keeper, O: Sink>(
     };
     reply.clear();
     let turn = in_turn(rt, lock, pass, wish);
-    if let Turn::OutOfMemory = turn {
-        return Served::OutOfMemory;
+    if let TurnResult::OutOfMemory = turn {
+        return RequestOutcome::OutOfMemory;
     }
     match print_turn(reply, &turn, form) {
         Ok(()) => send(sink, reply, block_of(&turn, form), close),
-        Err(_) => Served::OutOfMemory,
+        Err(_) => RequestOutcome::OutOfMemory,
     }
 }
 
 /// Writes an answer: what was printed of it, and what stands behind that, which isn't copied.
-fn send<O: Sink>(sink: &mut O, front: &[u8], block: &[u8], close: bool) -> Served
+fn send<O: Sink>(sink: &mut O, front: &[u8], block: &[u8], close: bool) -> RequestOutcome
     ensures { Sends result close (front.now ++ block.now) (outlet_of O.taken O.faults sink.old) (outlet_of O.taken O.faults sink.new) }
 {
     match write_all(sink, front) {
-        Err(_) => return Served::WriteFault,
+        Err(_) => return RequestOutcome::WriteFault,
         Ok(()) => {}
     }
     match write_all(sink, block) {
-        Err(_) => Served::WriteFault,
-        Ok(()) if close => Served::Closes,
-        Ok(()) => Served::Goes,
+        Err(_) => RequestOutcome::WriteFault,
+        Ok(()) if close => RequestOutcome::Closes,
+        Ok(()) => RequestOutcome::Goes,
     }
 }
 
@@ -152,7 +152,7 @@ fn serve_next<R: Wait, K: Keeper, S: Source, O: Sink>(
     pass: &mut Pass<Book<K>>,
     source: &mut S,
     sink: &mut O,
-    inbox: &mut Inbox,
+    inbox: &mut RoutedInbox,
     reply: &mut Vec<u8>,
     number: usize,
 ) -> Option<Ending>
@@ -168,10 +168,10 @@ fn serve_next<R: Wait, K: Keeper, S: Source, O: Sink>(
         WishRead::Wish(wish) => {
             let is_head = wish.is_head;
             match serve_request(rt, lock, pass, sink, reply, wish, number) {
-                Served::Goes => None,
-                Served::Closes => Some(Ending::Closed(Why::Asked)),
-                Served::WriteFault => Some(Ending::WriteFault),
-                Served::OutOfMemory => Some(note_no_memory(sink, is_head)),
+                RequestOutcome::Goes => None,
+                RequestOutcome::Closes => Some(Ending::Closed(Why::Asked)),
+                RequestOutcome::WriteFault => Some(Ending::WriteFault),
+                RequestOutcome::OutOfMemory => Some(note_no_memory(sink, is_head)),
             }
         }
         WishRead::Malformed { why, is_head } => Some(refuse(sink, reply, why, is_head)),
@@ -222,7 +222,7 @@ pub fn serve_connection<R: Wait, K: Keeper, S: Source, O: Sink>(
     ensures read_fault { result ≡ Ending.ReadFault → Rises (S.faults source.old) (S.faults source.new) }
     ensures write_fault { result ≡ Ending.WriteFault → Rises (O.faults sink.old) (O.faults sink.new) }
 {
-    let Ok(mut inbox) = Inbox::new(alloc) else {
+    let Ok(mut inbox) = RoutedInbox::new(alloc) else {
         return note_no_memory(sink, false);
     };
     let Ok(mut reply) = Vec::with_capacity(alloc, ANSWER_ROOM) else {

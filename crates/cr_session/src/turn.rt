@@ -22,7 +22,7 @@ use std::sync::Wait;
 
 /// What a turn came to.
 #[derive(Drop)]
-pub(crate) enum Turn {
+pub(crate) enum TurnResult {
     /// The request is refused.
     Refused(Refused),
     /// The command was accepted, kept and applied.
@@ -41,7 +41,7 @@ pub(crate) fn in_turn<R: Wait, K: Keeper>(
     lock: &HistoryLock<Book<K>>,
     pass: &mut Pass<Book<K>>,
     wish: Wish,
-) -> Turn
+) -> TurnResult
     requires own { pass.old.lock ≡ lock.now.lock }
     requires few { pass.old.turns < 2 ^ 40 }
     requires bounded { IsBoundedWhat wish.what }
@@ -53,22 +53,22 @@ pub(crate) fn in_turn<R: Wait, K: Keeper>(
     lock.turn(rt, pass, |book: &mut Book<K>| take_turn(book, wish))
 }
 
-/// Judges or answers a wish. Takes no memory on a refusal: `Turn::OutOfMemory` comes only for a command
+/// Judges or answers a wish. Takes no memory on a refusal: `TurnResult::OutOfMemory` comes only for a command
 /// that is accepted and for a query that isn't refused, and then nothing changed. Who calls is asked first, by one look-up
 /// by name; whoever can't be told from nobody is refused alike where a login is wanted.
-pub(crate) fn take_turn<K: Keeper>(book: &mut Book<K>, wish: Wish) -> Turn
+pub(crate) fn take_turn<K: Keeper>(book: &mut Book<K>, wish: Wish) -> TurnResult
     requires { IsBoundedWhat wish.what }
     ensures { Turns result wish (ledger_of K.faults book.old) (ledger_of K.faults book.new) }
 {
     let caller = caller_of(book, &wish);
     if is_unauthorized(book, &caller, &wish.what) {
-        return Turn::Refused(Refused::Unauthorized);
+        return TurnResult::Refused(Refused::Unauthorized);
     }
     let what = wish.what;
     match what {
-        What::NoRoute => Turn::Refused(Refused::NoRoute),
-        What::WrongMethod(place) => Turn::Refused(Refused::WrongMethod(place)),
-        What::BadBody(_) => Turn::Refused(Refused::BadBody),
+        What::NoRoute => TurnResult::Refused(Refused::NoRoute),
+        What::WrongMethod(place) => TurnResult::Refused(Refused::WrongMethod(place)),
+        What::BadBody(_) => TurnResult::Refused(Refused::BadBody),
         What::Command(command) => judge(book, &caller, command),
         What::Query(query) => answer(book, &caller, &query),
     }
@@ -97,33 +97,37 @@ fn caller_of<K: Keeper>(book: &Book<K>, wish: &Wish) -> Option<UserNo>
 }
 
 /// Judges a command.
-fn judge<K: Keeper>(book: &mut Book<K>, caller: &Option<UserNo>, command: Command) -> Turn
+fn judge<K: Keeper>(book: &mut Book<K>, caller: &Option<UserNo>, command: Command) -> TurnResult
     requires { IsAllowed book.old.log (record { caller = caller.now; command = command }) }
     ensures { JudgesCommand result caller.now command (ledger_of K.faults book.old) (ledger_of K.faults book.new) }
 {
     match book.command(caller, command) {
-        Ok(receipt) => Turn::Accepted(receipt),
-        Err(BookError::Rule(rule)) => Turn::Refused(Refused::Rule(rule)),
-        Err(BookError::KeeperFault) => Turn::Lost,
-        Err(BookError::OutOfMemory) => Turn::OutOfMemory,
+        Ok(receipt) => TurnResult::Accepted(receipt),
+        Err(BookError::Rule(rule)) => TurnResult::Refused(Refused::Rule(rule)),
+        Err(BookError::KeeperFault) => TurnResult::Lost,
+        Err(BookError::OutOfMemory) => TurnResult::OutOfMemory,
     }
 }
 
 /// Answers a query.
-fn answer<K: Keeper>(book: &Book<K>, caller: &Option<UserNo>, query: &Query) -> Turn
+fn answer<K: Keeper>(book: &Book<K>, caller: &Option<UserNo>, query: &Query) -> TurnResult
     requires { MayAsk book.now.log (query_wants_login query.now) caller.now }
     ensures { AnswersQuery result caller.now query.now book.now.log }
 {
     match book.answer(caller, query) {
-        Ok(reply) => Turn::Answered(reply),
-        Err(AnswerError::Rule(rule)) => Turn::Answered(Reply::Refused(rule)),
-        Err(AnswerError::OutOfMemory) => Turn::OutOfMemory,
+        Ok(reply) => TurnResult::Answered(reply),
+        Err(AnswerError::Rule(rule)) => TurnResult::Answered(Reply::Refused(rule)),
+        Err(AnswerError::OutOfMemory) => TurnResult::OutOfMemory,
     }
 }
 
 /// Appends the answer to what a turn came to, but for what `block_of` lends: only a query's answer may want more memory than
 /// the room that was made before, and none of those that are bounded. The room never gets smaller.
-pub(crate) fn print_turn(reply: &mut Vec<u8>, turn: &Turn, form: Form) -> Result<(), AllocError>
+pub(crate) fn print_turn(
+    reply: &mut Vec<u8>,
+    turn: &TurnResult,
+    form: Form,
+) -> Result<(), AllocError>
     requires empty { reply.old.items ≡ [] }
     requires room { HasRoom reply.old 512 }
     ensures ok { OnOk result (reply.new.items ≡ turn_front turn.now form) }
@@ -131,21 +135,21 @@ pub(crate) fn print_turn(reply: &mut Vec<u8>, turn: &Turn, form: Form) -> Result
     ensures kept { vec_capacity reply.old ≤ vec_capacity reply.new }
 {
     match turn {
-        Turn::Refused(refused) => print_refusal(reply, *refused, form),
-        Turn::Accepted(receipt) => print_receipt(reply, receipt, form),
-        Turn::Answered(answer) => return print_reply(reply, answer, form),
-        Turn::Lost => print_refusal(reply, Refused::KeeperFault, form),
-        Turn::OutOfMemory => {}
+        TurnResult::Refused(refused) => print_refusal(reply, *refused, form),
+        TurnResult::Accepted(receipt) => print_receipt(reply, receipt, form),
+        TurnResult::Answered(answer) => return print_reply(reply, answer, form),
+        TurnResult::Lost => print_refusal(reply, Refused::KeeperFault, form),
+        TurnResult::OutOfMemory => {}
     }
     Ok(())
 }
 
 /// What is written behind that, lent from where it is kept: a paper's content.
-pub(crate) fn block_of(turn: &Turn, form: Form) -> &[u8]
+pub(crate) fn block_of(turn: &TurnResult, form: Form) -> &[u8]
     ensures { result.now ≡ turn_block turn.now form }
 {
     match turn {
-        Turn::Answered(reply) => block(reply, form),
+        TurnResult::Answered(reply) => block(reply, form),
         _ => &[],
     }
 }

@@ -1,5 +1,6 @@
 -- Where nothing fails, everything that the bytes spell is answered.
-use Rattle.std.proofs.Common.{◌≡◌, ◌∙◌, ◌⊎◌, ◌+◌, ℕ, List, [], ◌∷◌, ◌++◌, Bool, true, false, cond, Some, None, refl, sym, ap, subst, inl, inr, append-nil, arith}
+use Rattle.std.proofs.Common.{◌≡◌, ◌∙◌, ◌⊎◌, ◌+◌, ℕ, List, [], ◌∷◌, ◌++◌, Bool, true, false, cond, Some, None, refl, sym, ap, subst, inl, inr, append-nil}
+use Rattle.std.proofs.Common.{arith}
 use Rattle.std.specs.Prelude.{◌<◌, ◌-◌, ◌^◌, Option, nat_lt}
 use Rattle.cr_base.specs.Lists.{listed}
 use Rattle.cr_base.specs.declared.row.Row.{Row}
@@ -53,7 +54,8 @@ answers-told n b b' (j ∷ js) r none =
     ∙ ap (λ (texts : List ℕ). told b.history j.wish (closes n j.wish) ++ texts)
     (answers-told (n + 1) r.0 b' js r.2 zero.1 ∙ ap (λ (h : History). told_along (n + 1) h (wishes_of js)) (stepped j b r.0 r.1 zero.0))
 
-pub leads-steps : (b b' : Ledger) (judged : List JudgedWish) → Replays judged b b' → lost_count judged ≡ 0 → b'.history ≡ steps_along b.history (wishes_of judged)
+pub leads-steps : (b b' : Ledger) (judged : List JudgedWish) → Replays judged b b' → lost_count judged ≡ 0
+    → b'.history ≡ steps_along b.history (wishes_of judged)
 leads-steps b b' [] r none = ap (λ (x : Ledger). x.history) r
 leads-steps b b' (j ∷ js) r none =
     let zero = is_zero j.lost (lost_count js) none in
@@ -92,7 +94,8 @@ ended endings.WriteFault came b answered None p q s s' f g read written counts e
 ended endings.OutOfMemory came b answered None p q s s' f g read written counts e = inl refl
 
 module _ {I : Type 0} (opening : History) where
-  answered : (exit : Exit) (b : List ℕ) (judged : List JudgedWish) (o o' : Outside I) (b0 b1 : Ledger) → b0.history ≡ opening → Legal b1.history → Replays judged b0 b1 → lost_count judged ≡ 0
+  answered : (exit : Exit) (b : List ℕ) (judged : List JudgedWish) (o o' : Outside I) (b0 b1 : Ledger) → b0.history ≡ opening → Legal b1.history
+      → Replays judged b0 b1 → lost_count judged ≡ 0
       → Answered exit b judged o.output o'.output → AnswersAll opening exit b o o'
   answered exit b judged o o' b0 b1 opens legal r none a = record {
     wishes = wishes_of judged;
@@ -130,13 +133,15 @@ nothing_lost judged b b' r idle = last (nat_lt b'.faults (2 ^ 64 - 1)) refl
     last true e = count (below_last b'.faults e) (nat_lt b.faults b'.faults) refl
     last false e = absurd (idle (λ lt. absurd (not_below b'.faults (2 ^ 64 - 1) e lt)))
 
-pub pipe_answers : {K I : Type 0} (rows : K → Option (List Row)) (faults : K → ℕ) (left : I → Option (List ℕ)) (gives : I → I → List ℕ → Type 0) (opening : History) (ending : Ending) (keeper keeper' : K) (b : List ℕ) (o o' : Outside I)
+pub pipe_answers : {K I : Type 0} (rows : K → Option (List Row)) (faults : K → ℕ) (left : I → Option (List ℕ)) (gives : I → I → List ℕ → Type 0)
+    (opening : History) (ending : Ending) (keeper keeper' : K) (b : List ℕ) (o o' : Outside I)
     → Pipes rows faults left gives opening ending keeper keeper' o o' → left o.input ≡ Some b → IsFaultless o o' → (Rises (faults keeper) (faults keeper') → ⊥)
     → (exit_of ending ≡ exits.OutOfMemory) ⊎ AnswersAll opening (exit_of ending) b o o'
 pipe_answers rows faults left gives opening ending keeper keeper' b o o' p told faultless idle =
     let text = p.whole b told in
     by text.answered text.failed (replayed_whole left ending b (world o opening (faults keeper)) (world o' p.history (faults keeper')) text)
-    (ended ending text.came b text.answered text.failed text.judged b1 o.output o'.output o.read_faults o'.read_faults faultless.read faultless.written p.connection.counts text.ends)
+    (ended ending text.came b text.answered text.failed text.judged b1 o.output o'.output o.read_faults o'.read_faults faultless.read faultless.written
+    p.connection.counts text.ends)
   where
     b0 : Ledger
     b0 = record { history = opening; faults = faults keeper }
@@ -144,9 +149,11 @@ pipe_answers rows faults left gives opening ending keeper keeper' b o o' p told 
     b1 : Ledger
     b1 = record { history = p.history; faults = faults keeper' }
 
-    by : (js : List JudgedWish) (failed : Option JudgedWish) → Replays (js ++ listed failed) b0 b1 → (exit_of ending ≡ exits.OutOfMemory) ⊎ (Answered (exit_of ending) b js o.output o'.output × (failed ≡ None))
+    by : (js : List JudgedWish) (failed : Option JudgedWish) → Replays (js ++ listed failed) b0 b1
+        → (exit_of ending ≡ exits.OutOfMemory) ⊎ (Answered (exit_of ending) b js o.output o'.output × (failed ≡ None))
         → (exit_of ending ≡ exits.OutOfMemory) ⊎ AnswersAll opening (exit_of ending) b o o'
     by js failed r (inl e) = inl e
     by js failed r (inr a) =
-        let all : Replays js b0 b1 = subst (λ (xs : List JudgedWish). Replays xs b0 b1) (append-nil js) (subst (λ (x : Option JudgedWish). Replays (js ++ listed x) b0 b1) a.1 r) in
+        let all : Replays js b0 b1 = subst (λ (xs : List JudgedWish). Replays xs b0 b1) (append-nil js)
+        (subst (λ (x : Option JudgedWish). Replays (js ++ listed x) b0 b1) a.1 r) in
         inr (answered opening (exit_of ending) b js o o' b0 b1 refl p.legal all (nothing_lost js b0 b1 all idle) a.0)

@@ -1,5 +1,6 @@
 -- Doors that workers served: what is told of them, by how the workers ended.
-use Rattle.std.proofs.Common.{◌≡◌, ◌≢◌, ◌∙◌, ℕ, ◌+◌, ◌-◌, ◌^◌, ◌<◌, ◌≤◌, ◌⊎◌, inl, inr, List, [], ◌∷◌, ◌++◌, length, map, Bool, false, Option, Some, None, refl, sym, ap, ap₂, subst, arith}
+use Rattle.std.proofs.Common.{◌≡◌, ◌≢◌, ◌∙◌, ℕ, ◌+◌, ◌-◌, ◌^◌, ◌<◌, ◌≤◌, ◌⊎◌, inl, inr, List, [], ◌∷◌, ◌++◌, length, map, Bool, false, Option, Some, None, refl}
+use Rattle.std.proofs.Common.{sym, ap, ap₂, subst, arith}
 use Rattle.std.specs.Prelude.{All, IfSome, IsFalse, sum, sum_by}
 use Rattle.std.proofs.lemmas.List.Elements.{All-nil, All-cons, All-head, All-tail}
 use Rattle.std.proofs.lemmas.List.Sums.{sum_by-cons}
@@ -15,7 +16,7 @@ use Rattle.cr_workers.specs.declared.worked.Worked.{Worked}
 use Rattle.cr_workers.specs.declared.worked.Worked.TheVariants as worked
 use Rattle.cr_workers.specs.declared.worker.Last.TheVariants as lasts
 use Rattle.cr_workers.proofs.Grown.{append-nil, every-append}
-use Rattle.cr_top.specs.Serves.{IsNew, EndsBy, AreTold}
+use Rattle.cr_top.specs.Serves.{IsNew, DoorEndsBy, AreDoorsTold}
 
 -- ---- all of a list
 
@@ -87,7 +88,8 @@ module _ {I O : Type 0} where
   back-one worked.OutOfMemory w (inr (inl x)) b = x.2.back
   back-one worked.OutOfMemory w (inr (inr x)) b = ap (λ (d : SeenDoor I O). d.is_out) x.1 ∙ b
 
-  pub back-works : (ended : Worked) (ws : List (DoorWork I O)) → Every (IsWorkedOn ended) ws → Every IsNew (befores ws) → Every (λ (d : SeenDoor I O). d.is_out ≡ false) (afters ws)
+  pub back-works : (ended : Worked) (ws : List (DoorWork I O)) → Every (IsWorkedOn ended) ws → Every IsNew (befores ws)
+      → Every (λ (d : SeenDoor I O). d.is_out ≡ false) (afters ws)
   back-works ended [] each new = tt
   back-works ended (w ∷ ws) each new = (back-one ended w each.0 new.0.back, back-works ended ws each.1 new.1)
 
@@ -105,7 +107,8 @@ module _ {I O : Type 0} where
       let is : c ≡ l = cc (e) in
       ap (λ (z : DoorLog I O). z.served) (sym is) ∙ (y ∙ (sym (append-nil b.served) ∙ (x ∙ ap (λ (z : DoorLog I O). z.served ++ ends_of cs) new)))
 
-  served-one : (ended : Worked) (w : DoorWork I O) (l : DoorLog I O) → IsWorkedOn ended w → IsNew w.before → w.after.log ≡ Some l → l.served ≡ ends_of w.connections
+  served-one : (ended : Worked) (w : DoorWork I O) (l : DoorLog I O) → IsWorkedOn ended w → IsNew w.before → w.after.log ≡ Some l
+      → l.served ≡ ends_of w.connections
   served-one worked.Done w l is new e = more-then w.connections w.before.log is.0.0.log w.after.log l new.log is.0.1.log is.0.2.log e
   served-one worked.DoorFailed w l (inl x, none) new e = more-then w.connections w.before.log x.0.log w.after.log l new.log x.1.log x.2.log e
   served-one worked.DoorFailed w l (inr x, none) new e = more-then w.connections w.before.log x.0.log w.after.log l new.log x.1.log x.2.log e
@@ -116,14 +119,14 @@ module _ {I O : Type 0} where
       let fresh : l ≡ unasked = subst (λ (o : Option (DoorLog I O)). IfSome o (λ log. log ≡ unasked)) told new.log in
       ap (λ (z : DoorLog I O). z.served) fresh ∙ ap (λ (cs : List (ServedConnection I O)). ends_of cs) (sym x.0)
 
-  last-one : (ended : Worked) (w : DoorWork I O) (l : DoorLog I O) → IsWorkedOn ended w → w.after.log ≡ Some l → EndsBy ended l
+  last-one : (ended : Worked) (w : DoorWork I O) (l : DoorLog I O) → IsWorkedOn ended w → w.after.log ≡ Some l → DoorEndsBy ended l
   last-one worked.Done w l is e = subst (λ (o : Option (DoorLog I O)). TellsLast answers.Done o) e is.0.2.by.3
   last-one worked.DoorFailed w l (inl x, none) e = inl (subst (λ (o : Option (DoorLog I O)). TellsLast answers.Done o) e x.2.by.3)
   last-one worked.DoorFailed w l (inr x, none) e = inr (subst (λ (o : Option (DoorLog I O)). TellsLast answers.Failed o) e x.2.by.2)
   last-one worked.OutOfMemory w l is e = tt
 
   pub are-told : (ended : Worked) (ws : List (DoorWork I O)) (logs : List (DoorLog I O)) → Every (IsWorkedOn ended) ws → Every IsNew (befores ws)
-      → map (λ (d : SeenDoor I O). d.log) (afters ws) ≡ map Some logs → AreTold ended ws logs
+      → map (λ (d : SeenDoor I O). d.log) (afters ws) ≡ map Some logs → AreDoorsTold ended ws logs
   are-told ended [] [] each new e = record { served = refl; last = tt }
   are-told ended [] (l ∷ ls) each new e = absurd (cc (e))
   are-told ended (w ∷ ws) [] each new e = absurd (cc (e))
@@ -140,7 +143,8 @@ module _ {I O : Type 0} where
   counts-one : (w : DoorWork I O) → IsWorkedOn worked.Done w → length w.connections ≡ w.before.left
   counts-one w is = (let n = is.0.1.left in let z = is.0.2.by.0 in omega (arith, n, z))
 
-  pub counts-all : (ws : List (DoorWork I O)) → Every (IsWorkedOn worked.Done) ws → map (λ (w : DoorWork I O). length w.connections) ws ≡ map (λ (d : SeenDoor I O). d.left) (befores ws)
+  pub counts-all : (ws : List (DoorWork I O)) → Every (IsWorkedOn worked.Done) ws
+      → map (λ (w : DoorWork I O). length w.connections) ws ≡ map (λ (d : SeenDoor I O). d.left) (befores ws)
   counts-all [] each = refl
   counts-all (w ∷ ws) each = ap₂ (λ (n : ℕ) (ns : List ℕ). n ∷ ns) (counts-one w each.0) (counts-all ws each.1)
 
@@ -152,7 +156,8 @@ module _ {I O : Type 0} where
   pub none-all : (ended : Worked) → ended ≢ worked.OutOfMemory → (ws : List (DoorWork I O)) → Every (IsWorkedOn ended) ws → NoneLacked (connections_of ws)
   none-all ended some [] each = tt
   none-all ended some (w ∷ ws) each =
-      every-append (λ (c : ServedConnection I O). lacks c.ending ≡ false) w.connections (connections_of ws) (none-one ended some w each.0) (none-all ended some ws each.1)
+      every-append (λ (c : ServedConnection I O). lacks c.ending ≡ false) w.connections (connections_of ws) (none-one ended some w each.0)
+      (none-all ended some ws each.1)
 
   -- ---- faults
 

@@ -32,7 +32,8 @@ pub told_end : (r : Result (Unit {0}) WriteFault) (n : ℕ) (s t u v : Outlet) �
 told_end (Ok x) n s t u v a b whole failed = line-whole n s t u v a b whole
 told_end (Err e) n s t u v a b whole failed = line-no_end n s t u v a b failed
 
-pub told_no_number : (r : Result (Unit {0}) WriteFault) (n : ℕ) (s t u : Outlet) → IsErr r → Writes (codes "entries ") s t → BreaksOff [] (decimal n) t u → TellsEntries (is_ok r) n s u
+pub told_no_number : (r : Result (Unit {0}) WriteFault) (n : ℕ) (s t u : Outlet) → IsErr r → Writes (codes "entries ") s t → BreaksOff [] (decimal n) t u
+    → TellsEntries (is_ok r) n s u
 told_no_number (Ok x) n s t u is a b = absurd (cc (is))
 told_no_number (Err e) n s t u is a b = line-no_number n s t u a b
 

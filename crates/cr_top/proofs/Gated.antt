@@ -1,5 +1,6 @@
 -- Gates that were opened over a store, and what the exits of serving tell.
-use Rattle.std.proofs.Common.{◌≡◌, ◌≢◌, ◌∙◌, ℕ, ◌*◌, ◌^◌, ◌+◌, ◌≤◌, ◌<◌, ◌⊎◌, inl, inr, List, [], ◌∷◌, length, map, Bool, true, false, Option, Some, None, refl, sym, ap, subst, arith}
+use Rattle.std.proofs.Common.{◌≡◌, ◌≢◌, ◌∙◌, ℕ, ◌*◌, ◌^◌, ◌+◌, ◌≤◌, ◌<◌, ◌⊎◌, inl, inr, List, [], ◌∷◌, length, map, Bool, true, false, Option, Some, None, refl}
+use Rattle.std.proofs.Common.{sym, ap, subst, arith}
 use Rattle.std.specs.Prelude.{All, IfSome, IsFalse, sum, sum_by}
 use Rattle.std.proofs.lemmas.List.{length-map}
 use Rattle.cr_base.specs.declared.row.Row.{Row}
@@ -16,14 +17,14 @@ use Rattle.cr_book.specs.Seen.{SeenBook}
 use Rattle.cr_book.specs.Sound.{IsKept}
 use Rattle.cr_session.specs.Replay.{Ledger, ledger_of}
 use Rattle.cr_workers.specs.Connections.{Streams, ServedConnection}
-use Rattle.cr_workers.specs.Doors.{SeenDoor, DoorWork, IsWorkedOn, HasCause, connections_of, door_of}
+use Rattle.cr_workers.specs.Doors.{SeenDoor, DoorWork, IsWorkedOn, HasFailedDoor, connections_of, door_of}
 use Rattle.cr_workers.specs.OneHistory.{ServesHistory}
 use Rattle.cr_workers.specs.declared.worked.Worked.{Worked}
 use Rattle.cr_workers.specs.declared.worked.Worked.TheVariants as worked
 use Rattle.cr_top.specs.declared.exit.Exit.{Exit}
 use Rattle.cr_top.specs.declared.exit.Exit.TheVariants as exits
 use Rattle.cr_top.specs.Exits.{exit_of_workers}
-use Rattle.cr_top.specs.Serves.{GatesState, IsNew, AreTold, TellsEntries, ServesMany, ServesGates, StaysClosed, IsWhyClosed, lost_in}
+use Rattle.cr_top.specs.Serves.{GatesState, IsNew, AreDoorsTold, TellsEntries, ServesMany, ServesGates, StaysClosed, IsWhyClosed, lost_in}
 use Rattle.cr_top.specs.Stores.{Files, ShelfState, OpensStore, IsWhyShut}
 use Rattle.cr_top.proofs.Doors.{all-of, are-told, back-works, counts-all, every-seen, failed-counts, map-seen, none-all, total-seen, total-sum}
 use Rattle.cr_top.proofs.Lost.{lost-count}
@@ -32,7 +33,8 @@ use Rattle.cr_top.proofs.Stored.{count-now, last-rows, opens-or-memory, risen, s
 -- ---- doors that were shut
 
 -- none has a connection out
-pub doors-back : {I O : Type 0} (streams : Streams I O) (ended : Worked) (doors doors' : List (SeenDoor I O)) (b b' : Ledger) → ServesHistory streams ended doors doors' b b' → Every IsNew doors
+pub doors-back : {I O : Type 0} (streams : Streams I O) (ended : Worked) (doors doors' : List (SeenDoor I O)) (b b' : Ledger)
+    → ServesHistory streams ended doors doors' b b' → Every IsNew doors
     → Every (λ (d : SeenDoor I O). d.is_out ≡ false) doors'
 doors-back {I} {O} streams ended doors doors' b b' serves new =
     subst (λ (ds : List (SeenDoor I O)). Every (λ (d : SeenDoor I O). d.is_out ≡ false) ds) serves.after
@@ -41,8 +43,10 @@ doors-back {I} {O} streams ended doors doors' b b' serves new =
 -- ---- no gate was opened
 
 -- the store of a book that wasn't worked on was shut again
-pub stays-closed : {K I O : Type 0} (rows : K → Option (List Row)) (faults : K → ℕ) (path : List ℕ) (exit : Exit) (book : SeenBook K) (keeper' : K) (s m s' : ShelfState) (g g' : GatesState I O)
-    → OpensStore rows faults path book s m → keeper' ≡ book.keeper → IfSome (rows keeper') (λ told. s'.files ≡ and_file m.files path told) → Gains m.faults (faults keeper') s'.faults
+pub stays-closed : {K I O : Type 0} (rows : K → Option (List Row)) (faults : K → ℕ) (path : List ℕ) (exit : Exit) (book : SeenBook K) (keeper' : K)
+    (s m s' : ShelfState) (g g' : GatesState I O)
+    → OpensStore rows faults path book s m → keeper' ≡ book.keeper → IfSome (rows keeper') (λ told. s'.files ≡ and_file m.files path told)
+    → Gains m.faults (faults keeper') s'.faults
     → IsWhyClosed exit g g' → g.faults ≤ g'.faults → StaysClosed exit s s' g g'
 stays-closed rows faults path exit book keeper' s m s' g g' opens same kept gains why later = record {
   refused = why;
@@ -54,13 +58,15 @@ stays-closed rows faults path exit book keeper' s m s' g g' opens same kept gain
 -- ---- doors within their limits
 
 -- so many doors, one a worker
-pub few-doors : {D : Type 0} (left : D → ℕ) (workers connections : ℕ) (doors : List D) → workers ≤ 64 → map left doors ≡ shares workers connections → length doors ≤ 64
+pub few-doors : {D : Type 0} (left : D → ℕ) (workers connections : ℕ) (doors : List D) → workers ≤ 64 → map left doors ≡ shares workers connections
+    → length doors ≤ 64
 few-doors left workers connections doors most shared =
     let n = sym (length-map doors left) ∙ ap length shared ∙ length-shares_below workers workers connections in
     omega (arith, most, n)
 
 -- the turns that their connections take are few
-pub few-turns : {D : Type 0} (left : D → ℕ) (workers connections : ℕ) (doors : List D) → 1 ≤ workers → connections ≤ 65536 → map left doors ≡ shares workers connections
+pub few-turns : {D : Type 0} (left : D → ℕ) (workers connections : ℕ) (doors : List D) → 1 ≤ workers → connections ≤ 65536
+    → map left doors ≡ shares workers connections
     → 1048576 * total left doors ≤ 2 ^ 40
 few-turns left workers connections doors some most shared =
     let n = total-sum left doors ∙ ap sum shared ∙ shares_add_up workers connections (omega (arith, some)) in
@@ -68,48 +74,56 @@ few-turns left workers connections doors some most shared =
 
 -- ---- many connections were served
 
-pub serves-many : {K I O : Type 0} (rows : K → Option (List Row)) (faults : K → ℕ) (path : List ℕ) (streams : Streams I O) (workers connections : ℕ) (ended : Worked) (written : Bool) (exit : Exit)
-    → exit ≡ exit_of_workers ended written → (book book' : SeenBook K) (keeper' : K) (doors doors' : List (SeenDoor I O)) (o o' : Outlet) (s m s' : ShelfState) (g g' : GatesState I O)
+pub serves-many : {K I O : Type 0} (rows : K → Option (List Row)) (faults : K → ℕ) (path : List ℕ) (streams : Streams I O) (workers connections : ℕ)
+    (ended : Worked) (written : Bool) (exit : Exit)
+    → exit ≡ exit_of_workers ended written → (book book' : SeenBook K) (keeper' : K) (doors doors' : List (SeenDoor I O)) (o o' : Outlet) (s m s' : ShelfState)
+    (g g' : GatesState I O)
     → OpensStore rows faults path book s m → keeper' ≡ book'.keeper → Legal book'.log → IsKept rows keeper' book'.log
     → IfSome (rows keeper') (λ told. s'.files ≡ and_file m.files path told) → Gains m.faults (faults keeper') s'.faults
     → map (λ (d : SeenDoor I O). d.left) doors ≡ shares workers connections → Every IsNew doors
     → ServesHistory streams ended doors doors' (ledger_of faults book) (ledger_of faults book') → TellsEntries written (length book'.log) o o'
-    → IfSome g'.logs (λ logs. map (λ (d : SeenDoor I O). d.log) doors' ≡ map Some logs) → Gains g.faults (total (λ (d : SeenDoor I O). d.faults) doors') g'.faults
+    → IfSome g'.logs (λ logs. map (λ (d : SeenDoor I O). d.log) doors' ≡ map Some logs)
+    → Gains g.faults (total (λ (d : SeenDoor I O). d.faults) doors') g'.faults
     → ServesMany rows path streams workers connections exit o o' s s' g g'
-serves-many {K} {I} {O} rows faults path streams workers connections ended written exit is book book' keeper' doors doors' o o' s m s' g g' opens same legal kept files gains shared new serves line told counted = record {
-  opening = book.log;
-  opens = opens.legal;
-  found = opens.found;
-  doors = doors;
-  doors' = doors';
-  shared = shared;
-  new = new;
-  history = book'.log;
-  legal = legal;
-  faults = faults keeper';
-  ended = ended;
-  serves = from;
-  all = λ done. counts-all from.works (subst (λ (e : Worked). Every (IsWorkedOn e) from.works) done from.each) ∙ ap (λ (ds : List (SeenDoor I O)). map (λ (d : SeenDoor I O). d.left) ds) from.before ∙ shared;
-  none_lacked = λ some. none-all ended some from.works from.each;
-  written = written;
-  line = line;
-  exit_is = is;
-  kept = last-rows rows faults path book keeper' s m s' opens files gains book'.log kept;
-  counted = gained;
-  lost = lost-count streams book.log book'.log (connections_of from.works) from.served (faults keeper') s.faults s'.faults from.marked gained;
-  told = tells g'.logs told;
-  gates = counted;
-}
+serves-many {K} {I} {O} rows faults path streams workers connections ended written exit is book book' keeper' doors doors' o o' s m s' g g' opens same legal
+    kept files gains shared new serves line told counted = record {
+      opening = book.log;
+      opens = opens.legal;
+      found = opens.found;
+      doors = doors;
+      doors' = doors';
+      shared = shared;
+      new = new;
+      history = book'.log;
+      legal = legal;
+      faults = faults keeper';
+      ended = ended;
+      serves = from;
+      all = λ done. counts-all from.works (subst (λ (e : Worked). Every (IsWorkedOn e) from.works) done from.each)
+          ∙ ap (λ (ds : List (SeenDoor I O)). map (λ (d : SeenDoor I O). d.left) ds) from.before ∙ shared;
+      none_lacked = λ some. none-all ended some from.works from.each;
+      written = written;
+      line = line;
+      exit_is = is;
+      kept = last-rows rows faults path book keeper' s m s' opens files gains book'.log kept;
+      counted = gained;
+      lost = lost-count streams book.log book'.log (connections_of from.works) from.served (faults keeper') s.faults s'.faults from.marked gained;
+      told = tells g'.logs told;
+      gates = counted;
+    }
   where
     from : ServesHistory streams ended doors doors' (record { history = book.log; faults = 0 }) (record { history = book'.log; faults = faults keeper' })
     from =
-        subst (λ (n : ℕ). ServesHistory streams ended doors doors' (record { history = book.log; faults = 0 }) (record { history = book'.log; faults = n })) (ap faults (sym same))
-        (subst (λ (n : ℕ). ServesHistory streams ended doors doors' (record { history = book.log; faults = n }) (record { history = book'.log; faults = faults book'.keeper })) opens.fresh serves)
+        subst (λ (n : ℕ). ServesHistory streams ended doors doors' (record { history = book.log; faults = 0 }) (record { history = book'.log; faults = n }))
+        (ap faults (sym same))
+        (subst (λ (n : ℕ). ServesHistory streams ended doors doors' (record { history = book.log; faults = n })
+        (record { history = book'.log; faults = faults book'.keeper })) opens.fresh serves)
 
     gained : Gains s.faults (faults keeper') s'.faults
     gained = count-now rows faults path book keeper' s m s' opens files gains
 
-    tells : (logs : Option (List (DoorLog I O))) → IfSome logs (λ ls. map (λ (d : SeenDoor I O). d.log) doors' ≡ map Some ls) → IfSome logs (λ ls. AreTold ended from.works ls)
+    tells : (logs : Option (List (DoorLog I O))) → IfSome logs (λ ls. map (λ (d : SeenDoor I O). d.log) doors' ≡ map Some ls)
+        → IfSome logs (λ ls. AreDoorsTold ended from.works ls)
     tells None t = tt
     tells (Some logs) t =
         are-told ended from.works logs from.each (subst (λ (ds : List (SeenDoor I O)). Every IsNew ds) (sym from.before) new)
@@ -118,7 +132,8 @@ serves-many {K} {I} {O} rows faults path streams workers connections ended writt
 -- ---- of doors what is seen of them
 
 module _ {D I O : Type 0} (left : D → ℕ) (is_out : D → Bool) (faults : D → ℕ) (log : D → Option (DoorLog I O)) where
-  pub shared-seen : (doors : List D) (all : List ℕ) → map left doors ≡ all → map (λ (d : SeenDoor I O). d.left) (map (door_of left is_out faults log) doors) ≡ all
+  pub shared-seen : (doors : List D) (all : List ℕ) → map left doors ≡ all
+      → map (λ (d : SeenDoor I O). d.left) (map (door_of left is_out faults log) doors) ≡ all
   shared-seen doors all is = map-seen (door_of left is_out faults log) (λ (d : SeenDoor I O). d.left) doors ∙ is
 
   pub told-seen : (doors : List D) (logs : Option (List (DoorLog I O))) → IfSome logs (λ ls. map log doors ≡ map Some ls)
@@ -135,8 +150,10 @@ module _ {D I O : Type 0} (left : D → ℕ) (is_out : D → Bool) (faults : D �
   new-back [] new = tt
   new-back (d ∷ ds) new = (new.0.back, new-back ds new.1)
 
-  pub back-seen : (doors : List D) → Every (λ (d : SeenDoor I O). d.is_out ≡ false) (map (door_of left is_out faults log) doors) → All (λ (d : D). IsFalse (is_out d)) doors
-  back-seen doors back = all-of (λ (d : D). IsFalse (is_out d)) doors (every-seen (door_of left is_out faults log) (λ (d : SeenDoor I O). d.is_out ≡ false) doors back)
+  pub back-seen : (doors : List D) → Every (λ (d : SeenDoor I O). d.is_out ≡ false) (map (door_of left is_out faults log) doors)
+      → All (λ (d : D). IsFalse (is_out d)) doors
+  back-seen doors back = all-of (λ (d : D). IsFalse (is_out d)) doors
+      (every-seen (door_of left is_out faults log) (λ (d : SeenDoor I O). d.is_out ≡ false) doors back)
 
 -- ---- what an exit tells
 
@@ -157,17 +174,21 @@ ended-by ended written is e = subst EndsServing (sym is ∙ e) (by ended written
     by worked.Done true = tt
     by worked.Done false = tt
 
-module _ {K I O : Type 0} (rows : K → Option (List Row)) (path : List ℕ) (streams : Streams I O) (workers connections : ℕ) (exit : Exit) (o o' : Outlet) (s s' : ShelfState) (g g' : GatesState I O) where
+module _ {K I O : Type 0} (rows : K → Option (List Row)) (path : List ℕ) (streams : Streams I O) (workers connections : ℕ) (exit : Exit) (o o' : Outlet)
+    (s s' : ShelfState) (g g' : GatesState I O) where
   abbrev pub Serves : Type 0
   Serves = ServesGates rows path streams workers connections exit o o' s s' g g'
 
   -- a door failed, which the gates counted
-  door-counted : (ended : Worked) (works : List (DoorWork I O)) (doors doors' : List (SeenDoor I O)) → map (λ (w : DoorWork I O). w.before) works ≡ doors → map (λ (w : DoorWork I O). w.after) works ≡ doors'
-      → Every IsNew doors → HasCause ended works → ended ≡ worked.DoorFailed → Gains g.faults (total (λ (d : SeenDoor I O). d.faults) doors') g'.faults → Rises g.faults g'.faults
+  door-counted : (ended : Worked) (works : List (DoorWork I O)) (doors doors' : List (SeenDoor I O)) → map (λ (w : DoorWork I O). w.before) works ≡ doors
+      → map (λ (w : DoorWork I O). w.after) works ≡ doors'
+      → Every IsNew doors → HasFailedDoor ended works → ended ≡ worked.DoorFailed → Gains g.faults (total (λ (d : SeenDoor I O). d.faults) doors') g'.faults
+      → Rises g.faults g'.faults
   door-counted ended works doors doors' before after new cause failed gains =
       let up : Rises 0 (total (λ (d : SeenDoor I O). d.faults) doors') =
       subst (λ (ds : List (SeenDoor I O)). Rises 0 (total (λ (d : SeenDoor I O). d.faults) ds)) after
-      (failed-counts works (subst (λ (e : Worked). HasCause e works) failed cause) (subst (λ (ds : List (SeenDoor I O)). Every IsNew ds) (sym before) new)) in
+      (failed-counts works (subst (λ (e : Worked). HasFailedDoor e works) failed cause)
+      (subst (λ (ds : List (SeenDoor I O)). Every IsNew ds) (sym before) new)) in
       risen g.faults (total (λ (d : SeenDoor I O). d.faults) doors') g'.faults up gains
 
   by-listen : (ended : Worked) (written : Bool) → exits.ListenFault ≡ exit_of_workers ended written → ended ≡ worked.DoorFailed
@@ -180,9 +201,11 @@ module _ {K I O : Type 0} (rows : K → Option (List Row)) (path : List ℕ) (st
   listen-rises (inl shut) e = absurd (subst (λ (x : Exit). IsWhyShut path x s s') e shut.0.refused)
   listen-rises (inr (inl closed)) e = subst (λ (x : Exit). IsWhyClosed x g g') e closed.0.refused
   listen-rises (inr (inr m)) e =
-      door-counted m.ended m.serves.works m.doors m.doors' m.serves.before m.serves.after m.new m.serves.cause (by-listen m.ended m.written (sym e ∙ m.exit_is)) m.gates
+      door-counted m.ended m.serves.works m.doors m.doors' m.serves.before m.serves.after m.new m.serves.cause
+      (by-listen m.ended m.written (sym e ∙ m.exit_is)) m.gates
 
-  by-write : (ended : Worked) (written : Bool) (n : ℕ) → exits.WriteFault ≡ exit_of_workers ended written → TellsEntries written n o o' → Rises o.faults o'.faults
+  by-write : (ended : Worked) (written : Bool) (n : ℕ) → exits.WriteFault ≡ exit_of_workers ended written → TellsEntries written n o o'
+      → Rises o.faults o'.faults
   by-write worked.Done false n e line = line.rises
   by-write worked.Done true n e line = absurd (cc (e))
   by-write worked.DoorFailed written n e line = absurd (cc (e))

@@ -1,20 +1,18 @@
 -- As many wishes at most were lost as turns are marked, so as the keeper's count rose by, its last value aside.
-use Rattle.std.proofs.Common.{◌≡◌, ◌∙◌, ℕ, ◌+◌, ◌-◌, ◌^◌, ◌<◌, ◌≤◌, ◌⊎◌, inl, inr, ⊎_elim, List, [], ◌∷◌, ◌++◌, length, drop, Option, Some, None, ap, if◌then◌else◌, arith}
+use Rattle.std.proofs.Common.{◌≡◌, ◌∙◌, ℕ, ◌+◌, ◌-◌, ◌^◌, ◌<◌, ◌≤◌, ◌⊎◌, inl, inr, ⊎_elim, List, [], ◌∷◌, ◌++◌, length, drop, Option, Some, None, ap}
+use Rattle.std.proofs.Common.{if◌then◌else◌, arith}
 use Rattle.cr_base.specs.declared.entry.Stamped.{Stamped}
 use Rattle.cr_base.specs.History.{History}
 use Rattle.cr_base.specs.Lists.{listed}
-use Rattle.cr_lock.specs.declared.view.Turn.{Turn}
+use Rattle.cr_lock.specs.declared.pass_state.Turn.{Turn}
 use Rattle.cr_lock.specs.Counts.{Every, total, last_count}
 use Rattle.cr_lock.specs.Turns.{turn_at, marks}
 use Rattle.cr_lock.proofs.Sums.{total_append}
 use Rattle.cr_ports.specs.Count.{Gains}
-use Rattle.cr_ports.specs.Writing.{Outlet}
-use Rattle.cr_session.specs.declared.serve.Ending.{Ending}
-use Rattle.cr_session.specs.declared.serve.Ending.TheVariants as endings
 use Rattle.cr_session.specs.Passing.{KnownPass, TakesTurns}
 use Rattle.cr_session.specs.Replay.{JudgedWish, lost_count}
-use Rattle.cr_session.specs.Serving.{EndsTurns, EndsAs}
 use Rattle.cr_session.specs.Turning.{TurnsInVain}
+use Rattle.cr_session.proofs.Endings.{behind_judged}
 use Rattle.cr_session.proofs.Passes.{marked_losses, marks-snoc}
 use Rattle.cr_wire.specs.declared.what.Wish.{Wish}
 use Rattle.cr_workers.specs.Connections.{Streams, ServedConnection, IsServed, IsServedWithin}
@@ -27,19 +25,9 @@ marks-same p q same = let e = ap (λ (x : KnownPass). marks x.mine) same in omeg
 
 marks-vain : (w : Wish) (p q : KnownPass) → TurnsInVain w p q → marks p.mine ≤ marks q.mine
 marks-vain w p q vain =
-    let e = ap (λ (x : KnownPass). marks x.mine) vain.turn ∙ marks-snoc p.mine (turn_at (length vain.seen) (drop (length vain.seen) vain.seen) vain.faults vain.faults) in
+    let e = ap (λ (x : KnownPass). marks x.mine) vain.turn
+    ∙ marks-snoc p.mine (turn_at (length vain.seen) (drop (length vain.seen) vain.seen) vain.faults vain.faults) in
     omega (arith, e)
-
-marks-last : (ending : Ending) (n : ℕ) (came : List ℕ) (answered : List JudgedWish) (failed : Option JudgedWish) (p q : KnownPass) (s s' : Outlet)
-    → EndsTurns ending p q → EndsAs TakesTurns TurnsInVain ending n came came answered failed p q s s' → marks p.mine ≤ marks q.mine
-marks-last endings.Clean n came answered failed p q s s' settled ends = marks-same p q settled
-marks-last endings.Cut n came answered failed p q s s' settled ends = marks-same p q settled
-marks-last (endings.Closed why) n came answered failed p q s s' settled ends = marks-same p q settled
-marks-last endings.ReadFault n came answered failed p q s s' settled ends = marks-same p q settled
-marks-last endings.WriteFault n came answered failed p q s s' settled ends = marks-same p q settled
-marks-last endings.OutOfMemory n came answered (Some j) p q s s' settled ends = absurd (cc (ends.0))
-marks-last endings.OutOfMemory n came answered None p q s s' settled ends =
-    ⊎_elim (λ reading. marks-same p q reading.1) (λ turn. marks-vain turn.0 p q turn.3) ends.2
 
 -- ---- connections
 
@@ -48,7 +36,9 @@ module _ {I O : Type 0} (streams : Streams I O) where
   lost-one c x =
       let k = x.connection in
       let most = marked_losses (k.answered ++ listed k.failed) c.before k.judged k.turns in
-      let more = marks-last c.ending 0 k.got k.answered k.failed k.judged c.after _ _ k.settled k.ends in
+      let more : marks k.judged.mine ≤ marks c.after.mine =
+      ⊎_elim (λ same. marks-same k.judged c.after same) (λ turn. marks-vain turn.0 k.judged c.after turn.1)
+      (behind_judged TakesTurns TurnsInVain c.ending 0 k.got k.got k.answered k.failed k.judged c.after _ _ k.settled k.ends) in
       let sum = ap marks x.mine ∙ total_append (λ (t : Turn Stamped). if t.marked then 1 else 0) c.before.mine c.turns in
       omega (arith, most, more, sum)
 
@@ -64,8 +54,11 @@ module _ {I O : Type 0} (streams : Streams I O) where
   pub lost-count : (first last : History) (cs : List (ServedConnection I O)) (each : Every (IsServedWithin streams first last) cs) (faults n n' : ℕ)
       → (0 + total (λ (c : ServedConnection I O). marks c.turns) cs ≤ faults) ⊎ (last_count ≤ faults) → Gains n faults n'
       → Gains n (lost_in streams first last cs each) n'
-  lost-count first last cs each faults n n' marked gains =
-      (gains.0, λ below. by (lost_in streams first last cs each) (total (λ (c : ServedConnection I O). marks c.turns) cs) faults n n' (lost-all first last cs each) marked below (gains.1 below))
+  lost-count first last cs each faults n n' marked gains = (
+    gains.0,
+    λ below. by (lost_in streams first last cs each) (total (λ (c : ServedConnection I O). marks c.turns) cs) faults n n'
+        (lost-all first last cs each) marked below (gains.1 below),
+  )
     where
       by : (lost t f n n' : ℕ) → lost ≤ t → (0 + t ≤ f) ⊎ (last_count ≤ f) → n' < 2 ^ 64 - 1 → n + f ≤ n' → n + lost ≤ n'
       by lost t f n n' few (inl le) below up = omega (arith, few, le, up)

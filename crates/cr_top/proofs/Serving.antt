@@ -26,7 +26,8 @@ none_lost judged b b' first last r =
     let most = counted judged b b' r (omega (arith, last)) in
     omega (arith, first, last, most)
 
-pub serves-from : {K I : Type 0} (rows : K → Option (List Row)) (left : I → Option (List ℕ)) (gives : I → I → List ℕ → Type 0) (opening : History) (exit : Exit) (ending : Ending) (keeper keeper' : K) (o o' : Outside I)
+pub serves-from : {K I : Type 0} (rows : K → Option (List Row)) (left : I → Option (List ℕ)) (gives : I → I → List ℕ → Type 0) (opening : History)
+    (exit : Exit) (ending : Ending) (keeper keeper' : K) (o o' : Outside I)
     → exit ≡ exit_of ending → Pipes rows (λ _. 0) left gives opening ending keeper keeper' o o' → ServesPipe left gives opening exit o o'
 serves-from rows left gives opening exit ending keeper keeper' o o' is p =
     record {
@@ -35,13 +36,15 @@ serves-from rows left gives opening exit ending keeper keeper' o o' is p =
       history = p.history;
       legal = p.legal;
       connection = p.connection;
-      none_lost = none_lost (p.connection.answered ++ listed p.connection.failed) (record { history = opening; faults = 0 }) (record { history = p.history; faults = 0 }) refl refl
+      none_lost = none_lost (p.connection.answered ++ listed p.connection.failed) (record { history = opening; faults = 0 })
+          (record { history = p.history; faults = 0 }) refl refl
           (replayed left gives ending 0 [] (world o opening 0) (world o' p.history 0) p.connection);
       whole = p.whole;
     }
 
 -- the keeper that is handed back is that of the book at the end
-pub pipes-of : {K I : Type 0} (rows : K → Option (List Row)) (faults : K → ℕ) (left : I → Option (List ℕ)) (gives : I → I → List ℕ → Type 0) (opening history : History) (ending : Ending) (keeper last keeper' : K) (o o' : Outside I)
+pub pipes-of : {K I : Type 0} (rows : K → Option (List Row)) (faults : K → ℕ) (left : I → Option (List ℕ)) (gives : I → I → List ℕ → Type 0)
+    (opening history : History) (ending : Ending) (keeper last keeper' : K) (o o' : Outside I)
     → keeper' ≡ last → Legal history → IsKept rows keeper' history
     → ConnectionBytes left gives ending 0 [] (world o opening (faults keeper)) (world o' history (faults last))
     → Pipes rows faults left gives opening ending keeper keeper' o o'
@@ -60,18 +63,22 @@ pipes-of {K} {I} rows faults left gives opening history ending keeper last keepe
     again = subst (λ (n : ℕ). ConnectionBytes left gives ending 0 [] (world o opening (faults keeper)) (world o' history n)) count connection
 
 -- the same where the book was served behind a lock, on its one pass
-pub pipes-locked : {K I : Type 0} (rows : K → Option (List Row)) (faults : K → ℕ) (left : I → Option (List ℕ)) (gives : I → I → List ℕ → Type 0) (ending : Ending) (book first x : SeenBook K) (keeper' : K) (p p' : KnownPass) (o o' : Outside I)
+pub pipes-locked : {K I : Type 0} (rows : K → Option (List Row)) (faults : K → ℕ) (left : I → Option (List ℕ)) (gives : I → I → List ℕ → Type 0)
+    (ending : Ending) (book first x : SeenBook K) (keeper' : K) (p p' : KnownPass) (o o' : Outside I)
     → first ≡ book → p.seen ≡ book.log → p.mine ≡ [] → Closes (λ (b : SeenBook K). b.log) (λ (b : SeenBook K). faults b.keeper) first p' x
     → keeper' ≡ x.keeper → Legal x.log → IsKept rows keeper' x.log
-    → ConnectionInHistory left gives ending 0 [] (record { state = p; source = o.input; read_faults = o.read_faults; sink = o.output }) (record { state = p'; source = o'.input; read_faults = o'.read_faults; sink = o'.output })
+    → ConnectionInHistory left gives ending 0 [] (record { state = p; source = o.input; read_faults = o.read_faults; sink = o.output })
+    (record { state = p'; source = o'.input; read_faults = o'.read_faults; sink = o'.output })
     → Pipes rows faults left gives book.log ending book.keeper keeper' o o'
 pipes-locked {K} {I} rows faults left gives ending book first x keeper' p p' o o' is opens bare closes same legal kept connection =
     pipes-of rows faults left gives book.log x.log ending book.keeper x.keeper keeper' o o' same legal kept
-    (bytes-closed (λ (b : SeenBook K). b.log) (λ (b : SeenBook K). faults b.keeper) book x left gives ending p p' o.input o'.input o.read_faults o'.read_faults o.output o'.output opens bare
+    (bytes-closed (λ (b : SeenBook K). b.log) (λ (b : SeenBook K). faults b.keeper) book x left gives ending p p' o.input o'.input o.read_faults o'.read_faults
+    o.output o'.output opens bare
     (subst (λ (b : SeenBook K). Closes (λ (b : SeenBook K). b.log) (λ (b : SeenBook K). faults b.keeper) b p' x) is closes) connection)
 
 -- and where memory for the lock was wanting
-pub pipes-unlocked : {K I : Type 0} (rows : K → Option (List Row)) (faults : K → ℕ) (left : I → Option (List ℕ)) (gives : I → I → List ℕ → Type 0) (ending : Ending) (book x : SeenBook K) (keeper' : K) (o o' : Outside I)
+pub pipes-unlocked : {K I : Type 0} (rows : K → Option (List Row)) (faults : K → ℕ) (left : I → Option (List ℕ)) (gives : I → I → List ℕ → Type 0)
+    (ending : Ending) (book x : SeenBook K) (keeper' : K) (o o' : Outside I)
     → x ≡ book → ending ≡ endings.OutOfMemory → TellsWantOfMemory [] false o.output o'.output → o'.input ≡ o.input → o'.read_faults ≡ o.read_faults
     → keeper' ≡ x.keeper → Legal x.log → IsKept rows keeper' x.log → Pipes rows faults left gives book.log ending book.keeper keeper' o o'
 pipes-unlocked {K} rows faults left gives ending book x keeper' o o' is out notes input counts same legal kept =

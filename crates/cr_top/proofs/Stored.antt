@@ -1,5 +1,6 @@
 -- ShelfState that open, and stores that don't.
-use Rattle.std.proofs.Common.{◌≡◌, ◌∙◌, ◌≤◌, ◌<◌, ◌++◌, ◌⊎◌, inl, inr, ℕ, List, [], ◌∷◌, length, Bool, true, false, cond, Option, Some, None, Err, IfSome, refl, sym, ap, ap₂, subst, arith}
+use Rattle.std.proofs.Common.{◌≡◌, ◌∙◌, ◌≤◌, ◌<◌, ◌++◌, ◌⊎◌, inl, inr, ℕ, List, [], ◌∷◌, length, Bool, true, false, cond, Option, Some, None, Err, IfSome, refl}
+use Rattle.std.proofs.Common.{sym, ap, ap₂, subst, arith}
 use Rattle.std.specs.Prelude.{IsTrue, is_some}
 use Rattle.std.proofs.lemmas.Bool.{false≢true}
 use Rattle.std.specs.List.{AllByRecursion}
@@ -31,13 +32,15 @@ use Rattle.cr_top.specs.declared.exit.Exit.{Exit}
 use Rattle.cr_top.specs.declared.exit.Exit.TheVariants as exits
 use Rattle.cr_top.specs.Exits.{exit_of, exit_of_rows, exit_of_shelf}
 use Rattle.cr_top.specs.Runs.{Outside, Pipes, world}
-use Rattle.cr_top.specs.Stores.{Files, ShelfState, KeepsFiles, IsBadStore, OpensStore, StaysShut, ServesStore, ViewsStore, TellsView, AnswersView, TellsRows, rows_told_at}
+use Rattle.cr_top.specs.Stores.{Files, ShelfState, KeepsFiles, IsBadStore, OpensStore, StaysShut, ServesStore, ViewsStore, TellsView, AnswersView, TellsRows}
+use Rattle.cr_top.specs.Stores.{rows_told_at}
 
 -- ---- what stands at the paths
 
 -- nothing changed
 same-files : (s s' : ShelfState) → s'.files ≡ s.files → KeepsFiles s s'
-same-files s s' same = subst (λ (f : Option Files). IfSome s.files (λ files. (path : List ℕ) → rows_told_at f path ≡ Some (files path))) (sym same) (own s.files)
+same-files s s' same = subst (λ (f : Option Files). IfSome s.files (λ files. (path : List ℕ) → rows_told_at f path ≡ Some (files path))) (sym same)
+    (own s.files)
   where
     own : (f : Option Files) → IfSome f (λ files. (path : List ℕ) → rows_told_at f path ≡ Some (files path))
     own None = tt
@@ -60,12 +63,14 @@ shut-files s s' path told found kept = at s.files told found kept
         → IfSome f (λ files. (p : List ℕ) → rows_told_at s'.files p ≡ Some (files p))
     at None told found kept = tt
     at (Some files) told found kept =
-        let is : s'.files ≡ Some (with_rows files path (files path)) = subst (λ (t : Option (List Row)). IfSome t (λ rows. s'.files ≡ and_file (Some files) path rows)) found kept in
+        let is : s'.files ≡ Some (with_rows files path (files path)) =
+        subst (λ (t : Option (List Row)). IfSome t (λ rows. s'.files ≡ and_file (Some files) path rows)) found kept in
         λ p. ap (λ (f : Option Files). rows_told_at f p) is ∙ ap Some (put_back files path p)
 
 -- ---- a store that doesn't open
 
-pub shelf-refuses : (path : List ℕ) (K : Type 0) (error : KeeperError) (s s' : ShelfState) → s'.files ≡ s.files → HasCause {T = K} s.faults s'.faults (Err error)
+pub shelf-refuses : (path : List ℕ) (K : Type 0) (error : KeeperError) (s s' : ShelfState) → s'.files ≡ s.files
+    → HasCause {T = K} s.faults s'.faults (Err error)
     → StaysShut path (exit_of_shelf error) s s'
 shelf-refuses path K refusals.Failed s s' same cause = record { refused = cause.failed refl; files = same-files s s' same; count = cause.later }
 shelf-refuses path K refusals.OutOfMemory s s' same cause = record { refused = tt; files = same-files s s' same; count = cause.later }
@@ -75,7 +80,8 @@ pub risen : (f faults f' : ℕ) → Rises 0 faults → Gains f faults f' → Ris
 risen f faults f' rises gains below = let up = gains.1 below in let some = rises (omega (arith, below, up)) in omega (arith, up, some)
 
 -- what is told of rows that don't open, by the rows that stand there
-explained : {K : Type 0} (path : List ℕ) (files : Option Files) (told : Option (List Row)) (row : ℕ) (found : Row) (keeper : K) → IfSome files (λ f. told ≡ Some (f path))
+explained : {K : Type 0} (path : List ℕ) (files : Option Files) (told : Option (List Row)) (row : ℕ) (found : Row) (keeper : K)
+    → IfSome files (λ f. told ≡ Some (f path))
     → IfSome told (λ rows. Opens rows (Err (errors.BadStore row found, keeper))) → IfSome files (λ f. IsBadStore (f path) row found.kind)
 explained path None told row found keeper is opens = tt
 explained {K} path (Some files) told row found keeper is opens =
@@ -88,11 +94,20 @@ module _ {K : Type 0} (rows : K → Option (List Row)) (faults : K → ℕ) (pat
   shut : KeepsFiles s s'
   shut = shut-files s s' path (rows given) (subst (λ (t : Option (List Row)). IfSome s.files (λ files. t ≡ Some (files path))) (sym same) found) kept
 
-  pub rows-refuse : (error : OpenError) → IfSome (rows opened) (λ told. Opens told (Err (error, given))) → IsCounted {T = Unit {0}} (faults opened) (faults given) (Err error)
+  pub rows-refuse : (error : OpenError) → IfSome (rows opened) (λ told. Opens told (Err (error, given)))
+      → IsCounted {T = Unit {0}} (faults opened) (faults given) (Err error)
       → StaysShut path (exit_of_rows error) s s'
-  rows-refuse (errors.BadStore row bad) opens cause = record { refused = explained path s.files (rows opened) row bad given found opens; files = shut; count = gains.0 }
+  rows-refuse (errors.BadStore row bad) opens cause = record {
+    refused = explained path s.files (rows opened) row bad given found opens;
+    files = shut;
+    count = gains.0;
+  }
   rows-refuse errors.KeeperFault opens cause =
-      record { refused = risen s.faults (faults given) s'.faults (subst (λ (n : ℕ). Rises n (faults given)) fresh (cause.failed refl)) gains; files = shut; count = gains.0 }
+      record {
+        refused = risen s.faults (faults given) s'.faults (subst (λ (n : ℕ). Rises n (faults given)) fresh (cause.failed refl)) gains;
+        files = shut;
+        count = gains.0;
+      }
   rows-refuse errors.OutOfMemory opens cause = record { refused = tt; files = shut; count = gains.0 }
 
 -- ---- a store that was served or read
@@ -102,13 +117,15 @@ kept-rows : {K : Type 0} (rows : K → Option (List Row)) (keeper : K) (files : 
     → IsKept rows keeper H → IfSome (rows keeper) (λ kept. files' ≡ and_file files path kept) → TellsRows rows → files' ≡ and_file files path (rows_of H)
 kept-rows rows keeper files files' path H is kept tells = at (rows keeper) is kept (tells keeper)
   where
-    at : (told : Option (List Row)) → IfSome told (λ t. t ≡ rows_of H) → IfSome told (λ t. files' ≡ and_file files path t) → IsTrue (is_some told) → files' ≡ and_file files path (rows_of H)
+    at : (told : Option (List Row)) → IfSome told (λ t. t ≡ rows_of H) → IfSome told (λ t. files' ≡ and_file files path t) → IsTrue (is_some told)
+        → files' ≡ and_file files path (rows_of H)
     at None is kept there = absurd (false≢true there)
     at (Some t) is kept there = kept ∙ ap (and_file files path) is
 
 -- the keeper of a book that was opened and worked on was taken back
 module _ {K : Type 0} (rows : K → Option (List Row)) (faults : K → ℕ) (path : List ℕ) (book : SeenBook K) (keeper' : K) (s m s' : ShelfState)
-    (opens : OpensStore rows faults path book s m) (kept : IfSome (rows keeper') (λ told. s'.files ≡ and_file m.files path told)) (gains : Gains m.faults (faults keeper') s'.faults) where
+    (opens : OpensStore rows faults path book s m) (kept : IfSome (rows keeper') (λ told. s'.files ≡ and_file m.files path told))
+    (gains : Gains m.faults (faults keeper') s'.faults) where
   files-now : IfSome (rows keeper') (λ told. s'.files ≡ and_file s.files path told)
   files-now = subst (λ (f : Option Files). IfSome (rows keeper') (λ told. s'.files ≡ and_file f path told)) (ap (λ (x : ShelfState). x.files) opens.same) kept
 
@@ -130,7 +147,8 @@ module _ {K : Type 0} (rows : K → Option (List Row)) (faults : K → ℕ) (pat
 pub serves-store : {K I : Type 0} (rows : K → Option (List Row)) (faults : K → ℕ) (path : List ℕ) (left : I → Option (List ℕ)) (gives : I → I → List ℕ → Type 0)
     (exit : Exit) (ending : Ending) → exit ≡ exit_of ending → (book : SeenBook K) (keeper' : K) (o o' : Outside I) (s m s' : ShelfState)
     → OpensStore rows faults path book s m → Pipes rows faults left gives book.log ending book.keeper keeper' o o'
-    → IfSome (rows keeper') (λ told. s'.files ≡ and_file m.files path told) → Gains m.faults (faults keeper') s'.faults → ServesStore rows path left gives exit o o' s s'
+    → IfSome (rows keeper') (λ told. s'.files ≡ and_file m.files path told) → Gains m.faults (faults keeper') s'.faults
+    → ServesStore rows path left gives exit o o' s s'
 serves-store rows faults path left gives exit ending is book keeper' o o' s m s' opens p kept gains = record {
   opening = book.log;
   opens = opens.legal;
@@ -147,13 +165,15 @@ serves-store rows faults path left gives exit ending is book keeper' o o' s m s'
 }
 
 -- the book's history is the one that has the rows
-pub the-history : {K : Type 0} (rows : K → Option (List Row)) (faults : K → ℕ) (path : List ℕ) (book : SeenBook K) (s m : ShelfState) → OpensStore rows faults path book s m → (files : Files) → s.files ≡ Some files → (H : History) → Legal H → rows_of H ≡ files path
+pub the-history : {K : Type 0} (rows : K → Option (List Row)) (faults : K → ℕ) (path : List ℕ) (book : SeenBook K) (s m : ShelfState)
+    → OpensStore rows faults path book s m → (files : Files) → s.files ≡ Some files → (H : History) → Legal H → rows_of H ≡ files path
     → book.log ≡ H
 the-history rows faults path book s m opens files told H legal spells =
     sym (subst (λ (f : Option Files). IfSome f (λ files. (H : History) → Legal H → rows_of H ≡ files path → H ≡ book.log)) told opens.only H legal spells)
 
 -- a store of a legal history's rows opens where nothing fails, or memory runs out
-pub opens-or-memory : (path : List ℕ) (exit : Exit) (s s' : ShelfState) → StaysShut path exit s s' → (Rises s.faults s'.faults → ⊥) → (files : Files) → s.files ≡ Some files → (H : History) → Legal H → rows_of H ≡ files path
+pub opens-or-memory : (path : List ℕ) (exit : Exit) (s s' : ShelfState) → StaysShut path exit s s' → (Rises s.faults s'.faults → ⊥) → (files : Files)
+    → s.files ≡ Some files → (H : History) → Legal H → rows_of H ≡ files path
     → exit ≡ exits.OutOfMemory
 opens-or-memory path exits.OutOfMemory s s' shut idle files told H legal spells = refl
 opens-or-memory path exits.KeeperFault s s' shut idle files told H legal spells = absurd (idle shut.refused)
@@ -168,7 +188,8 @@ opens-or-memory path exits.NoUser s s' shut idle files told H legal spells = abs
 opens-or-memory path exits.ListenFault s s' shut idle files told H legal spells = absurd shut.refused
 
 -- the keeper of a book that was read alone was taken back
-pub views-store : {K : Type 0} (rows : K → Option (List Row)) (faults : K → ℕ) (path name : List ℕ) (exit : Exit) (book : SeenBook K) (keeper' : K) (o o' : Outlet) (s m s' : ShelfState)
+pub views-store : {K : Type 0} (rows : K → Option (List Row)) (faults : K → ℕ) (path name : List ℕ) (exit : Exit) (book : SeenBook K) (keeper' : K)
+    (o o' : Outlet) (s m s' : ShelfState)
     → OpensStore rows faults path book s m → keeper' ≡ book.keeper → TellsView book.log name exit o o'
     → IfSome (rows keeper') (λ told. s'.files ≡ and_file m.files path told) → Gains m.faults (faults keeper') s'.faults → ViewsStore path name exit o o' s s'
 views-store {K} rows faults path name exit book keeper' o o' s m s' opens same tells kept gains = record {
@@ -181,7 +202,8 @@ views-store {K} rows faults path name exit book keeper' o o' s m s' opens same t
 }
 
 -- what a view is answered where nothing fails
-pub answers-view : (H : History) (name : List ℕ) (exit : Exit) (o o' : Outlet) → TellsView H name exit o o' → (Rises o.faults o'.faults → ⊥) → (exit ≡ exits.OutOfMemory) ⊎ AnswersView H name exit o o'
+pub answers-view : (H : History) (name : List ℕ) (exit : Exit) (o o' : Outlet) → TellsView H name exit o o' → (Rises o.faults o'.faults → ⊥)
+    → (exit ≡ exits.OutOfMemory) ⊎ AnswersView H name exit o o'
 answers-view H name exits.Done o o' tells idle = inr (tells, inl refl)
 answers-view H name exits.NoUser o o' tells idle = inr (tells, inr refl)
 answers-view H name exits.OutOfMemory o o' tells idle = inl refl
@@ -200,13 +222,15 @@ not-named : (name other : List ℕ) (user : ℕ) → length other ≤ 32 → 34 
 not-named name other user few long true is = absurd (let e = ap length ((bytes_eq-Decides other name).0 is) in omega (arith, few, long, e))
 not-named name other user few long false is = refl
 
-registers-another : (name : List ℕ) (maker : ℕ) (more : Bool) (e : Entry) → 34 < length name → IsBoundedEntry (record { maker = maker; more = more; entry = e }) → number_told name e ≡ []
+registers-another : (name : List ℕ) (maker : ℕ) (more : Bool) (e : Entry) → 34 < length name
+    → IsBoundedEntry (record { maker = maker; more = more; entry = e }) → number_told name e ≡ []
 registers-another name maker more (Registered user other digest) long b = not-named name other user b.b1.few long (bytes_eq other name) refl
 registers-another name maker more e long b = refl
 
 none-named : (name : List ℕ) (H : History) → 34 < length name → AllByRecursion IsBoundedEntry H → all_told (number_told name) H ≡ []
 none-named name [] long bounded = refl
-none-named name (s ∷ H) long bounded = ap₂ (λ (xs ys : List ℕ). xs ++ ys) (registers-another name s.maker s.more s.entry long bounded.0) (none-named name H long bounded.1)
+none-named name (s ∷ H) long bounded = ap₂ (λ (xs ys : List ℕ). xs ++ ys) (registers-another name s.maker s.more s.entry long bounded.0)
+    (none-named name H long bounded.1)
 
 -- nobody has registered a name of more bytes than any may have
 pub nobody-has : (name : List ℕ) (H : History) → Legal H → 34 < length name → number_of name H ≡ None

@@ -33,6 +33,13 @@ pub record IsUntouched {I C D : Type 0} (exit : Exit) (a a' : Surroundings I C D
   pub exit_is : exit ≡ exits.OutOfMemory
   pub same : a' ≡ a
 
+-- An exit that tells of a fault comes only where the count of what failed rose, or stands at its last value.
+pub record IsCounted {I C D : Type 0} (exit : Exit) (a a' : Surroundings I C D) : Type 0 where
+  pub read : exit ≡ exits.ReadFault → Rises a.outside.read_faults a'.outside.read_faults
+  pub write : exit ≡ exits.WriteFault → Rises a.outside.output.faults a'.outside.output.faults
+  pub keeper : exit ≡ exits.KeeperFault → Rises a.stores.faults a'.stores.faults
+  pub listen : exit ≡ exits.ListenFault → Rises a.gates.faults a'.gates.faults
+
 -- One connection from the empty history on, or from that of a store on; many connections over a store; or the view of a store.
 -- The last two read no input, and all but serving leave the gates alone.
 abbrev pub DoesJob : {K I C D : Type 0} → (K → Option (List Row)) → (I → Option (List ℕ)) → (I → I → List ℕ → Type 0) → Streams C D

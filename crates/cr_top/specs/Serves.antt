@@ -55,16 +55,16 @@ abbrev pub AreNew : {D I O : Type 0} → (D → SeenDoor I O) → List D → Typ
 AreNew seen doors = Every IsNew (map seen doors)
 
 -- a door's last answer, by how the workers ended: its share was given; or that, or it failed; or, for lack of memory, any
-abbrev pub EndsBy : {I O : Type 0} → Worked → DoorLog I O → Type 0
-EndsBy worked.Done log = log.last ≡ Some answers.Done
-EndsBy worked.DoorFailed log = (log.last ≡ Some answers.Done) ⊎ (log.last ≡ Some answers.Failed)
-EndsBy worked.OutOfMemory log = Unit {0}
+abbrev pub DoorEndsBy : {I O : Type 0} → Worked → DoorLog I O → Type 0
+DoorEndsBy worked.Done log = log.last ≡ Some answers.Done
+DoorEndsBy worked.DoorFailed log = (log.last ≡ Some answers.Done) ⊎ (log.last ≡ Some answers.Failed)
+DoorEndsBy worked.OutOfMemory log = Unit {0}
 
 -- Doors that were shut, with the connections that were served by each, by what the gates tell: each connection as it was given
 -- and as it came back, in order, and the door's last answer.
-pub record AreTold {I O : Type 0} (ended : Worked) (works : List (DoorWork I O)) (logs : List (DoorLog I O)) : Type 0 where
+pub record AreDoorsTold {I O : Type 0} (ended : Worked) (works : List (DoorWork I O)) (logs : List (DoorLog I O)) : Type 0 where
   pub served : map (λ (log : DoorLog I O). log.served) logs ≡ map (λ (w : DoorWork I O). ends_of w.connections) works
-  pub last : Every (EndsBy ended) logs
+  pub last : Every (DoorEndsBy ended) logs
 
 -- ---- answers that a command wasn't kept
 
@@ -110,7 +110,7 @@ pub record ServesMany {K I O : Type 0} (rows : K → Option (List Row)) (path : 
   pub counted : Gains s.faults faults s'.faults
   pub lost : Gains s.faults (lost_in streams opening history (connections_of serves.works) serves.served) s'.faults
   -- the gates tell what each door did, and count its faults
-  pub told : IfSome g'.logs (λ logs. AreTold ended serves.works logs)
+  pub told : IfSome g'.logs (λ logs. AreDoorsTold ended serves.works logs)
   pub gates : Gains g.faults (total (λ (d : SeenDoor I O). d.faults) doors') g'.faults
 
 -- ---- no connection was served

@@ -1,11 +1,10 @@
 //! What the program does with its words.
 ghost use Rattle.std.specs.Prelude.{◌≡◌, ◌≢◌, ◌⊎◌, ℕ, List, [], Some, IfSome};
-ghost use Rattle.cr_ports.specs.Count.{Rises};
 ghost use Rattle.cr_ports.specs.Writing.{BreaksOff, Writes, outlet_of};
 ghost use Rattle.cr_words.specs.Job.{NamedJob, IsInRange, job_seen};
 ghost use Rattle.cr_workers.specs.Connections.{streams_of};
 ghost use Rattle.cr_words.specs.Usage.{usage};
-ghost use Rattle.cr_top.specs.Jobs.{AnswersJob, Does, IsUntouched, around_of};
+ghost use Rattle.cr_top.specs.Jobs.{AnswersJob, Does, IsCounted, IsUntouched, around_of};
 ghost use Rattle.cr_top.specs.Runs.{TellsUsage};
 ghost use Rattle.cr_top.specs.Words.{AreFor, AreRefused, PassTest};
 
@@ -60,10 +59,8 @@ fn do_job<R: Threads + Wait + Sync, I: Source, O: Sink, S: Shelf, G: Gates>(
     ensures answers { let around = around_of I.faults O.taken O.faults S.rows S.faults G.faults G.logs in
         AnswersJob I.left (job_seen job.entry) result (around input.old out.old shelf.old gates.old) (around input.new out.new shelf.new gates.new) }
     ensures known { result ≢ Exit.Usage }
-    ensures read_fault { result ≡ Exit.ReadFault → Rises (I.faults input.old) (I.faults input.new) }
-    ensures write_fault { result ≡ Exit.WriteFault → Rises (O.faults out.old) (O.faults out.new) }
-    ensures keeper_fault { result ≡ Exit.KeeperFault → Rises (S.faults shelf.old) (S.faults shelf.new) }
-    ensures listen_fault { result ≡ Exit.ListenFault → Rises (G.faults gates.old) (G.faults gates.new) }
+    ensures counted { let around = around_of I.faults O.taken O.faults S.rows S.faults G.faults G.logs in
+        IsCounted result (around input.old out.old shelf.old gates.old) (around input.new out.new shelf.new gates.new) }
 {
     match job {
         Job::Pipe { store: None } => {
@@ -139,10 +136,8 @@ pub fn top<R: Threads + Wait + Sync, I: Source, O: Sink, S: Shelf, G: Gates>(
     ensures usage { result ≡ Exit.Usage → AreRefused words.now }
     ensures passes { PassTest words.now → result ≢ Exit.Usage }
 
-    ensures read_fault { result ≡ Exit.ReadFault → Rises (I.faults input.old) (I.faults input.new) }
-    ensures write_fault { result ≡ Exit.WriteFault → Rises (O.faults out.old) (O.faults out.new) }
-    ensures keeper_fault { result ≡ Exit.KeeperFault → Rises (S.faults shelf.old) (S.faults shelf.new) }
-    ensures listen_fault { result ≡ Exit.ListenFault → Rises (G.faults gates.old) (G.faults gates.new) }
+    ensures counted { let around = around_of I.faults O.taken O.faults S.rows S.faults G.faults G.logs in
+        IsCounted result (around input.old out.old shelf.old gates.old) (around input.new out.new shelf.new gates.new) }
 {
     match read_words(alloc, words) {
         Ok(job) => do_job(rt, alloc, job, input, out, shelf, gates),

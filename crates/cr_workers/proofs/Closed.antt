@@ -22,7 +22,8 @@ none-within : (n k : ℕ) → within n n k ≡ 0
 none-within n k = dite (dec_le n k) (λ le. within_out n n k (inl le)) (λ more. within_out n n k (inr (omega (arith, more))))
 
 -- without a lock no door was asked
-pub history-unasked : {I O : Type 0} (streams : Streams I O) (doors : List (SeenDoor I O)) (b : Ledger) → ServesHistory streams worked.OutOfMemory doors doors b b
+pub history-unasked : {I O : Type 0} (streams : Streams I O) (doors : List (SeenDoor I O)) (b : Ledger)
+    → ServesHistory streams worked.OutOfMemory doors doors b b
 history-unasked {I} {O} streams doors b = record {
   works = unasked doors;
   before = unasked-before doors;

@@ -1,10 +1,11 @@
 -- Connections that were served one after another, or side by side.
-use Rattle.std.proofs.Common.{◌≡◌, ◌∙◌, ◌<◌, ◌≤◌, ◌⊎◌, inl, inr, List, [], ◌∷◌, ◌++◌, length, Bool, true, false, nat_lt, if◌then◌else◌, refl, sym, ap, subst, arith}
+use Rattle.std.proofs.Common.{◌≡◌, ◌∙◌, ◌<◌, ◌≤◌, ◌⊎◌, inl, inr, List, [], ◌∷◌, ◌++◌, length, Bool, true, false, nat_lt, if◌then◌else◌, refl, sym, ap, subst}
+use Rattle.std.proofs.Common.{arith}
 use Rattle.std.proofs.lemmas.Bool.Decides.{nat_tests}
 use mathlib.Core.List.{IsPrefix}
 use Rattle.cr_base.specs.declared.entry.Stamped.{Stamped}
 use Rattle.cr_base.specs.History.{History}
-use Rattle.cr_lock.specs.declared.view.Turn.{Turn}
+use Rattle.cr_lock.specs.declared.pass_state.Turn.{Turn}
 use Rattle.cr_lock.specs.Counts.{Every, within}
 use Rattle.cr_lock.specs.Turns.{groups_with, marks, rises, end_of, longer}
 use Rattle.cr_lock.specs.Passes.{larger_half, smaller_half, united, Agree}
@@ -16,7 +17,8 @@ use Rattle.cr_workers.proofs.Grown.{every-append}
 
 -- ---- the longer of two lists, of which one begins the other
 
-longer-is : {A : Type 0} (xs ys : List A) (b : Bool) → (b ≡ true → length xs < length ys) → (b ≡ false → length ys ≤ length xs) → IsPrefix xs ys ⊎ IsPrefix ys xs
+longer-is : {A : Type 0} (xs ys : List A) (b : Bool) → (b ≡ true → length xs < length ys) → (b ≡ false → length ys ≤ length xs)
+    → IsPrefix xs ys ⊎ IsPrefix ys xs
     → IsPrefix xs (if b then ys else xs) × IsPrefix ys (if b then ys else xs)
 longer-is xs ys true up down (inl p) = (p, prefix_self ys)
 longer-is xs ys true up down (inr p) = absurd (let le = prefix_length ys xs p in let lt = up refl in omega (arith, le, lt))
@@ -33,7 +35,11 @@ module _ {I O : Type 0} (streams : Streams I O) where
       → Every (IsServedWithin streams first last) cs → Every (IsServedWithin streams first' last') cs
   widened first first' last last' a b [] each = tt
   widened first first' last last' a b (c ∷ cs) each = (
-    record { served = each.0.served; begins = prefix_trans first' first c.before.seen a each.0.begins; ends = prefix_trans c.after.seen last last' each.0.ends b },
+    record {
+      served = each.0.served;
+      begins = prefix_trans first' first c.before.seen a each.0.begins;
+      ends = prefix_trans c.after.seen last last' each.0.ends b;
+    },
     widened first first' last last' a b cs each.1,
   )
 
@@ -46,12 +52,14 @@ module _ {I O : Type 0} (streams : Streams I O) where
   serve-one c is = record {
     each = (record { served = is; begins = prefix_self c.before.seen; ends = prefix_self c.after.seen }, tt);
     seen = is.seen;
-    groups = λ k. (let e = ap (groups_with k) is.mine ∙ total_append (λ (t : Turn Stamped). within t.place (end_of t) k) c.before.mine c.turns in omega (arith, e));
+    groups = λ k. (let e = ap (groups_with k) is.mine ∙ total_append (λ (t : Turn Stamped). within t.place (end_of t) k) c.before.mine c.turns in
+        omega (arith, e));
     marked = (let e = ap marks is.mine ∙ total_append (λ (t : Turn Stamped). if t.marked then 1 else 0) c.before.mine c.turns in omega (arith, e));
     rose = (let e = ap rises is.mine ∙ total_append (λ (t : Turn Stamped). t.rise) c.before.mine c.turns in omega (arith, e));
   }
 
-  pub serve-then : (cs ds : List (ServedConnection I O)) (p q r : KnownPass) → ServeAll streams cs p q → ServeAll streams ds q r → ServeAll streams (cs ++ ds) p r
+  pub serve-then : (cs ds : List (ServedConnection I O)) (p q r : KnownPass) → ServeAll streams cs p q → ServeAll streams ds q r
+      → ServeAll streams (cs ++ ds) p r
   serve-then cs ds p q r a b = record {
     each = every-append (IsServedWithin streams p.seen r.seen) cs ds
         (widened p.seen p.seen q.seen r.seen (prefix_self p.seen) b.seen cs a.each)
@@ -63,7 +71,8 @@ module _ {I O : Type 0} (streams : Streams I O) where
     rose = (let x = a.rose in let y = b.rose in let z = total_append (λ (c : ServedConnection I O). rises c.turns) cs ds in omega (arith, x, y, z));
   }
 
-  pub serve-both : (cs ds : List (ServedConnection I O)) (p q r : KnownPass) → ServeAll streams cs (larger_half p) q → ServeAll streams ds (smaller_half p) r → Agree q r
+  pub serve-both : (cs ds : List (ServedConnection I O)) (p q r : KnownPass) → ServeAll streams cs (larger_half p) q → ServeAll streams ds (smaller_half p) r
+      → Agree q r
       → ServeAll streams (cs ++ ds) p (united q r)
   serve-both cs ds p q r a b agree =
       let long = longer-begins q.seen r.seen agree.0 in record {

@@ -4,18 +4,17 @@ use mathlib.Core.List.{IsPrefix}
 use Rattle.cr_base.specs.Lists.{listed}
 use Rattle.cr_base.specs.declared.entry.Stamped.{Stamped}
 use Rattle.cr_base.specs.History.{History}
-use Rattle.cr_lock.specs.declared.view.Turn.{Turn}
+use Rattle.cr_lock.specs.declared.pass_state.Turn.{Turn}
 use Rattle.cr_lock.specs.Counts.{Every}
 use Rattle.cr_lock.specs.Turns.{StandsIn, turn_at}
 use Rattle.cr_lock.specs.Passes.{after_turn}
 use Rattle.cr_lock.proofs.Prefixes.{prefix_self, prefix_trans, prefix_drop, every_longer}
-use Rattle.cr_ports.specs.Writing.{Outlet}
 use Rattle.cr_session.specs.declared.serve.Ending.{Ending}
-use Rattle.cr_session.specs.declared.serve.Ending.TheVariants as endings
 use Rattle.cr_session.specs.Passing.{KnownPass, TakesTurns}
 use Rattle.cr_session.specs.Replay.{JudgedWish, history_after}
-use Rattle.cr_session.specs.Serving.{World, ConnectionInHistory, EndsTurns, EndsAs}
+use Rattle.cr_session.specs.Serving.{World, ConnectionInHistory}
 use Rattle.cr_session.specs.Turning.{TurnsInVain}
+use Rattle.cr_session.proofs.Endings.{behind_judged}
 use Rattle.cr_session.proofs.Passes.{after-begins}
 use Rattle.cr_wire.specs.declared.what.Wish.{Wish}
 
@@ -63,20 +62,9 @@ grown-takes (j ∷ js) p q (next, turn, rest) =
 grown-vain : (w : Wish) (p q : KnownPass) → TurnsInVain w p q → Grows p q
 grown-vain w p q vain = grown-turn p q vain.seen vain.seen vain.faults vain.faults vain.saw (prefix_self vain.seen) vain.turn
 
--- behind the wishes that were judged there are no turns, or one for which memory ran out
-grown-last : (ending : Ending) (n : ℕ) (came : List ℕ) (answered : List JudgedWish) (failed : Option JudgedWish) (p q : KnownPass) (s s' : Outlet)
-    → EndsTurns ending p q → EndsAs TakesTurns TurnsInVain ending n came came answered failed p q s s' → Grows p q
-grown-last endings.Clean n came answered failed p q s s' settled ends = grown-none p q settled
-grown-last endings.Cut n came answered failed p q s s' settled ends = grown-none p q settled
-grown-last (endings.Closed why) n came answered failed p q s s' settled ends = grown-none p q settled
-grown-last endings.ReadFault n came answered failed p q s s' settled ends = grown-none p q settled
-grown-last endings.WriteFault n came answered failed p q s s' settled ends = grown-none p q settled
-grown-last endings.OutOfMemory n came answered (Some j) p q s s' settled ends = absurd (cc (ends.0))
-grown-last endings.OutOfMemory n came answered None p q s s' settled ends =
-    ⊎_elim (λ reading. grown-none p q reading.1) (λ turn. grown-vain turn.0 p q turn.3) ends.2
-
 pub grown-connection : {S : Type 0} (left : S → Option (List ℕ)) (gives : S → S → List ℕ → Type 0) (ending : Ending) (w w' : World KnownPass S)
     → ConnectionInHistory left gives ending 0 [] w w' → Grows w.state w'.state
 grown-connection left gives ending w w' c =
     grown-then w.state c.judged w'.state (grown-takes (c.answered ++ listed c.failed) w.state c.judged c.turns)
-    (grown-last ending 0 c.got c.answered c.failed c.judged w'.state w.sink w'.sink c.settled c.ends)
+    (⊎_elim (λ same. grown-none c.judged w'.state same) (λ turn. grown-vain turn.0 c.judged w'.state turn.1)
+    (behind_judged TakesTurns TurnsInVain ending 0 c.got c.got c.answered c.failed c.judged w'.state w.sink w'.sink c.settled c.ends))

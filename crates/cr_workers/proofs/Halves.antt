@@ -4,7 +4,7 @@ use Rattle.cr_lock.specs.Counts.{Every}
 use Rattle.cr_lock.specs.Passes.{larger_half, smaller_half, united, Agree}
 use Rattle.cr_session.specs.Passing.{KnownPass}
 use Rattle.cr_workers.specs.Connections.{Streams, ServeAll}
-use Rattle.cr_workers.specs.Doors.{SeenDoor, DoorWork, IsWorkedOn, OneFailed, HasCause, connections_of, joined, ServesDoors}
+use Rattle.cr_workers.specs.Doors.{SeenDoor, DoorWork, IsWorkedOn, OneFailed, HasFailedDoor, connections_of, joined, ServesDoors}
 use Rattle.cr_workers.specs.declared.worked.Worked.{Worked}
 use Rattle.cr_workers.specs.declared.worked.Worked.TheVariants as worked
 use Rattle.cr_workers.proofs.Grown.{every-append}
@@ -56,7 +56,7 @@ module _ {I O : Type 0} where
   failed-right [] ws failed = failed
   failed-right (v ∷ vs) ws failed = inr (failed-right vs ws failed)
 
-  cause-both : (a b : Worked) (vs ws : List (DoorWork I O)) → HasCause a vs → HasCause b ws → HasCause (joined a b) (vs ++ ws)
+  cause-both : (a b : Worked) (vs ws : List (DoorWork I O)) → HasFailedDoor a vs → HasFailedDoor b ws → HasFailedDoor (joined a b) (vs ++ ws)
   cause-both worked.OutOfMemory b vs ws x y = tt
   cause-both worked.DoorFailed worked.OutOfMemory vs ws x y = tt
   cause-both worked.DoorFailed worked.DoorFailed vs ws x y = failed-left vs ws x
@@ -67,7 +67,8 @@ module _ {I O : Type 0} where
 
   connections-both : (vs ws : List (DoorWork I O)) → connections_of (vs ++ ws) ≡ connections_of vs ++ connections_of ws
   connections-both [] ws = refl
-  connections-both (v ∷ vs) ws = ap (λ cs. v.connections ++ cs) (connections-both vs ws) ∙ sym (append_assoc v.connections (connections_of vs) (connections_of ws))
+  connections-both (v ∷ vs) ws = ap (λ cs. v.connections ++ cs) (connections-both vs ws)
+      ∙ sym (append_assoc v.connections (connections_of vs) (connections_of ws))
 
   -- ---- lists of doors
 
@@ -110,8 +111,10 @@ module _ {I O : Type 0} where
       → ServesDoors streams (joined a b) (ds ++ es) (ds' ++ es') p (united q r)
   doors-both streams a b ds ds' es es' p q r x y agree = record {
     works = x.works ++ y.works;
-    before = map-append (λ (w : DoorWork I O). w.before) x.works y.works ∙ ap (λ (z : List (SeenDoor I O) × List (SeenDoor I O)). z.0 ++ z.1) (λ i. (x.before i, y.before i));
-    after = map-append (λ (w : DoorWork I O). w.after) x.works y.works ∙ ap (λ (z : List (SeenDoor I O) × List (SeenDoor I O)). z.0 ++ z.1) (λ i. (x.after i, y.after i));
+    before = map-append (λ (w : DoorWork I O). w.before) x.works y.works
+        ∙ ap (λ (z : List (SeenDoor I O) × List (SeenDoor I O)). z.0 ++ z.1) (λ i. (x.before i, y.before i));
+    after = map-append (λ (w : DoorWork I O). w.after) x.works y.works
+        ∙ ap (λ (z : List (SeenDoor I O) × List (SeenDoor I O)). z.0 ++ z.1) (λ i. (x.after i, y.after i));
     each = every-append (IsWorkedOn (joined a b)) x.works y.works (every-left a b x.works x.each) (every-right a b y.works y.each);
     cause = cause-both a b x.works y.works x.cause y.cause;
     served = subst (λ cs. ServeAll streams cs p (united q r)) (sym (connections-both x.works y.works))

@@ -1,12 +1,14 @@
 -- A worker between two connections of its door, and at its end.
-use Rattle.std.proofs.Common.{◌≡◌, ◌∙◌, ℕ, ◌+◌, ◌*◌, ◌^◌, ◌≤◌, inl, inr, List, [], ◌∷◌, ◌++◌, length, Bool, true, false, ◌||◌, Option, Some, None, Ok, Err, refl, sym, ap, subst, arith, append_assoc, length-append}
+use Rattle.std.proofs.Common.{◌≡◌, ◌∙◌, ℕ, ◌+◌, ◌*◌, ◌^◌, ◌≤◌, inl, inr, List, [], ◌∷◌, ◌++◌, length, Bool, true, false, ◌||◌, Option, Some, None, Ok, Err}
+use Rattle.std.proofs.Common.{refl, sym, ap, subst, arith, append_assoc, length-append}
 use Rattle.cr_ports.specs.Doors.{DoorLog, and_answer, and_back}
 use Rattle.cr_ports.specs.declared.door.NextConnection.TheVariants as next
 use Rattle.cr_session.specs.declared.serve.Ending.{Ending}
 use Rattle.cr_session.specs.Passing.{KnownPass, StaysPass}
 use Rattle.cr_session.proofs.Passes.{stays-now, stays-then}
 use Rattle.cr_workers.specs.Connections.{Streams, ServedConnection, ServeAll}
-use Rattle.cr_workers.specs.Doors.{SeenDoor, DoorWork, IsWorkedOn, HasCause, TellsMore, Visits, Works, NoneLacked, lacks, ended_by, ends_of, ServesNext, ServesDoors}
+use Rattle.cr_workers.specs.Doors.{SeenDoor, DoorWork, IsWorkedOn, HasFailedDoor, TellsMore, Visits, Works, NoneLacked, lacks, ended_by, ends_of, ServesNext}
+use Rattle.cr_workers.specs.Doors.{ServesDoors}
 use Rattle.cr_workers.specs.declared.worker.Last.{Last}
 use Rattle.cr_workers.specs.declared.worker.Last.TheVariants as lasts
 use Rattle.cr_workers.proofs.Grown.{append-nil, every-append}
@@ -30,10 +32,12 @@ module _ {I O : Type 0} where
   tells-then cs ds (Some a) None c x y = elim x [ ]
   tells-then cs ds (Some a) (Some b) None x y = elim y [ ]
   tells-then cs ds (Some a) (Some b) (Some c) x y =
-      y ∙ (ap (λ s. s ++ ends_of ds) x ∙ (append_assoc a.served (ends_of cs) (ends_of ds) ∙ ap (λ s. a.served ++ s) (sym (map-append (λ (z : ServedConnection I O). z.ends) cs ds))))
+      y ∙ (ap (λ s. s ++ ends_of ds) x ∙ (append_assoc a.served (ends_of cs) (ends_of ds)
+      ∙ ap (λ s. a.served ++ s) (sym (map-append (λ (z : ServedConnection I O). z.ends) cs ds))))
 
   -- one connection was given and came back
-  pub tells-one : (c : ServedConnection I O) (a b z : Option (DoorLog I O)) → b ≡ and_answer a (next.Conn c.ends.given.0 c.ends.given.1) → z ≡ and_back b c.ends.back.0 c.ends.back.1 → TellsMore (c ∷ []) a z
+  pub tells-one : (c : ServedConnection I O) (a b z : Option (DoorLog I O)) → b ≡ and_answer a (next.Conn c.ends.given.0 c.ends.given.1)
+      → z ≡ and_back b c.ends.back.0 c.ends.back.1 → TellsMore (c ∷ []) a z
   tells-one c a b z gave back =
       subst (λ (l : Option (DoorLog I O)). TellsMore (c ∷ []) a l) (sym (back ∙ ap (λ l. and_back l c.ends.back.0 c.ends.back.1) gave)) (at a)
     where
@@ -65,7 +69,8 @@ module _ {I O : Type 0} where
   pub serves-none : (streams : Streams I O) (d : SeenDoor I O) (p : KnownPass) → d.is_out ≡ false → ServesSoFar streams false d d p p
   serves-none streams d p back = record { connections = []; visits = visits-none d back; served = serve-none streams p; none = λ e. tt; stays = stays-now p }
 
-  none-then : (lacked : Bool) (cs : List (ServedConnection I O)) (c : ServedConnection I O) → (lacked ≡ false → NoneLacked cs) → (lacked || lacks c.ending) ≡ false → NoneLacked (cs ++ c ∷ [])
+  none-then : (lacked : Bool) (cs : List (ServedConnection I O)) (c : ServedConnection I O) → (lacked ≡ false → NoneLacked cs)
+      → (lacked || lacks c.ending) ≡ false → NoneLacked (cs ++ c ∷ [])
   none-then true cs c none is = absurd (cc (is))
   none-then false cs c none is = every-append (λ (z : ServedConnection I O). lacks z.ending ≡ false) cs (c ∷ []) (none refl) (is, tt)
 
@@ -74,7 +79,8 @@ module _ {I O : Type 0} where
       → ServesSoFar streams (lacked || lacks ending) d f p r
   serves-next streams lacked ending d e f p q r so next stays =
       let c = next.0 in
-      let one : ServeAll streams (c ∷ []) q r = subst (λ (x : KnownPass). ServeAll streams (c ∷ []) x r) next.3 (subst (λ (x : KnownPass). ServeAll streams (c ∷ []) c.before x) next.4 (serve-one streams c next.1)) in
+      let one : ServeAll streams (c ∷ []) q r = subst (λ (x : KnownPass). ServeAll streams (c ∷ []) x r) next.3
+      (subst (λ (x : KnownPass). ServeAll streams (c ∷ []) c.before x) next.4 (serve-one streams c next.1)) in
       let n = length-append so.connections (c ∷ []) in record {
         connections = so.connections ++ c ∷ [];
         visits = visits-then so.connections (c ∷ []) d e f so.visits next.5;
@@ -84,13 +90,14 @@ module _ {I O : Type 0} where
             (stays-then (1048576 * length so.connections) 1048576 p q r so.stays stays);
       }
 
-  worked-by : (lacked : Bool) (last : Last) (w : DoorWork I O) → Works last w.connections w.before w.after → (lacked ≡ false → NoneLacked w.connections) → IsWorkedOn (ended_by lacked last) w
+  worked-by : (lacked : Bool) (last : Last) (w : DoorWork I O) → Works last w.connections w.before w.after → (lacked ≡ false → NoneLacked w.connections)
+      → IsWorkedOn (ended_by lacked last) w
   worked-by true lasts.Done w works none = inl works
   worked-by true lasts.Failed w works none = inr (inl works)
   worked-by false lasts.Done w works none = (works, none refl)
   worked-by false lasts.Failed w works none = (inr works, none refl)
 
-  cause-by : (lacked : Bool) (last : Last) (w : DoorWork I O) → Works last w.connections w.before w.after → HasCause (ended_by lacked last) (w ∷ [])
+  cause-by : (lacked : Bool) (last : Last) (w : DoorWork I O) → Works last w.connections w.before w.after → HasFailedDoor (ended_by lacked last) (w ∷ [])
   cause-by true last w works = tt
   cause-by false lasts.Done w works = tt
   cause-by false lasts.Failed w works = inl works
@@ -106,12 +113,16 @@ module _ {I O : Type 0} where
         after = refl;
         each = (worked-by lacked last w works so.none, tt);
         cause = cause-by lacked last w works;
-        served = subst (λ (cs : List (ServedConnection I O)). ServeAll streams cs p r) (append-nil so.connections) (subst (λ (x : KnownPass). ServeAll streams so.connections p x) (sym next.0) so.served);
+        served = subst (λ (cs : List (ServedConnection I O)). ServeAll streams cs p r) (append-nil so.connections)
+            (subst (λ (x : KnownPass). ServeAll streams so.connections p x) (sym next.0) so.served);
       }
 
   -- not more connections than the door had to give
-  pub so-few : (streams : Streams I O) (lacked : Bool) (d e : SeenDoor I O) (p q : KnownPass) → ServesSoFar streams lacked d e p q → StaysPass (1048576 * d.left) p q
-  so-few streams lacked d e p q so = (let n = so.visits.left in stays-within (1048576 * length so.connections) (1048576 * d.left) p q (omega (arith, n)) so.stays)
+  pub so-few : (streams : Streams I O) (lacked : Bool) (d e : SeenDoor I O) (p q : KnownPass) → ServesSoFar streams lacked d e p q
+      → StaysPass (1048576 * d.left) p q
+  so-few streams lacked d e p q so = (let n = so.visits.left in
+      stays-within (1048576 * length so.connections) (1048576 * d.left) p q (omega (arith, n)) so.stays)
 
-  pub so-enough : (streams : Streams I O) (lacked : Bool) (d e : SeenDoor I O) (p q : KnownPass) → ServesSoFar streams lacked d e p q → p.turns + 1048576 * d.left ≤ 2 ^ 40 → q.turns + 1048576 * e.left ≤ 2 ^ 40
+  pub so-enough : (streams : Streams I O) (lacked : Bool) (d e : SeenDoor I O) (p q : KnownPass) → ServesSoFar streams lacked d e p q
+      → p.turns + 1048576 * d.left ≤ 2 ^ 40 → q.turns + 1048576 * e.left ≤ 2 ^ 40
   so-enough streams lacked d e p q so few = (let n = so.visits.left in let t = so.stays.few in omega (arith, n, t, few))

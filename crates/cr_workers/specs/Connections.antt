@@ -2,7 +2,7 @@
 use Rattle.std.specs.Prelude.{◌≡◌, ℕ, ◌+◌, List, [], ◌++◌, Option, Some}
 use mathlib.Core.List.{IsPrefix}
 use Rattle.cr_base.specs.declared.entry.Stamped.{Stamped}
-use Rattle.cr_lock.specs.declared.view.Turn.{Turn}
+use Rattle.cr_lock.specs.declared.pass_state.Turn.{Turn}
 use Rattle.cr_lock.specs.Counts.{Every, total}
 use Rattle.cr_lock.specs.Turns.{StandsIn, groups_with, marks, rises}
 use Rattle.cr_ports.specs.declared.door.Served.{Served}

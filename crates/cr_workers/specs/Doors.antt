@@ -119,10 +119,10 @@ OneFailed [] = ⊥
 OneFailed (w ∷ ws) = Works lasts.Failed w.connections w.before w.after ⊎ OneFailed ws
 
 -- where they ended by a door's failure, one of them failed
-abbrev pub HasCause : {I O : Type 0} → Worked → List (DoorWork I O) → Type 0
-HasCause worked.Done works = Unit {0}
-HasCause worked.DoorFailed works = OneFailed works
-HasCause worked.OutOfMemory works = Unit {0}
+abbrev pub HasFailedDoor : {I O : Type 0} → Worked → List (DoorWork I O) → Type 0
+HasFailedDoor worked.Done works = Unit {0}
+HasFailedDoor worked.DoorFailed works = OneFailed works
+HasFailedDoor worked.OutOfMemory works = Unit {0}
 
 -- the connections of all doors
 abbrev pub connections_of : {I O : Type 0} → List (DoorWork I O) → List (ServedConnection I O)
@@ -134,7 +134,7 @@ pub record ServesDoors {I O : Type 0} (streams : Streams I O) (ended : Worked) (
   pub before : map (λ (w : DoorWork I O). w.before) works ≡ doors
   pub after : map (λ (w : DoorWork I O). w.after) works ≡ doors'
   pub each : Every (IsWorkedOn ended) works
-  pub cause : HasCause ended works
+  pub cause : HasFailedDoor ended works
   pub served : ServeAll streams (connections_of works) p p'
 
 -- the same of doors of which this is seen

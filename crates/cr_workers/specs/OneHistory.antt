@@ -6,7 +6,7 @@ use Rattle.cr_lock.specs.Counts.{Every, total, within, last_count}
 use Rattle.cr_lock.specs.Turns.{groups_with, marks, rises}
 use Rattle.cr_session.specs.Replay.{Ledger}
 use Rattle.cr_workers.specs.Connections.{Streams, ServedConnection, IsServedWithin}
-use Rattle.cr_workers.specs.Doors.{SeenDoor, DoorWork, IsWorkedOn, HasCause, connections_of}
+use Rattle.cr_workers.specs.Doors.{SeenDoor, DoorWork, IsWorkedOn, HasFailedDoor, connections_of}
 use Rattle.cr_workers.specs.declared.worked.Worked.{Worked}
 
 -- However the turns of the connections interleave: there is one history, which begins with the first one, and each connection
@@ -17,7 +17,7 @@ pub record ServesHistory {I O : Type 0} (streams : Streams I O) (ended : Worked)
   pub before : map (λ (w : DoorWork I O). w.before) works ≡ doors
   pub after : map (λ (w : DoorWork I O). w.after) works ≡ doors'
   pub each : Every (IsWorkedOn ended) works
-  pub cause : HasCause ended works
+  pub cause : HasFailedDoor ended works
   pub served : Every (IsServedWithin streams b.history b'.history) (connections_of works)
   pub begins : IsPrefix b.history b'.history
   pub once : (k : ℕ) → total (λ (c : ServedConnection I O). groups_with k c.turns) (connections_of works) ≡ within (length b.history) (length b'.history) k

@@ -28,19 +28,22 @@ returns-in_default-with_capacity-clause-connection g c =
     let w = world_of g.S.Source.faults g.O.Sink.taken g.O.Sink.faults c.args.pass.now c.args.source.now c.args.sink.now in
     let w' = world_of g.S.Source.faults g.O.Sink.taken g.O.Sink.faults c.args.pass.now c.args.source.now c.note_no_memory-in_default-with_capacity.new.sink in
     subst (λ (e : Ending). ConnectionInHistory g.S.Source.left g.S.Source.read_gives e 0 [] w w') (sym c.note_no_memory-in_default-with_capacity.ensures.ending)
-    (round_unbegun TakesTurns TurnsInVain (λ p. refl) g.S.Source.left g.S.Source.read_gives 0 w w' refl refl c.note_no_memory-in_default-with_capacity.ensures.notes refl)
+    (round_unbegun TakesTurns TurnsInVain (λ p. refl) g.S.Source.left g.S.Source.read_gives 0 w w' refl refl
+    c.note_no_memory-in_default-with_capacity.ensures.notes refl)
 
 pub returns-in_default-with_capacity-clause-whole : goal.returns-in_default-with_capacity-clause-whole
 returns-in_default-with_capacity-clause-whole g c b told =
     let w = world_of g.S.Source.faults g.O.Sink.taken g.O.Sink.faults c.args.pass.now c.args.source.now c.args.sink.now in
     let w' = world_of g.S.Source.faults g.O.Sink.taken g.O.Sink.faults c.args.pass.now c.args.source.now c.note_no_memory-in_default-with_capacity.new.sink in
-    whole_text TakesTurns TurnsInVain g.S.Source.left g.S.Source.read_gives c.note_no_memory-in_default-with_capacity.result b w w' (returns-in_default-with_capacity-clause-connection g c) told
+    whole_text TakesTurns TurnsInVain g.S.Source.left g.S.Source.read_gives c.note_no_memory-in_default-with_capacity.result b w w'
+    (returns-in_default-with_capacity-clause-connection g c) told
 
 pub serving-init : goal.serving-init
 serving-init g c =
     let w = world_of g.S.Source.faults g.O.Sink.taken g.O.Sink.faults c.args.pass.now c.args.source.now c.args.sink.now in
     record {
-      goes_on = subst (λ i. GoesOnInHistory g.S.Source.left g.S.Source.read_gives 0 0 [] i w w) (sym c.in-Ok.ensures) (started g.S.Source.left g.S.Source.read_gives w);
+      goes_on = subst (λ i. GoesOnInHistory g.S.Source.left g.S.Source.read_gives 0 0 [] i w w) (sym c.in-Ok.ensures)
+          (started g.S.Source.left g.S.Source.read_gives w);
       few = omega arith;
       pass = stays-now c.args.pass.now;
       room = c.in-Ok-with_capacity.ensures.capacity;
@@ -51,7 +54,8 @@ returns-in-Some-clause-connection g c =
     let w = world_of g.S.Source.faults g.O.Sink.taken g.O.Sink.faults c.args.pass.now c.args.source.now c.args.sink.now in
     let v = world_of g.S.Source.faults g.O.Sink.taken g.O.Sink.faults c.serving.pass c.serving.source c.serving.sink in
     let u = world_of g.S.Source.faults g.O.Sink.taken g.O.Sink.faults c.serve_next.new.pass c.serve_next.new.source c.serve_next.new.sink in
-    ends_after g.S.Source.left g.S.Source.read_gives c.in-Some.ending c.serving.number [] c.serving.inbox w v u c.serving.invariant.goes_on c.in-Some.ensures.round
+    ends_after g.S.Source.left g.S.Source.read_gives c.in-Some.ending c.serving.number [] c.serving.inbox w v u c.serving.invariant.goes_on
+    c.in-Some.ensures.round
 
 pub returns-in-Some-clause-whole : goal.returns-in-Some-clause-whole
 returns-in-Some-clause-whole g c b told =
@@ -76,10 +80,12 @@ serving-preserved g c =
     let w = world_of g.S.Source.faults g.O.Sink.taken g.O.Sink.faults c.args.pass.now c.args.source.now c.args.sink.now in
     let v = world_of g.S.Source.faults g.O.Sink.taken g.O.Sink.faults c.serving.pass c.serving.source c.serving.sink in
     let u = world_of g.S.Source.faults g.O.Sink.taken g.O.Sink.faults c.serve_next.new.pass c.serve_next.new.source c.serve_next.new.sink in
-    let last = not_last g.S.Source.left g.S.Source.read_gives c.serving.number c.serving.inbox c.serve_next.new.inbox v u c.in_default-serve_next.ensures.round in
+    let last = not_last g.S.Source.left g.S.Source.read_gives c.serving.number c.serving.inbox c.serve_next.new.inbox v u
+    c.in_default-serve_next.ensures.round in
     let few = c.serving.invariant.few in
     record {
-      goes_on = goes_after g.S.Source.left g.S.Source.read_gives c.serving.number 1 [] c.serving.inbox c.serve_next.new.inbox w v u c.serving.invariant.goes_on c.in_default-serve_next.ensures.round;
+      goes_on = goes_after g.S.Source.left g.S.Source.read_gives c.serving.number 1 [] c.serving.inbox c.serve_next.new.inbox w v u c.serving.invariant.goes_on
+          c.in_default-serve_next.ensures.round;
       few = omega (arith, last, few);
       pass = stays-then c.serving.number 1 c.args.pass.now c.serving.pass c.serve_next.new.pass c.serving.invariant.pass c.serve_next.ensures.pass;
       room = c.serve_next.ensures.room;

@@ -11,7 +11,8 @@ returns-in-Ok-clause-serves g c =
     let turn = c.in_turn-turn.result in
     let form = form_of c.args.wish c.closes-close.result in
     let block = c.block_of.result.now in
-    serves_sent c.args.wish t.0 t.1 c.args.pass.now c.in_turn-turn.new.pass t.2 t.4 turn c.send.result c.args.number c.closes-close.result (c.print_turn.new.reply.items ++ block) _ _
+    serves_sent c.args.wish t.0 t.1 c.args.pass.now c.in_turn-turn.new.pass t.2 t.4 turn c.send.result c.args.number c.closes-close.result
+    (c.print_turn.new.reply.items ++ block) _ _
     c.in_default.not-OutOfMemory t.3 c.closes-close.ensures
     (ap (λ f. f ++ block) c.in-Ok.ensures.ok ∙ ap (λ b. turn_front turn form ++ b) c.block_of.ensures ∙ turn_parts turn form)
     (rw c.deref.ensures.value at c.send.ensures)

@@ -24,7 +24,8 @@ returns-in-Some-clause-does g c =
 pub returns-in-Pipe-Some-clause-answers : goal.returns-in-Pipe-Some-clause-answers
 returns-in-Pipe-Some-clause-answers g c =
     let some : c.in-Pipe-Some.store ≡ Some c.in-Pipe-Some.path = rw c.in-Pipe-Some.is at c.in-Pipe-Some.store-is in
-    let seen : job_seen c.args.job ≡ pipe_job (Some c.in-Pipe-Some.path.now) = ap job_seen c.in-Pipe-Some.is ∙ ap (λ t. pipe_job (option_map (λ x. x.now) t)) some in
+    let seen : job_seen c.args.job ≡ pipe_job (Some c.in-Pipe-Some.path.now) =
+    ap job_seen c.in-Pipe-Some.is ∙ ap (λ t. pipe_job (option_map (λ x. x.now) t)) some in
     answers-named _ _ (pipe_job (Some c.in-Pipe-Some.path.now)) _ _ _ seen
     (λ b left faultless H has. c.pipe_store.ensures.answers b left faultless has.faultless has.files has.told H has.legal has.spells)
 

@@ -39,7 +39,8 @@ returns g c s opens workers connections shared =
     let worked = c.serve_book-ended.result in
     let o = outlet c.args.out.now in
     let o' = outlet c.tell_entries.new.out in
-    serves-many g.S.Keeper.Keeper.rows g.S.Keeper.Keeper.faults c.args.path.now _ workers connections worked.0 (is_ok c.tell_entries.result) c.exit_of_workers.result
+    serves-many g.S.Keeper.Keeper.rows g.S.Keeper.Keeper.faults c.args.path.now _ workers connections worked.0
+    (is_ok c.tell_entries.result) c.exit_of_workers.result
     (c.exit_of_workers.ensures ∙ ap (λ (b : Bool). exit_of_workers worked.0 b) c.is_ok.ensures.value) c.args.book worked.1 c.close.result
     (map (door_of left is_out faults log) c.args.doors.items) (map (door_of left is_out faults log) worked.2.items) o o'
     s (stores c.args.shelf.now) (stores c.shut-2.new.self) (gates_at c.args.gates.now) (gates_at c.shut.new.self)

@@ -8,11 +8,13 @@ use Rattle.cr_top.proofs.serve.serve_store.Goals as goal
 
 pub serve_doors-requires-clause-at_most : goal.serve_doors-requires-clause-at_most
 serve_doors-requires-clause-at_most g c κs within =
-    few-doors g.G.Door.Door.left c.args.address.workers c.args.address.connections c.in-Ok-open_gates.doors.items c.requires.workers.1 c.in-Ok-open_gates.ensures.shared
+    few-doors g.G.Door.Door.left c.args.address.workers c.args.address.connections c.in-Ok-open_gates.doors.items c.requires.workers.1
+    c.in-Ok-open_gates.ensures.shared
 
 pub serve_doors-requires-clause-few : goal.serve_doors-requires-clause-few
 serve_doors-requires-clause-few g c κs within =
-    few-turns g.G.Door.Door.left c.args.address.workers c.args.address.connections c.in-Ok-open_gates.doors.items c.requires.workers.0 c.requires.connections.1 c.in-Ok-open_gates.ensures.shared
+    few-turns g.G.Door.Door.left c.args.address.workers c.args.address.connections c.in-Ok-open_gates.doors.items c.requires.workers.0 c.requires.connections.1
+    c.in-Ok-open_gates.ensures.shared
 
 pub returns-in-Ok-open_gates-clause-serves : goal.returns-in-Ok-open_gates-clause-serves
 returns-in-Ok-open_gates-clause-serves g c =
@@ -20,9 +22,11 @@ returns-in-Ok-open_gates-clause-serves g c =
     let stores = state_of g.S.Shelf.rows g.S.Shelf.faults in
     let gates_at = gates_of g.G.Gates.faults g.G.Gates.logs in
     let streams = streams_of g.G.Door.In.Source.left g.G.Door.In.Source.read_gives g.G.Door.In.Source.faults g.G.Door.Out.Sink.taken g.G.Door.Out.Sink.faults in
-    let many = c.serve_doors.ensures (stores c.args.shelf.now) c.in-Ok.ensures.opened c.args.address.workers c.args.address.connections c.in-Ok-open_gates.ensures.shared in
+    let many = c.serve_doors.ensures (stores c.args.shelf.now) c.in-Ok.ensures.opened c.args.address.workers c.args.address.connections
+    c.in-Ok-open_gates.ensures.shared in
     inr (inr (subst (λ (x : GatesState g.row.G-Door-In.Denot g.row.G-Door-Out.Denot).
-    ServesMany g.S.Keeper.Keeper.rows c.args.path.now streams c.args.address.workers c.args.address.connections c.serve_doors.result (outlet c.args.out.now) (outlet c.serve_doors.new.out)
+    ServesMany g.S.Keeper.Keeper.rows c.args.path.now streams c.args.address.workers c.args.address.connections c.serve_doors.result (outlet c.args.out.now)
+    (outlet c.serve_doors.new.out)
     (stores c.args.shelf.now) (stores c.serve_doors.new.shelf) x (gates_at c.serve_doors.new.gates))
     (λ i. record { faults = c.in-Ok-open_gates.ensures.same i; logs = c.in-Ok-open_gates.ensures.logs i }) many))
 
@@ -51,6 +55,7 @@ returns-in-Err-open_gates-clause-serves g c =
     inr (inl (
       stays-closed g.S.Keeper.Keeper.rows g.S.Keeper.Keeper.faults c.args.path.now c.in-Err-open_gates.exit c.in-Ok.book c.close.result
           (stores c.args.shelf.now) (stores c.open_store.new.shelf) (stores c.shut.new.self) (gates_at c.args.gates.now) (gates_at c.open_gates.new.gates)
-          c.in-Ok.ensures.opened c.close.ensures.same c.shut.ensures.kept c.shut.ensures.count c.in-Err-open_gates.ensures.refused.0 c.in-Err-open_gates.ensures.refused.1,
+          c.in-Ok.ensures.opened c.close.ensures.same c.shut.ensures.kept c.shut.ensures.count c.in-Err-open_gates.ensures.refused.0
+          c.in-Err-open_gates.ensures.refused.1,
       refl,
     ))

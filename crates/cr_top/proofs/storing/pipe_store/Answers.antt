@@ -11,8 +11,10 @@ pub returns-in-Ok-clause-pipes : goal.returns-in-Ok-clause-pipes
 returns-in-Ok-clause-pipes g c =
     let outside = outside_of g.I.Source.faults g.O.Sink.taken g.O.Sink.faults in
     let stores = state_of g.S.Shelf.rows g.S.Shelf.faults in
-    inr (serves-store g.S.Keeper.Keeper.rows g.S.Keeper.Keeper.faults c.args.path.now g.I.Source.left g.I.Source.read_gives c.exit_of.result _ c.exit_of.ensures c.in-Ok.book _
-    (outside c.args.input.now c.args.out.now) (outside c.pipe-ending.new.input c.pipe-ending.new.out) (stores c.args.shelf.now) (stores c.open_store.new.shelf) (stores c.shut.new.self)
+    inr (serves-store g.S.Keeper.Keeper.rows g.S.Keeper.Keeper.faults c.args.path.now g.I.Source.left g.I.Source.read_gives c.exit_of.result _
+    c.exit_of.ensures c.in-Ok.book _
+    (outside c.args.input.now c.args.out.now) (outside c.pipe-ending.new.input c.pipe-ending.new.out) (stores c.args.shelf.now) (stores c.open_store.new.shelf)
+    (stores c.shut.new.self)
     c.in-Ok.ensures.opened c.pipe-ending.ensures.pipes c.shut.ensures.kept c.shut.ensures.count)
 
 pub returns-in-Ok-clause-answers : goal.returns-in-Ok-clause-answers
@@ -28,4 +30,5 @@ returns-in-Ok-clause-answers g c b left faultless idle files told H legal spells
     subst (λ (opening : History). (c.exit_of.result ≡ exits.OutOfMemory) ⊎ AnswersAll opening c.exit_of.result b o o') same
     (subst (λ (x : Exit). (x ≡ exits.OutOfMemory) ⊎ AnswersAll c.in-Ok.book.log x b o o') (sym c.exit_of.ensures)
     (c.pipe-ending.ensures.answers b left faultless
-    (no_fault g.S.Keeper.Keeper.rows g.S.Keeper.Keeper.faults c.args.path.now c.in-Ok.book _ s m s' c.in-Ok.ensures.opened c.shut.ensures.kept c.shut.ensures.count idle)))
+    (no_fault g.S.Keeper.Keeper.rows g.S.Keeper.Keeper.faults c.args.path.now c.in-Ok.book _ s m s' c.in-Ok.ensures.opened c.shut.ensures.kept
+    c.shut.ensures.count idle)))

@@ -22,8 +22,10 @@ returns-clause-serves g t c =
     let first : ServesDoors streams one.2 (map seen front) (map seen one.1.items) (larger_half c.args.pass) one.0 =
     subst (λ (p : KnownPass). ServesDoors streams one.2 (map seen front) (map seen one.1.items) p one.0) c.in-Ok-split.ensures.1 c.join-one.ensures.first.0 in
     let second : ServesDoors streams other.2 (map seen back) (map seen other.1.items) (smaller_half c.args.pass) other.0 =
-    subst (λ (p : KnownPass). ServesDoors streams other.2 (map seen back) (map seen other.1.items) p other.0) c.in-Ok-split.ensures.2 c.join-one.ensures.second.0 in
+    subst (λ (p : KnownPass). ServesDoors streams other.2 (map seen back) (map seen other.1.items) p other.0) c.in-Ok-split.ensures.2
+    c.join-one.ensures.second.0 in
     let before = ap (map seen) c.in-Ok.ensures.whole ∙ map-append seen front back in
     let after = ap (map seen) c.rejoin.ensures.items ∙ map-append seen one.1.items other.1.items in
     rw c.and.ensures (rw c.join.ensures.both (rw before (rw after
-    (doors-both streams one.2 other.2 (map seen front) (map seen one.1.items) (map seen back) (map seen other.1.items) c.args.pass one.0 other.0 first second c.join.ensures.agree))))
+    (doors-both streams one.2 other.2 (map seen front) (map seen one.1.items) (map seen back)
+    (map seen other.1.items) c.args.pass one.0 other.0 first second c.join.ensures.agree))))

@@ -14,7 +14,7 @@ pub struct Turn<E> {
 }
 
 /// What a pass is doing.
-pub enum Role<E> {
+pub enum Activity<E> {
     /// It is between turns.
     Idle,
     /// It has drawn a ticket that isn't served yet, or it hasn't looked since.
@@ -43,7 +43,7 @@ pub enum Role<E> {
 }
 
 /// What one pass knows, and what it is doing.
-pub struct View<E> {
+pub struct PassState<E> {
     /// How many of the 64 parts of the right to the whole history it has.
     pub share: u64,
     /// At least how many turns it has made; after a join the greater count of the two.
@@ -53,5 +53,5 @@ pub struct View<E> {
     /// Its turns, in the order of their places.
     pub mine: LinkedList<Turn<E>>,
     /// What it is doing.
-    pub role: Role<E>,
+    pub activity: Activity<E>,
 }
