@@ -5,7 +5,7 @@ ghost use Rattle.sqlite_disk.specs.Memory.{memory_is_usable};
 
 use cr_base::{Blob, Row};
 use cr_ports::Keeper;
-use cr_sqlite::{Faults, Reason, SqliteKeeper};
+use cr_sqlite::{Reason, SqliteKeeper};
 use sqlite::{Alter, Connection, Error, ErrorCode, File, FileStore, Files, Options};
 use sqlite_disk::Memory;
 use std::alloc::{AllocError, Global};
@@ -103,7 +103,7 @@ fn open(alloc: Global, log: Memory, db: Memory) -> Option<Connection<FileStore<M
 }
 
 fn adopt<S: Alter + Drop>(alloc: Global, conn: Connection<S>) -> Option<SqliteKeeper<S>> {
-    match SqliteKeeper::adopt(alloc, conn, &mut Faults::none()) {
+    match SqliteKeeper::adopt(alloc, conn, &mut 0) {
         Ok(keeper) => Some(keeper),
         Err(_) => None,
     }

@@ -1,8 +1,8 @@
 //! A keeper over a connection.
-ghost use Rattle.std.specs.Prelude.{◌≡◌, None, false, IfOk};
+ghost use Rattle.std.specs.Prelude.{◌≡◌, ℕ, None, false, IfOk, IfErr};
 ghost use Rattle.cr_ports.specs.Keeping.{HasCause};
+ghost use Rattle.cr_sqlite.specs.Telling.{told_of};
 
-use crate::faults::Faults;
 use crate::lanes::Lanes;
 use crate::reason::{Reason, StoreError};
 use crate::record::insert;
@@ -24,7 +24,8 @@ pub struct SqliteKeeper<S: Alter> {
     len: u64,
     /// The row at which the lanes stand, if they do at one.
     next: Option<u64>,
-    pub(crate) faults: Faults,
+    faults: u64,
+    reason: Option<Reason>,
 }
 
 // Written out, so that a caller doesn't prove again how each part is dropped.
@@ -36,6 +37,7 @@ impl<S: Alter + Drop> Drop for SqliteKeeper<S> {
             len: _,
             next: _,
             faults: _,
+            reason: _,
         } = self;
     }
 }
@@ -114,6 +116,39 @@ fn insert_one<S: Alter>(
 }
 
 impl<S: Alter> SqliteKeeper<S> {
+    /// A keeper of the rows that the connection's database has as a store, with no fault counted.
+    /// A database without tables becomes a store without rows, in one transaction; any other is
+    /// left as it is.
+    ///
+    /// `Failed` comes only where `faults` rose, or stands at its last value: the database isn't a
+    /// store of version 1, or a statement failed. `OutOfMemory` comes only where it is as it was.
+    /// Counts the rows; what they are is looked at as they are read. Where each of the first that
+    /// many places then has one row, there is no other.
+    pub fn adopt(
+        alloc: Global,
+        mut conn: Connection<S>,
+        faults: &mut u64,
+    ) -> Result<Self, (StoreError, Connection<S>)>
+        ensures kept { IfOk result (λ keeper. (keeper ≡ 0) × (faults.new ≡ faults.old)) }
+        ensures cause { IfErr result (λ e. HasCause {T = ℕ} faults.old faults.new (Err (told_of e.0))) }
+    {
+        match prepare(alloc, &mut conn) {
+            Ok((lanes, len)) => Ok(SqliteKeeper {
+                conn,
+                lanes,
+                len,
+                next: None,
+                faults: 0,
+                reason: None,
+            }),
+            Err(StoreError::Failed(reason)) => {
+                *faults = faults.saturating_add(1);
+                Err((StoreError::Failed(reason), conn))
+            }
+            Err(StoreError::OutOfMemory) => Err((StoreError::OutOfMemory, conn)),
+        }
+    }
+
     /// The connection, whose database has the rows.
     pub fn release(self) -> Connection<S> {
         let SqliteKeeper {
@@ -122,8 +157,35 @@ impl<S: Alter> SqliteKeeper<S> {
             len: _,
             next: _,
             faults: _,
+            reason: _,
         } = self;
         conn
+    }
+
+    /// How many calls have failed.
+    pub fn faults(&self) -> u64
+        ensures { result ≡ self.now }
+    {
+        self.faults
+    }
+
+    /// What the last fault was; none where no call has failed.
+    pub fn reason(&self) -> Option<Reason> {
+        self.reason
+    }
+
+    /// Counts a fault and keeps its reason. Out of memory is none.
+    fn refused(&mut self, refusal: StoreError) -> KeeperError
+        ensures { HasCause {T = ℕ} self.old self.new (Err result) }
+    {
+        match refusal {
+            StoreError::Failed(reason) => {
+                self.faults = self.faults.saturating_add(1);
+                self.reason = Some(reason);
+                KeeperError::Failed
+            }
+            StoreError::OutOfMemory => KeeperError::OutOfMemory,
+        }
     }
 
     /// Keeps all rows, or none of them.
@@ -160,31 +222,18 @@ impl<S: Alter> SqliteKeeper<S> {
 }
 
 impl<S: Alter + Drop> SqliteKeeper<S> {
-    /// A keeper of the rows that the connection's database has as a store, with no fault counted.
-    /// A database without tables becomes a store without rows, in one transaction; any other is
-    /// left as it is, and the connection is let go.
-    ///
-    /// `Failed` comes only where `faults` rose, or stands at its last value: the database isn't a
-    /// store of version 1, or a statement failed. `OutOfMemory` comes only where it is as it was.
-    /// Counts the rows; what they are is looked at as they are read. Where each of the first that
-    /// many places then has one row, there is no other.
-    pub fn adopt(
+    /// The same as `adopt`, where a connection that isn't taken is let go.
+    pub(crate) fn adopt_or_drop(
         alloc: Global,
-        mut conn: Connection<S>,
-        faults: &mut Faults,
-    ) -> Result<Self, KeeperError>
-        ensures fresh { IfOk result (λ keeper. keeper ≡ 0) }
-        ensures cause { HasCause faults.old faults.new result }
+        conn: Connection<S>,
+        faults: &mut u64,
+    ) -> Result<Self, StoreError>
+        ensures kept { IfOk result (λ keeper. (keeper ≡ 0) × (faults.new ≡ faults.old)) }
+        ensures cause { IfErr result (λ e. HasCause {T = ℕ} faults.old faults.new (Err (told_of e))) }
     {
-        match prepare(alloc, &mut conn) {
-            Ok((lanes, len)) => Ok(SqliteKeeper {
-                conn,
-                lanes,
-                len,
-                next: None,
-                faults: Faults::none(),
-            }),
-            Err(error) => Err(faults.refused(error)),
+        match SqliteKeeper::adopt(alloc, conn, faults) {
+            Ok(keeper) => Ok(keeper),
+            Err((error, _)) => Err(error),
         }
     }
 }
@@ -198,7 +247,7 @@ impl<S: Alter> Keeper for SqliteKeeper<S> {
     fn append_all(&mut self, added: &[Row]) -> Result<(), KeeperError> {
         match self.keep(added) {
             Ok(()) => Ok(()),
-            Err(refusal) => Err(self.faults.refused(refusal)),
+            Err(refusal) => Err(self.refused(refusal)),
         }
     }
 
@@ -210,7 +259,7 @@ impl<S: Alter> Keeper for SqliteKeeper<S> {
     fn row(&mut self, at: u64) -> Result<Row, KeeperError> {
         match self.take(at) {
             Ok(row) => Ok(row),
-            Err(refusal) => Err(self.faults.refused(refusal)),
+            Err(refusal) => Err(self.refused(refusal)),
         }
     }
 }

@@ -5,7 +5,6 @@
 //! tables. A row stands at its place, its number from 0 in the one list of them all.
 #![tactic(auto)]
 
-mod faults;
 mod keeper;
 mod lanes;
 mod reason;
@@ -14,7 +13,6 @@ mod schema;
 mod shelf;
 mod table;
 
-pub use faults::Faults;
 pub use keeper::SqliteKeeper;
-pub use reason::Reason;
+pub use reason::{Reason, StoreError};
 pub use shelf::SqliteShelf;

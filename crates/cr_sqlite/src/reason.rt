@@ -50,7 +50,7 @@ impl fmt::Display for Reason {
 /// Why a connection wasn't taken as a keeper, or a call of one gave up.
 #[derive(Clone, Copy, Debug, PartialEq, Eq)]
 pub enum StoreError {
-    /// A fault, which is counted.
+    /// A fault, which was counted.
     Failed(Reason),
     /// Out of memory, which isn't counted as a fault.
     OutOfMemory,

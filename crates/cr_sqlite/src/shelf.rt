@@ -1,8 +1,9 @@
 //! A shelf of files.
-ghost use Rattle.std.specs.Prelude.{◌≡◌, None, ⊤};
+ghost use Rattle.std.specs.Prelude.{◌≡◌, ℕ, None, ⊤, IfOk};
 ghost use Rattle.cr_ports.specs.Count.{Gains};
+ghost use Rattle.cr_ports.specs.Keeping.{HasCause};
+ghost use Rattle.cr_sqlite.specs.Telling.{told_of};
 
-use crate::faults::Faults;
 use crate::keeper::SqliteKeeper;
 use crate::reason::{Reason, StoreError};
 use cr_ports::{KeeperError, Shelf};
@@ -17,7 +18,8 @@ use std::rt::HostRuntime;
 #[derive(Drop)]
 pub struct SqliteShelf {
     rt: HostRuntime,
-    faults: Faults,
+    faults: u64,
+    reason: Option<Reason>,
 }
 
 impl Model for SqliteShelf {
@@ -45,14 +47,57 @@ impl SqliteShelf {
     {
         SqliteShelf {
             rt: *rt,
-            faults: Faults::none(),
+            faults: 0,
+            reason: None,
         }
     }
 
     /// What the last fault was, of the shelf or of a keeper that it took back; none where nothing
     /// has failed.
     pub fn reason(&self) -> Option<Reason> {
-        self.faults.reason()
+        self.reason
+    }
+
+    /// Counts a fault and keeps its reason. Out of memory is none.
+    fn refused(&mut self, refusal: StoreError) -> KeeperError
+        ensures { HasCause {T = ℕ} self.old self.new (Err result) }
+    {
+        match refusal {
+            StoreError::Failed(reason) => {
+                self.faults = self.faults.saturating_add(1);
+                self.reason = Some(reason);
+                KeeperError::Failed
+            }
+            StoreError::OutOfMemory => KeeperError::OutOfMemory,
+        }
+    }
+
+    /// A keeper over the connection.
+    fn adopt(
+        &mut self,
+        conn: Connection<FileStore<File>>,
+    ) -> Result<SqliteKeeper<FileStore<File>>, KeeperError>
+        ensures fresh { IfOk result (λ keeper. keeper ≡ 0) }
+        ensures cause { HasCause self.old self.new result }
+    {
+        match SqliteKeeper::adopt_or_drop(self.rt.alloc(), conn, &mut self.faults) {
+            Ok(keeper) => Ok(keeper),
+            Err(error) => Err(self.told(error)),
+        }
+    }
+
+    /// The same as a shelf tells it, whose reason is kept here. It was counted before.
+    fn told(&mut self, error: StoreError) -> KeeperError
+        ensures told { result ≡ told_of error }
+        ensures same { self.new ≡ self.old }
+    {
+        match error {
+            StoreError::Failed(reason) => {
+                self.reason = Some(reason);
+                KeeperError::Failed
+            }
+            StoreError::OutOfMemory => KeeperError::OutOfMemory,
+        }
     }
 
     /// Counts what closing failed of.
@@ -60,7 +105,7 @@ impl SqliteShelf {
         ensures { Gains self.old 0 self.new }
     {
         if let Err(error) = end {
-            self.faults.refused(StoreError::from(error));
+            self.refused(StoreError::from(error));
         }
     }
 }
@@ -79,8 +124,8 @@ impl Shelf for SqliteShelf {
     fn open(&mut self, path: &str) -> Result<SqliteKeeper<FileStore<File>>, KeeperError> {
         let rt = self.rt;
         match connect(&rt, path) {
-            Ok(conn) => SqliteKeeper::adopt(rt.alloc(), conn, &mut self.faults),
-            Err(error) => Err(self.faults.refused(StoreError::from(error))),
+            Ok(conn) => self.adopt(conn),
+            Err(error) => Err(self.refused(StoreError::from(error))),
         }
     }
 
@@ -88,8 +133,9 @@ impl Shelf for SqliteShelf {
     /// Where that fails, which is one fault more, the log stays beside the file. The reason is that
     /// of the keeper's last fault, if it had one.
     fn shut(&mut self, _path: &str, keeper: SqliteKeeper<FileStore<File>>) {
-        let of_keeper = keeper.faults;
+        self.faults = self.faults.saturating_add(keeper.faults());
+        let of_keeper = keeper.reason();
         self.closed(close(keeper));
-        self.faults.add(&of_keeper);
+        self.reason = of_keeper.or(self.reason);
     }
 }

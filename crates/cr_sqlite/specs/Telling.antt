@@ -1,0 +1,10 @@
+-- What a keeper answers where it gave up.
+use Rattle.cr_ports.specs.declared.keeper.KeeperError.{KeeperError}
+use Rattle.cr_ports.specs.declared.keeper.KeeperError.TheVariants as errors
+use Rattle.cr_sqlite.specs.declared.reason.StoreError.{StoreError}
+use Rattle.cr_sqlite.specs.declared.reason.StoreError.TheVariants.{Failed, OutOfMemory}
+
+-- the same, without its reason
+abbrev pub told_of : StoreError → KeeperError
+told_of (Failed reason) = errors.Failed
+told_of OutOfMemory = errors.OutOfMemory
