@@ -1,4 +1,4 @@
-//! What is kept of a conference with a command of each kind.
+//! What is kept of a small conference.
 
 use cr_book::Book;
 use cr_ports::{Keeper, MemSink, PlainKeeper, PlainSource};
@@ -8,7 +8,7 @@ use std::alloc::{AllocError, Global};
 use std::sync::Wait;
 use std::test::Fail;
 
-/// A command of each kind. The first registration adds two entries.
+/// Its commands. The first registration adds two entries.
 const SENT: [&str; 7] = [
     "POST /register HTTP/1.1\r\nHost: c\r\nContent-Length: 47\r\n\r\n{\"name\":\"alice\",\"secret\":\"alice-secret-000001\"}",
     "POST /register HTTP/1.1\r\nHost: c\r\nContent-Length: 43\r\n\r\n{\"name\":\"bob\",\"secret\":\"bob-secret-000001\"}",

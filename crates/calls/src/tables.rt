@@ -1,6 +1,7 @@
 //! The tables, each by itself and as one.
 
 use cr_accounts::Accounts;
+use cr_assign::Seats;
 use cr_base::{Command, Entry, Order, Pair, PaperNo, Query, Reply, Short, Stamped, Tie, UserNo};
 use cr_conflicts::Ties;
 use cr_pairs::{IndexedPairs, PairMap};
@@ -29,6 +30,7 @@ fn make_room(alloc: Global) -> Result<(), AllocError> {
     Accounts::new(alloc).room(&group)?;
     Papers::new(alloc).room(&group)?;
     Ties::new(alloc).room(&group)?;
+    Seats::new(alloc).room(&group)?;
     PairMap::<i8>::new(alloc, Order::ByPaper).room(1)?;
     IndexedPairs::<i8>::new(alloc).room(1)
 }
