@@ -97,14 +97,15 @@ pub record Told (t : Tables) (rows : List Row) (drawn : Drawn) : Type 0 where
   pub told : drawn_by_rows t rows first ≡ Some given
   pub begins : take (length rows) (rows_of given.group) ≡ rows
 
--- the call of an entry is known and draws this
-told-by : (t : Tables) (authors : List (Option (List ℕ))) (first : Stamped) (command : Command) (drawn : Drawn) → is_known t (giver_told first.maker first.entry) ≡ true → command_told t authors first.entry ≡ Some command
-    → judge_by_role t (giver_told first.maker first.entry) command ≡ Ok drawn → drawn_told t authors first ≡ Some drawn
-told-by t authors first command drawn known told accepted =
+-- where the call of an entry is known, what is drawn is what its judgement draws
+pub told-judged : (t : Tables) (authors : List (Option (List ℕ))) (first : Stamped) (command : Command) (judged : Result Drawn Rule)
+    → is_known t (giver_told first.maker first.entry) ≡ true → command_told t authors first.entry ≡ Some command
+    → judge_by_role t (giver_told first.maker first.entry) command ≡ judged → drawn_told t authors first ≡ result_ok judged
+told-judged t authors first command judged known told is =
     let caller = giver_told first.maker first.entry in
     ap (λ b. cond b (option_and_then (λ c. result_ok (judge_by_role t caller c)) (command_told t authors first.entry)) None) known
     ∙ ap (option_and_then (λ c. result_ok (judge_by_role t caller c))) told
-    ∙ ap result_ok accepted
+    ∙ ap result_ok is
 
 -- ---- a submission and its co-authors
 
@@ -135,7 +136,7 @@ module _ (t : Tables) (once : AreNamedOnce t.accounts) (user : ℕ) (known : is_
     rest = grouped user (coauthors next_paper users);
     group_is = group ∙ grouped-cons user e (coauthors next_paper users);
     given = submission_drawn user next_paper title abstract others;
-    told = told-by t names first (Submit title abstract names) (submission_drawn user next_paper title abstract others) known
+    told = told-judged t names first (Submit title abstract names) (Ok (submission_drawn user next_paper title abstract others)) known
         (ap (λ b. cond b (Some (Submit title abstract names)) None) enough)
         (ap (judged_of title abstract) (ap (users_among (lines_of t.accounts)) back.names ∙ found-back t others back.found)
         ∙ accepted-with title abstract (users_among (lines_of t.accounts) authors) others accepted);
@@ -200,7 +201,7 @@ module _ (t : Tables) (rows : List Row) (drawn : Drawn) (begins : take (length r
         rest = [];
         group_is = ap (λ (d : Drawn). d.group) (sym is) ∙ group;
         given = drawn;
-        told = told-by t (authors_told t user rows) first command drawn (ap (is_known t) caller ∙ known) told (ap (λ (c : Option ℕ). judge_by_role t c command) caller ∙ accepted);
+        told = told-judged t (authors_told t user rows) first command (Ok drawn) (ap (is_known t) caller ∙ known) told (ap (λ (c : Option ℕ). judge_by_role t c command) caller ∙ accepted);
         begins = begins;
       }
 
@@ -212,9 +213,9 @@ module _ (t : Tables) (rows : List Row) (drawn : Drawn) (begins : take (length r
     where
       by : (b : Bool) (user : ℕ) → drawn.group ≡ grouped user (cond b (Registered user name digest ∷ Named user roles.Chair ∷ []) (Registered user name digest ∷ [])) → Told t rows drawn
       by true user is = let first : Stamped = record { maker = user; more = true; entry = Registered user name digest } in
-          record { first = first; rest = record { maker = user; more = false; entry = Named user roles.Chair } ∷ []; group_is = is; given = drawn; told = told-by t (authors_told t user rows) first (Register name digest) drawn refl refl accepted; begins = begins }
+          record { first = first; rest = record { maker = user; more = false; entry = Named user roles.Chair } ∷ []; group_is = is; given = drawn; told = told-judged t (authors_told t user rows) first (Register name digest) (Ok drawn) refl refl accepted; begins = begins }
       by false user is = let first : Stamped = record { maker = user; more = false; entry = Registered user name digest } in
-          record { first = first; rest = []; group_is = is; given = drawn; told = told-by t (authors_told t user rows) first (Register name digest) drawn refl refl accepted; begins = begins }
+          record { first = first; rest = []; group_is = is; given = drawn; told = told-judged t (authors_told t user rows) first (Register name digest) (Ok drawn) refl refl accepted; begins = begins }
 
   module _ (user : ℕ) (known : is_known t (Some user) ≡ true) where
     name-told : (name : Option (List ℕ)) (role : Role) → judge_by_role t (Some user) (Name name role) ≡ Ok drawn → Told t rows drawn

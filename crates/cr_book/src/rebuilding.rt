@@ -100,7 +100,10 @@ fn naming_command_of(live: &Live, first: Entry) -> Option<Command>
             })
         }
         Entry::Assigned {
-            paper, user, kind, ..
+            paper,
+            user,
+            kind,
+            ..
         } => {
             let name = live.name_of(user)?;
             Some(Command::Assign {
