@@ -72,7 +72,8 @@ module _ (seats : SeatsState) (users : Order) (reviewing : List (Tie ℕ)) (inde
 
   pub put-in : (paper user : ℕ) (kind : Kind) (ordinal : ℕ) (read : SeatsState) (number place : ℕ) (s : Tie Seat) (seats' : SeatsState)
       → read ≡ seats → number ≡ paper + 1 → place ≤ length read → IsFrom number read place
-      → s ≡ seat_tie paper user kind ordinal → seats' ≡ insert seats place s → (seats' ≡ with_seat (seat_tie paper user kind ordinal) seats) × RisesBy ByPaper seats'
+      → s ≡ seat_tie paper user kind ordinal → seats' ≡ insert seats place s
+      → (seats' ≡ with_seat (seat_tie paper user kind ordinal) seats) × RisesBy ByPaper seats'
   put-in paper user kind ordinal read number place s seats' same above within next made is =
       let t : Tie Seat = seat_tie paper user kind ordinal in
       let is' : seats' ≡ insert seats place t = is ∙ ap (λ (x : Tie Seat). insert seats place x) made in

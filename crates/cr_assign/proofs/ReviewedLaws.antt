@@ -18,7 +18,8 @@ each-kept order ts up k d h =
     let t : Tie ℕ = get_or ts k d in
     sym (found-value order t.pair ts ts k d t up (record { in_range = h; is = λ e. ap (λ (s : Tie ℕ). s.pair) (get_or_default ts k e d h) }) refl refl)
 
-pub reviewed-under : (seats : SeatsState) (users : Order) (reviewing : List (Tie ℕ)) → SeatsIndexed seats users reviewing → IsAscending users reviewing → (user : ℕ)
+pub reviewed-under : (seats : SeatsState) (users : Order) (reviewing : List (Tie ℕ)) → SeatsIndexed seats users reviewing → IsAscending users reviewing
+    → (user : ℕ)
     → All (λ (t : Tie ℕ). seat_in seats (Some user) t.pair.paper ≡ Some t.value) (ties_of ByUser user reviewing)
 reviewed-under seats users reviewing index up user k d h =
     let hers : Tie ℕ → Bool = λ t. eqb user t.pair.user in

@@ -33,7 +33,8 @@ position-within : (test : Account → Bool) (n : ℕ) (accounts : List Account) 
 position-within test n [] k found = cc
 position-within test n (a ∷ accounts) k found = by (test a) found (position-within test (n + 1) accounts k)
   where
-    by : (b : Bool) → cond b (Some n) (position_from test (n + 1) accounts) ≡ Some k → (position_from test (n + 1) accounts ≡ Some k → k + 1 ≤ (n + 1) + length accounts) → k + 1 ≤ n + suc (length accounts)
+    by : (b : Bool) → cond b (Some n) (position_from test (n + 1) accounts) ≡ Some k
+        → (position_from test (n + 1) accounts ≡ Some k → k + 1 ≤ (n + 1) + length accounts) → k + 1 ≤ n + suc (length accounts)
     by true is rest = let e : n ≡ k = cc in omega (arith, e)
     by false is rest = let low = rest is in omega (arith, low)
 
@@ -51,17 +52,20 @@ number-within accounts name user is = by (position_from test 0 accounts) refl (s
         (omega (arith, n), omega (arith, n, high))
 
 -- what is so of the user of each name that somebody has is so of all the users of these names
-pub users-each : (P : ℕ → Type 0) (lines : List AccountLine) → ((name : List ℕ) (user : ℕ) → number_in lines name ≡ Some user → P user) → (names : List (Option (List ℕ))) → AllByRecursion P (flat_map listed (users_among lines names))
+pub users-each : (P : ℕ → Type 0) (lines : List AccountLine) → ((name : List ℕ) (user : ℕ) → number_in lines name ≡ Some user → P user)
+    → (names : List (Option (List ℕ))) → AllByRecursion P (flat_map listed (users_among lines names))
 users-each P lines each [] = tt
 users-each P lines each (None ∷ names) = users-each P lines each names
 users-each P lines each (Some name ∷ names) = by (number_in lines name) refl (users-each P lines each names)
   where
-    by : (found : Option ℕ) → number_in lines name ≡ found → AllByRecursion P (flat_map listed (users_among lines names)) → AllByRecursion P (listed found ++ flat_map listed (users_among lines names))
+    by : (found : Option ℕ) → number_in lines name ≡ found → AllByRecursion P (flat_map listed (users_among lines names))
+        → AllByRecursion P (listed found ++ flat_map listed (users_among lines names))
     by None at rest = rest
     by (Some user) at rest = (each name user at, rest)
 
 -- so they have accounts
-pub users-within : (accounts : List Account) (names : List (Option (List ℕ))) → AllByRecursion (HasAccount accounts) (flat_map listed (users_among (lines_of accounts) names))
+pub users-within : (accounts : List Account) (names : List (Option (List ℕ)))
+    → AllByRecursion (HasAccount accounts) (flat_map listed (users_among (lines_of accounts) names))
 users-within accounts names = users-each (HasAccount accounts) (lines_of accounts) (λ name user at. number-within accounts name user (sym (number_in-lines_of accounts name) ∙ at)) names
 
 -- ---- entries by one maker, each in its turn
@@ -79,7 +83,8 @@ self_equal : (n : ℕ) → eqb n n ≡ true
 self_equal n = grind (arith, nat_tests)
 
 -- with one more behind them
-authors-push : (authors : BareTies) (paper user : ℕ) (these : List ℕ) → AreAuthors authors paper these → AreAuthors (authors ++ bare_tie paper user ∷ []) paper (these ++ user ∷ [])
+authors-push : (authors : BareTies) (paper user : ℕ) (these : List ℕ) → AreAuthors authors paper these
+    → AreAuthors (authors ++ bare_tie paper user ∷ []) paper (these ++ user ∷ [])
 authors-push authors paper user these are v =
     has_pair-push (pair_of paper v) authors (bare_tie paper user)
     ∙ ap (λ b. (b && eqb v user) || has_pair (pair_of paper v) authors) (self_equal paper)
@@ -92,7 +97,8 @@ authors-push authors paper user these are v =
     swap a b = grind arith
 
 -- the co-authors of the last paper
-coauthors-fit : (t : Tables) (maker paper : ℕ) (these users : List ℕ) → 1 ≤ paper → paper ≡ paper_count t.papers → are_up_to paper t.ties.authors ≡ true → AreAuthors t.ties.authors paper these
+coauthors-fit : (t : Tables) (maker paper : ℕ) (these users : List ℕ) → 1 ≤ paper → paper ≡ paper_count t.papers → are_up_to paper t.ties.authors ≡ true
+    → AreAuthors t.ties.authors paper these
     → AllByRecursion (HasAccount t.accounts) users → FitInTurn t (grouped maker (map (λ (user : ℕ). Coauthor paper user) (besides these users)))
 coauthors-fit t maker paper these [] low last up are within = tt
 coauthors-fit t maker paper these (user ∷ users) low last up are within =
@@ -142,7 +148,8 @@ up-to paper (t ∷ authors) before =
     both : (a b : Bool) → a ≡ true → b ≡ true → (a && b) ≡ true
     both a b ha hb = grind (arith, ha, hb)
 
-pub submission-fits : (t : Tables) (maker paper : ℕ) (title abstract users : List ℕ) → PapersFit t.papers maker (Submitted paper title abstract) → are_before paper t.ties.authors ≡ true
+pub submission-fits : (t : Tables) (maker paper : ℕ) (title abstract users : List ℕ) → PapersFit t.papers maker (Submitted paper title abstract)
+    → are_before paper t.ties.authors ≡ true
     → AllByRecursion (HasAccount t.accounts) users → FitInTurn t (grouped maker (submission maker paper title abstract users))
 submission-fits t maker paper title abstract users fits before within =
     let next = fits.0 in

@@ -33,7 +33,8 @@ use Rattle.cr_base.proofs.TargetLaws.{is_none-asked, target_within, paper_within
 use Rattle.cr_base.proofs.TieLaws.{within-before}
 
 -- a registration's entries, each in its turn
-registration-in_turn : (t : Tables) (user : ℕ) (name digest : List ℕ) → (user ≡ length t.accounts + 1) × (user ≤ 9999) × (number_at t.accounts name ≡ None) → FitInTurn t (grouped user (registration user name digest))
+registration-in_turn : (t : Tables) (user : ℕ) (name digest : List ℕ) → (user ≡ length t.accounts + 1) × (user ≤ 9999) × (number_at t.accounts name ≡ None)
+    → FitInTurn t (grouped user (registration user name digest))
 registration-in_turn t user name digest fits = by (user == 1)
   where
     by : (first : Bool) → FitInTurn t (grouped user (cond first (Registered user name digest ∷ Named user roles.Chair ∷ []) (Registered user name digest ∷ [])))
@@ -44,8 +45,10 @@ registration-in_turn t user name digest fits = by (user == 1)
     by false = (record { accounts = fits; papers = tt; ties = tt; seats = tt }, tt)
 
 -- a user named among the lines has an account
-target-in : (t : Tables) (target : Option ℕ) (asked : Role → Target) → is_none (option_map asked (role_among (lines_of t.accounts) target)) ≡ false → (1 ≤ unwrap_or target 0) × (unwrap_or target 0 ≤ length t.accounts)
-target-in t target asked h = target_within t.accounts target (sym (ap is_none (role_among-lines_of t.accounts target)) ∙ sym (is_none-asked asked (role_among (lines_of t.accounts) target)) ∙ h)
+target-in : (t : Tables) (target : Option ℕ) (asked : Role → Target) → is_none (option_map asked (role_among (lines_of t.accounts) target)) ≡ false
+    → (1 ≤ unwrap_or target 0) × (unwrap_or target 0 ≤ length t.accounts)
+target-in t target asked h = target_within t.accounts target (sym (ap is_none (role_among-lines_of t.accounts target))
+    ∙ sym (is_none-asked asked (role_among (lines_of t.accounts) target)) ∙ h)
 
 -- ---- the seat of the user named
 
@@ -58,7 +61,8 @@ some-where None h = absurd (true≢false (sym h))
 some-where (Some ordinal) h = refl
 
 -- whether the user named reviews the paper named, as the rules ask it, is whether she has a seat there
-seat-named : (t : Tables) (caller paper target : Option ℕ) (reviews : Bool) → is_none (target_named (facts_of_tables t caller) (shown_in_tables t) caller paper target) ≡ false
+seat-named : (t : Tables) (caller paper target : Option ℕ) (reviews : Bool)
+    → is_none (target_named (facts_of_tables t caller) (shown_in_tables t) caller paper target) ≡ false
     → not (has_paper (facts_of_tables t caller) paper) ≡ false
     → target_is (λ (user : Target). user.reviewer) (target_named (facts_of_tables t caller) (shown_in_tables t) caller paper target) ≡ reviews
     → is_some (seat_in t.seats (Some (unwrap_or target 0)) (unwrap_or paper 0)) ≡ reviews
@@ -75,7 +79,8 @@ seat-named t caller (Some p) (Some v) reviews user there says = by (role_among (
       reviewer = is_some (seat_in t.seats (Some v) p);
     }
 
-    by : (found : Option Role) → is_none (option_map asked found) ≡ false → target_is (λ (user : Target). user.reviewer) (option_map asked found) ≡ reviews → is_some (seat_in t.seats (Some v) p) ≡ reviews
+    by : (found : Option Role) → is_none (option_map asked found) ≡ false → target_is (λ (user : Target). user.reviewer) (option_map asked found) ≡ reviews
+        → is_some (seat_in t.seats (Some v) p) ≡ reviews
     by None user says = absurd (true≢false user)
     by (Some role) user says = says
 

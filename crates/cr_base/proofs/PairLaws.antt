@@ -54,13 +54,15 @@ module _ {V : Type 0} (order : Order) where
   -- ---- tests on lists
 
   -- what is true of the ties and of one more is true where that one came in
-  pub list_all-with_tie : (test : Tie V → Bool) (s : Tie V) (ts : List (Tie V)) → test s ≡ true → list_all test ts ≡ true → list_all test (with_tie order s ts) ≡ true
+  pub list_all-with_tie : (test : Tie V → Bool) (s : Tie V) (ts : List (Tie V)) → test s ≡ true → list_all test ts ≡ true
+      → list_all test (with_tie order s ts) ≡ true
   list_all-with_tie test s [] one all = both_true one refl
   list_all-with_tie test s (t ∷ ts) one all =
       let parts = and_parts (test t) (list_all test ts) all in
       by (is_tied s.pair t) (stands (comes_before order) s.pair t) (both_true parts.0 (list_all-with_tie test s ts one parts.1)) (both_true one parts.1)
     where
-      by : (same before : Bool) → list_all test (t ∷ with_tie order s ts) ≡ true → list_all test (s ∷ ts) ≡ true → list_all test (cond same (s ∷ ts) (cond before (s ∷ t ∷ ts) (t ∷ with_tie order s ts))) ≡ true
+      by : (same before : Bool) → list_all test (t ∷ with_tie order s ts) ≡ true → list_all test (s ∷ ts) ≡ true
+          → list_all test (cond same (s ∷ ts) (cond before (s ∷ t ∷ ts) (t ∷ with_tie order s ts))) ≡ true
       by true before h k = k
       by false true h k = both_true one all
       by false false h k = h
@@ -77,7 +79,8 @@ module _ {V : Type 0} (order : Order) where
       by false one rest = rest
 
   -- what comes before a pair comes before all that it comes before
-  pub all_behind : (p q : Pair) (ts : List (Tie V)) → comes_before order p q ≡ true → list_all (stands (comes_before order) q) ts ≡ true → list_all (stands (comes_before order) p) ts ≡ true
+  pub all_behind : (p q : Pair) (ts : List (Tie V)) → comes_before order p q ≡ true → list_all (stands (comes_before order) q) ts ≡ true
+      → list_all (stands (comes_before order) p) ts ≡ true
   all_behind p q [] h all = refl
   all_behind p q (t ∷ ts) h all =
       let parts = and_parts (stands (comes_before order) q t) (list_all (stands (comes_before order) q) ts) all in
@@ -89,7 +92,8 @@ module _ {V : Type 0} (order : Order) where
   IsAscending-with_tie s [] h = (refl, tt)
   IsAscending-with_tie s (t ∷ ts) h = by (is_tied s.pair t) (stands (comes_before order) s.pair t) refl refl (IsAscending-with_tie s ts h.1)
     where
-      by : (same before : Bool) → is_tied s.pair t ≡ same → stands (comes_before order) s.pair t ≡ before → IsAscending order (with_tie order s ts) → IsAscending order (cond same (s ∷ ts) (cond before (s ∷ t ∷ ts) (t ∷ with_tie order s ts)))
+      by : (same before : Bool) → is_tied s.pair t ≡ same → stands (comes_before order) s.pair t ≡ before → IsAscending order (with_tie order s ts)
+          → IsAscending order (cond same (s ∷ ts) (cond before (s ∷ t ∷ ts) (t ∷ with_tie order s ts)))
       by true before is comes rest = (ap (λ (p : Pair). list_all (stands (comes_before order) p) ts) (same_pair-is s.pair t.pair is) ∙ h.0, h.1)
       by false true is comes rest = (both_true comes (all_behind s.pair t.pair ts comes h.0), h)
       by false false is comes rest = (list_all-with_tie (stands (comes_before order) t.pair) s ts (comes_before-other order s.pair t.pair is comes) h.0, rest)
@@ -131,7 +135,8 @@ module _ {V : Type 0} where
   has_pair-with_tie order q s [] = refl
   has_pair-with_tie order q s (t ∷ ts) = by (is_tied s.pair t) (stands (comes_before order) s.pair t) refl (has_pair-with_tie order q s ts)
     where
-      by : (same before : Bool) → is_tied s.pair t ≡ same → has_pair q (with_tie order s ts) ≡ (same_pair q s.pair || has_pair q ts) → has_pair q (cond same (s ∷ ts) (cond before (s ∷ t ∷ ts) (t ∷ with_tie order s ts))) ≡ (same_pair q s.pair || has_pair q (t ∷ ts))
+      by : (same before : Bool) → is_tied s.pair t ≡ same → has_pair q (with_tie order s ts) ≡ (same_pair q s.pair || has_pair q ts)
+          → has_pair q (cond same (s ∷ ts) (cond before (s ∷ t ∷ ts) (t ∷ with_tie order s ts))) ≡ (same_pair q s.pair || has_pair q (t ∷ ts))
       by true before is rest = or_twice (same_pair q s.pair) (has_pair q ts) (same_pair q t.pair) (ap (same_pair q) (same_pair-is s.pair t.pair is))
       by false true is rest = refl
       by false false is rest = ap (λ b. is_tied q t || b) rest ∙ or_swap (is_tied q t) (same_pair q s.pair) (has_pair q ts)
@@ -145,8 +150,10 @@ module _ {V : Type 0} where
       none false = refl
   has_pair-without_pair q r (t ∷ ts) = by (is_tied r t) refl (has_pair-without_pair q r ts)
     where
-      by : (same : Bool) → is_tied r t ≡ same → has_pair q (without_pair r ts) ≡ (not (same_pair q r) && has_pair q ts) → has_pair q (cond (not same) (t ∷ without_pair r ts) (without_pair r ts)) ≡ (not (same_pair q r) && has_pair q (t ∷ ts))
-      by true is rest = rest ∙ gone (same_pair q r) (has_pair q ts) ∙ ap (λ (x : Pair). not (same_pair q r) && (same_pair q x || has_pair q ts)) (same_pair-is r t.pair is)
+      by : (same : Bool) → is_tied r t ≡ same → has_pair q (without_pair r ts) ≡ (not (same_pair q r) && has_pair q ts)
+          → has_pair q (cond (not same) (t ∷ without_pair r ts) (without_pair r ts)) ≡ (not (same_pair q r) && has_pair q (t ∷ ts))
+      by true is rest = rest ∙ gone (same_pair q r) (has_pair q ts)
+          ∙ ap (λ (x : Pair). not (same_pair q r) && (same_pair q x || has_pair q ts)) (same_pair-is r t.pair is)
       by false is rest = ap (λ b. is_tied q t || b) rest ∙ kept (is_tied q t) (same_pair q r) (has_pair q ts) (not_both q r t.pair is)
 
   -- ---- the ties of a number
@@ -158,7 +165,9 @@ module _ {V : Type 0} where
       by (eqb n (leads order t.pair)) (list_any-others_of order n m ts)
       ∙ ap (λ b. b || has_pair (paired order n m) ts) (sym (same_pair-paired order n m t.pair))
     where
-      by : (same : Bool) → list_any (λ k. eqb m k) (others_of order n ts) ≡ has_pair (paired order n m) ts → list_any (λ k. eqb m k) (map (λ (x : Tie V). follows order x.pair) (cond same (t ∷ ties_of order n ts) (ties_of order n ts))) ≡ ((same && eqb m (follows order t.pair)) || has_pair (paired order n m) ts)
+      by : (same : Bool) → list_any (λ k. eqb m k) (others_of order n ts) ≡ has_pair (paired order n m) ts
+          → list_any (λ k. eqb m k) (map (λ (x : Tie V). follows order x.pair) (cond same (t ∷ ties_of order n ts) (ties_of order n ts)))
+          ≡ ((same && eqb m (follows order t.pair)) || has_pair (paired order n m) ts)
       by true rest = ap (λ b. eqb m (follows order t.pair) || b) rest
       by false rest = rest
 
@@ -177,14 +186,16 @@ module _ {V : Type 0} (q : Pair) where
   kept-split false t behind = refl
 
   -- a tie came in: what is kept of its pair is its own, and of every other pair what was
-  pub value_of-with_tie : (order : Order) (s : Tie V) (ts : List (Tie V)) → value_of q (with_tie order s ts) ≡ cond (same_pair q s.pair) (Some s.value) (value_of q ts)
+  pub value_of-with_tie : (order : Order) (s : Tie V) (ts : List (Tie V)) → value_of q (with_tie order s ts)
+      ≡ cond (same_pair q s.pair) (Some s.value) (value_of q ts)
   value_of-with_tie order s [] = kept-split (is_tied q s) s None
   value_of-with_tie order s (t ∷ ts) = by (is_tied s.pair t) (stands (comes_before order) s.pair t) refl (value_of-with_tie order s ts)
     where
       behind : Option V
       behind = value_of q ts
 
-      later : (is own : Bool) → (is ≡ true → own ≡ false) → cond is (Some t.value) (cond own (Some s.value) behind) ≡ cond own (Some s.value) (cond is (Some t.value) behind)
+      later : (is own : Bool) → (is ≡ true → own ≡ false) → cond is (Some t.value) (cond own (Some s.value) behind)
+          ≡ cond own (Some s.value) (cond is (Some t.value) behind)
       later true own h = sym (ap (λ b. cond b (Some s.value) (Some t.value)) (h refl))
       later false own h = refl
 
@@ -193,7 +204,8 @@ module _ {V : Type 0} (q : Pair) where
       instead is false h = ap (λ b. cond b (Some t.value) behind) (sym h)
 
       by : (same before : Bool) → is_tied s.pair t ≡ same → value_of q (with_tie order s ts) ≡ cond (same_pair q s.pair) (Some s.value) behind
-          → value_of q (cond same (s ∷ ts) (cond before (s ∷ t ∷ ts) (t ∷ with_tie order s ts))) ≡ cond (same_pair q s.pair) (Some s.value) (value_of q (t ∷ ts))
+          → value_of q (cond same (s ∷ ts) (cond before (s ∷ t ∷ ts) (t ∷ with_tie order s ts)))
+          ≡ cond (same_pair q s.pair) (Some s.value) (value_of q (t ∷ ts))
       by true before same rest =
           kept-split (is_tied q s) s (find (is_tied q) ts)
           ∙ instead (is_tied q t) (is_tied q s) (ap (same_pair q) (sym (same_pair-is s.pair t.pair same)))

@@ -93,10 +93,13 @@ unused-zero n h = omega arith
 -- ---- from a row to its entry and back
 
 -- a row is the one with its fields
-same_row : (r : Row) (k : EntryKind) (a b c d f : ℕ) (x y : List ℕ) → kind_number k ≡ r.kind → FitsShape (shape_of k) r → d ≡ r.n4 → f ≡ r.n5 → a ≡ r.n1 → b ≡ r.n2 → c ≡ r.n3 → x ≡ r.b1 → y ≡ r.b2 → record { kind = kind_number k; maker = r.maker; more = cond (r.more == 1) 1 0; n1 = a; n2 = b; n3 = c; n4 = d; n5 = f; b1 = x; b2 = y } ≡ r
+same_row : (r : Row) (k : EntryKind) (a b c d f : ℕ) (x y : List ℕ) → kind_number k ≡ r.kind → FitsShape (shape_of k) r → d ≡ r.n4 → f ≡ r.n5 → a ≡ r.n1 → b
+    ≡ r.n2 → c ≡ r.n3 → x ≡ r.b1 → y ≡ r.b2
+    → record { kind = kind_number k; maker = r.maker; more = cond (r.more == 1) 1 0; n1 = a; n2 = b; n3 = c; n4 = d; n5 = f; b1 = x; b2 = y } ≡ r
 same_row r k a b c d f x y hk fits h4 h5 h1 h2 h3 hx hy =
     let o = bit r.more fits.more in
-    let e : record { kind = kind_number k; maker = r.maker; more = cond (r.more == 1) 1 0; n1 = a; n2 = b; n3 = c; n4 = d; n5 = f; b1 = x; b2 = y } ≡ record { kind = r.kind; maker = r.maker; more = r.more; n1 = r.n1; n2 = r.n2; n3 = r.n3; n4 = r.n4; n5 = r.n5; b1 = r.b1; b2 = r.b2 } = cc in
+    let e : record { kind = kind_number k; maker = r.maker; more = cond (r.more == 1) 1 0; n1 = a; n2 = b; n3 = c; n4 = d; n5 = f; b1 = x; b2 = y }
+        ≡ record { kind = r.kind; maker = r.maker; more = r.more; n1 = r.n1; n2 = r.n2; n3 = r.n3; n4 = r.n4; n5 = r.n5; b1 = r.b1; b2 = r.b2 } = cc in
     e
 
 -- what a field spells that holds a number as it is, a mark, or nothing
@@ -135,7 +138,8 @@ row_of-stamped k r hk f =
     let s : Shape = shape_of k in
     same_row r k _ _ _ _ _ _ _ hk f (plain-is s.n4 r.n4 f.n4) (plain-is s.n5 r.n5 f.n5) (plain-is s.n1 r.n1 f.n1) (plain-is s.n2 r.n2 f.n2) (plain-is s.n3 r.n3 f.n3) (plain_text-is s.b1 r.b1 f.b1) (plain_text-is s.b2 r.b2 f.b2)
 
-built-row_of : (e : Entry) (m : ℕ) (o : Bool) → IsBoundedEntry (record { maker = m; more = o; entry = e }) → built (kind_of e) (row_of (record { maker = m; more = o; entry = e })) ≡ e
+built-row_of : (e : Entry) (m : ℕ) (o : Bool) → IsBoundedEntry (record { maker = m; more = o; entry = e })
+    → built (kind_of e) (row_of (record { maker = m; more = o; entry = e })) ≡ e
 built-row_of (Named user role) m o h = ap (λ x. Named user x) (role_numbered-number role h.n2.0)
 built-row_of (PhaseSet phase) m o h = ap (λ x. PhaseSet x) (phase_numbered-number phase)
 built-row_of (ModeSet mode) m o h = ap (λ x. ModeSet x) (mode_numbered-number mode)
@@ -173,12 +177,14 @@ bounded-stamped k r hk f =
     subst (λ (q : Row). P (kind_of (built k r)) q) (sym (row_of-stamped k r hk f)) (subst (λ (j : EntryKind). P j r) (sym (kind_of-built k r)) f)
 
 -- the row of an entry within its bounds fits its kind's shape
-pub row_fits : (k : EntryKind) (r : Row) (s : Stamped) → ((j : EntryKind) → kind_number j ≡ r.kind → j ≡ k) → IsBoundedEntry s → row_of s ≡ r → FitsShape (shape_of k) r
+pub row_fits : (k : EntryKind) (r : Row) (s : Stamped) → ((j : EntryKind) → kind_number j ≡ r.kind → j ≡ k) → IsBoundedEntry s → row_of s ≡ r
+    → FitsShape (shape_of k) r
 row_fits k r s only h e = subst (λ (j : EntryKind). FitsShape (shape_of j) r) (kind_of-row k r s only e) (subst (λ (q : Row). FitsShape (shape_of (kind_of s.entry)) q) e h)
 
 -- a row spells no other entry
 pub only_one : (k : EntryKind) (r : Row) (s : Stamped) → ((j : EntryKind) → kind_number j ≡ r.kind → j ≡ k) → IsBoundedEntry s → row_of s ≡ r → stamped k r ≡ s
-only_one k r s only h e = subst (λ (j : EntryKind). stamped j r ≡ s) (kind_of-row k r s only e) (subst (λ (q : Row). stamped (kind_of s.entry) q ≡ s) e (stamped-row_of s h))
+only_one k r s only h e = subst (λ (j : EntryKind). stamped j r
+    ≡ s) (kind_of-row k r s only e) (subst (λ (q : Row). stamped (kind_of s.entry) q ≡ s) e (stamped-row_of s h))
 
 -- entries within their bounds that have the same row are the same
 pub same_entry : (s s' : Stamped) → IsBoundedEntry s → IsBoundedEntry s' → row_of s ≡ row_of s' → s ≡ s'
@@ -187,7 +193,8 @@ same_entry s s' b b' e =
     sym (only_one (kind_of s'.entry) (row_of s') s only b e) ∙ only_one (kind_of s'.entry) (row_of s') s' only b' refl
 
 -- the entry that a row spells, from its parts
-pub stamped-parts : (k : EntryKind) (r : Row) (m : ℕ) (e : Entry) → m ≡ r.maker → e ≡ built k r → ◌≡◌ {A = Stamped} (stamped k r) (record { maker = m; more = r.more == 1; entry = e })
+pub stamped-parts : (k : EntryKind) (r : Row) (m : ℕ) (e : Entry) → m ≡ r.maker → e ≡ built k r
+    → ◌≡◌ {A = Stamped} (stamped k r) (record { maker = m; more = r.more == 1; entry = e })
 stamped-parts k r m e hm he = cc
 
 -- ---- short texts

@@ -36,7 +36,8 @@ within-filter n test (t ∷ ts) all =
     let parts = and_parts (nat_le 1 t.pair.paper && nat_le t.pair.paper n) (are_within n ts) all in
     by (test t) parts.0 (within-filter n test ts parts.1)
   where
-    by : (b : Bool) → (nat_le 1 t.pair.paper && nat_le t.pair.paper n) ≡ true → are_within n (filter test ts) ≡ true → are_within n (cond b (t ∷ filter test ts) (filter test ts)) ≡ true
+    by : (b : Bool) → (nat_le 1 t.pair.paper && nat_le t.pair.paper n) ≡ true → are_within n (filter test ts) ≡ true
+        → are_within n (cond b (t ∷ filter test ts) (filter test ts)) ≡ true
     by true first rest = both_true first rest
     by false first rest = rest
 
@@ -46,7 +47,8 @@ within-append n (t ∷ ts) us all behind =
     let parts = and_parts (nat_le 1 t.pair.paper && nat_le t.pair.paper n) (are_within n ts) all in
     both_true parts.0 (within-append n ts us parts.1 behind)
 
-within-with_seat : (n : ℕ) (s : Tie Seat) (ts : SeatsState) → 1 ≤ s.pair.paper → s.pair.paper ≤ n → are_within n ts ≡ true → are_within n (with_seat s ts) ≡ true
+within-with_seat : (n : ℕ) (s : Tie Seat) (ts : SeatsState) → 1 ≤ s.pair.paper → s.pair.paper ≤ n → are_within n ts ≡ true → are_within n (with_seat s ts)
+    ≡ true
 within-with_seat n s ts low high all =
     let upto : Tie Seat → Bool = λ t. nat_le t.pair.paper s.pair.paper in
     let behind : Tie Seat → Bool = λ t. not (nat_le t.pair.paper s.pair.paper) in
@@ -59,12 +61,14 @@ within-without_seat n paper ordinal (t ∷ ts) all =
     let parts = and_parts (nat_le 1 t.pair.paper && nat_le t.pair.paper n) (are_within n ts) all in
     by (is_seat paper ordinal t) parts.0 (within-without_seat n paper ordinal ts parts.1)
   where
-    by : (b : Bool) → (nat_le 1 t.pair.paper && nat_le t.pair.paper n) ≡ true → are_within n (without_seat paper ordinal ts) ≡ true → are_within n (cond b (vacated t) t ∷ without_seat paper ordinal ts) ≡ true
+    by : (b : Bool) → (nat_le 1 t.pair.paper && nat_le t.pair.paper n) ≡ true → are_within n (without_seat paper ordinal ts) ≡ true
+        → are_within n (cond b (vacated t) t ∷ without_seat paper ordinal ts) ≡ true
     by true first rest = both_true first rest
     by false first rest = both_true first rest
 
 -- where each entry fits, the papers that have seats are there
-pub seats-within : (state : PapersState) (seats : SeatsState) (maker : ℕ) (e : Entry) → PapersFit state maker e → are_within (paper_count state) seats ≡ true → are_within (paper_count (papers_after state maker e)) (seats_after seats e) ≡ true
+pub seats-within : (state : PapersState) (seats : SeatsState) (maker : ℕ) (e : Entry) → PapersFit state maker e → are_within (paper_count state) seats
+    ≡ true → are_within (paper_count (papers_after state maker e)) (seats_after seats e) ≡ true
 seats-within state seats maker (Submitted paper title abstract) fits within =
     let n = length-append state.papers (new_paper title abstract ∷ []) in
     within-more (paper_count state) (paper_count (papers_after state maker (Submitted paper title abstract))) (omega (arith, n)) seats within
@@ -80,13 +84,16 @@ seats-within state seats maker e fits within = within
 -- ---- the seats of one paper
 
 -- of a paper's seats those stay that pass a test which they pass alike, or none
-of-filter : (p : ℕ) (test : Tie Seat → Bool) (c : Bool) (ts : SeatsState) → ((t : Tie Seat) → eqb p t.pair.paper ≡ true → test t ≡ c) → ties_of ByPaper p (filter test ts) ≡ cond c (ties_of ByPaper p ts) []
+of-filter : (p : ℕ) (test : Tie Seat → Bool) (c : Bool) (ts : SeatsState) → ((t : Tie Seat) → eqb p t.pair.paper ≡ true → test t ≡ c)
+    → ties_of ByPaper p (filter test ts) ≡ cond c (ties_of ByPaper p ts) []
 of-filter p test true [] alike = refl
 of-filter p test false [] alike = refl
 of-filter p test c (t ∷ ts) alike =
-    split (test t) (filter test ts) ∙ by (test t) (eqb p t.pair.paper) c (ties_of ByPaper p (filter test ts)) (ties_of ByPaper p ts) (alike t) (of-filter p test c ts alike)
+    split (test t) (filter test ts)
+        ∙ by (test t) (eqb p t.pair.paper) c (ties_of ByPaper p (filter test ts)) (ties_of ByPaper p ts) (alike t) (of-filter p test c ts alike)
   where
-    split : (a : Bool) (us : SeatsState) → ties_of ByPaper p (cond a (t ∷ us) us) ≡ cond a (cond (eqb p t.pair.paper) (t ∷ ties_of ByPaper p us) (ties_of ByPaper p us)) (ties_of ByPaper p us)
+    split : (a : Bool) (us : SeatsState) → ties_of ByPaper p (cond a (t ∷ us) us)
+        ≡ cond a (cond (eqb p t.pair.paper) (t ∷ ties_of ByPaper p us) (ties_of ByPaper p us)) (ties_of ByPaper p us)
     split true us = refl
     split false us = refl
 
@@ -112,7 +119,8 @@ ties_of-with_seat p s ts =
     ∙ by (nat_le p q) (eqb p q) refl refl (ties_of ByPaper p ts) (ties_of ByPaper p (filter behind ts))
     (of-filter p behind (not (nat_le p q)) ts (λ t same. ap (λ n. not (nat_le n q)) (sym (eqb-true p t.pair.paper same))))
   where
-    by : (le is : Bool) → nat_le p s.pair.paper ≡ le → eqb p s.pair.paper ≡ is → (us vs : SeatsState) → vs ≡ cond (not le) us [] → cond le us [] ++ cond is (s ∷ vs) vs ≡ us ++ given is s
+    by : (le is : Bool) → nat_le p s.pair.paper ≡ le → eqb p s.pair.paper ≡ is → (us vs : SeatsState) → vs ≡ cond (not le) us []
+        → cond le us [] ++ cond is (s ∷ vs) vs ≡ us ++ given is s
     by true true hle his us vs e = ap (λ (xs : SeatsState). us ++ s ∷ xs) e
     by true false hle his us vs e = ap (λ (xs : SeatsState). us ++ xs) e
     by false true hle his us vs e = absurd (true≢false (sym (not-less p s.pair.paper his) ∙ hle))
@@ -140,14 +148,16 @@ left-ordinal paper ordinal t = by (is_seat paper ordinal t)
     by false = refl
 
 -- where one is left, it stays in its place
-pub ties_of-without_seat : (p paper ordinal : ℕ) (ts : SeatsState) → ties_of ByPaper p (without_seat paper ordinal ts) ≡ without_seat paper ordinal (ties_of ByPaper p ts)
+pub ties_of-without_seat : (p paper ordinal : ℕ) (ts : SeatsState) → ties_of ByPaper p (without_seat paper ordinal ts)
+    ≡ without_seat paper ordinal (ties_of ByPaper p ts)
 ties_of-without_seat p paper ordinal [] = refl
 ties_of-without_seat p paper ordinal (t ∷ ts) =
     ap (λ (b : Bool). cond b (left_at paper ordinal t ∷ ties_of ByPaper p (without_seat paper ordinal ts)) (ties_of ByPaper p (without_seat paper ordinal ts))) (ap (λ (q : Pair). eqb p q.paper) (left-pair paper ordinal t))
     ∙ by (eqb p t.pair.paper) (ties_of-without_seat p paper ordinal ts)
   where
     by : (b : Bool) → ties_of ByPaper p (without_seat paper ordinal ts) ≡ without_seat paper ordinal (ties_of ByPaper p ts)
-        → cond b (left_at paper ordinal t ∷ ties_of ByPaper p (without_seat paper ordinal ts)) (ties_of ByPaper p (without_seat paper ordinal ts)) ≡ without_seat paper ordinal (cond b (t ∷ ties_of ByPaper p ts) (ties_of ByPaper p ts))
+        → cond b (left_at paper ordinal t ∷ ties_of ByPaper p (without_seat paper ordinal ts)) (ties_of ByPaper p (without_seat paper ordinal ts))
+        ≡ without_seat paper ordinal (cond b (t ∷ ties_of ByPaper p ts) (ties_of ByPaper p ts))
     by true rest = ap (λ (us : SeatsState). left_at paper ordinal t ∷ us) rest
     by false rest = rest
 
@@ -159,7 +169,8 @@ without-other p paper ordinal (t ∷ ts) other = by (eqb p t.pair.paper) refl (w
     unlike : (p paper q ordinal o : ℕ) → eqb p paper ≡ false → eqb p q ≡ true → (paper == q && ordinal == o) ≡ false
     unlike p paper q ordinal o other same = ap (λ b. b && eqb ordinal o) (ap (λ n. eqb paper n) (sym (eqb-true p q same)) ∙ turned paper p ∙ other)
 
-    by : (b : Bool) → eqb p t.pair.paper ≡ b → without_seat paper ordinal (ties_of ByPaper p ts) ≡ ties_of ByPaper p ts → without_seat paper ordinal (cond b (t ∷ ties_of ByPaper p ts) (ties_of ByPaper p ts)) ≡ cond b (t ∷ ties_of ByPaper p ts) (ties_of ByPaper p ts)
+    by : (b : Bool) → eqb p t.pair.paper ≡ b → without_seat paper ordinal (ties_of ByPaper p ts) ≡ ties_of ByPaper p ts
+        → without_seat paper ordinal (cond b (t ∷ ties_of ByPaper p ts) (ties_of ByPaper p ts)) ≡ cond b (t ∷ ties_of ByPaper p ts) (ties_of ByPaper p ts)
     by true is rest =
         ap (λ (b : Bool). cond b (vacated t) t ∷ without_seat paper ordinal (ties_of ByPaper p ts)) (unlike p paper t.pair.paper ordinal t.value.ordinal other is)
         ∙ ap (λ (us : SeatsState). t ∷ us) rest
@@ -168,16 +179,20 @@ without-other p paper ordinal (t ∷ ts) other = by (eqb p t.pair.paper) refl (w
 -- how many labels the paper's reviewers were given
 pub labels_in-after : (seats : SeatsState) (e : Entry) (p : ℕ) → labels_in (seats_after seats e) p ≡ labels_in seats p + length (assigned_told p e)
 labels_in-after seats (Assigned paper user kind ordinal) p =
-    ap length (ties_of-with_seat p (seat_tie paper user kind ordinal) seats) ∙ length-append (ties_of ByPaper p seats) (given (eqb p paper) (seat_tie paper user kind ordinal))
+    ap length (ties_of-with_seat p (seat_tie paper user kind ordinal) seats)
+        ∙ length-append (ties_of ByPaper p seats) (given (eqb p paper) (seat_tie paper user kind ordinal))
     ∙ ap (λ n. labels_in seats p + n) (by (eqb p paper) (eqb paper p) (turned p paper))
   where
-    by : (b c : Bool) → b ≡ c → length (given b (seat_tie paper user kind ordinal)) ≡ length {A = SeatTold} (given c (record { ordinal = ordinal; kind = Some kind; user = Some user }))
+    by : (b c : Bool) → b ≡ c → length (given b (seat_tie paper user kind ordinal))
+        ≡ length {A = SeatTold} (given c (record { ordinal = ordinal; kind = Some kind; user = Some user }))
     by true true e = refl
     by true false e = absurd (true≢false e)
     by false true e = absurd (true≢false (sym e))
     by false false e = refl
 labels_in-after seats (Unassigned paper user ordinal) p =
-    let n : length (ties_of ByPaper p (without_seat paper ordinal seats)) ≡ length (ties_of ByPaper p seats) = ap length (ties_of-without_seat p paper ordinal seats) ∙ length-map (ties_of ByPaper p seats) (left_at paper ordinal) in
+    let n : length (ties_of ByPaper p (without_seat paper ordinal seats))
+        ≡ length (ties_of ByPaper p seats) = ap length (ties_of-without_seat p paper ordinal seats)
+        ∙ length-map (ties_of ByPaper p seats) (left_at paper ordinal) in
     omega (arith, n)
 labels_in-after seats e p = omega arith
 
@@ -186,17 +201,20 @@ labels_in-after seats e p = omega arith
 abbrev stays : Tie Seat → Bool
 stays t = not t.value.vacated
 
-taken-with_seat : (seats : SeatsState) (paper user : ℕ) (kind : Kind) (ordinal p : ℕ) → seats_taken (with_seat (seat_tie paper user kind ordinal) seats) p ≡ seats_taken seats p ++ given (eqb p paper) (seat_tie paper user kind ordinal)
+taken-with_seat : (seats : SeatsState) (paper user : ℕ) (kind : Kind) (ordinal p : ℕ) → seats_taken (with_seat (seat_tie paper user kind ordinal) seats) p
+    ≡ seats_taken seats p ++ given (eqb p paper) (seat_tie paper user kind ordinal)
 taken-with_seat seats paper user kind ordinal p =
     let s : Tie Seat = seat_tie paper user kind ordinal in
-    ap (filter stays) (ties_of-with_seat p s seats) ∙ filter-append stays (ties_of ByPaper p seats) (given (eqb p paper) s) ∙ ap (λ (us : SeatsState). seats_taken seats p ++ us) (by (eqb p paper))
+    ap (filter stays) (ties_of-with_seat p s seats) ∙ filter-append stays (ties_of ByPaper p seats) (given (eqb p paper) s)
+        ∙ ap (λ (us : SeatsState). seats_taken seats p ++ us) (by (eqb p paper))
   where
     by : (b : Bool) → filter stays (given b (seat_tie paper user kind ordinal)) ≡ given b (seat_tie paper user kind ordinal)
     by true = refl
     by false = refl
 
 -- where one is left, those that stay are the ones of other ordinals
-taken-left : (p paper ordinal : ℕ) (ts : SeatsState) → eqb p paper ≡ true → filter stays (without_seat paper ordinal (ties_of ByPaper p ts)) ≡ filter (λ (t : Tie Seat). not (eqb ordinal t.value.ordinal)) (filter stays (ties_of ByPaper p ts))
+taken-left : (p paper ordinal : ℕ) (ts : SeatsState) → eqb p paper ≡ true → filter stays (without_seat paper ordinal (ties_of ByPaper p ts))
+    ≡ filter (λ (t : Tie Seat). not (eqb ordinal t.value.ordinal)) (filter stays (ties_of ByPaper p ts))
 taken-left p paper ordinal [] same = refl
 taken-left p paper ordinal (t ∷ ts) same = by (eqb p t.pair.paper) refl (taken-left p paper ordinal ts same)
   where
@@ -212,21 +230,26 @@ taken-left p paper ordinal (t ∷ ts) same = by (eqb p t.pair.paper) refl (taken
     is : (p paper q ordinal o : ℕ) → eqb p paper ≡ true → eqb p q ≡ true → (paper == q && ordinal == o) ≡ eqb ordinal o
     is p paper q ordinal o same at = ap (λ b. b && eqb ordinal o) (eq-eqb paper q (sym (eqb-true p paper same) ∙ eqb-true p q at))
 
-    left : (m : Bool) → cond (not (cond m (vacated t) t).value.vacated) (cond m (vacated t) t ∷ new) new ≡ cond (not (cond m true t.value.vacated)) (cond m (vacated t) t ∷ new) new
+    left : (m : Bool) → cond (not (cond m (vacated t) t).value.vacated) (cond m (vacated t) t ∷ new) new
+        ≡ cond (not (cond m true t.value.vacated)) (cond m (vacated t) t ∷ new) new
     left true = refl
     left false = refl
 
-    right : (v : Bool) → filter others (cond (not v) (t ∷ old) old) ≡ cond (not v) (cond (not (eqb ordinal t.value.ordinal)) (t ∷ filter others old) (filter others old)) (filter others old)
+    right : (v : Bool) → filter others (cond (not v) (t ∷ old) old)
+        ≡ cond (not v) (cond (not (eqb ordinal t.value.ordinal)) (t ∷ filter others old) (filter others old)) (filter others old)
     right true = refl
     right false = refl
 
-    alike : (m v : Bool) → new ≡ filter others old → cond (not (cond m true v)) (cond m (vacated t) t ∷ new) new ≡ cond (not v) (cond (not m) (t ∷ filter others old) (filter others old)) (filter others old)
+    alike : (m v : Bool) → new ≡ filter others old → cond (not (cond m true v)) (cond m (vacated t) t ∷ new) new
+        ≡ cond (not v) (cond (not m) (t ∷ filter others old) (filter others old)) (filter others old)
     alike true true rest = rest
     alike true false rest = rest
     alike false true rest = rest
     alike false false rest = ap (λ (us : SeatsState). t ∷ us) rest
 
-    by : (b : Bool) → eqb p t.pair.paper ≡ b → new ≡ filter others old → filter stays (without_seat paper ordinal (cond b (t ∷ ties_of ByPaper p ts) (ties_of ByPaper p ts))) ≡ filter others (filter stays (cond b (t ∷ ties_of ByPaper p ts) (ties_of ByPaper p ts)))
+    by : (b : Bool) → eqb p t.pair.paper ≡ b → new ≡ filter others old
+        → filter stays (without_seat paper ordinal (cond b (t ∷ ties_of ByPaper p ts) (ties_of ByPaper p ts)))
+        ≡ filter others (filter stays (cond b (t ∷ ties_of ByPaper p ts) (ties_of ByPaper p ts)))
     by true at rest =
         ap (λ (m : Bool). cond (not (cond m (vacated t) t).value.vacated) (cond m (vacated t) t ∷ new) new) (is p paper t.pair.paper ordinal t.value.ordinal same at)
         ∙ left (eqb ordinal t.value.ordinal)
@@ -249,7 +272,8 @@ abbrev found : Option ℕ → List (Tie Seat) → Option ℕ
 found u ts = option_map (λ (t : Tie Seat). t.value.ordinal) (find (λ (t : Tie Seat). is_number u t.pair.user) ts)
 
 -- seats behind hers are neither hers nor of her ordinal
-hers-behind : (user ordinal : ℕ) (ts : List (Tie Seat)) → list_all (nat_lt ordinal) (ordinals ts) ≡ true → list_any (λ (s : Tie Seat). eqb s.pair.user user) ts ≡ false → AreHers user ordinal ts
+hers-behind : (user ordinal : ℕ) (ts : List (Tie Seat)) → list_all (nat_lt ordinal) (ordinals ts) ≡ true
+    → list_any (λ (s : Tie Seat). eqb s.pair.user user) ts ≡ false → AreHers user ordinal ts
 hers-behind user ordinal [] above none = tt
 hers-behind user ordinal (t ∷ ts) above none =
     let parts = and_parts (nat_lt ordinal t.value.ordinal) (list_all (nat_lt ordinal) (ordinals ts)) above in
@@ -260,7 +284,8 @@ hers-behind user ordinal (t ∷ ts) above none =
     other n m h = grind (arith, nat_tests, h)
 
 -- a seat that is found behind others has a greater ordinal
-found-above : (n user ordinal : ℕ) (ts : List (Tie Seat)) → list_all (nat_lt n) (ordinals ts) ≡ true → found (Some user) ts ≡ Some ordinal → nat_lt n ordinal ≡ true
+found-above : (n user ordinal : ℕ) (ts : List (Tie Seat)) → list_all (nat_lt n) (ordinals ts) ≡ true → found (Some user) ts ≡ Some ordinal
+    → nat_lt n ordinal ≡ true
 found-above n user ordinal [] above is = cc
 found-above n user ordinal (t ∷ ts) above is =
     let parts = and_parts (nat_lt n t.value.ordinal) (list_all (nat_lt n) (ordinals ts)) above in
@@ -272,20 +297,23 @@ found-above n user ordinal (t ∷ ts) above is =
     by false is rest first = rest is
 
 -- the seats of a user are the ones of the ordinal that is found
-are_hers : (user ordinal : ℕ) (ts : List (Tie Seat)) → IsRising (ordinals ts) → AreOfDifferentUsers ts → found (Some user) ts ≡ Some ordinal → AreHers user ordinal ts
+are_hers : (user ordinal : ℕ) (ts : List (Tie Seat)) → IsRising (ordinals ts) → AreOfDifferentUsers ts → found (Some user) ts ≡ Some ordinal
+    → AreHers user ordinal ts
 are_hers user ordinal [] rising different is = cc
 are_hers user ordinal (t ∷ ts) rising different is = by (eqb user t.pair.user) refl is (are_hers user ordinal ts rising.1 different.1)
   where
     other : (n m : ℕ) → nat_lt m n ≡ true → eqb n m ≡ false
     other n m h = grind (arith, nat_tests, h)
 
-    by : (b : Bool) → eqb user t.pair.user ≡ b → option_map (λ (t : Tie Seat). t.value.ordinal) (cond b (Some t) (find (λ (t : Tie Seat). eqb user t.pair.user) ts)) ≡ Some ordinal
+    by : (b : Bool) → eqb user t.pair.user ≡ b
+        → option_map (λ (t : Tie Seat). t.value.ordinal) (cond b (Some t) (find (λ (t : Tie Seat). eqb user t.pair.user) ts)) ≡ Some ordinal
         → (found (Some user) ts ≡ Some ordinal → AreHers user ordinal ts) → (eqb ordinal t.value.ordinal ≡ eqb user t.pair.user) × AreHers user ordinal ts
     by true at is rest =
         let e : t.value.ordinal ≡ ordinal = cc in
         let same : t.pair.user ≡ user = sym (eqb-true user t.pair.user at) in (
           eq-eqb ordinal t.value.ordinal (sym e) ∙ sym at,
-          hers-behind user ordinal ts (subst (λ (n : ℕ). list_all (nat_lt n) (ordinals ts) ≡ true) e rising.0) (subst (λ (n : ℕ). list_any (λ (s : Tie Seat). eqb s.pair.user n) ts ≡ false) same different.0),
+          hers-behind user ordinal ts (subst (λ (n : ℕ). list_all (nat_lt n) (ordinals ts)
+              ≡ true) e rising.0) (subst (λ (n : ℕ). list_any (λ (s : Tie Seat). eqb s.pair.user n) ts ≡ false) same different.0),
         )
     by false at is rest = (other ordinal t.value.ordinal (found-above t.value.ordinal user ordinal ts rising.0 is) ∙ sym at, rest is)
 
@@ -309,11 +337,13 @@ found-left user ordinal (t ∷ ts) hers u =
     before true = refl
     before false = first (is_number u t.pair.user)
       where
-        first : (b : Bool) → option_map (λ (t : Tie Seat). t.value.ordinal) (cond b (Some t) (find (λ (t : Tie Seat). is_number u t.pair.user) kept)) ≡ cond b (Some t.value.ordinal) (found u kept)
+        first : (b : Bool) → option_map (λ (t : Tie Seat). t.value.ordinal) (cond b (Some t) (find (λ (t : Tie Seat). is_number u t.pair.user) kept))
+            ≡ cond b (Some t.value.ordinal) (found u kept)
         first true = refl
         first false = refl
 
-    after : (b c : Bool) → cond c None (cond b (Some t.value.ordinal) (found u ts)) ≡ cond c None (option_map (λ (t : Tie Seat). t.value.ordinal) (cond b (Some t) (find (λ (t : Tie Seat). is_number u t.pair.user) ts)))
+    after : (b c : Bool) → cond c None (cond b (Some t.value.ordinal) (found u ts))
+        ≡ cond c None (option_map (λ (t : Tie Seat). t.value.ordinal) (cond b (Some t) (find (λ (t : Tie Seat). is_number u t.pair.user) ts)))
     after true c = refl
     after false c = refl
 
@@ -338,12 +368,14 @@ found-left user ordinal (t ∷ ts) hers u =
 
 -- ---- seats in order
 
-all-filter : (n : ℕ) (test : Tie Seat → Bool) (ts : List (Tie Seat)) → list_all (nat_lt n) (ordinals ts) ≡ true → list_all (nat_lt n) (ordinals (filter test ts)) ≡ true
+all-filter : (n : ℕ) (test : Tie Seat → Bool) (ts : List (Tie Seat)) → list_all (nat_lt n) (ordinals ts) ≡ true
+    → list_all (nat_lt n) (ordinals (filter test ts)) ≡ true
 all-filter n test [] all = refl
 all-filter n test (t ∷ ts) all =
     let parts = and_parts (nat_lt n t.value.ordinal) (list_all (nat_lt n) (ordinals ts)) all in by (test t) parts.0 (all-filter n test ts parts.1)
   where
-    by : (b : Bool) → nat_lt n t.value.ordinal ≡ true → list_all (nat_lt n) (ordinals (filter test ts)) ≡ true → list_all (nat_lt n) (ordinals (cond b (t ∷ filter test ts) (filter test ts))) ≡ true
+    by : (b : Bool) → nat_lt n t.value.ordinal ≡ true → list_all (nat_lt n) (ordinals (filter test ts)) ≡ true
+        → list_all (nat_lt n) (ordinals (cond b (t ∷ filter test ts) (filter test ts))) ≡ true
     by true first rest = both_true first rest
     by false first rest = rest
 
@@ -351,16 +383,19 @@ rising-seats : (test : Tie Seat → Bool) (ts : List (Tie Seat)) → IsRising (o
 rising-seats test [] rising = tt
 rising-seats test (t ∷ ts) rising = by (test t) (all-filter t.value.ordinal test ts rising.0) (rising-seats test ts rising.1)
   where
-    by : (b : Bool) → list_all (nat_lt t.value.ordinal) (ordinals (filter test ts)) ≡ true → IsRising (ordinals (filter test ts)) → IsRising (ordinals (cond b (t ∷ filter test ts) (filter test ts)))
+    by : (b : Bool) → list_all (nat_lt t.value.ordinal) (ordinals (filter test ts)) ≡ true → IsRising (ordinals (filter test ts))
+        → IsRising (ordinals (cond b (t ∷ filter test ts) (filter test ts)))
     by true first rest = (first, rest)
     by false first rest = rest
 
-none-filter : (user : ℕ) (test : Tie Seat → Bool) (ts : List (Tie Seat)) → list_any (λ (s : Tie Seat). eqb s.pair.user user) ts ≡ false → list_any (λ (s : Tie Seat). eqb s.pair.user user) (filter test ts) ≡ false
+none-filter : (user : ℕ) (test : Tie Seat → Bool) (ts : List (Tie Seat)) → list_any (λ (s : Tie Seat). eqb s.pair.user user) ts ≡ false
+    → list_any (λ (s : Tie Seat). eqb s.pair.user user) (filter test ts) ≡ false
 none-filter user test [] none = refl
 none-filter user test (t ∷ ts) none =
     let parts = or_parts (eqb t.pair.user user) (list_any (λ (s : Tie Seat). eqb s.pair.user user) ts) none in by (test t) parts.0 (none-filter user test ts parts.1)
   where
-    by : (b : Bool) → eqb t.pair.user user ≡ false → list_any (λ (s : Tie Seat). eqb s.pair.user user) (filter test ts) ≡ false → list_any (λ (s : Tie Seat). eqb s.pair.user user) (cond b (t ∷ filter test ts) (filter test ts)) ≡ false
+    by : (b : Bool) → eqb t.pair.user user ≡ false → list_any (λ (s : Tie Seat). eqb s.pair.user user) (filter test ts) ≡ false
+        → list_any (λ (s : Tie Seat). eqb s.pair.user user) (cond b (t ∷ filter test ts) (filter test ts)) ≡ false
     by true first rest = ap (λ b. b || list_any (λ (s : Tie Seat). eqb s.pair.user user) (filter test ts)) first ∙ rest
     by false first rest = rest
 
@@ -368,7 +403,8 @@ different-filter : (test : Tie Seat → Bool) (ts : List (Tie Seat)) → AreOfDi
 different-filter test [] different = tt
 different-filter test (t ∷ ts) different = by (test t) (none-filter t.pair.user test ts different.0) (different-filter test ts different.1)
   where
-    by : (b : Bool) → list_any (λ (s : Tie Seat). eqb s.pair.user t.pair.user) (filter test ts) ≡ false → AreOfDifferentUsers (filter test ts) → AreOfDifferentUsers (cond b (t ∷ filter test ts) (filter test ts))
+    by : (b : Bool) → list_any (λ (s : Tie Seat). eqb s.pair.user t.pair.user) (filter test ts) ≡ false → AreOfDifferentUsers (filter test ts)
+        → AreOfDifferentUsers (cond b (t ∷ filter test ts) (filter test ts))
     by true first rest = (first, rest)
     by false first rest = rest
 
@@ -377,13 +413,15 @@ different-push : (s : Tie Seat) (ts : List (Tie Seat)) → found (Some s.pair.us
 different-push s [] none different = (refl, tt)
 different-push s (t ∷ ts) none different = by (eqb s.pair.user t.pair.user) refl none (λ is. different-push s ts is different.1)
   where
-    behind : (us : List (Tie Seat)) → list_any (λ (r : Tie Seat). eqb r.pair.user t.pair.user) us ≡ false → eqb s.pair.user t.pair.user ≡ false → list_any (λ (r : Tie Seat). eqb r.pair.user t.pair.user) (us ++ s ∷ []) ≡ false
+    behind : (us : List (Tie Seat)) → list_any (λ (r : Tie Seat). eqb r.pair.user t.pair.user) us ≡ false → eqb s.pair.user t.pair.user ≡ false
+        → list_any (λ (r : Tie Seat). eqb r.pair.user t.pair.user) (us ++ s ∷ []) ≡ false
     behind [] all one = ap (λ b. b || false) one
     behind (u ∷ us) all one =
         let parts = or_parts (eqb u.pair.user t.pair.user) (list_any (λ (r : Tie Seat). eqb r.pair.user t.pair.user) us) all in
         ap (λ b. b || list_any (λ (r : Tie Seat). eqb r.pair.user t.pair.user) (us ++ s ∷ [])) parts.0 ∙ behind us parts.1 one
 
-    by : (b : Bool) → eqb s.pair.user t.pair.user ≡ b → option_map (λ (t : Tie Seat). t.value.ordinal) (cond b (Some t) (find (λ (t : Tie Seat). eqb s.pair.user t.pair.user) ts)) ≡ None
+    by : (b : Bool) → eqb s.pair.user t.pair.user ≡ b
+        → option_map (λ (t : Tie Seat). t.value.ordinal) (cond b (Some t) (find (λ (t : Tie Seat). eqb s.pair.user t.pair.user) ts)) ≡ None
         → (found (Some s.pair.user) ts ≡ None → AreOfDifferentUsers (ts ++ s ∷ [])) → AreOfDifferentUsers (t ∷ ts ++ s ∷ [])
     by true at is rest = cc
     by false at is rest = (behind ts different.0 at, rest is)
@@ -394,7 +432,8 @@ numbers_from-map n f (t ∷ ts) = ap (λ ns. n ∷ ns) (numbers_from-map (n + 1)
 
 ordinals-left : (paper ordinal : ℕ) (ts : List (Tie Seat)) → ordinals (without_seat paper ordinal ts) ≡ ordinals ts
 ordinals-left paper ordinal [] = refl
-ordinals-left paper ordinal (t ∷ ts) = ap (λ n. n ∷ ordinals (without_seat paper ordinal ts)) (left-ordinal paper ordinal t) ∙ ap (λ ns. t.value.ordinal ∷ ns) (ordinals-left paper ordinal ts)
+ordinals-left paper ordinal (t ∷ ts) = ap (λ n. n ∷ ordinals (without_seat paper ordinal ts)) (left-ordinal paper ordinal t)
+    ∙ ap (λ ns. t.value.ordinal ∷ ns) (ordinals-left paper ordinal ts)
 
 -- the seats that nobody has left, in the order of their labels
 pub rising-taken : (seats : SeatsState) → SeatsInOrder seats → (p : ℕ) → IsRising (ordinals (seats_taken seats p))
@@ -413,7 +452,9 @@ seats-in_order-after seats (Assigned paper user kind ordinal) fits order = recor
         subst (λ (ts : SeatsState). ordinals ts ≡ numbers_from 1 ts) (sym (ties_of-with_seat p s seats)) (by (eqb p paper) refl)
       where
         last : eqb p paper ≡ true → ordinal ≡ 1 + length (ties_of ByPaper p seats)
-        last at = let next : ordinal ≡ length (ties_of ByPaper p seats) + 1 = subst (λ (n : ℕ). ordinal ≡ length (ties_of ByPaper n seats) + 1) (sym (eqb-true p paper at)) fits.0 in omega (arith, next)
+        last at = let next : ordinal
+            ≡ length (ties_of ByPaper p seats) + 1 = subst (λ (n : ℕ). ordinal
+            ≡ length (ties_of ByPaper n seats) + 1) (sym (eqb-true p paper at)) fits.0 in omega (arith, next)
 
         by : (b : Bool) → eqb p paper ≡ b → ordinals (ties_of ByPaper p seats ++ given b s) ≡ numbers_from 1 (ties_of ByPaper p seats ++ given b s)
         by true at =
@@ -444,9 +485,11 @@ seats-in_order-after seats (Unassigned paper user ordinal) fits order = record {
 seats-in_order-after seats e fits order = order
 
 -- and under which ordinal a user reviews a paper is what that entry tells, else what it was
-pub seat_in-after : (seats : SeatsState) (e : Entry) → SeatsInOrder seats → SeatsFit seats e → (u : Option ℕ) (p : ℕ) → seat_in (seats_after seats e) u p ≡ last_or (seat_in seats u p) (seat_told u p e)
+pub seat_in-after : (seats : SeatsState) (e : Entry) → SeatsInOrder seats → SeatsFit seats e → (u : Option ℕ) (p : ℕ) → seat_in (seats_after seats e) u p
+    ≡ last_or (seat_in seats u p) (seat_told u p e)
 seat_in-after seats (Assigned paper user kind ordinal) order fits u p =
-    ap (found u) (taken-with_seat seats paper user kind ordinal p) ∙ by (eqb p paper) (is_number u user) refl refl ∙ ap (λ b. last_or (seat_in seats u p) (given (b && is_number u user) (Some ordinal))) (turned p paper)
+    ap (found u) (taken-with_seat seats paper user kind ordinal p) ∙ by (eqb p paper) (is_number u user) refl refl
+        ∙ ap (λ b. last_or (seat_in seats u p) (given (b && is_number u user) (Some ordinal))) (turned p paper)
   where
     s : Tie Seat
     s = seat_tie paper user kind ordinal
@@ -465,7 +508,8 @@ seat_in-after seats (Assigned paper user kind ordinal) order fits u p =
     none None = refl
     none (Some t) = refl
 
-    none-then : (o : Option (Tie Seat)) → option_map (λ (t : Tie Seat). t.value.ordinal) o ≡ None → option_map (λ (t : Tie Seat). t.value.ordinal) (option_or o (Some s)) ≡ Some ordinal
+    none-then : (o : Option (Tie Seat)) → option_map (λ (t : Tie Seat). t.value.ordinal) o ≡ None
+        → option_map (λ (t : Tie Seat). t.value.ordinal) (option_or o (Some s)) ≡ Some ordinal
     none-then None is = refl
     none-then (Some t) is = cc
 
@@ -474,14 +518,17 @@ seat_in-after seats (Assigned paper user kind ordinal) order fits u p =
 
     by : (b c : Bool) → eqb p paper ≡ b → is_number u user ≡ c → found u (taken ++ given b s) ≡ last_or (seat_in seats u p) (given (b && c) (Some ordinal))
     by true true at is =
-        ap (option_map (λ (t : Tie Seat). t.value.ordinal)) (find-append test taken (s ∷ []) ∙ ap (λ (b : Bool). option_or (find test taken) (cond b (Some s) None)) is)
+        ap (option_map (λ (t : Tie Seat). t.value.ordinal)) (find-append test taken (s ∷ [])
+            ∙ ap (λ (b : Bool). option_or (find test taken) (cond b (Some s) None)) is)
         ∙ none-then (find test taken) (free at is)
     by true false at is =
-        ap (option_map (λ (t : Tie Seat). t.value.ordinal)) (find-append test taken (s ∷ []) ∙ ap (λ (b : Bool). option_or (find test taken) (cond b (Some s) None)) is)
+        ap (option_map (λ (t : Tie Seat). t.value.ordinal)) (find-append test taken (s ∷ [])
+            ∙ ap (λ (b : Bool). option_or (find test taken) (cond b (Some s) None)) is)
         ∙ none (find test taken)
     by false c at is = ap (found u) (append-nil taken)
 seat_in-after seats (Unassigned paper user ordinal) order fits u p =
-    ap (λ (ts : SeatsState). found u (filter stays ts)) (ties_of-without_seat p paper ordinal seats) ∙ by (eqb p paper) refl ∙ ap (λ b. last_or (seat_in seats u p) (given (b && is_number u user) None)) (turned p paper)
+    ap (λ (ts : SeatsState). found u (filter stays ts)) (ties_of-without_seat p paper ordinal seats) ∙ by (eqb p paper) refl
+        ∙ ap (λ b. last_or (seat_in seats u p) (given (b && is_number u user) None)) (turned p paper)
   where
     hers : eqb p paper ≡ true → AreHers user ordinal (seats_taken seats p)
     hers at = are_hers user ordinal (seats_taken seats p) (rising-taken seats order p) (order.single p) (ap (λ n. seat_in seats (Some user) n) (eqb-true p paper at) ∙ fits)
@@ -490,7 +537,8 @@ seat_in-after seats (Unassigned paper user ordinal) order fits u p =
     gone true = refl
     gone false = refl
 
-    by : (b : Bool) → eqb p paper ≡ b → found u (filter stays (without_seat paper ordinal (ties_of ByPaper p seats))) ≡ last_or (seat_in seats u p) (given (b && is_number u user) None)
+    by : (b : Bool) → eqb p paper ≡ b → found u (filter stays (without_seat paper ordinal (ties_of ByPaper p seats)))
+        ≡ last_or (seat_in seats u p) (given (b && is_number u user) None)
     by true at = ap (found u) (taken-left p paper ordinal seats at) ∙ found-left user ordinal (seats_taken seats p) (hers at) u ∙ gone (is_number u user)
     by false at = ap (λ (ts : SeatsState). found u (filter stays ts)) (without-other p paper ordinal seats at)
 seat_in-after seats e order fits u p = refl
@@ -502,7 +550,8 @@ seats-in_order-nil = record { numbered = λ p. refl; single = λ p. tt }
 -- ---- which labels are given
 
 -- the ordinal of a seat that is found is one of theirs
-found-among : (test stays : Tie Seat → Bool) (ordinal : ℕ) (ts : List (Tie Seat)) → option_map (λ (t : Tie Seat). t.value.ordinal) (find test (filter stays ts)) ≡ Some ordinal
+found-among : (test stays : Tie Seat → Bool) (ordinal : ℕ) (ts : List (Tie Seat))
+    → option_map (λ (t : Tie Seat). t.value.ordinal) (find test (filter stays ts)) ≡ Some ordinal
     → list_any (λ n. eqb n ordinal) (ordinals ts) ≡ true
 found-among test stays ordinal [] is = cc
 found-among test stays ordinal (t ∷ ts) is = by (stays t) is (found-among test stays ordinal ts)
@@ -516,16 +565,19 @@ found-among test stays ordinal (t ∷ ts) is = by (stays t) is (found-among test
     behind : List (Tie Seat)
     behind = filter stays ts
 
-    here : (b : Bool) → ordinal_of (cond b (Some t) (find test behind)) ≡ Some ordinal → (ordinal_of (find test behind) ≡ Some ordinal → among ≡ true) → (eqb t.value.ordinal ordinal || among) ≡ true
+    here : (b : Bool) → ordinal_of (cond b (Some t) (find test behind)) ≡ Some ordinal → (ordinal_of (find test behind) ≡ Some ordinal → among ≡ true)
+        → (eqb t.value.ordinal ordinal || among) ≡ true
     here true h rest = let e : t.value.ordinal ≡ ordinal = cc in ap (λ b. b || among) (eq-eqb t.value.ordinal ordinal e)
     here false h rest = or_right (eqb t.value.ordinal ordinal) among (rest h)
 
-    by : (b : Bool) → ordinal_of (find test (cond b (t ∷ behind) behind)) ≡ Some ordinal → (ordinal_of (find test behind) ≡ Some ordinal → among ≡ true) → (eqb t.value.ordinal ordinal || among) ≡ true
+    by : (b : Bool) → ordinal_of (find test (cond b (t ∷ behind) behind)) ≡ Some ordinal → (ordinal_of (find test behind) ≡ Some ordinal → among ≡ true)
+        → (eqb t.value.ordinal ordinal || among) ≡ true
     by true h rest = here (test t) h rest
     by false h rest = or_right (eqb t.value.ordinal ordinal) among (rest h)
 
 -- so it was drawn for the paper
-pub seat_in-drawn : (seats : SeatsState) → SeatsInOrder seats → (u : Option ℕ) (p ordinal : ℕ) → seat_in seats u p ≡ Some ordinal → (1 ≤ ordinal) × (ordinal ≤ labels_in seats p)
+pub seat_in-drawn : (seats : SeatsState) → SeatsInOrder seats → (u : Option ℕ) (p ordinal : ℕ) → seat_in seats u p ≡ Some ordinal
+    → (1 ≤ ordinal) × (ordinal ≤ labels_in seats p)
 seat_in-drawn seats order u p ordinal is =
     let ts : List (Tie Seat) = ties_of ByPaper p seats in
     paper_within ts (Some ordinal) (ap not (ap (list_any (λ n. eqb n ordinal)) (sym (order.numbered p)) ∙ found-among _ _ ordinal ts is))
@@ -537,7 +589,8 @@ labels_in-few seats (Assigned paper user kind ordinal) p fits few = by (eqb pape
     told : SeatTold
     told = record { ordinal = ordinal; kind = Some kind; user = Some user }
 
-    by : (b : Bool) → eqb paper p ≡ b → labels_in (seats_after seats (Assigned paper user kind ordinal)) p ≡ labels_in seats p + length (given b told) → labels_in (seats_after seats (Assigned paper user kind ordinal)) p ≤ 26
+    by : (b : Bool) → eqb paper p ≡ b → labels_in (seats_after seats (Assigned paper user kind ordinal)) p ≡ labels_in seats p + length (given b told)
+        → labels_in (seats_after seats (Assigned paper user kind ordinal)) p ≤ 26
     by true at count =
         let next : ordinal ≡ labels_in seats p + 1 = subst (λ n. ordinal ≡ labels_in seats n + 1) (eqb-true paper p at) fits.0 in
         let last = fits.1 in

@@ -22,14 +22,16 @@ use Rattle.cr_base.proofs.PairLaws.{same_pair-is, list_all-with_tie, list_all-fi
 -- ---- pairs
 
 -- the pair switched is there or not, and every other pair is as before
-pub has_pair-switched : (on : Bool) (q : Pair) (paper user : ℕ) (ts : BareTies) → has_pair q (switched on paper user ts) ≡ cond on (same_pair q (pair_of paper user) || has_pair q ts) (not (same_pair q (pair_of paper user)) && has_pair q ts)
+pub has_pair-switched : (on : Bool) (q : Pair) (paper user : ℕ) (ts : BareTies) → has_pair q (switched on paper user ts)
+    ≡ cond on (same_pair q (pair_of paper user) || has_pair q ts) (not (same_pair q (pair_of paper user)) && has_pair q ts)
 has_pair-switched true q paper user ts = has_pair-with_tie ByPaper q (bare_tie paper user) ts
 has_pair-switched false q paper user ts = has_pair-without_pair q (pair_of paper user) ts
 
 -- ---- a paper's users
 
 -- with one tie more, its user comes last among those of its paper
-pub users_tied_to-push : (p : ℕ) (ts : BareTies) (paper user : ℕ) → users_tied_to p (ts ++ bare_tie paper user ∷ []) ≡ users_tied_to p ts ++ given (eqb p paper) user
+pub users_tied_to-push : (p : ℕ) (ts : BareTies) (paper user : ℕ) → users_tied_to p (ts ++ bare_tie paper user ∷ [])
+    ≡ users_tied_to p ts ++ given (eqb p paper) user
 users_tied_to-push p [] paper user = by (eqb p paper)
   where
     by : (b : Bool) → map (λ (t : Tie (Unit {0})). t.pair.user) (cond b (bare_tie paper user ∷ []) []) ≡ given b user
@@ -37,7 +39,8 @@ users_tied_to-push p [] paper user = by (eqb p paper)
     by false = refl
 users_tied_to-push p (t ∷ ts) paper user = by (eqb p t.pair.paper) (users_tied_to-push p ts paper user)
   where
-    by : (b : Bool) → users_tied_to p (ts ++ bare_tie paper user ∷ []) ≡ users_tied_to p ts ++ given (eqb p paper) user → map (λ (x : Tie (Unit {0})). x.pair.user) (cond b (t ∷ ties_of ByPaper p (ts ++ bare_tie paper user ∷ [])) (ties_of ByPaper p (ts ++ bare_tie paper user ∷ []))) ≡ map (λ (x : Tie (Unit {0})). x.pair.user) (cond b (t ∷ ties_of ByPaper p ts) (ties_of ByPaper p ts)) ++ given (eqb p paper) user
+    by : (b : Bool) → users_tied_to p (ts ++ bare_tie paper user ∷ []) ≡ users_tied_to p ts ++ given (eqb p paper) user
+        → map (λ (x : Tie (Unit {0})). x.pair.user) (cond b (t ∷ ties_of ByPaper p (ts ++ bare_tie paper user ∷ [])) (ties_of ByPaper p (ts ++ bare_tie paper user ∷ []))) ≡ map (λ (x : Tie (Unit {0})). x.pair.user) (cond b (t ∷ ties_of ByPaper p ts) (ties_of ByPaper p ts)) ++ given (eqb p paper) user
     by true rest = ap (λ us. t.pair.user ∷ us) rest
     by false rest = rest
 
@@ -55,13 +58,16 @@ has_pair-push q (t ∷ ts) s = ap (λ b. is_tied q t || b) (has_pair-push q ts s
 
 -- a paper's authors are those that were told, and who is told by it
 pub authors_in-after : (p : ℕ) (ties : TiesState) (maker : ℕ) (e : Entry) → authors_in (ties_after ties maker e) p ≡ authors_in ties p ++ author_told p maker e
-authors_in-after p ties maker (Submitted paper title abstract) = users_tied_to-push p ties.authors paper maker ∙ ap (λ b. authors_in ties p ++ given b maker) (turned p paper)
-authors_in-after p ties maker (Coauthor paper user) = users_tied_to-push p ties.authors paper user ∙ ap (λ b. authors_in ties p ++ given b user) (turned p paper)
+authors_in-after p ties maker (Submitted paper title abstract) = users_tied_to-push p ties.authors paper maker
+    ∙ ap (λ b. authors_in ties p ++ given b maker) (turned p paper)
+authors_in-after p ties maker (Coauthor paper user) = users_tied_to-push p ties.authors paper user
+    ∙ ap (λ b. authors_in ties p ++ given b user) (turned p paper)
 authors_in-after p ties maker (Conflict paper user on) = sym (append-nil (authors_in ties p))
 authors_in-after p ties maker e = sym (append-nil (authors_in ties p))
 
 -- and a user is declared in conflict as it tells, or else as she was
-pub is_conflict_on_in-after : (u : Option ℕ) (p : ℕ) (ties : TiesState) (maker : ℕ) (e : Entry) → is_conflict_on_in (ties_after ties maker e) u p ≡ last_or (is_conflict_on_in ties u p) (conflict_told u p e)
+pub is_conflict_on_in-after : (u : Option ℕ) (p : ℕ) (ties : TiesState) (maker : ℕ) (e : Entry) → is_conflict_on_in (ties_after ties maker e) u p
+    ≡ last_or (is_conflict_on_in ties u p) (conflict_told u p e)
 is_conflict_on_in-after None p ties maker (Conflict paper user on) = by (eqb paper p)
   where
     by : (b : Bool) → false ≡ last_or false (given (b && false) on)
@@ -113,7 +119,8 @@ in_range n p low high = grind (arith, nat_tests)
 within-push : (n paper user : ℕ) (ts : BareTies) → 1 ≤ paper → paper ≤ n → are_within n ts ≡ true → are_within n (ts ++ bare_tie paper user ∷ []) ≡ true
 within-push n paper user ts low high all = all-push _ ts (bare_tie paper user) all (in_range n paper low high)
 
-within-switched : (n : ℕ) (on : Bool) (paper user : ℕ) (ts : BareTies) → 1 ≤ paper → paper ≤ n → are_within n ts ≡ true → are_within n (switched on paper user ts) ≡ true
+within-switched : (n : ℕ) (on : Bool) (paper user : ℕ) (ts : BareTies) → 1 ≤ paper → paper ≤ n → are_within n ts ≡ true
+    → are_within n (switched on paper user ts) ≡ true
 within-switched n true paper user ts low high all = list_all-with_tie ByPaper _ (bare_tie paper user) ts (in_range n paper low high) all
 within-switched n false paper user ts low high all = list_all-filter ByPaper _ (λ r. not (is_tied (pair_of paper user) r)) ts all
 
@@ -140,7 +147,8 @@ within-pair n q (t ∷ ts) all there =
     by false same h rest = rest h
 
 -- where each entry fits, the papers that have ties are there
-pub within-after : (state : PapersState) (ties : TiesState) (maker : ℕ) (e : Entry) → PapersFit state maker e → AreWithin (paper_count state) ties → AreWithin (paper_count (papers_after state maker e)) (ties_after ties maker e)
+pub within-after : (state : PapersState) (ties : TiesState) (maker : ℕ) (e : Entry) → PapersFit state maker e → AreWithin (paper_count state) ties
+    → AreWithin (paper_count (papers_after state maker e)) (ties_after ties maker e)
 within-after state ties maker (Submitted paper title abstract) fits within =
     let before : ℕ = paper_count state in
     let now : ℕ = paper_count (papers_after state maker (Submitted paper title abstract)) in

@@ -71,12 +71,14 @@ some-mapped : {A B : Type 0} (f : A → B) (o : Option A) → is_some (option_ma
 some-mapped f None = refl
 some-mapped f (Some x) = refl
 
-any-line : (H : History) (user : ℕ) (rs : List Registration) → list_any (λ (r : Registration). eqb r.user user) rs ≡ list_any (λ (a : AccountLine). eqb a.user user) (map (λ (r : Registration). record { user = r.user; name = r.name; role = role_of (Some r.user) H }) rs)
+any-line : (H : History) (user : ℕ) (rs : List Registration) → list_any (λ (r : Registration). eqb r.user user) rs
+    ≡ list_any (λ (a : AccountLine). eqb a.user user) (map (λ (r : Registration). record { user = r.user; name = r.name; role = role_of (Some r.user) H }) rs)
 any-line H user [] = refl
 any-line H user (r ∷ rs) = ap (λ b. eqb r.user user || b) (any-line H user rs)
 
 -- a user has registered exactly where she is known by the tables
-registered-known : (H : History) (user : ℕ) → Legal H → list_any (λ (r : Registration). eqb r.user user) (all_told registration_told H) ≡ is_known (tables_of H) (Some user)
+registered-known : (H : History) (user : ℕ) → Legal H → list_any (λ (r : Registration). eqb r.user user) (all_told registration_told H)
+    ≡ is_known (tables_of H) (Some user)
 registered-known H user legal =
     let lines : List AccountLine = lines_of (tables_of H).accounts in
     any-line H user (all_told registration_told H)
@@ -122,14 +124,16 @@ module _ (t : Tables) (once : AreNamedOnce t.accounts) (user : ℕ) (known : is_
       judged (submit_checks (list_any is_none users) (facts.standing None) (length facts.papers) facts.own_papers) (submission_drawn user next_paper title abstract (flat_map listed users))
 
   -- where it is accepted with some, it is with any who are there
-  accepted-with : (title abstract : List ℕ) (users : List (Option ℕ)) (others : List ℕ) → judged_of title abstract users ≡ Ok drawn → judged_of title abstract (map (λ (u : ℕ). Some u) others) ≡ Ok (submission_drawn user next_paper title abstract others)
+  accepted-with : (title abstract : List ℕ) (users : List (Option ℕ)) (others : List ℕ) → judged_of title abstract users ≡ Ok drawn
+      → judged_of title abstract (map (λ (u : ℕ). Some u) others) ≡ Ok (submission_drawn user next_paper title abstract others)
   accepted-with title abstract users others accepted =
       let k = judged-Ok (submit_checks (list_any is_none users) (facts.standing None) (length facts.papers) facts.own_papers) (submission_drawn user next_paper title abstract (flat_map listed users)) drawn accepted in
       let some : List (Option ℕ) = map (λ (u : ℕ). Some u) others in
       ap (λ (us : List ℕ). judged (submit_checks (list_any is_none some) (facts.standing None) (length facts.papers) facts.own_papers) (submission_drawn user next_paper title abstract us)) (all-listed others)
       ∙ judged-none (submit_checks (list_any is_none some) (facts.standing None) (length facts.papers) facts.own_papers) (submission_drawn user next_paper title abstract others) (none-missing others, k.0.1)
 
-  submission-told : (r : Row) (behind : List Row) (title abstract : List ℕ) (authors : List (Option (List ℕ))) → length authors ≤ 19 → judge_by_role t (Some user) (Submit title abstract authors) ≡ Ok drawn
+  submission-told : (r : Row) (behind : List Row) (title abstract : List ℕ) (authors : List (Option (List ℕ))) → length authors ≤ 19
+      → judge_by_role t (Some user) (Submit title abstract authors) ≡ Ok drawn
       → take (length (r ∷ behind)) (rows_of drawn.group) ≡ r ∷ behind → AllByRecursion IsBoundedEntry drawn.group → Told t (r ∷ behind) drawn
   submission-told r behind title abstract authors few accepted begins bounded = record {
     first = first;
@@ -164,7 +168,8 @@ module _ (t : Tables) (once : AreNamedOnce t.accounts) (user : ℕ) (known : is_
       rest = told-first user next_paper users behind (begin-first user next_paper e (coauthors next_paper users) r behind begun).1
 
       numbered : AllByRecursion IsNumber users
-      numbered = bounded-numbers user next_paper users (subst (λ (g : History). AllByRecursion IsBoundedEntry g) (group ∙ grouped-cons user e (coauthors next_paper users)) bounded).1
+      numbered = bounded-numbers user next_paper users (subst (λ (g : History). AllByRecursion IsBoundedEntry g) (group
+          ∙ grouped-cons user e (coauthors next_paper users)) bounded).1
 
       become_them : Become t user authors users
       become_them = become t user authors
@@ -192,7 +197,8 @@ module _ (t : Tables) (once : AreNamedOnce t.accounts) (user : ℕ) (known : is_
 
 module _ (t : Tables) (rows : List Row) (drawn : Drawn) (begins : take (length rows) (rows_of drawn.group) ≡ rows) where
   -- a group of one entry
-  told-single : (user : ℕ) (e : Entry) (command : Command) (given : Drawn) → given.group ≡ grouped user (e ∷ []) → given ≡ drawn → giver_told user e ≡ Some user → is_known t (Some user) ≡ true
+  told-single : (user : ℕ) (e : Entry) (command : Command) (given : Drawn) → given.group ≡ grouped user (e ∷ []) → given ≡ drawn → giver_told user e
+      ≡ Some user → is_known t (Some user) ≡ true
       → command_told t (authors_told t user rows) e ≡ Some command → judge_by_role t (Some user) command ≡ Ok drawn → Told t rows drawn
   told-single user e command given group is caller known told accepted =
       let first : Stamped = record { maker = user; more = false; entry = e } in
@@ -201,7 +207,8 @@ module _ (t : Tables) (rows : List Row) (drawn : Drawn) (begins : take (length r
         rest = [];
         group_is = ap (λ (d : Drawn). d.group) (sym is) ∙ group;
         given = drawn;
-        told = told-judged t (authors_told t user rows) first command (Ok drawn) (ap (is_known t) caller ∙ known) told (ap (λ (c : Option ℕ). judge_by_role t c command) caller ∙ accepted);
+        told = told-judged t (authors_told t user rows) first command (Ok drawn) (ap (is_known t) caller
+            ∙ known) told (ap (λ (c : Option ℕ). judge_by_role t c command) caller ∙ accepted);
         begins = begins;
       }
 
@@ -211,7 +218,8 @@ module _ (t : Tables) (rows : List Row) (drawn : Drawn) (begins : take (length r
       let k = judged-Ok (register_checks (is_some (number_in (lines_of t.accounts) name)) n) (registration_drawn (n + 1) name digest) drawn accepted in
       by (eqb (n + 1) 1) (n + 1) (sym (ap (λ (d : Drawn). d.group) k.1))
     where
-      by : (b : Bool) (user : ℕ) → drawn.group ≡ grouped user (cond b (Registered user name digest ∷ Named user roles.Chair ∷ []) (Registered user name digest ∷ [])) → Told t rows drawn
+      by : (b : Bool) (user : ℕ) → drawn.group
+          ≡ grouped user (cond b (Registered user name digest ∷ Named user roles.Chair ∷ []) (Registered user name digest ∷ [])) → Told t rows drawn
       by true user is = let first : Stamped = record { maker = user; more = true; entry = Registered user name digest } in
           record { first = first; rest = record { maker = user; more = false; entry = Named user roles.Chair } ∷ []; group_is = is; given = drawn; told = told-judged t (authors_told t user rows) first (Register name digest) (Ok drawn) refl refl accepted; begins = begins }
       by false user is = let first : Stamped = record { maker = user; more = false; entry = Registered user name digest } in
@@ -362,7 +370,8 @@ module _ (t : Tables) (rows : List Row) (drawn : Drawn) (begins : take (length r
         told-single user (ModeSet to) (SetMode to) (mode_drawn user to) refl (judged-Ok (mode_checks by by.phase) (mode_drawn user to) drawn accepted).1 refl known refl accepted
 
 -- rows that begin the group that an allowed call adds begin with an entry whose call draws one that they begin
-pub accepted-told : (H : History) (call : Call) (drawn : Drawn) (r : Row) (behind : List Row) → Legal H → IsAllowed H call → judge call.caller (view call.caller H) call.command ≡ Ok drawn
+pub accepted-told : (H : History) (call : Call) (drawn : Drawn) (r : Row) (behind : List Row) → Legal H → IsAllowed H call
+    → judge call.caller (view call.caller H) call.command ≡ Ok drawn
     → take (length (r ∷ behind)) (rows_of drawn.group) ≡ r ∷ behind → AllByRecursion IsBoundedEntry drawn.group → Told (tables_of H) (r ∷ behind) drawn
 accepted-told H call drawn r behind legal allowed accepted begins bounded = by call.caller call.command allowed.caller allowed.bounded (sym (Legal-judge call.caller H call.command legal) ∙ accepted)
   where
@@ -375,7 +384,8 @@ accepted-told H call drawn r behind legal allowed accepted begins bounded = by c
     registered : (user : ℕ) → IsUser H (Some user) → is_known t (Some user) ≡ true
     registered user is = sym (registered-known H user legal) ∙ is
 
-    by : (caller : Option ℕ) (command : Command) → IsCaller H caller command → IsBoundedCommand command → judge_by_role t caller command ≡ Ok drawn → Told t rows drawn
+    by : (caller : Option ℕ) (command : Command) → IsCaller H caller command → IsBoundedCommand command → judge_by_role t caller command ≡ Ok drawn
+        → Told t rows drawn
     by caller (Register name digest) is within judges = register-told t rows drawn begins name digest (ap (λ (c : Option ℕ). judge_by_role t c (Register name digest)) (sym is) ∙ judges)
     by None command is within judges = absurd is
     by (Some user) (SetPhase to) is within judges = stage-told t rows drawn begins user (registered user is) to judges
@@ -408,17 +418,20 @@ none_some x e = cc (e)
 some_is : {A : Type 0} (x y : A) → Some x ≡ Some y → x ≡ y
 some_is x y e = cc (e)
 
-told-judges : (t : Tables) (authors : List (Option (List ℕ))) (first : Stamped) (drawn : Drawn) → drawn_told t authors first ≡ Some drawn → Judges t authors first drawn
+told-judges : (t : Tables) (authors : List (Option (List ℕ))) (first : Stamped) (drawn : Drawn) → drawn_told t authors first ≡ Some drawn
+    → Judges t authors first drawn
 told-judges t authors first drawn told = by (is_known t (giver_told first.maker first.entry)) (command_told t authors first.entry) refl refl told
   where
     caller : Option ℕ
     caller = giver_told first.maker first.entry
 
-    of_command : (known : is_known t caller ≡ true) (command : Command) → command_told t authors first.entry ≡ Some command → (r : Result Drawn Rule) → judge_by_role t caller command ≡ r → result_ok r ≡ Some drawn → Judges t authors first drawn
+    of_command : (known : is_known t caller ≡ true) (command : Command) → command_told t authors first.entry ≡ Some command → (r : Result Drawn Rule)
+        → judge_by_role t caller command ≡ r → result_ok r ≡ Some drawn → Judges t authors first drawn
     of_command known command is (Ok d) judges same = record { known = known; command = command; told = is; judged = judges ∙ ap Ok (some_is d drawn same) }
     of_command known command is (Err rule) judges same = absurd (none_some drawn same)
 
-    by : (b : Bool) (o : Option Command) → is_known t caller ≡ b → command_told t authors first.entry ≡ o → cond b (option_and_then (λ c. result_ok (judge_by_role t caller c)) o) None ≡ Some drawn → Judges t authors first drawn
+    by : (b : Bool) (o : Option Command) → is_known t caller ≡ b → command_told t authors first.entry ≡ o
+        → cond b (option_and_then (λ c. result_ok (judge_by_role t caller c)) o) None ≡ Some drawn → Judges t authors first drawn
     by false o known is same = absurd (none_some drawn same)
     by true None known is same = absurd (none_some drawn same)
     by true (Some command) known is same = of_command known command is (judge_by_role t caller command) refl same
@@ -441,11 +454,13 @@ module _ (H : History) (legal : Legal H) where
   registered user known = registered-known H user legal ∙ known
 
   -- a submission is allowed, where it has no more co-authors than there may be
-  submission-allowed : (maker : ℕ) (title abstract : List ℕ) (authors : List (Option (List ℕ))) (command : Command) → IsTitle title → IsAbstract abstract → IsRegistered H maker → cond (nat_le (length authors) 19) (Some (Submit title abstract authors)) None ≡ Some command
+  submission-allowed : (maker : ℕ) (title abstract : List ℕ) (authors : List (Option (List ℕ))) (command : Command) → IsTitle title → IsAbstract abstract
+      → IsRegistered H maker → cond (nat_le (length authors) 19) (Some (Submit title abstract authors)) None ≡ Some command
       → IsAllowed H (record { caller = Some maker; command = command })
   submission-allowed maker title abstract authors command is_title is_abstract made told = by (nat_le (length authors) 19) refl told
     where
-      by : (b : Bool) → nat_le (length authors) 19 ≡ b → cond b (Some (Submit title abstract authors)) None ≡ Some command → IsAllowed H (record { caller = Some maker; command = command })
+      by : (b : Bool) → nat_le (length authors) 19 ≡ b → cond b (Some (Submit title abstract authors)) None ≡ Some command
+          → IsAllowed H (record { caller = Some maker; command = command })
       by true few told =
           let le : length authors ≤ 19 = few_of (length authors) few in
           subst (λ (c : Command). IsAllowed H (record { caller = Some maker; command = c })) (some_is (Submit title abstract authors) command told) (record { caller = made; bounded = (is_title, is_abstract, le) })
@@ -463,7 +478,8 @@ module _ (H : History) (legal : Legal H) where
       subst (λ (c : Command). IsAllowed H (record { caller = Some maker; command = c })) name.1 (allowed name.0)
 
   -- a user's is allowed, where the entry is within its bounds
-  user-allowed : (authors : List (Option (List ℕ))) (maker : ℕ) (more : Bool) (e : Entry) (command : Command) → IsBoundedEntry (record { maker = maker; more = more; entry = e }) → IsRegistered H maker → user_command_told t authors e ≡ Some command
+  user-allowed : (authors : List (Option (List ℕ))) (maker : ℕ) (more : Bool) (e : Entry) (command : Command)
+      → IsBoundedEntry (record { maker = maker; more = more; entry = e }) → IsRegistered H maker → user_command_told t authors e ≡ Some command
       → IsAllowed H (record { caller = Some maker; command = command })
   user-allowed authors maker more (PhaseSet to) command bounded made told = subst (λ (c : Command). IsAllowed H (record { caller = Some maker; command = c })) (some_is (SetPhase to) command told) (record { caller = made; bounded = tt })
   user-allowed authors maker more (ModeSet to) command bounded made told = subst (λ (c : Command). IsAllowed H (record { caller = Some maker; command = c })) (some_is (SetMode to) command told) (record { caller = made; bounded = tt })
@@ -488,13 +504,15 @@ module _ (H : History) (legal : Legal H) where
   user-allowed authors maker more e command bounded made told = absurd (none_some command told)
 
   -- and so is any
-  told-allowed : (authors : List (Option (List ℕ))) (maker : ℕ) (more : Bool) (e : Entry) (command : Command) → IsBoundedEntry (record { maker = maker; more = more; entry = e }) → is_known t (giver_told maker e) ≡ true → command_told t authors e ≡ Some command
+  told-allowed : (authors : List (Option (List ℕ))) (maker : ℕ) (more : Bool) (e : Entry) (command : Command)
+      → IsBoundedEntry (record { maker = maker; more = more; entry = e }) → is_known t (giver_told maker e) ≡ true → command_told t authors e ≡ Some command
       → IsAllowed H (record { caller = giver_told maker e; command = command })
   told-allowed authors maker more (Registered user name digest) command bounded known told = subst (λ (c : Command). IsAllowed H (record { caller = None; command = c })) (some_is (Register name digest) command told) (record { caller = refl; bounded = (bounded.b1, bounded.b2) })
   told-allowed authors maker more e command bounded known told = user-allowed authors maker more e command bounded (registered maker known) told
 
   -- so an allowed call adds what the call of such an entry draws
-  pub told-adds : (authors : List (Option (List ℕ))) (first : Stamped) (drawn : Drawn) → IsBoundedEntry first → drawn_told t authors first ≡ Some drawn → MayAdd H drawn.group
+  pub told-adds : (authors : List (Option (List ℕ))) (first : Stamped) (drawn : Drawn) → IsBoundedEntry first → drawn_told t authors first ≡ Some drawn
+      → MayAdd H drawn.group
   told-adds authors first drawn bounded told =
       let j = told-judges t authors first drawn told in
       let caller = giver_told first.maker first.entry in

@@ -34,7 +34,8 @@ authors-rise authors told = leads-rise ByPaper is_told_before (λ p q h. least p
 
 -- a user's papers are the same by paper and by user
 module _ (authors : BareTies) (users : Order) (authored : BareTies) (declared bids : Order) (index : AuthorsIndexed authors users authored declared bids) (u : ℕ) where
-  rises : (p q : Pair) → eqb u (leads ByUser p) ≡ true → eqb u (leads ByUser q) ≡ true → is_told_before p q ≡ true → nat_lt (follows ByUser p) (follows ByUser q) ≡ true
+  rises : (p q : Pair) → eqb u (leads ByUser p) ≡ true → eqb u (leads ByUser q) ≡ true → is_told_before p q ≡ true
+      → nat_lt (follows ByUser p) (follows ByUser q) ≡ true
   rises p q here there before = grind (arith, nat_tests)
 
   pub indexed-papers : (papers_tied_to u authored ≡ papers_tied_to u authors) × IsRising (papers_tied_to u authors)
@@ -44,7 +45,8 @@ module _ (authors : BareTies) (users : Order) (authored : BareTies) (declared bi
 
 -- ---- one more author
 
-sorted-push : (before : Pair → Pair → Bool) (ts : BareTies) (s : Tie (Unit {0})) → IsSortedBy before ts → list_all (λ (t : Tie (Unit {0})). before t.pair s.pair) ts ≡ true → IsSortedBy before (ts ++ s ∷ [])
+sorted-push : (before : Pair → Pair → Bool) (ts : BareTies) (s : Tie (Unit {0})) → IsSortedBy before ts
+    → list_all (λ (t : Tie (Unit {0})). before t.pair s.pair) ts ≡ true → IsSortedBy before (ts ++ s ∷ [])
 sorted-push before [] s sorted all = (refl, tt)
 sorted-push before (t ∷ ts) s sorted all =
     let parts = and_parts (before t.pair s.pair) (list_all (λ (t : Tie (Unit {0})). before t.pair s.pair) ts) all in
@@ -61,7 +63,8 @@ told-before paper maker (t ∷ ts) all =
     earlier n m same h = grind (arith, nat_tests)
 
 -- and so is what is told of no later ones, where it is another pair
-pub told-besides : (paper user : ℕ) (authors : BareTies) → are_up_to paper authors ≡ true → has_pair (pair_of paper user) authors ≡ false → all_before (pair_of paper user) authors ≡ true
+pub told-besides : (paper user : ℕ) (authors : BareTies) → are_up_to paper authors ≡ true → has_pair (pair_of paper user) authors ≡ false
+    → all_before (pair_of paper user) authors ≡ true
 told-besides paper user [] all none = refl
 told-besides paper user (t ∷ ts) all none =
     let parts = and_parts (nat_le t.pair.paper paper) (are_up_to paper ts) all in
@@ -77,7 +80,8 @@ told-besides paper user (t ∷ ts) all none =
 
 pub indexed-push : (authors : BareTies) (users : Order) (authored : BareTies) (declared bids : Order) (paper user : ℕ) (users' : Order) (authors' authored' : BareTies) → users' ≡ users → authors' ≡ authors ++ bare_tie paper user ∷ [] → authored' ≡ with_tie users (bare_tie paper user) authored → all_before (pair_of paper user) authors ≡ true → AuthorsIndexed authors users authored declared bids → AuthorsIndexed authors' users' authored' declared bids
 indexed-push authors users authored declared bids paper user users' authors' authored' same pushed put before index =
-    let put_so : authored' ≡ with_tie ByUser (bare_tie paper user) authored = put ∙ ap (λ (o : Order). with_tie o (bare_tie paper user) authored) index.by_user in
+    let put_so : authored' ≡ with_tie ByUser (bare_tie paper user) authored = put
+        ∙ ap (λ (o : Order). with_tie o (bare_tie paper user) authored) index.by_user in
     record {
       told = subst (λ (ts : BareTies). IsSortedBy is_told_before ts) (sym pushed) (sorted-push is_told_before authors (bare_tie paper user) index.told before);
       by_user = same ∙ index.by_user;

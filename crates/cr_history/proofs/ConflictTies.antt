@@ -28,7 +28,8 @@ use Rattle.cr_history.proofs.Folds.{told-always, each-silent}
 -- ---- declared conflicts
 
 -- a pair that is switched is there as it is told, and every other is as it was
-switched-told : (on : Bool) (q : Pair) (paper user : ℕ) (ts : BareTies) → has_pair q (switched on paper user ts) ≡ cond (same_pair q (pair_of paper user)) on (has_pair q ts)
+switched-told : (on : Bool) (q : Pair) (paper user : ℕ) (ts : BareTies) → has_pair q (switched on paper user ts)
+    ≡ cond (same_pair q (pair_of paper user)) on (has_pair q ts)
 switched-told on q paper user ts = has_pair-switched on q paper user ts ∙ by on (same_pair q (pair_of paper user)) (has_pair q ts)
   where
     by : (on same there : Bool) → cond on (same || there) (not same && there) ≡ cond same on there
@@ -37,7 +38,9 @@ switched-told on q paper user ts = has_pair-switched on q paper user ts ∙ by o
     by false true there = refl
     by false false there = refl
 
-conflict-entry : (p v : ℕ) (ties : TiesState) (maker : ℕ) (e : Entry) (rest : List Bool) → last_or (has_pair (pair_of p v) ties.conflicts) (conflict_told (Some v) p e ++ rest) ≡ last_or (has_pair (pair_of p v) (ties_after ties maker e).conflicts) rest
+conflict-entry : (p v : ℕ) (ties : TiesState) (maker : ℕ) (e : Entry) (rest : List Bool)
+    → last_or (has_pair (pair_of p v) ties.conflicts) (conflict_told (Some v) p e ++ rest)
+    ≡ last_or (has_pair (pair_of p v) (ties_after ties maker e).conflicts) rest
 conflict-entry p v ties maker (Conflict paper user on) rest =
     last_or-given (eqb paper p && eqb v user) (has_pair (pair_of p v) ties.conflicts) on rest
     ∙ ap (λ b. last_or (cond (b && eqb v user) on (has_pair (pair_of p v) ties.conflicts)) rest) (turned paper p)
@@ -77,10 +80,12 @@ has_conflict-append : (p : ℕ) (before g : History) → has_conflict p before �
 has_conflict-append p before g there = list_any-append (λ (e : Stamped). is_conflict_with p e.entry) before g ∙ ap (λ b. b || has_conflict p g) there
 
 -- the authors of a paper that is there stay the same, once there is a conflict with it
-author-entry : (p : ℕ) (before : History) (state : PapersState) (ties : TiesState) (maker : ℕ) (e : Entry) → PapersFit state maker e → ComesFirst before e → has_conflict p before ≡ true → p ≤ paper_count state
+author-entry : (p : ℕ) (before : History) (state : PapersState) (ties : TiesState) (maker : ℕ) (e : Entry) → PapersFit state maker e → ComesFirst before e
+    → has_conflict p before ≡ true → p ≤ paper_count state
     → (authors_in (ties_after ties maker e) p ≡ authors_in ties p) × (p ≤ paper_count (papers_after state maker e))
 author-entry p before state ties maker (Submitted paper title abstract) fits first there h = (
-  users_tied_to-push p ties.authors paper maker ∙ ap (λ b. authors_in ties p ++ given b maker) (ne_eqb p paper (let next = fits.0 in λ e. omega (arith, e, h, next))) ∙ append-nil (authors_in ties p),
+  users_tied_to-push p ties.authors paper maker
+      ∙ ap (λ b. authors_in ties p ++ given b maker) (ne_eqb p paper (let next = fits.0 in λ e. omega (arith, e, h, next))) ∙ append-nil (authors_in ties p),
   (let n = length-append state.papers (new_paper title abstract ∷ []) in omega (arith, n, h)),
 )
 author-entry p before state ties maker (Coauthor paper user) fits first there h = (
@@ -95,7 +100,8 @@ author-entry p before state ties maker (Revised paper title abstract) fits first
 author-entry p before state ties maker (Withdrawn paper) fits first there h = (refl, (let n = length-with_paper paper as_withdrawn state.papers in omega (arith, n, h)))
 author-entry p before state ties maker e fits first there h = (refl, h)
 
-author-from : (p : ℕ) (before : History) (t : Tables) (H : History) → FitInTurn t H → InTurn TellFirst before H → has_conflict p before ≡ true → p ≤ paper_count t.papers → authors_in (tables_from t H).ties p ≡ authors_in t.ties p
+author-from : (p : ℕ) (before : History) (t : Tables) (H : History) → FitInTurn t H → InTurn TellFirst before H → has_conflict p before ≡ true
+    → p ≤ paper_count t.papers → authors_in (tables_from t H).ties p ≡ authors_in t.ties p
 author-from p before t [] fits first there h = refl
 author-from p before t (s ∷ H) fits first there h =
     let one = author-entry p before t.papers t.ties s.maker s.entry fits.0.papers first.0 there h in
@@ -111,7 +117,8 @@ conflict-keeps p state ties maker (Conflict paper user on) fits here =
 conflict-keeps p state ties maker e fits here = absurd (false≢true here)
 
 -- so they stay from the first conflict on
-author-stays : (u : Option ℕ) (p : ℕ) (before : History) (t : Tables) (s : Stamped) (H : History) → FitInTurn t (s ∷ H) → InTurn TellFirst before (s ∷ H) → is_conflict_with p s.entry ≡ true
+author-stays : (u : Option ℕ) (p : ℕ) (before : History) (t : Tables) (s : Stamped) (H : History) → FitInTurn t (s ∷ H) → InTurn TellFirst before (s ∷ H)
+    → is_conflict_with p s.entry ≡ true
     → is_author_in (tables_from t (s ∷ H)).ties u p ≡ is_author_in t.ties u p
 author-stays u p before t s H fits first here =
     let one = conflict-keeps p t.papers t.ties s.maker s.entry fits.0.papers here in
@@ -139,28 +146,34 @@ among-given true w v rest = refl
 among-given false w v rest = refl
 
 -- one entry: where it is a conflict with the paper, its maker is an author now if and only if she is one at the end
-declared-entry : (p v : ℕ) (ties : TiesState) (maker : ℕ) (e : Entry) (wrote : Bool) (rest : List ℕ) → (is_conflict_with p e ≡ true → wrote ≡ is_author_in ties (Some maker) p)
-    → (has_pair (pair_of p v) ties.declared || is_among v (declared_told wrote p e ++ rest)) ≡ (has_pair (pair_of p v) (ties_after ties maker e).declared || is_among v rest)
+declared-entry : (p v : ℕ) (ties : TiesState) (maker : ℕ) (e : Entry) (wrote : Bool) (rest : List ℕ)
+    → (is_conflict_with p e ≡ true → wrote ≡ is_author_in ties (Some maker) p)
+    → (has_pair (pair_of p v) ties.declared || is_among v (declared_told wrote p e ++ rest))
+    ≡ (has_pair (pair_of p v) (ties_after ties maker e).declared || is_among v rest)
 declared-entry p v ties maker (Conflict paper user on) wrote rest same =
     let there : Bool = has_pair (pair_of p v) ties.declared in
     let names : Bool = eqb p paper && eqb v user in
     let writes : Bool = is_author_in ties (Some maker) paper in
-    let now : has_pair (pair_of p v) (cond writes (with_tie ByPaper (bare_tie paper user) ties.declared) ties.declared) ≡ cond writes (names || there) there = by writes in
+    let now : has_pair (pair_of p v) (cond writes (with_tie ByPaper (bare_tie paper user) ties.declared) ties.declared)
+        ≡ cond writes (names || there) there = by writes in
     ap (λ b. there || b) (among-given (eqb paper p && wrote) user v rest)
     ∙ told (eqb paper p) (eqb p paper) (eqb user v) (eqb v user) wrote writes there (is_among v rest) (turned paper p) (turned user v)
     (λ here. same here ∙ ap (is_author_in ties (Some maker)) (sym (eqb-true paper p here)))
     ∙ ap (λ b. b || is_among v rest) (sym now)
   where
-    by : (writes : Bool) → has_pair (pair_of p v) (cond writes (with_tie ByPaper (bare_tie paper user) ties.declared) ties.declared) ≡ cond writes ((eqb p paper && eqb v user) || has_pair (pair_of p v) ties.declared) (has_pair (pair_of p v) ties.declared)
+    by : (writes : Bool) → has_pair (pair_of p v) (cond writes (with_tie ByPaper (bare_tie paper user) ties.declared) ties.declared)
+        ≡ cond writes ((eqb p paper && eqb v user) || has_pair (pair_of p v) ties.declared) (has_pair (pair_of p v) ties.declared)
     by true = has_pair-with_tie ByPaper (pair_of p v) (bare_tie paper user) ties.declared
     by false = refl
 
-    told : (a b c d wrote writes there later : Bool) → a ≡ b → c ≡ d → (a ≡ true → wrote ≡ writes) → (there || (((a && wrote) && c) || later)) ≡ (cond writes ((b && d) || there) there || later)
+    told : (a b c d wrote writes there later : Bool) → a ≡ b → c ≡ d → (a ≡ true → wrote ≡ writes) → (there || (((a && wrote) && c) || later))
+        ≡ (cond writes ((b && d) || there) there || later)
     told true b c d wrote writes there later ab cd same =
         ap (λ x. there || (((true && x) && c) || later)) (same refl)
         ∙ both b d c writes there later (sym ab) (sym cd)
       where
-        both : (b d c writes there later : Bool) → b ≡ true → d ≡ c → (there || (((true && writes) && c) || later)) ≡ (cond writes ((b && d) || there) there || later)
+        both : (b d c writes there later : Bool) → b ≡ true → d ≡ c → (there || (((true && writes) && c) || later))
+            ≡ (cond writes ((b && d) || there) there || later)
         both b d c true there later hb hd = grind arith
         both b d c false there later hb hd = refl
     told false b c d wrote true there later ab cd same = neither b d there later (sym ab)
@@ -170,7 +183,9 @@ declared-entry p v ties maker (Conflict paper user on) wrote rest same =
     told false b c d wrote false there later ab cd same = refl
 declared-entry p v ties maker e wrote rest same = refl
 
-declared-from : (p v : ℕ) (before : History) (t : Tables) (H : History) → FitInTurn t H → InTurn TellFirst before H → (has_pair (pair_of p v) t.ties.declared || is_among v (named_by (λ maker. is_author_in (tables_from t H).ties (Some maker) p) p H)) ≡ has_pair (pair_of p v) (tables_from t H).ties.declared
+declared-from : (p v : ℕ) (before : History) (t : Tables) (H : History) → FitInTurn t H → InTurn TellFirst before H
+    → (has_pair (pair_of p v) t.ties.declared || is_among v (named_by (λ maker. is_author_in (tables_from t H).ties (Some maker) p) p H))
+    ≡ has_pair (pair_of p v) (tables_from t H).ties.declared
 declared-from p v before t [] fits first = or_false (has_pair (pair_of p v) t.ties.declared)
   where
     or_false : (b : Bool) → (b || false) ≡ b
@@ -182,7 +197,8 @@ declared-from p v before t (s ∷ H) fits first =
     ∙ declared-from p v (before ++ s ∷ []) (tables_after t s) H fits.1 first.1
 
 -- whom a paper's authors named in conflict with it are those whom the table has so
-pub declared_by_authors-tables : (p v : ℕ) (H : History) → FitInTurn no_tables H → InTurn TellFirst [] H → is_among v (declared_by_authors p H) ≡ has_pair (pair_of p v) (tables_of H).ties.declared
+pub declared_by_authors-tables : (p v : ℕ) (H : History) → FitInTurn no_tables H → InTurn TellFirst [] H → is_among v (declared_by_authors p H)
+    ≡ has_pair (pair_of p v) (tables_of H).ties.declared
 declared_by_authors-tables p v H fits first =
     ap (λ (wrote : ℕ → Bool). is_among v (named_by wrote p H)) (λ i maker. is_author-tables (Some maker) p H i)
     ∙ declared-from p v [] no_tables H fits first

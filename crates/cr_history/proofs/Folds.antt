@@ -37,5 +37,6 @@ module _ {A X : Type 0} (join : X → List A → X) (nothing : (x : X) → join 
       one t s fits.0 holds (flat_map told H) ∙ told-kept Holds stays one (tables_after t s) H fits.1 (stays t s fits.0 holds)
 
   -- and so where nothing more is asked
-  pub told-fitting : ((t : Tables) (s : Stamped) → Fits t s → Follows t s) → (t : Tables) (H : History) → FitInTurn t H → join (get t) (flat_map told H) ≡ get (tables_from t H)
+  pub told-fitting : ((t : Tables) (s : Stamped) → Fits t s → Follows t s) → (t : Tables) (H : History) → FitInTurn t H → join (get t) (flat_map told H)
+      ≡ get (tables_from t H)
   told-fitting one t H fits = told-kept (λ _. Unit {0}) (λ t s fit holds. tt) (λ t s fit holds. one t s fit) t H fits tt

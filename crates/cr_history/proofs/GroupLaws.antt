@@ -50,12 +50,14 @@ within p xs low high = list_any-numbers_from 1 p xs (omega arith) ∙ between p 
     between : (p n : ℕ) → 1 ≤ p → p ≤ n → (nat_le 1 p && nat_le p (1 + n - 1)) ≡ true
     between p n low high = grind (arith, nat_tests)
 
-any-lines : (user n : ℕ) (accounts : List Account) → list_any (λ (a : AccountLine). eqb a.user user) (lines_from n accounts) ≡ list_any (λ q. eqb q user) (numbers_from n accounts)
+any-lines : (user n : ℕ) (accounts : List Account) → list_any (λ (a : AccountLine). eqb a.user user) (lines_from n accounts)
+    ≡ list_any (λ q. eqb q user) (numbers_from n accounts)
 any-lines user n [] = refl
 any-lines user n (a ∷ accounts) = ap (λ b. eqb n user || b) (any-lines user (n + 1) accounts)
 
 module _ (H : History) (fits : FitInTurn no_tables H) where
-  any-registered : (user : ℕ) (rs : List Registration) → list_any (λ (r : Registration). eqb r.user user) rs ≡ list_any (λ (a : AccountLine). eqb a.user user) (map (λ (r : Registration). record { user = r.user; name = r.name; role = role_of (Some r.user) H }) rs)
+  any-registered : (user : ℕ) (rs : List Registration) → list_any (λ (r : Registration). eqb r.user user) rs
+      ≡ list_any (λ (a : AccountLine). eqb a.user user) (map (λ (r : Registration). record { user = r.user; name = r.name; role = role_of (Some r.user) H }) rs)
   any-registered user [] = refl
   any-registered user (r ∷ rs) = ap (λ b. eqb r.user user || b) (any-registered user rs)
 
@@ -74,7 +76,8 @@ module _ (H : History) (fits : FitInTurn no_tables H) where
 
   pub fits-number : (maker : ℕ) (more : Bool) (e : Entry) → Fits (tables_of H) (record { maker = maker; more = more; entry = e }) → HasNextNumber H e
   fits-number maker more (Registered user name digest) fit = fit.accounts.0 ∙ ap (λ n. n + 1) accounts-counted
-  fits-number maker more (Submitted paper title abstract) fit = fit.papers.0 ∙ ap (λ n. n + 1) (sym (ap length (papers_of-tables H fits) ∙ length-numbers_from 1 (tables_of H).papers.papers))
+  fits-number maker more (Submitted paper title abstract) fit = fit.papers.0
+      ∙ ap (λ n. n + 1) (sym (ap length (papers_of-tables H fits) ∙ length-numbers_from 1 (tables_of H).papers.papers))
   fits-number maker more (Uploaded paper version content) fit = fit.papers.1 ∙ ap (λ n. n + 1) (sym (ap length (uploads_of-tables paper H)))
   fits-number maker more (Assigned paper user kind ordinal) fit = fit.seats.0 ∙ ap (λ n. n + 1) (sym (labels-tables paper H))
   fits-number maker more e fit = tt
@@ -149,12 +152,14 @@ module _ (H : History) (fits : FitInTurn no_tables H) where
   paper_numbered : (paper : ℕ) → IsPaper (tables_of H).papers paper → InRange paper_range paper
   paper_numbered paper there = let high = there.1 in let few = sized.papers in (there.0, omega (arith, high, few))
 
-  bounded-coauthor : (maker : ℕ) (more : Bool) (paper user : ℕ) → IsRegistered H maker → Fits (tables_of H) (stamp maker more (Coauthor paper user)) → IsBoundedEntry (stamp maker more (Coauthor paper user))
+  bounded-coauthor : (maker : ℕ) (more : Bool) (paper user : ℕ) → IsRegistered H maker → Fits (tables_of H) (stamp maker more (Coauthor paper user))
+      → IsBoundedEntry (stamp maker more (Coauthor paper user))
   bounded-coauthor maker more paper user registered fit =
       let last = fit.papers.1 in
       record { maker = numbered maker registered; more = bit_few more; n1 = paper_numbered paper (fit.papers.0, omega (arith, last)); n2 = account_numbered user fit.accounts; n3 = zero_in; n4 = zero_in; n5 = zero_in; b1 = refl; b2 = refl }
 
-  bounded-entry : (maker : ℕ) (more : Bool) (e : Entry) → IsMadeByUser H maker e → IsRuled H maker e → Fits (tables_of H) (stamp maker more e) → IsBoundedEntry (stamp maker more e)
+  bounded-entry : (maker : ℕ) (more : Bool) (e : Entry) → IsMadeByUser H maker e → IsRuled H maker e → Fits (tables_of H) (stamp maker more e)
+      → IsBoundedEntry (stamp maker more e)
   bounded-entry maker more (Registered user name digest) made ruled fit =
       let next = fit.accounts.0 in
       let few = fit.accounts.1 in

@@ -20,7 +20,8 @@ use Rattle.cr_history.proofs.SubmissionLaws.{IsSubmitting, submission-in_turn}
 -- ---- the first registration
 
 -- every entry has a registration before it, or is one; so where there is none, there is nothing
-no_entry : (e : Entry) (maker : ℕ) (more : Bool) (after : History) → IsInOrder [] (record { maker = maker; more = more; entry = e }) → length (accounts_of (record { maker = maker; more = more; entry = e } ∷ after)) ≡ 0 → ⊥
+no_entry : (e : Entry) (maker : ℕ) (more : Bool) (after : History) → IsInOrder [] (record { maker = maker; more = more; entry = e })
+    → length (accounts_of (record { maker = maker; more = more; entry = e } ∷ after)) ≡ 0 → ⊥
 no_entry (Registered user name digest) maker more after h none = omega (arith, none)
 no_entry e maker more after h none = false≢true h.maker
 
@@ -52,7 +53,8 @@ alone-first H (Coauthor paper user) alone = absurd alone
 alone-first H e alone = tt
 
 -- a co-author behind her paper
-coauthor-in_order : (maker paper : ℕ) (H : History) (more : Bool) (user : ℕ) → IsSubmitting maker paper H → Fits (tables_of H) (stamp maker more (Coauthor paper user)) → IsInOrder H (stamp maker more (Coauthor paper user))
+coauthor-in_order : (maker paper : ℕ) (H : History) (more : Bool) (user : ℕ) → IsSubmitting maker paper H
+    → Fits (tables_of H) (stamp maker more (Coauthor paper user)) → IsInOrder H (stamp maker more (Coauthor paper user))
 coauthor-in_order maker paper H more user before fit = record {
   maker = before.registered;
   mark = tt;
@@ -117,7 +119,8 @@ added-whole H g (first_user user name digest is texts) = ((λ more. refl), refl)
 
 -- ---- one behind another
 
-in_turn-map : (P Q : History → Stamped → Type 0) → ((before : History) (e : Stamped) → P before e → Q before e) → (before H : History) → InTurn P before H → InTurn Q before H
+in_turn-map : (P Q : History → Stamped → Type 0) → ((before : History) (e : Stamped) → P before e → Q before e) → (before H : History) → InTurn P before H
+    → InTurn Q before H
 in_turn-map P Q f before [] all = tt
 in_turn-map P Q f before (e ∷ H) all = (f before e all.0, in_turn-map P Q f (before ++ e ∷ []) H all.1)
 

@@ -37,7 +37,8 @@ pub until-before : {A : Type 0} (test : A → Bool) (xs ys : List A) → list_an
 until-before test [] ys h = absurd (false≢true h)
 until-before {A} test (x ∷ xs) ys h = by (test x) h (until-before test xs ys)
   where
-    by : (b : Bool) → (b || list_any test xs) ≡ true → (list_any test xs ≡ true → until test (xs ++ ys) ≡ until test xs) → cond b [] (x ∷ until test (xs ++ ys)) ≡ cond b [] (x ∷ until test xs)
+    by : (b : Bool) → (b || list_any test xs) ≡ true → (list_any test xs ≡ true → until test (xs ++ ys) ≡ until test xs)
+        → cond b [] (x ∷ until test (xs ++ ys)) ≡ cond b [] (x ∷ until test xs)
     by true h rest = refl
     by false h rest = ap (λ zs. x ∷ zs) (rest h)
 
@@ -45,7 +46,8 @@ pub since-before : {A : Type 0} (test : A → Bool) (xs ys : List A) → list_an
 since-before test [] ys h = absurd (false≢true h)
 since-before {A} test (x ∷ xs) ys h = by (test x) h (since-before test xs ys)
   where
-    by : (b : Bool) → (b || list_any test xs) ≡ true → (list_any test xs ≡ true → since test (xs ++ ys) ≡ since test xs ++ ys) → cond b (xs ++ ys) (since test (xs ++ ys)) ≡ cond b xs (since test xs) ++ ys
+    by : (b : Bool) → (b || list_any test xs) ≡ true → (list_any test xs ≡ true → since test (xs ++ ys) ≡ since test xs ++ ys)
+        → cond b (xs ++ ys) (since test (xs ++ ys)) ≡ cond b xs (since test xs) ++ ys
     by true h rest = refl
     by false h rest = rest h
 

@@ -37,7 +37,8 @@ ordered-with_tie n paper user ts low high ordered = record {
 }
   where
     by : (q : Pair) (b : Bool) → same_pair q (pair_of paper user) ≡ b → (b || has_pair q ts) ≡ true → (1 ≤ q.user) × (q.user ≤ n)
-    by q true same h = let e : q.user ≡ user = ap (λ (x : Pair). x.user) (same_pair-is q (pair_of paper user) same) in (omega (arith, e, low), omega (arith, e, high))
+    by q true same h = let e : q.user
+        ≡ user = ap (λ (x : Pair). x.user) (same_pair-is q (pair_of paper user) same) in (omega (arith, e, low), omega (arith, e, high))
     by q false same h = ordered.within q h
 
 ordered-without_pair : (n : ℕ) (r : Pair) (ts : BareTies) → IsOrdered n ts → IsOrdered n (without_pair r ts)
@@ -65,7 +66,8 @@ order-stays accounts ties e order =
       declared = ordered-more (length accounts) (length (accounts_after accounts e)) ties.declared grown order.declared;
     }
 
-order-entry : (accounts : List Account) (ties : TiesState) (maker : ℕ) (e : Entry) → AccountsFit accounts e → HasOrder accounts ties → HasOrder (accounts_after accounts e) (ties_after ties maker e)
+order-entry : (accounts : List Account) (ties : TiesState) (maker : ℕ) (e : Entry) → AccountsFit accounts e → HasOrder accounts ties
+    → HasOrder (accounts_after accounts e) (ties_after ties maker e)
 order-entry accounts ties maker (Conflict paper user on) fits order = record {
   conflicts = ordered-switched (length accounts) on paper user ties.conflicts fits.0 fits.1 order.conflicts;
   declared = by (is_author_in ties (Some maker) paper);
@@ -97,7 +99,8 @@ users-lines_from n [] = refl
 users-lines_from n (a ∷ accounts) = ap (λ ns. n ∷ ns) (users-lines_from (n + 1) accounts)
 
 -- of the users with accounts, those who are tied to the paper are its users, in the same order
-pub users-tied_to : (test : ℕ → Bool) (p : ℕ) (accounts : List Account) (ts : BareTies) → IsOrdered (length accounts) ts → ((v : ℕ) → test v ≡ has_pair (pair_of p v) ts) → filter test (map (λ (a : AccountLine). a.user) (lines_of accounts)) ≡ users_tied_to p ts
+pub users-tied_to : (test : ℕ → Bool) (p : ℕ) (accounts : List Account) (ts : BareTies) → IsOrdered (length accounts) ts
+    → ((v : ℕ) → test v ≡ has_pair (pair_of p v) ts) → filter test (map (λ (a : AccountLine). a.user) (lines_of accounts)) ≡ users_tied_to p ts
 users-tied_to test p accounts ts ordered same =
     ap (filter test) (users-lines_from 1 accounts)
     ∙ numbers-others_of test ByPaper p accounts ts (rising-others_of ByPaper ByPaper p ts ordered.ascending) (λ v there. ordered.within (pair_of p v) there) same

@@ -24,7 +24,8 @@ use Rattle.cr_history.proofs.Folds.{told-always, told-fitting}
 
 -- ---- the numbers of the papers
 
-numbers-entry : (state : PapersState) (maker : ℕ) (e : Entry) → PapersFit state maker e → (rest : List ℕ) → paper_numbers state ++ (paper_told e ++ rest) ≡ paper_numbers (papers_after state maker e) ++ rest
+numbers-entry : (state : PapersState) (maker : ℕ) (e : Entry) → PapersFit state maker e → (rest : List ℕ) → paper_numbers state ++ (paper_told e ++ rest)
+    ≡ paper_numbers (papers_after state maker e) ++ rest
 numbers-entry state maker (Submitted paper title abstract) fits rest =
     let is : paper ≡ 1 + length state.papers = let n = fits.0 in omega (arith, n) in
     sym (ap (λ ns. ns ++ rest) (numbers_from-push 1 paper state.papers (new_paper title abstract) is) ∙ append_assoc (paper_numbers state) (paper ∷ []) rest)
@@ -97,7 +98,8 @@ module _ (size : List ℕ → ℕ) (nil : size [] ≡ 0) (append : (xs ys : List
       → (H : History) → size (all_told_by told H) ≡ sum_at (sums (tables_of H).papers) u
   sum-tables one H =
       none u (size (all_told_by told H)) ∙ ap (λ (ns : List ℕ). sum_at ns u + size (all_told_by told H)) (sym first)
-      ∙ told-always (λ n xs. n + size xs) (λ n. ap (λ m. n + m) nil ∙ plus_nothing n) (λ (t : Tables). sum_at (sums t.papers) u) (λ (s : Stamped). told s.maker s.entry)
+      ∙ told-always (λ n xs. n + size xs) (λ n. ap (λ m. n + m) nil
+      ∙ plus_nothing n) (λ (t : Tables). sum_at (sums t.papers) u) (λ (s : Stamped). told s.maker s.entry)
       (λ t s rest. ap (λ n. sum_at (sums t.papers) u + n) (append (told s.maker s.entry) rest) ∙ one t.papers s.maker s.entry (size rest)) no_tables H
     where
       none : (u : Option ℕ) (n : ℕ) → n ≡ sum_at [] u + n
@@ -169,9 +171,11 @@ abstract-text p (Revised paper title abstract) = refl
 abstract-text p e = refl
 
 -- a part of a paper that a revision gives anew and a withdrawal leaves
-module _ (part : Paper → List ℕ) (anew : (title abstract : List ℕ) (y : Paper) → part (with_texts title abstract y) ≡ part (new_paper title abstract)) (left : (y : Paper) → part (as_withdrawn y) ≡ part y) (p : ℕ) where
+module _ (part : Paper → List ℕ) (anew : (title abstract : List ℕ) (y : Paper) → part (with_texts title abstract y)
+    ≡ part (new_paper title abstract)) (left : (y : Paper) → part (as_withdrawn y) ≡ part y) (p : ℕ) where
   -- the table after an entry has the text that it tells, or else the one from before
-  text-entry : (state : PapersState) (maker : ℕ) (e : Entry) → PapersFit state maker e → (rest : List (List ℕ)) → last_from (text_at part state p) (text_told part p e ++ rest) ≡ last_from (text_at part (papers_after state maker e) p) rest
+  text-entry : (state : PapersState) (maker : ℕ) (e : Entry) → PapersFit state maker e → (rest : List (List ℕ))
+      → last_from (text_at part state p) (text_told part p e ++ rest) ≡ last_from (text_at part (papers_after state maker e) p) rest
   text-entry state maker (Submitted paper title abstract) fits rest =
       let x = new_paper title abstract in
       last_from-given (eqb paper p) (part x) (text_at part state p) rest
@@ -192,7 +196,8 @@ module _ (part : Paper → List ℕ) (anew : (title abstract : List ℕ) (y : Pa
   text-entry state maker e fits rest = refl
 
   -- the last text that is told of the paper is the one that the table has
-  text-tables : (told : Entry → List (List ℕ)) → ((e : Entry) → told e ≡ text_told part p e) → (H : History) → FitInTurn no_tables H → last (all_told told H) ≡ text_at part (tables_of H).papers p
+  text-tables : (told : Entry → List (List ℕ)) → ((e : Entry) → told e ≡ text_told part p e) → (H : History) → FitInTurn no_tables H
+      → last (all_told told H) ≡ text_at part (tables_of H).papers p
   text-tables told same H fits =
       ap (λ (told : Entry → List (List ℕ)). last (all_told told H)) (λ i e. same e i)
       ∙ ap (λ (o : Option Paper). last_from (option_map part o) (all_told (text_told part p) H)) (sym (numbered-nil p))
@@ -210,15 +215,19 @@ abbrev is_withdrawn_in : Option Paper → Bool
 is_withdrawn_in o = option_map_or (λ (paper : Paper). paper.withdrawn) o false
 
 -- a new paper isn't, and none was there
-withdrawn-push : (o : Option Paper) (b : Bool) (title abstract : List ℕ) → (b ≡ true → o ≡ None) → is_withdrawn_in (cond b (Some (new_paper title abstract)) o) ≡ is_withdrawn_in o
+withdrawn-push : (o : Option Paper) (b : Bool) (title abstract : List ℕ) → (b ≡ true → o ≡ None)
+    → is_withdrawn_in (cond b (Some (new_paper title abstract)) o) ≡ is_withdrawn_in o
 withdrawn-push o true title abstract none = sym (ap is_withdrawn_in (none refl))
 withdrawn-push o false title abstract none = refl
 
-withdrawn-entry : (p : ℕ) (state : PapersState) (maker : ℕ) (e : Entry) → PapersFit state maker e → (rest : List Bool) → last_or (is_withdrawn_at state p) (withdrawal_told p e ++ rest) ≡ last_or (is_withdrawn_at (papers_after state maker e) p) rest
+withdrawn-entry : (p : ℕ) (state : PapersState) (maker : ℕ) (e : Entry) → PapersFit state maker e → (rest : List Bool)
+    → last_or (is_withdrawn_at state p) (withdrawal_told p e ++ rest) ≡ last_or (is_withdrawn_at (papers_after state maker e) p) rest
 withdrawn-entry p state maker (Submitted paper title abstract) fits rest =
     let last : ℕ = length state.papers + 1 in
-    let none : eqb p last ≡ true → numbered state.papers p ≡ None = λ same. let e : p ≡ last = eqb-true p last same in numbered-none state.papers p (omega (arith, e)) in
-    ap (λ b. last_or b rest) (sym (ap is_withdrawn_in (numbered-push state.papers (new_paper title abstract) p) ∙ withdrawn-push (numbered state.papers p) (eqb p last) title abstract none))
+    let none : eqb p last ≡ true → numbered state.papers p ≡ None = λ same. let e : p
+        ≡ last = eqb-true p last same in numbered-none state.papers p (omega (arith, e)) in
+    ap (λ b. last_or b rest) (sym (ap is_withdrawn_in (numbered-push state.papers (new_paper title abstract) p)
+        ∙ withdrawn-push (numbered state.papers p) (eqb p last) title abstract none))
 withdrawn-entry p state maker (Revised paper title abstract) fits rest =
     ap (λ b. last_or b rest) (sym (read-kept is_withdrawn_in (with_texts title abstract) state.papers paper p fits.0 (λ y. refl)))
 withdrawn-entry p state maker (Withdrawn paper) fits rest =
@@ -238,27 +247,32 @@ uploads-entry : (p : ℕ) (state : PapersState) (maker : ℕ) (e : Entry) → up
 uploads-entry p state maker (Uploaded paper version content) =
     let told : List Upload = upload_told p (Uploaded paper version content) in
     let made : PaperUpload = record { paper = paper; upload = record { version = version; content = content } } in
-    ap (λ us. uploads_at state p ++ us) (sym (append-nil told)) ∙ sym (flat_map-append (λ (u : PaperUpload). given (eqb u.paper p) u.upload) state.uploads (made ∷ []))
+    ap (λ us. uploads_at state p ++ us) (sym (append-nil told))
+        ∙ sym (flat_map-append (λ (u : PaperUpload). given (eqb u.paper p) u.upload) state.uploads (made ∷ []))
 uploads-entry p state maker e = append-nil (uploads_at state p)
 
 -- the uploads to a paper are those that the table has, in the same order
 pub uploads_of-tables : (p : ℕ) (H : History) → uploads_of p H ≡ uploads_at (tables_of H).papers p
 uploads_of-tables p H =
     told-always ◌++◌ append-nil (λ (t : Tables). uploads_at t.papers p) (λ (s : Stamped). upload_told p s.entry)
-    (λ t s rest. sym (append_assoc (uploads_at t.papers p) (upload_told p s.entry) rest) ∙ ap (λ us. us ++ rest) (uploads-entry p t.papers s.maker s.entry)) no_tables H
+    (λ t s rest. sym (append_assoc (uploads_at t.papers p) (upload_told p s.entry) rest)
+        ∙ ap (λ us. us ++ rest) (uploads-entry p t.papers s.maker s.entry)) no_tables H
 
 -- ---- the authors of a paper
 
 authors-entry : (p : ℕ) (ties : TiesState) (maker : ℕ) (e : Entry) → authors_in ties p ++ author_told p maker e ≡ authors_in (ties_after ties maker e) p
-authors-entry p ties maker (Submitted paper title abstract) = ap (λ b. authors_in ties p ++ given b maker) (turned paper p) ∙ sym (users_tied_to-push p ties.authors paper maker)
-authors-entry p ties maker (Coauthor paper user) = ap (λ b. authors_in ties p ++ given b user) (turned paper p) ∙ sym (users_tied_to-push p ties.authors paper user)
+authors-entry p ties maker (Submitted paper title abstract) = ap (λ b. authors_in ties p ++ given b maker) (turned paper p)
+    ∙ sym (users_tied_to-push p ties.authors paper maker)
+authors-entry p ties maker (Coauthor paper user) = ap (λ b. authors_in ties p ++ given b user) (turned paper p)
+    ∙ sym (users_tied_to-push p ties.authors paper user)
 authors-entry p ties maker (Conflict paper user on) = append-nil (authors_in ties p)
 authors-entry p ties maker e = append-nil (authors_in ties p)
 
 pub authors_of-tables : (p : ℕ) (H : History) → authors_of p H ≡ authors_in (tables_of H).ties p
 authors_of-tables p H =
     told-always ◌++◌ append-nil (λ (t : Tables). authors_in t.ties p) (λ (s : Stamped). author_told p s.maker s.entry)
-    (λ t s rest. sym (append_assoc (authors_in t.ties p) (author_told p s.maker s.entry) rest) ∙ ap (λ xs. xs ++ rest) (authors-entry p t.ties s.maker s.entry)) no_tables H
+    (λ t s rest. sym (append_assoc (authors_in t.ties p) (author_told p s.maker s.entry) rest)
+        ∙ ap (λ xs. xs ++ rest) (authors-entry p t.ties s.maker s.entry)) no_tables H
 
 pub is_author-tables : (u : Option ℕ) (p : ℕ) (H : History) → is_author u p H ≡ is_author_in (tables_of H).ties u p
 is_author-tables u p H = ap (list_any (is_number u)) (authors_of-tables p H)

@@ -86,7 +86,8 @@ module _ (H : History) where
 
 -- ---- users of names
 
-number-found : (H : History) (name : List ℕ) (v : ℕ) (rs : List Registration) → option_map (λ (a : AccountLine). a.user) (find (λ (a : AccountLine). bytes_eq a.name name) (map (line H) rs)) ≡ Some v
+number-found : (H : History) (name : List ℕ) (v : ℕ) (rs : List Registration)
+    → option_map (λ (a : AccountLine). a.user) (find (λ (a : AccountLine). bytes_eq a.name name) (map (line H) rs)) ≡ Some v
     → list_any (λ (r : Registration). eqb r.user v) rs ≡ true
 number-found H name v [] found = cc
 number-found H name v (r ∷ rs) found = by (bytes_eq r.name name) found (number-found H name v rs)
@@ -95,7 +96,8 @@ number-found H name v (r ∷ rs) found = by (bytes_eq r.name name) found (number
     rest = find (λ (a : AccountLine). bytes_eq a.name name) (map (line H) rs)
 
     by : (b : Bool) → option_map (λ (a : AccountLine). a.user) (cond b (Some (line H r)) rest) ≡ Some v
-        → (option_map (λ (a : AccountLine). a.user) rest ≡ Some v → list_any (λ (r : Registration). eqb r.user v) rs ≡ true) → (eqb r.user v || list_any (λ (r : Registration). eqb r.user v) rs) ≡ true
+        → (option_map (λ (a : AccountLine). a.user) rest ≡ Some v → list_any (λ (r : Registration). eqb r.user v) rs ≡ true)
+        → (eqb r.user v || list_any (λ (r : Registration). eqb r.user v) rs) ≡ true
     by true is later = let e : r.user ≡ v = cc in or_left (eqb r.user v) (list_any (λ (r : Registration). eqb r.user v) rs) (eq-eqb r.user v e)
     by false is later = or_right (eqb r.user v) (list_any (λ (r : Registration). eqb r.user v) rs) (later is)
 
@@ -126,7 +128,8 @@ not_late Discussion h = absurd (true≢false h)
 not_late Notification h = absurd (true≢false h)
 not_late Closed h = absurd (true≢false h)
 
-clear-right : (begun own on chair conflicted author : Bool) → begun ≡ true → chair ≡ true → conflicted ≡ false → cond begun ((own && on) || (chair && not conflicted)) (author && on) ≡ true
+clear-right : (begun own on chair conflicted author : Bool) → begun ≡ true → chair ≡ true → conflicted ≡ false
+    → cond begun ((own && on) || (chair && not conflicted)) (author && on) ≡ true
 clear-right true own on true false author hb hc hf = by own on
   where
     by : (own on : Bool) → ((own && on) || true) ≡ true
@@ -137,12 +140,14 @@ clear-right true own on true true author hb hc hf = absurd (true≢false hf)
 clear-right true own on false conflicted author hb hc hf = absurd (true≢false (sym hc))
 clear-right false own on chair conflicted author hb hc hf = absurd (true≢false (sym hb))
 
-own-right : (begun own chair conflicted author : Bool) → begun ≡ true → own ≡ true → cond begun ((own && true) || (chair && not conflicted)) (author && true) ≡ true
+own-right : (begun own chair conflicted author : Bool) → begun ≡ true → own ≡ true
+    → cond begun ((own && true) || (chair && not conflicted)) (author && true) ≡ true
 own-right true true chair conflicted author hb ho = refl
 own-right true false chair conflicted author hb ho = absurd (true≢false (sym ho))
 own-right false own chair conflicted author hb ho = absurd (true≢false (sym hb))
 
-author-right : (begun own chair conflicted author : Bool) → begun ≡ false → author ≡ true → cond begun ((own && true) || (chair && not conflicted)) (author && true) ≡ true
+author-right : (begun own chair conflicted author : Bool) → begun ≡ false → author ≡ true
+    → cond begun ((own && true) || (chair && not conflicted)) (author && true) ≡ true
 author-right true own chair conflicted author hb ha = absurd (true≢false hb)
 author-right false own chair conflicted true hb ha = refl
 author-right false own chair conflicted false hb ha = absurd (true≢false (sym ha))
@@ -158,7 +163,8 @@ module _ (H : History) (maker paper user : ℕ) where
   abbrev by_maker : Standing
   by_maker = standing_of (Some maker) (Some paper) H
 
-  conflict-ruled : (on : Bool) → late ≡ false → is_member (role_of (Some user) H) ≡ true → IsByRight H maker (Conflict paper user on) → IsRuled H maker (Conflict paper user on)
+  conflict-ruled : (on : Bool) → late ≡ false → is_member (role_of (Some user) H) ≡ true → IsByRight H maker (Conflict paper user on)
+      → IsRuled H maker (Conflict paper user on)
   conflict-ruled on early member right = record { phase = early; chair = tt; role = tt; member = member; right = right; seat = tt; texts = tt }
 
   abbrev named : Role → Bool → Bool → Bool → Bool → Target
@@ -166,7 +172,8 @@ module _ (H : History) (maker paper user : ℕ) where
 
   case-ruled : (on bidding after withdrawn : Bool) (role : Role) (herself author conflicted reviewer : Bool) → begun ≡ bidding → late ≡ after
       → role ≡ role_of (Some user) H → eqb user maker ≡ herself
-      → NoneBroken (conflict_case on bidding after by_maker withdrawn (named role herself author conflicted reviewer)) → IsRuled H maker (Conflict paper user on)
+      → NoneBroken (conflict_case on bidding after by_maker withdrawn (named role herself author conflicted reviewer))
+      → IsRuled H maker (Conflict paper user on)
   case-ruled false bidding after withdrawn role herself author conflicted reviewer b l r h none =
       let now = and_parts begun (not late) (not-false (begun && not late) none.1.1.0) in
       conflict-ruled false (not-true late now.1) (ap is_member (sym r) ∙ not-false (is_member role) none.1.1.1.1.0)
@@ -197,13 +204,15 @@ pub record TellsSeats (H : History) (maker : ℕ) (shown : Shown) : Type 0 where
 
 -- ---- all commands
 
-pub registration-adds : (H : History) (caller : Option ℕ) (facts : Facts) (shown : Shown) (name digest : List ℕ) (drawn : Drawn) → IsName name × (length digest ≡ 32) → judge_by facts shown caller (Register name digest) ≡ Ok drawn → Adds H drawn.group
+pub registration-adds : (H : History) (caller : Option ℕ) (facts : Facts) (shown : Shown) (name digest : List ℕ) (drawn : Drawn)
+    → IsName name × (length digest ≡ 32) → judge_by facts shown caller (Register name digest) ≡ Ok drawn → Adds H drawn.group
 registration-adds H caller facts shown name digest drawn bounded accepted =
     let n : ℕ = length facts.accounts in
     let k = judged-Ok (register_checks (is_some (number_in facts.accounts name)) n) (registration_drawn (n + 1) name digest) drawn accepted in
     subst (λ (d : Drawn). Adds H d.group) k.1 (by (n + 1) (eqb (n + 1) 1) refl)
   where
-    by : (user : ℕ) (b : Bool) → eqb user 1 ≡ b → Adds H (grouped user (cond b (Registered user name digest ∷ Named user Chair ∷ []) (Registered user name digest ∷ [])))
+    by : (user : ℕ) (b : Bool) → eqb user 1 ≡ b
+        → Adds H (grouped user (cond b (Registered user name digest ∷ Named user Chair ∷ []) (Registered user name digest ∷ [])))
     by user true is = first_user user name digest (eqb-true user 1 is) bounded
     by user false is = single user (Registered user name digest) refl is (record { phase = tt; chair = tt; role = tt; member = tt; right = tt; seat = tt; texts = bounded })
 
@@ -247,7 +256,8 @@ module _ (H : History) (maker : ℕ) (shown : Shown) (registered : IsRegistered 
           let k = role-among H (Some v) (ap is_none is) in
           record { role = role; held = ap (λ (o : Option Role). unwrap_or o Account) (sym is) ∙ k.0; there = k.1; holds = holds }
 
-  conflict-ruled_for : (paper target : Option ℕ) (on : Bool) → NoneBroken (checks paper target on) → IsRuled H maker (Conflict (unwrap_or paper 0) (unwrap_or target 0) on)
+  conflict-ruled_for : (paper target : Option ℕ) (on : Bool) → NoneBroken (checks paper target on)
+      → IsRuled H maker (Conflict (unwrap_or paper 0) (unwrap_or target 0) on)
   conflict-ruled_for None target on none = absurd (true≢false none.0)
   conflict-ruled_for (Some p) None on none = absurd (true≢false none.1.0)
   conflict-ruled_for (Some p) (Some v) on none =

@@ -32,7 +32,8 @@ accounts-few accounts (Registered user name digest) fits h =
 accounts-few accounts (Named user role') fits h = let n = length-with_role accounts (user - 1) role' in omega (arith, n, h)
 accounts-few accounts e fits h = h
 
-papers-few : (state : PapersState) (maker : ℕ) (e : Entry) → PapersFit state maker e → paper_count state ≤ 9999 → paper_count (papers_after state maker e) ≤ 9999
+papers-few : (state : PapersState) (maker : ℕ) (e : Entry) → PapersFit state maker e → paper_count state ≤ 9999
+    → paper_count (papers_after state maker e) ≤ 9999
 papers-few state maker (Submitted paper title abstract) fits h =
     let n = length-append state.papers (new_paper title abstract ∷ []) in
     let next = fits.0 in

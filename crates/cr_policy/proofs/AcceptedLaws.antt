@@ -84,14 +84,16 @@ module _ (user : ℕ) (H : History) where
       shown author chair member h = grind arith
 
 -- a registered user's command
-user-adds : (H : History) (user : ℕ) (command : Command) (drawn : Drawn) → IsBoundedCommand command → IsRegistered H user → judge (Some user) (view (Some user) H) command ≡ Ok drawn → Adds H drawn.group
+user-adds : (H : History) (user : ℕ) (command : Command) (drawn : Drawn) → IsBoundedCommand command → IsRegistered H user
+    → judge (Some user) (view (Some user) H) command ≡ Ok drawn → Adds H drawn.group
 user-adds H user command drawn bounded registered accepted =
     let shown : Shown = shown_in_view (Some user) (view (Some user) H) in
     command-adds H user shown registered (seats-told user H) command drawn bounded
     (sym (ap (λ (facts : Facts). judge_by facts shown (Some user) command) (facts-seen (Some user) H)) ∙ accepted)
 
 -- the group of an accepted command is one that the rules allow
-pub accepted-adds : (H : History) (caller : Option ℕ) (command : Command) (drawn : Drawn) → IsBoundedCommand command → IsCaller H caller command → judge caller (view caller H) command ≡ Ok drawn → Adds H drawn.group
+pub accepted-adds : (H : History) (caller : Option ℕ) (command : Command) (drawn : Drawn) → IsBoundedCommand command → IsCaller H caller command
+    → judge caller (view caller H) command ≡ Ok drawn → Adds H drawn.group
 accepted-adds H caller (Register name digest) drawn bounded is accepted = registration-adds H caller (facts_in_view caller (view caller H)) (shown_in_view caller (view caller H)) name digest drawn bounded accepted
 accepted-adds H None command drawn bounded is accepted = absurd is
 accepted-adds H (Some user) command drawn bounded is accepted = user-adds H user command drawn bounded is accepted

@@ -134,7 +134,8 @@ module _ (u : Option ℕ) (p : ℕ) (H : History) (out : (is_author u p H || han
           by true h = absurd (false≢true (sym (wrote paper on_it) ∙ h refl))
           by false h = refl
 
-      titled : (served : Bool) → where_known (is_author u paper H || (not (is_replaced paper later) && served)) title ≡ cond served (where_known (is_author u paper H || (not (is_replaced paper later) && served)) title) None
+      titled : (served : Bool) → where_known (is_author u paper H || (not (is_replaced paper later) && served)) title
+          ≡ cond served (where_known (is_author u paper H || (not (is_replaced paper later) && served)) title) None
       titled true = refl
       titled false = known-not _ title (text-hidden (is_author u paper H) (not (is_replaced paper later)) false (wrote paper on_it) refl)
   left-one later maker more e writes told on_it = absurd (false≢true on_it)

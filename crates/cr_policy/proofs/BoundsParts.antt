@@ -78,13 +78,15 @@ mode-words Blind = record { authors = refl; reviewers = refl; named = refl; neve
 mode-words Anonymous = record { authors = refl; reviewers = refl; named = refl; never_both = refl }
 
 -- entries that tell nothing of a matter are those of which none gives a paper anything of it
-append-nothing : {A : Type 0} (xs ys : List A) (gives later : Bool) → is_nothing xs ≡ not gives → is_nothing ys ≡ not later → is_nothing (xs ++ ys) ≡ not (gives || later)
+append-nothing : {A : Type 0} (xs ys : List A) (gives later : Bool) → is_nothing xs ≡ not gives → is_nothing ys ≡ not later → is_nothing (xs ++ ys)
+    ≡ not (gives || later)
 append-nothing [] ys true later h rest = absurd (true≢false h)
 append-nothing [] ys false later h rest = rest
 append-nothing (x ∷ xs) ys true later h rest = refl
 append-nothing (x ∷ xs) ys false later h rest = absurd (false≢true h)
 
-none-told : {A : Type 0} (told : Entry → List A) (gives : Entry → Bool) → ((e : Entry) → is_nothing (told e) ≡ not (gives e)) → (H : History) → none_in told H ≡ not (list_any (λ (e : Stamped). gives e.entry) H)
+none-told : {A : Type 0} (told : Entry → List A) (gives : Entry → Bool) → ((e : Entry) → is_nothing (told e) ≡ not (gives e)) → (H : History)
+    → none_in told H ≡ not (list_any (λ (e : Stamped). gives e.entry) H)
 none-told told gives one [] = refl
 none-told told gives one (e ∷ H) =
     append-nothing (told e.entry) (all_told told H) (gives e.entry) (list_any (λ (e : Stamped). gives e.entry) H) (one e.entry) (none-told told gives one H)
@@ -128,7 +130,8 @@ own-author a true rest wrote = ap (λ b. b || rest) (sym (wrote refl))
 own-author a false rest wrote = refl
 
 -- who is told of a revision: its title's readers, since who may read the abstract may read the title
-revision-seen : (a n m f c own n' s : Bool) → n ≡ n' → (m && f) ≡ s → (a || ((n && m && f) || ((n && (m && not c) && f) || (own || false)))) ≡ ((own || a) || (n' && s))
+revision-seen : (a n m f c own n' s : Bool) → n ≡ n' → (m && f) ≡ s → (a || ((n && m && f) || ((n && (m && not c) && f) || (own || false))))
+    ≡ ((own || a) || (n' && s))
 revision-seen a n m f c own n' s hn hs = grind (arith, hn, hs)
 
 -- an assignment: who is told of it, who is told the reviewer, what she is to the paper, and her label. `n` is that it names the
@@ -304,10 +307,12 @@ module _ (u : Option ℕ) (H : History) (at : Around) (maker : ℕ) (more : Bool
 
   -- a title or an abstract: who owns the entry, and the last one who may read it from the bidding on; of a submission the
   -- bounds name its authors alone, since its maker is one
-  text-one : (paper : ℕ) (m s known : Bool) (text : List ℕ) → (m && is_from Bidding (phase_of H)) ≡ s → (owns u H maker paper || (not (is_replaced paper at.after) && s)) ≡ known
+  text-one : (paper : ℕ) (m s known : Bool) (text : List ℕ) → (m && is_from Bidding (phase_of H)) ≡ s
+      → (owns u H maker paper || (not (is_replaced paper at.after) && s)) ≡ known
       → where_shown (is_author u paper H || ((none_in (title_told paper) at.after && m && is_from Bidding (phase_of H)) || (is_number u maker || false))) (Some text) ≡ where_known known text
   text-one paper m s known text may same =
-      known-same _ _ text (text-known (is_author u paper H) _ m (is_from Bidding (phase_of H)) (is_number u maker) _ s (none_in-replaced paper at.after) may ∙ same)
+      known-same _ _ text (text-known (is_author u paper H) _ m (is_from Bidding (phase_of H)) (is_number u maker) _ s (none_in-replaced paper at.after) may
+          ∙ same)
 
   pub title-one : (e : Entry) → IsWriters u H maker e → (seen e).title ≡ title_for u H at.after maker e
   title-one (Submitted paper title abstract) writes =

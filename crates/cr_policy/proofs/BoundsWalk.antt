@@ -58,7 +58,8 @@ module _ (u : Option ℕ) (H : History) where
       by true h = ap (λ (x : A). x ∷ []) (h refl)
       by false h = refl
 
-  joined-one : (at : Around) (maker : ℕ) (more : Bool) (e : Entry) → IsWriters u H maker e → is_told u H at.after maker e ≡ true → joined (reader u H) at (stamp maker more e) ≡ shown_to u H at.after maker e
+  joined-one : (at : Around) (maker : ℕ) (more : Bool) (e : Entry) → IsWriters u H maker e → is_told u H at.after maker e ≡ true
+      → joined (reader u H) at (stamp maker more e) ≡ shown_to u H at.after maker e
   joined-one at maker more e writes told = λ i. record {
     kind = (shown-one u H at maker more e).kind i;
     mine = mark-one u H at maker more e i;
@@ -80,7 +81,8 @@ module _ (u : Option ℕ) (H : History) where
     ordinal = ordinal-one u H at maker more e told i;
   }
 
-  sight-one : (at : Around) (maker : ℕ) (more : Bool) (e : Entry) → IsWriters u H maker e → sight (reader u H) at (stamp maker more e) ≡ given (is_told u H at.after maker e) (shown_to u H at.after maker e)
+  sight-one : (at : Around) (maker : ℕ) (more : Bool) (e : Entry) → IsWriters u H maker e → sight (reader u H) at (stamp maker more e)
+      ≡ given (is_told u H at.after maker e) (shown_to u H at.after maker e)
   sight-one at maker more e writes =
       given-same (is_seen (reader u H) at (stamp maker more e)) (is_told u H at.after maker e) (joined (reader u H) at (stamp maker more e)) (shown_to u H at.after maker e)
       (seen-told u H at maker more e) (joined-one at maker more e writes)
@@ -127,7 +129,8 @@ module _ (u : Option ℕ) (H : History) where
   map-given f true x = refl
   map-given f false x = refl
 
-  map-told : {A : Type 0} (f : Sighting → A) (G : History) → map f (each_told u H (shown_to u H) G) ≡ each_told u H (λ later maker e. f (shown_to u H later maker e)) G
+  map-told : {A : Type 0} (f : Sighting → A) (G : History) → map f (each_told u H (shown_to u H) G)
+      ≡ each_told u H (λ later maker e. f (shown_to u H later maker e)) G
   map-told f [] = refl
   map-told f (e ∷ G) =
       let s : Sighting = shown_to u H G e.maker e.entry in

@@ -82,7 +82,8 @@ opened-legal d mode legal =
     legal (may refl refl then may refl refl then may refl refl then may refl refl then may refl tt then may refl tt then refl)
 
 -- texts are within their bounds by computing, where their bytes are below 128
-ascii-title : (text : List ℕ) → (nat_le 1 (length text) && nat_le (length text) 200 && list_all is_title_byte text && list_all (λ b. nat_le b 127) text) ≡ true → IsTitle text
+ascii-title : (text : List ℕ) → (nat_le 1 (length text) && nat_le (length text) 200 && list_all is_title_byte text && list_all (λ b. nat_le b 127) text)
+    ≡ true → IsTitle text
 ascii-title text h =
     let p = and_parts (nat_le 1 (length text) && nat_le (length text) 200 && list_all is_title_byte text) (list_all (λ b. nat_le b 127) text) h in
     let q = and_parts (nat_le 1 (length text) && nat_le (length text) 200) (list_all is_title_byte text) p.0 in

@@ -54,7 +54,8 @@ module _ (u : Option ℕ) (H : History) (told : AreTold H) (p : ℕ) where
   own_uploads-tables author = uploads-seen_by_author u p H (ap (λ (s : Standing). s.author) (told.standing u (Some p)) ∙ author) ∙ told.uploads p
 
   -- and as far as any reader is told of it
-  pub uploads-tables : gets_versions by ≡ true → uploads_told by.author (uploads_in_view p (view u H)) ≡ uploads_told by.author (uploads_at (tables_of H).papers p)
+  pub uploads-tables : gets_versions by ≡ true → uploads_told by.author (uploads_in_view p (view u H))
+      ≡ uploads_told by.author (uploads_at (tables_of H).papers p)
   uploads-tables may =
       let author : is_author u p H ≡ by.author = ap (λ (s : Standing). s.author) (told.standing u (Some p)) in
       ap (λ (b : Bool). uploads_told b (uploads_in_view p (view u H))) (sym author)

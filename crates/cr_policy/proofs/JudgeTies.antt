@@ -174,7 +174,8 @@ module _ (facts : Facts) (shown tabled : Shown) (same : Agree facts shown tabled
   behind withdrawn more = not (is_phase by_author.phase Submission) breaks rules.WrongPhase ∷ withdrawn breaks rules.Withdrawn ∷ more
 
   author-same : (more : List Check) (drawn : List Upload → Drawn)
-      → judged (before ++ behind (shown.withdrawn p) more) (drawn (shown.uploads p)) ≡ judged (before ++ behind (tabled.withdrawn p) more) (drawn (tabled.uploads p))
+      → judged (before ++ behind (shown.withdrawn p) more) (drawn (shown.uploads p))
+      ≡ judged (before ++ behind (tabled.withdrawn p) more) (drawn (tabled.uploads p))
   author-same more drawn =
       judged-behind before (behind (shown.withdrawn p) more) (behind (tabled.withdrawn p) more) (drawn (shown.uploads p)) (drawn (tabled.uploads p))
       (λ none.
@@ -341,7 +342,8 @@ module _ (facts : Facts) (shown tabled : Shown) (same : Agree facts shown tabled
           (λ asked. unassignment_drawn (maker_of u) p (unwrap_or target 0) (unwrap_or asked.seat 0))
 
 -- so what is shown makes no other judgement than what the tables hold
-command-same : (facts : Facts) (shown tabled : Shown) (u : Option ℕ) (command : Command) → Agree facts shown tabled → judge_by facts shown u command ≡ judge_by facts tabled u command
+command-same : (facts : Facts) (shown tabled : Shown) (u : Option ℕ) (command : Command) → Agree facts shown tabled → judge_by facts shown u command
+    ≡ judge_by facts tabled u command
 command-same facts shown tabled u (commands.Revise (Some p) title abstract) same = author-same facts shown tabled same p [] (λ _. revision_drawn (maker_of u) p title abstract)
 command-same facts shown tabled u (commands.Upload (Some p) content) same =
     author-same facts shown tabled same p (nat_lt 67108864 (facts.own_bytes + length content) breaks rules.QuotaBytes ∷ [])

@@ -42,7 +42,8 @@ pub step-Ok : (H : History) (call : Call) (drawn : Drawn) → judge call.caller 
 step-Ok H call drawn accepted = ap (followed_by H) accepted
 
 -- the group of an accepted command goes on a legal history
-pub Legal-accepted : (H : History) (caller : Option ℕ) (command : Command) (drawn : Drawn) → Legal H → IsAllowed H (record { caller = caller; command = command }) → judge caller (view caller H) command ≡ Ok drawn → Legal (H ++ drawn.group)
+pub Legal-accepted : (H : History) (caller : Option ℕ) (command : Command) (drawn : Drawn) → Legal H
+    → IsAllowed H (record { caller = caller; command = command }) → judge caller (view caller H) command ≡ Ok drawn → Legal (H ++ drawn.group)
 Legal-accepted H caller command drawn legal allowed accepted =
     let call : Call = record { caller = caller; command = command } in
     subst (λ (G : History). Legal G) (step-Ok H call drawn accepted) (Legal-step H call legal allowed)
@@ -59,7 +60,8 @@ pub Kept-told : (H : History) → Invariants H → AreTold H
 Kept-told H kept = tables_tell H kept.fits (comes-first [] H kept.in_order)
 
 -- what the invariants say of a history stays so as it is followed by what a command adds
-followed-keeps : (H : History) (call : Call) → Invariants H → IsAllowed H call → (r : Result Drawn Rule) → judge call.caller (view call.caller H) call.command ≡ r → Invariants (followed_by H r)
+followed-keeps : (H : History) (call : Call) → Invariants H → IsAllowed H call → (r : Result Drawn Rule)
+    → judge call.caller (view call.caller H) call.command ≡ r → Invariants (followed_by H r)
 followed-keeps H call kept allowed (Err rule) is = kept
 followed-keeps H call kept allowed (Ok drawn) is =
     let fits = accepted-fits H call.caller call.command drawn kept.fits (Kept-told H kept) allowed.caller is in

@@ -65,7 +65,8 @@ declared-tables u H p fits told in_time may =
     let among : ℕ → List ℕ → Bool = λ v users. list_any (λ w. w == v) users in
     let test : ℕ → Bool = λ v. among v (declared_in_view u p (view u H)) in
     users-tables u H test told
-    ∙ users-tied_to test p t.accounts t.ties.declared (has_order-tables H fits).declared (λ v. ap (among v) (declared-seen_by_author u p H in_time may) ∙ told.declared p v)
+    ∙ users-tied_to test p t.accounts t.ties.declared (has_order-tables H fits).declared (λ v. ap (among v) (declared-seen_by_author u p H in_time may)
+    ∙ told.declared p v)
 
 -- ---- pages
 
@@ -151,7 +152,8 @@ module _ (u : Option ℕ) (H : History) (fits : FitInTurn no_tables H) (told : A
 
   -- a paper's content by any user's view is the one by the tables: whether there is any is asked only behind the rules
   -- that have let through one who is told of it
-  content-tables : (paper version : Option ℕ) → judged (content_asked facts shown paper version) (replies.Content (unwrap_or (content_by facts shown paper version) []))
+  content-tables : (paper version : Option ℕ)
+      → judged (content_asked facts shown paper version) (replies.Content (unwrap_or (content_by facts shown paper version) []))
       ≡ judged (content_asked facts tabled paper version) (replies.Content (unwrap_or (content_by facts tabled paper version) []))
   content-tables None version = refl
   content-tables (Some p) version =

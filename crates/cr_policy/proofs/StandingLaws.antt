@@ -88,7 +88,9 @@ author-seen u p H = by (is_author u p H) refl
         ∙ list_any-kept (is_number u) (names_author (reader u H)) (λ (e : Stamped). author_told p e.maker e.entry) [] H h
 
 -- a user's conflicts are told the reader, where she is shown each entry on them
-pub declared-seen_where : (u v : Option ℕ) (p : ℕ) (H : History) → ((at : Around) (maker : ℕ) (more : Bool) (user : ℕ) (on : Bool) → is_number v user ≡ true → passes part.on (reader u H) at (stamp maker more (Conflict p user on)) ≡ true) → is_conflict_on_in_view v p (view u H) ≡ is_conflict_on v p H
+pub declared-seen_where : (u v : Option ℕ) (p : ℕ) (H : History)
+    → ((at : Around) (maker : ℕ) (more : Bool) (user : ℕ) (on : Bool) → is_number v user ≡ true
+    → passes part.on (reader u H) at (stamp maker more (Conflict p user on)) ≡ true) → is_conflict_on_in_view v p (view u H) ≡ is_conflict_on v p H
 declared-seen_where u v p H shown =
     ap (last_or false) (fold_all (reader u H) (conflict_seen v p) (λ (e : Stamped). conflict_told v p e.entry) (passes part.on (reader u H)) (conflict_tells (reader u H) v p) (λ at e. conflict_value (reader u H) at v p e (shown at)) [] H)
 

@@ -45,7 +45,8 @@ paper_value false true x = refl
 paper_value false false x = refl
 
 -- what is uploaded to a paper, where it is shown: its number and its content are shown together
-upload_pair : (a c : Bool) (version : ℕ) (content : List ℕ) → only a (upload_shown (where_shown c (Some version)) (where_shown c (Some content))) ≡ only c (given a (record { version = version; content = content }))
+upload_pair : (a c : Bool) (version : ℕ) (content : List ℕ) → only a (upload_shown (where_shown c (Some version)) (where_shown c (Some content)))
+    ≡ only c (given a (record { version = version; content = content }))
 upload_pair true true version content = refl
 upload_pair true false version content = refl
 upload_pair false true version content = refl
@@ -170,29 +171,34 @@ module _ (r : Reader) (at : Around) (maker : ℕ) (more : Bool) where
 
   -- ---- what is shown to some
 
-  author_at : (p : ℕ) (e : Entry) → flat_map (author_seen p) (sight r at (stamp maker more e)) ≡ only (names_author r at (stamp maker more e)) (author_told p maker e)
+  author_at : (p : ℕ) (e : Entry) → flat_map (author_seen p) (sight r at (stamp maker more e))
+      ≡ only (names_author r at (stamp maker more e)) (author_told p maker e)
   author_at p (Submitted paper title abstract) = append-nil _ ∙ paper_value (eqb paper p) _ maker
   author_at p (Coauthor paper user) = told_where (author_seen p) part.user (Coauthor paper user) (author_told p maker (Coauthor paper user)) (paper_value (eqb paper p) _ user)
   author_at p e = silent (author_seen p) e refl
 
-  title_at : (p : ℕ) (e : Entry) → flat_map (title_seen p) (sight r at (stamp maker more e)) ≡ only (passes part.title r at (stamp maker more e)) (title_told p e)
+  title_at : (p : ℕ) (e : Entry) → flat_map (title_seen p) (sight r at (stamp maker more e))
+      ≡ only (passes part.title r at (stamp maker more e)) (title_told p e)
   title_at p (Submitted paper title abstract) = append-nil _ ∙ paper_value (eqb paper p) _ title
   title_at p (Revised paper title abstract) = told_where (title_seen p) part.title (Revised paper title abstract) (title_told p (Revised paper title abstract)) (paper_value (eqb paper p) _ title)
   title_at p e = silent (title_seen p) e refl
 
-  abstract_at : (p : ℕ) (e : Entry) → flat_map (abstract_seen p) (sight r at (stamp maker more e)) ≡ only (passes part.abstract r at (stamp maker more e)) (abstract_told p e)
+  abstract_at : (p : ℕ) (e : Entry) → flat_map (abstract_seen p) (sight r at (stamp maker more e))
+      ≡ only (passes part.abstract r at (stamp maker more e)) (abstract_told p e)
   abstract_at p (Submitted paper title abstract) = append-nil _ ∙ paper_value (eqb paper p) _ abstract
   abstract_at p (Revised paper title abstract) =
       told_where (abstract_seen p) part.abstract (Revised paper title abstract) (abstract_told p (Revised paper title abstract)) (paper_value (eqb paper p) _ abstract)
   abstract_at p e = silent (abstract_seen p) e refl
 
-  upload_at : (p : ℕ) (e : Entry) → flat_map (upload_seen p) (sight r at (stamp maker more e)) ≡ only (passes part.content r at (stamp maker more e)) (upload_told p e)
+  upload_at : (p : ℕ) (e : Entry) → flat_map (upload_seen p) (sight r at (stamp maker more e))
+      ≡ only (passes part.content r at (stamp maker more e)) (upload_told p e)
   upload_at p (Uploaded paper version content) =
       told_where (upload_seen p) part.content (Uploaded paper version content) (upload_told p (Uploaded paper version content)) (upload_pair (eqb paper p) _ version content)
   upload_at p e = silent (upload_seen p) e refl
 
   -- a withdrawal has no part beside its paper
-  withdrawal_at : (p : ℕ) (e : Entry) → flat_map (withdrawal_seen p) (sight r at (stamp maker more e)) ≡ only (is_seen r at (stamp maker more e)) (withdrawal_told p e)
+  withdrawal_at : (p : ℕ) (e : Entry) → flat_map (withdrawal_seen p) (sight r at (stamp maker more e))
+      ≡ only (is_seen r at (stamp maker more e)) (withdrawal_told p e)
   withdrawal_at p (Withdrawn paper) =
       flat_map-given (withdrawal_seen p) (is_seen r at (stamp maker more (Withdrawn paper))) (joined r at (stamp maker more (Withdrawn paper)))
       ∙ ap (only (is_seen r at (stamp maker more (Withdrawn paper)))) (by (eqb paper p))
@@ -202,7 +208,8 @@ module _ (r : Reader) (at : Around) (maker : ℕ) (more : Bool) where
       by false = refl
   withdrawal_at p e = silent (withdrawal_seen p) e refl
 
-  conflict_at : (u : Option ℕ) (p : ℕ) (e : Entry) → flat_map (conflict_seen u p) (sight r at (stamp maker more e)) ≡ only (passes part.on r at (stamp maker more e)) (conflict_told u p e)
+  conflict_at : (u : Option ℕ) (p : ℕ) (e : Entry) → flat_map (conflict_seen u p) (sight r at (stamp maker more e))
+      ≡ only (passes part.on r at (stamp maker more e)) (conflict_told u p e)
   conflict_at u p (Conflict paper user on) = told_where (conflict_seen u p) part.on (Conflict paper user on) (conflict_told u p (Conflict paper user on)) (user_value (eqb paper p) _ u user on)
   conflict_at u p e = silent (conflict_seen u p) e refl
 
@@ -271,34 +278,40 @@ pub record ShowsText (which : Part) (r : Reader) (at : Around) (p : ℕ) : Type 
 
 -- those that give it content show that
 abbrev pub ShowsUpload : Reader → Around → ℕ → Type 0
-ShowsUpload r at p = (maker : ℕ) (more : Bool) (version : ℕ) (content : List ℕ) → passes part.content r at (stamp maker more (Uploaded p version content)) ≡ true
+ShowsUpload r at p = (maker : ℕ) (more : Bool) (version : ℕ) (content : List ℕ) → passes part.content r at (stamp maker more (Uploaded p version content))
+    ≡ true
 
 -- those that withdraw it are seen
 abbrev pub ShowsWithdrawal : Reader → Around → ℕ → Type 0
 ShowsWithdrawal r at p = (maker : ℕ) (more : Bool) → is_seen r at (stamp maker more (Withdrawn p)) ≡ true
 
 module _ (r : Reader) (at : Around) (p : ℕ) where
-  author_kept : NamesAuthors r at p → (maker : ℕ) (more : Bool) (e : Entry) → only (names_author r at (stamp maker more e)) (author_told p maker e) ≡ author_told p maker e
+  author_kept : NamesAuthors r at p → (maker : ℕ) (more : Bool) (e : Entry) → only (names_author r at (stamp maker more e)) (author_told p maker e)
+      ≡ author_told p maker e
   author_kept shown maker more (Submitted paper title abstract) = of_paper (λ n. passes part.by r at (stamp maker more (Submitted n title abstract))) paper p maker (shown.submitted maker more title abstract)
   author_kept shown maker more (Coauthor paper user) = of_paper (λ n. passes part.user r at (stamp maker more (Coauthor n user))) paper p user (shown.coauthor maker more user)
   author_kept shown maker more e = refl
 
-  title_kept : ShowsText part.title r at p → (maker : ℕ) (more : Bool) (e : Entry) → only (passes part.title r at (stamp maker more e)) (title_told p e) ≡ title_told p e
+  title_kept : ShowsText part.title r at p → (maker : ℕ) (more : Bool) (e : Entry) → only (passes part.title r at (stamp maker more e)) (title_told p e)
+      ≡ title_told p e
   title_kept shown maker more (Submitted paper title abstract) = of_paper (λ n. passes part.title r at (stamp maker more (Submitted n title abstract))) paper p title (shown.submitted maker more title abstract)
   title_kept shown maker more (Revised paper title abstract) = of_paper (λ n. passes part.title r at (stamp maker more (Revised n title abstract))) paper p title (shown.revised maker more title abstract)
   title_kept shown maker more e = refl
 
-  abstract_kept : ShowsText part.abstract r at p → (maker : ℕ) (more : Bool) (e : Entry) → only (passes part.abstract r at (stamp maker more e)) (abstract_told p e) ≡ abstract_told p e
+  abstract_kept : ShowsText part.abstract r at p → (maker : ℕ) (more : Bool) (e : Entry)
+      → only (passes part.abstract r at (stamp maker more e)) (abstract_told p e) ≡ abstract_told p e
   abstract_kept shown maker more (Submitted paper title abstract) = of_paper (λ n. passes part.abstract r at (stamp maker more (Submitted n title abstract))) paper p abstract (shown.submitted maker more title abstract)
   abstract_kept shown maker more (Revised paper title abstract) = of_paper (λ n. passes part.abstract r at (stamp maker more (Revised n title abstract))) paper p abstract (shown.revised maker more title abstract)
   abstract_kept shown maker more e = refl
 
-  upload_kept : ShowsUpload r at p → (maker : ℕ) (more : Bool) (e : Entry) → only (passes part.content r at (stamp maker more e)) (upload_told p e) ≡ upload_told p e
+  upload_kept : ShowsUpload r at p → (maker : ℕ) (more : Bool) (e : Entry) → only (passes part.content r at (stamp maker more e)) (upload_told p e)
+      ≡ upload_told p e
   upload_kept shown maker more (Uploaded paper version content) =
       of_paper (λ n. passes part.content r at (stamp maker more (Uploaded n version content))) paper p (record { version = version; content = content }) (shown maker more version content)
   upload_kept shown maker more e = refl
 
-  withdrawal_kept : ShowsWithdrawal r at p → (maker : ℕ) (more : Bool) (e : Entry) → only (is_seen r at (stamp maker more e)) (withdrawal_told p e) ≡ withdrawal_told p e
+  withdrawal_kept : ShowsWithdrawal r at p → (maker : ℕ) (more : Bool) (e : Entry) → only (is_seen r at (stamp maker more e)) (withdrawal_told p e)
+      ≡ withdrawal_told p e
   withdrawal_kept shown maker more (Withdrawn paper) = of_paper (λ n. is_seen r at (stamp maker more (Withdrawn n))) paper p true (shown maker more)
   withdrawal_kept shown maker more e = refl
 
@@ -321,7 +334,9 @@ module _ (r : Reader) (at : Around) (p : ℕ) where
 -- ---- who is shown a conflict
 
 -- where each conflict of the user with the paper is shown, what is told of them is kept
-pub conflict_value : (r : Reader) (at : Around) (u : Option ℕ) (p : ℕ) (e : Stamped) → ((maker : ℕ) (more : Bool) (user : ℕ) (on : Bool) → is_number u user ≡ true → passes part.on r at (stamp maker more (Conflict p user on)) ≡ true) → only (passes part.on r at e) (conflict_told u p e.entry) ≡ conflict_told u p e.entry
+pub conflict_value : (r : Reader) (at : Around) (u : Option ℕ) (p : ℕ) (e : Stamped)
+    → ((maker : ℕ) (more : Bool) (user : ℕ) (on : Bool) → is_number u user ≡ true → passes part.on r at (stamp maker more (Conflict p user on)) ≡ true)
+    → only (passes part.on r at e) (conflict_told u p e.entry) ≡ conflict_told u p e.entry
 conflict_value r at u p e h = by e.maker e.more e.entry
   where
     by : (maker : ℕ) (more : Bool) (e : Entry) → only (passes part.on r at (stamp maker more e)) (conflict_told u p e) ≡ conflict_told u p e

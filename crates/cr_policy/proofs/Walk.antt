@@ -39,7 +39,8 @@ abbrev pub TellsAll : {A : Type 0} → Reader → (Sighting → List A) → (Sta
 TellsAll r seen told = (at : Around) (e : Stamped) → flat_map seen (sight r at e) ≡ told e
 
 -- where it is so of each entry, it is so of the histories
-pub sights-all : {A : Type 0} (r : Reader) (seen : Sighting → List A) (told : Stamped → List A) → TellsAll r seen told → (before H : History) → flat_map seen (sights r before H) ≡ flat_map told H
+pub sights-all : {A : Type 0} (r : Reader) (seen : Sighting → List A) (told : Stamped → List A) → TellsAll r seen told → (before H : History)
+    → flat_map seen (sights r before H) ≡ flat_map told H
 sights-all r seen told tells before [] = refl
 sights-all r seen told tells before (e ∷ after) =
     let at : Around = record { before = before; after = after } in
@@ -58,7 +59,8 @@ abbrev pub kept : {A : Type 0} → (Around → Stamped → Bool) → (Stamped �
 kept passes told before [] = []
 kept passes told before (e ∷ after) = only (passes (record { before = before; after = after }) e) (told e) ++ kept passes told (before ++ e ∷ []) after
 
-pub sights-kept : {A : Type 0} (r : Reader) (seen : Sighting → List A) (told : Stamped → List A) (passes : Around → Stamped → Bool) → Tells r seen told passes → (before H : History) → flat_map seen (sights r before H) ≡ kept passes told before H
+pub sights-kept : {A : Type 0} (r : Reader) (seen : Sighting → List A) (told : Stamped → List A) (passes : Around → Stamped → Bool)
+    → Tells r seen told passes → (before H : History) → flat_map seen (sights r before H) ≡ kept passes told before H
 sights-kept r seen told passes tells before [] = refl
 sights-kept r seen told passes tells before (e ∷ after) =
     let at : Around = record { before = before; after = after } in
@@ -76,7 +78,8 @@ list_any-only test true xs h = ap (list_any test) (only-true xs) ∙ h
 list_any-only test false xs h = ap (list_any test) (only-false xs)
 
 -- a test that no value told passes, none that is kept does
-pub list_any-kept : {A : Type 0} (test : A → Bool) (passes : Around → Stamped → Bool) (told : Stamped → List A) (before H : History) → list_any test (flat_map told H) ≡ false → list_any test (kept passes told before H) ≡ false
+pub list_any-kept : {A : Type 0} (test : A → Bool) (passes : Around → Stamped → Bool) (told : Stamped → List A) (before H : History)
+    → list_any test (flat_map told H) ≡ false → list_any test (kept passes told before H) ≡ false
 list_any-kept test passes told before [] h = refl
 list_any-kept test passes told before (e ∷ after) h =
     let at : Around = record { before = before; after = after } in
@@ -87,14 +90,16 @@ list_any-kept test passes told before (e ∷ after) h =
     ∙ list_any-kept test passes told (before ++ e ∷ []) after parts.1)
 
 -- where each value told passes, all are kept
-kept-all : {A : Type 0} (passes : Around → Stamped → Bool) (told : Stamped → List A) → ((at : Around) (e : Stamped) → only (passes at e) (told e) ≡ told e) → (before H : History) → kept passes told before H ≡ flat_map told H
+kept-all : {A : Type 0} (passes : Around → Stamped → Bool) (told : Stamped → List A) → ((at : Around) (e : Stamped) → only (passes at e) (told e) ≡ told e)
+    → (before H : History) → kept passes told before H ≡ flat_map told H
 kept-all passes told all before [] = refl
 kept-all passes told all before (e ∷ after) =
     ap (λ xs. xs ++ kept passes told (before ++ e ∷ []) after) (all (record { before = before; after = after }) e)
     ∙ ap (λ ys. told e ++ ys) (kept-all passes told all (before ++ e ∷ []) after)
 
 -- the values seen are those told, where each passes
-pub fold_all : {A : Type 0} (r : Reader) (seen : Sighting → List A) (told : Stamped → List A) (passes : Around → Stamped → Bool) → Tells r seen told passes → ((at : Around) (e : Stamped) → only (passes at e) (told e) ≡ told e) → (before H : History) → flat_map seen (sights r before H) ≡ flat_map told H
+pub fold_all : {A : Type 0} (r : Reader) (seen : Sighting → List A) (told : Stamped → List A) (passes : Around → Stamped → Bool) → Tells r seen told passes
+    → ((at : Around) (e : Stamped) → only (passes at e) (told e) ≡ told e) → (before H : History) → flat_map seen (sights r before H) ≡ flat_map told H
 fold_all r seen told passes tells all before H = sights-kept r seen told passes tells before H ∙ kept-all passes told all before H
 
 -- ---- the last value
@@ -109,7 +114,8 @@ last_from-any o other [] h = absurd (true≢false h)
 last_from-any o other (x ∷ xs) h = refl
 
 -- nor does what stands there where it is the same
-last_from-same : {A : Type 0} (o : Option A) (xs ys later : List A) → (is_nothing later ≡ true → xs ≡ ys) → last_from (last_from o xs) later ≡ last_from (last_from o ys) later
+last_from-same : {A : Type 0} (o : Option A) (xs ys later : List A) → (is_nothing later ≡ true → xs ≡ ys) → last_from (last_from o xs) later
+    ≡ last_from (last_from o ys) later
 last_from-same {A} o xs ys later h = by (is_nothing later) refl
   where
     by : (b : Bool) → is_nothing later ≡ b → last_from (last_from o xs) later ≡ last_from (last_from o ys) later
@@ -121,7 +127,8 @@ abbrev pub LastPasses : {A : Type 0} → (Around → Stamped → Bool) → (Stam
 LastPasses passes told = (at : Around) (e : Stamped) → is_nothing (flat_map told at.after) ≡ true → only (passes at e) (told e) ≡ told e
 
 -- it is the last one kept then
-last_from-kept : {A : Type 0} (passes : Around → Stamped → Bool) (told : Stamped → List A) → LastPasses passes told → (o : Option A) (before H : History) → last_from o (kept passes told before H) ≡ last_from o (flat_map told H)
+last_from-kept : {A : Type 0} (passes : Around → Stamped → Bool) (told : Stamped → List A) → LastPasses passes told → (o : Option A) (before H : History)
+    → last_from o (kept passes told before H) ≡ last_from o (flat_map told H)
 last_from-kept passes told last_passes o before [] = refl
 last_from-kept passes told last_passes o before (e ∷ after) =
     let at : Around = record { before = before; after = after } in
@@ -132,5 +139,7 @@ last_from-kept passes told last_passes o before (e ∷ after) =
     ∙ sym (last_from-append o (told e) (flat_map told after))))
 
 -- the last value seen is the last told, where that passes
-pub fold_last : {A : Type 0} (r : Reader) (seen : Sighting → List A) (told : Stamped → List A) (passes : Around → Stamped → Bool) → Tells r seen told passes → LastPasses passes told → (before H : History) → last (flat_map seen (sights r before H)) ≡ last (flat_map told H)
-fold_last r seen told passes tells last_passes before H = ap last (sights-kept r seen told passes tells before H) ∙ last_from-kept passes told last_passes None before H
+pub fold_last : {A : Type 0} (r : Reader) (seen : Sighting → List A) (told : Stamped → List A) (passes : Around → Stamped → Bool) → Tells r seen told passes
+    → LastPasses passes told → (before H : History) → last (flat_map seen (sights r before H)) ≡ last (flat_map told H)
+fold_last r seen told passes tells last_passes before H = ap last (sights-kept r seen told passes tells before H)
+    ∙ last_from-kept passes told last_passes None before H

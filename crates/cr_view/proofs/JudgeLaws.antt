@@ -11,11 +11,13 @@ use Rattle.cr_base.proofs.CheckLaws.{judged-Ok, judged-none, judged-Err}
 -- ---- a list of checks
 
 -- a broken rule is told whatever would be drawn
-pub refused : {A B : Type 0} (checks : List Check) (x : A) (y : B) (rule : Rule) → ◌≡◌ {A = Result A Rule} (Err rule) (judged checks x) → ◌≡◌ {A = Result B Rule} (Err rule) (judged checks y)
+pub refused : {A B : Type 0} (checks : List Check) (x : A) (y : B) (rule : Rule) → ◌≡◌ {A = Result A Rule} (Err rule) (judged checks x)
+    → ◌≡◌ {A = Result B Rule} (Err rule) (judged checks y)
 refused checks x y rule h = sym (judged-Err checks x y rule (sym h))
 
 -- where none is broken, what is made of what was given is drawn
-pub passed : {A B : Type 0} (checks : List Check) (made : A → B) (x given : A) → ◌≡◌ {A = Result A Rule} (Ok given) (judged checks x) → ◌≡◌ {A = Result B Rule} (Ok (made given)) (judged checks (made x))
+pub passed : {A B : Type 0} (checks : List Check) (made : A → B) (x given : A) → ◌≡◌ {A = Result A Rule} (Ok given) (judged checks x)
+    → ◌≡◌ {A = Result B Rule} (Ok (made given)) (judged checks (made x))
 passed {A} {B} checks made x given h =
     let k = judged-Ok checks x given (sym h) in
     let same : ◌≡◌ {A = Result B Rule} (Ok (made given)) (Ok (made x)) = ap (λ (y : A). Ok (made y)) (sym k.1) in
@@ -34,5 +36,6 @@ judged-made checks make x (Err rule) h = refused checks x (make x) rule h
 -- ---- commands
 
 -- the same command of the same caller
-pub along : (t : Tables) (caller given : Option ℕ) (command told : Command) (r : Result Drawn Rule) → caller ≡ given → command ≡ told → r ≡ judge_by_role t given told → r ≡ judge_by_role t caller command
+pub along : (t : Tables) (caller given : Option ℕ) (command told : Command) (r : Result Drawn Rule) → caller ≡ given → command ≡ told → r
+    ≡ judge_by_role t given told → r ≡ judge_by_role t caller command
 along t caller given command told r who is h = h ∙ sym (ap (judge_by_role t given) is) ∙ sym (ap (λ (u : Option ℕ). judge_by_role t u command) who)

@@ -30,7 +30,8 @@ filter-twice : (p q : ℕ → Bool) (xs : List ℕ) → filter q (filter p xs) �
 filter-twice p q [] = refl
 filter-twice p q (x ∷ xs) = by (p x) (filter-twice p q xs)
   where
-    by : (b : Bool) → filter q (filter p xs) ≡ filter (λ y. p y && q y) xs → filter q (cond b (x ∷ filter p xs) (filter p xs)) ≡ cond (b && q x) (x ∷ filter (λ y. p y && q y) xs) (filter (λ y. p y && q y) xs)
+    by : (b : Bool) → filter q (filter p xs) ≡ filter (λ y. p y && q y) xs → filter q (cond b (x ∷ filter p xs) (filter p xs))
+        ≡ cond (b && q x) (x ∷ filter (λ y. p y && q y) xs) (filter (λ y. p y && q y) xs)
     by true h = ap (λ rest. cond (q x) (x ∷ rest) rest) h
     by false h = h
 
@@ -91,14 +92,17 @@ own-seats t user papers within rising same =
 
 module _ (t : Tables) (user : ℕ) (within : AreWithin (paper_count t.papers) t.ties) where
   -- the papers whose author she is
-  pub own-papers : IsRising (papers_tied_to user t.ties.authors) → papers_tied_to user t.ties.authors ≡ filter (λ p. is_author_in t.ties (Some user) p) (paper_numbers t.papers)
+  pub own-papers : IsRising (papers_tied_to user t.ties.authors) → papers_tied_to user t.ties.authors
+      ≡ filter (λ p. is_author_in t.ties (Some user) p) (paper_numbers t.papers)
   own-papers rising =
       sym (numbers-others_of (λ p. is_author_in t.ties (Some user) p) ByUser user t.papers.papers t.ties.authors rising
       (λ p there. within-pair (paper_count t.papers) (pair_of p user) t.ties.authors within.authors there)
       (λ p. list_any-others_of ByPaper p user t.ties.authors))
 
   -- the papers with which she is declared in conflict, and whose author she isn't
-  pub own-conflicts : IsRising (papers_tied_to user t.ties.conflicts) → filter (λ p. not (is_author_in t.ties (Some user) p)) (papers_tied_to user t.ties.conflicts) ≡ filter (λ p. is_conflicted_in t.ties (Some user) p && not (is_author_in t.ties (Some user) p)) (paper_numbers t.papers)
+  pub own-conflicts : IsRising (papers_tied_to user t.ties.conflicts)
+      → filter (λ p. not (is_author_in t.ties (Some user) p)) (papers_tied_to user t.ties.conflicts)
+      ≡ filter (λ p. is_conflicted_in t.ties (Some user) p && not (is_author_in t.ties (Some user) p)) (paper_numbers t.papers)
   own-conflicts rising =
       ap (filter (λ p. not (is_author_in t.ties (Some user) p)))
       (sym (numbers-others_of (λ p. is_conflict_on_in t.ties (Some user) p) ByUser user t.papers.papers t.ties.conflicts rising

@@ -72,7 +72,8 @@ users-among : (accounts : List Account) (names : List (Option (List ℕ))) → u
 users-among accounts names = ap (λ (f : Option (List ℕ) → Option ℕ). map f names) (λ i name. target-among accounts name i)
 
 -- a submission is judged by the number of papers and by the users of the names
-pub judge-submit : (t : Tables) (maker : ℕ) (title abstract : List ℕ) (authors : List (Option (List ℕ))) → judge_by_role t (Some maker) (Submit title abstract authors) ≡ submission_at t maker title abstract authors
+pub judge-submit : (t : Tables) (maker : ℕ) (title abstract : List ℕ) (authors : List (Option (List ℕ)))
+    → judge_by_role t (Some maker) (Submit title abstract authors) ≡ submission_at t maker title abstract authors
 judge-submit t maker title abstract authors =
     let users : List (Option ℕ) = users_at t.accounts authors in
     let by : Standing = standing_at t (Some maker) None in
@@ -96,16 +97,19 @@ and-judged : (checks : List Check) (draw : Draw) → behind (judged checks tt) d
 and-judged [] draw = refl
 and-judged (check ∷ checks) draw = by check.broken (and-judged checks draw)
   where
-    by : (b : Bool) → behind (judged checks tt) draw ≡ judged checks (drawn_by draw) → behind (cond b (Err check.rule) (judged checks tt)) draw ≡ cond b (Err check.rule) (judged checks (drawn_by draw))
+    by : (b : Bool) → behind (judged checks tt) draw ≡ judged checks (drawn_by draw) → behind (cond b (Err check.rule) (judged checks tt)) draw
+        ≡ cond b (Err check.rule) (judged checks (drawn_by draw))
     by true h = refl
     by false h = h
 
 -- the same of one whose judgement and whose answer are told
-pub drawn-and : (checks : List Check) (draw : Draw) (kept : Result (Unit {0}) Rule) (r : Result Draw Rule) → kept ≡ judged checks tt → r ≡ result_and kept (Ok draw) → drawn_or_rule r ≡ judged checks (drawn_by draw)
+pub drawn-and : (checks : List Check) (draw : Draw) (kept : Result (Unit {0}) Rule) (r : Result Draw Rule) → kept ≡ judged checks tt → r
+    ≡ result_and kept (Ok draw) → drawn_or_rule r ≡ judged checks (drawn_by draw)
 drawn-and checks draw kept r judges told = ap drawn_or_rule told ∙ ap (λ (k : Result (Unit {0}) Rule). behind k draw) judges ∙ and-judged checks draw
 
 -- an upload, judged by so many bytes
-module _ (t : Tables) (maker : ℕ) (paper : Option ℕ) (content : List ℕ) (count : ℕ) (by : Standing) (counted : count ≡ length content) (stands : by ≡ standing_at t (Some maker) paper) where
+module _ (t : Tables) (maker : ℕ) (paper : Option ℕ) (content : List ℕ) (count : ℕ) (by : Standing) (counted : count ≡ length content) (stands : by
+    ≡ standing_at t (Some maker) paper) where
   abbrev asked : Standing → ℕ → List Check
   asked s n = upload_checks s (named_in t.papers paper) (own_bytes t.papers (Some maker)) n
 
@@ -116,9 +120,11 @@ module _ (t : Tables) (maker : ℕ) (paper : Option ℕ) (content : List ℕ) (c
   made version = upload_drawn maker (unwrap_or paper 0) version content
 
   upload-due : judged (asked by count) (made next) ≡ judge_by_role t (Some maker) (Upload paper content)
-  upload-due = ap (λ (s : Standing). judged (asked s count) (made next)) stands ∙ ap (λ (n : ℕ). judged (asked (standing_at t (Some maker) paper) n) (made next)) counted
+  upload-due = ap (λ (s : Standing). judged (asked s count) (made next)) stands
+      ∙ ap (λ (n : ℕ). judged (asked (standing_at t (Some maker) paper) n) (made next)) counted
 
-  pub upload-refused : (rule : Rule) → ◌≡◌ {A = Result ℕ Rule} (Err rule) (judged (asked by count) next) → ◌≡◌ {A = Result Drawn Rule} (Err rule) (judge_by_role t (Some maker) (Upload paper content))
+  pub upload-refused : (rule : Rule) → ◌≡◌ {A = Result ℕ Rule} (Err rule) (judged (asked by count) next)
+      → ◌≡◌ {A = Result Drawn Rule} (Err rule) (judge_by_role t (Some maker) (Upload paper content))
   upload-refused rule h = refused (asked by count) next (made next) rule h ∙ upload-due
 
   pub upload-drawn : (number version : ℕ) → paper ≡ Some number → ◌≡◌ {A = Result ℕ Rule} (Ok version) (judged (asked by count) next)
@@ -127,8 +133,10 @@ module _ (t : Tables) (maker : ℕ) (paper : Option ℕ) (content : List ℕ) (c
       sym (ap (λ (p : Option ℕ). Ok (upload_drawn maker (unwrap_or p 0) version content)) is) ∙ passed (asked by count) made next version h ∙ upload-due
 
 -- a revision or a withdrawal, of which the same is asked
-pub revision-drawn : (t : Tables) (maker : ℕ) (paper : Option ℕ) (number : ℕ) (by : Standing) (draw : ℕ → Draw) (kept : Result (Unit {0}) Rule) (r : Result Draw Rule)
-    → paper ≡ Some number → by ≡ standing_at t (Some maker) paper → kept ≡ judged (revise_checks by (named_in t.papers paper)) tt → r ≡ result_and kept (Ok (draw number))
+pub revision-drawn : (t : Tables) (maker : ℕ) (paper : Option ℕ) (number : ℕ) (by : Standing) (draw : ℕ
+    → Draw) (kept : Result (Unit {0}) Rule) (r : Result Draw Rule)
+    → paper ≡ Some number → by ≡ standing_at t (Some maker) paper → kept ≡ judged (revise_checks by (named_in t.papers paper)) tt → r
+    ≡ result_and kept (Ok (draw number))
     → drawn_or_rule r ≡ judged (revise_checks (standing_at t (Some maker) paper) (named_in t.papers paper)) (drawn_by (draw (unwrap_or paper 0)))
 revision-drawn t maker paper number by draw kept r is stands judges told =
     let asked : Standing → List Check = λ s. revise_checks s (named_in t.papers paper) in
@@ -138,7 +146,8 @@ revision-drawn t maker paper number by draw kept r is stands judges told =
 
 -- a naming, where there is a user of the name
 pub naming-drawn : (t : Tables) (maker : ℕ) (name : Option (List ℕ)) (given : List ℕ) (user : ℕ) (role : Role) (by : Standing) (kept : Result (Unit {0}) Rule) (r : Result Draw Rule)
-    → name ≡ Some given → Some user ≡ number_at t.accounts given → by ≡ standing_at t (Some maker) None → kept ≡ judged (name_checks by (option_map of_role (role_at t.accounts user)) role) tt → r ≡ result_and kept (Ok (draws.Naming maker user given role))
+    → name ≡ Some given → Some user ≡ number_at t.accounts given → by ≡ standing_at t (Some maker) None → kept
+    ≡ judged (name_checks by (option_map of_role (role_at t.accounts user)) role) tt → r ≡ result_and kept (Ok (draws.Naming maker user given role))
     → drawn_or_rule r ≡ naming_at t maker name role
 naming-drawn t maker name given user role by kept r is found stands judges told =
     let asked : Option Target = option_map of_role (role_at t.accounts user) in
