@@ -190,7 +190,7 @@ module _ (paper ordinal : ℕ) where
       here zero none first at rest high behind =
           let whole : (d : Tie Seat) → set (t ∷ ts) 0 (vacated (get_or (t ∷ ts) 0 d)) ≡ map left (t ∷ ts) =
           λ d. ap (λ (s : Tie Seat). s ∷ ts) (sym (first-left first at none))
-              ∙ ap (λ (us : SeatsState). left t ∷ us) (sym (all-stay (n + 1) ts (omega (arith, is, none)) rest)) in
+          ∙ ap (λ (us : SeatsState). left t ∷ us) (sym (all-stay (n + 1) ts (omega (arith, is, none)) rest)) in
           (omega (arith, none), λ d. ap (λ (i : ℕ). set (t ∷ ts) i (vacated (get_or (t ∷ ts) i d))) none ∙ whole d)
       here (suc k) next first at rest high behind =
           let stays = other-ordinal t (unlike ordinal t.value.ordinal n k first (omega (arith, is, next))) in

@@ -99,7 +99,7 @@ same_row : (r : Row) (k : EntryKind) (a b c d f : ℕ) (x y : List ℕ) → kind
 same_row r k a b c d f x y hk fits h4 h5 h1 h2 h3 hx hy =
     let o = bit r.more fits.more in
     let e : record { kind = kind_number k; maker = r.maker; more = cond (r.more == 1) 1 0; n1 = a; n2 = b; n3 = c; n4 = d; n5 = f; b1 = x; b2 = y }
-        ≡ record { kind = r.kind; maker = r.maker; more = r.more; n1 = r.n1; n2 = r.n2; n3 = r.n3; n4 = r.n4; n5 = r.n5; b1 = r.b1; b2 = r.b2 } = cc in
+    ≡ record { kind = r.kind; maker = r.maker; more = r.more; n1 = r.n1; n2 = r.n2; n3 = r.n3; n4 = r.n4; n5 = r.n5; b1 = r.b1; b2 = r.b2 } = cc in
     e
 
 -- what a field spells that holds a number as it is, a mark, or nothing

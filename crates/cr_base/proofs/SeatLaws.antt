@@ -90,7 +90,7 @@ of-filter p test true [] alike = refl
 of-filter p test false [] alike = refl
 of-filter p test c (t ∷ ts) alike =
     split (test t) (filter test ts)
-        ∙ by (test t) (eqb p t.pair.paper) c (ties_of ByPaper p (filter test ts)) (ties_of ByPaper p ts) (alike t) (of-filter p test c ts alike)
+    ∙ by (test t) (eqb p t.pair.paper) c (ties_of ByPaper p (filter test ts)) (ties_of ByPaper p ts) (alike t) (of-filter p test c ts alike)
   where
     split : (a : Bool) (us : SeatsState) → ties_of ByPaper p (cond a (t ∷ us) us)
         ≡ cond a (cond (eqb p t.pair.paper) (t ∷ ties_of ByPaper p us) (ties_of ByPaper p us)) (ties_of ByPaper p us)
@@ -180,7 +180,7 @@ without-other p paper ordinal (t ∷ ts) other = by (eqb p t.pair.paper) refl (w
 pub labels_in-after : (seats : SeatsState) (e : Entry) (p : ℕ) → labels_in (seats_after seats e) p ≡ labels_in seats p + length (assigned_told p e)
 labels_in-after seats (Assigned paper user kind ordinal) p =
     ap length (ties_of-with_seat p (seat_tie paper user kind ordinal) seats)
-        ∙ length-append (ties_of ByPaper p seats) (given (eqb p paper) (seat_tie paper user kind ordinal))
+    ∙ length-append (ties_of ByPaper p seats) (given (eqb p paper) (seat_tie paper user kind ordinal))
     ∙ ap (λ n. labels_in seats p + n) (by (eqb p paper) (eqb paper p) (turned p paper))
   where
     by : (b c : Bool) → b ≡ c → length (given b (seat_tie paper user kind ordinal))
@@ -191,8 +191,8 @@ labels_in-after seats (Assigned paper user kind ordinal) p =
     by false false e = refl
 labels_in-after seats (Unassigned paper user ordinal) p =
     let n : length (ties_of ByPaper p (without_seat paper ordinal seats))
-        ≡ length (ties_of ByPaper p seats) = ap length (ties_of-without_seat p paper ordinal seats)
-        ∙ length-map (ties_of ByPaper p seats) (left_at paper ordinal) in
+    ≡ length (ties_of ByPaper p seats) = ap length (ties_of-without_seat p paper ordinal seats)
+    ∙ length-map (ties_of ByPaper p seats) (left_at paper ordinal) in
     omega (arith, n)
 labels_in-after seats e p = omega arith
 
@@ -206,7 +206,7 @@ taken-with_seat : (seats : SeatsState) (paper user : ℕ) (kind : Kind) (ordinal
 taken-with_seat seats paper user kind ordinal p =
     let s : Tie Seat = seat_tie paper user kind ordinal in
     ap (filter stays) (ties_of-with_seat p s seats) ∙ filter-append stays (ties_of ByPaper p seats) (given (eqb p paper) s)
-        ∙ ap (λ (us : SeatsState). seats_taken seats p ++ us) (by (eqb p paper))
+    ∙ ap (λ (us : SeatsState). seats_taken seats p ++ us) (by (eqb p paper))
   where
     by : (b : Bool) → filter stays (given b (seat_tie paper user kind ordinal)) ≡ given b (seat_tie paper user kind ordinal)
     by true = refl
@@ -489,7 +489,7 @@ pub seat_in-after : (seats : SeatsState) (e : Entry) → SeatsInOrder seats → 
     ≡ last_or (seat_in seats u p) (seat_told u p e)
 seat_in-after seats (Assigned paper user kind ordinal) order fits u p =
     ap (found u) (taken-with_seat seats paper user kind ordinal p) ∙ by (eqb p paper) (is_number u user) refl refl
-        ∙ ap (λ b. last_or (seat_in seats u p) (given (b && is_number u user) (Some ordinal))) (turned p paper)
+    ∙ ap (λ b. last_or (seat_in seats u p) (given (b && is_number u user) (Some ordinal))) (turned p paper)
   where
     s : Tie Seat
     s = seat_tie paper user kind ordinal
@@ -519,16 +519,16 @@ seat_in-after seats (Assigned paper user kind ordinal) order fits u p =
     by : (b c : Bool) → eqb p paper ≡ b → is_number u user ≡ c → found u (taken ++ given b s) ≡ last_or (seat_in seats u p) (given (b && c) (Some ordinal))
     by true true at is =
         ap (option_map (λ (t : Tie Seat). t.value.ordinal)) (find-append test taken (s ∷ [])
-            ∙ ap (λ (b : Bool). option_or (find test taken) (cond b (Some s) None)) is)
+        ∙ ap (λ (b : Bool). option_or (find test taken) (cond b (Some s) None)) is)
         ∙ none-then (find test taken) (free at is)
     by true false at is =
         ap (option_map (λ (t : Tie Seat). t.value.ordinal)) (find-append test taken (s ∷ [])
-            ∙ ap (λ (b : Bool). option_or (find test taken) (cond b (Some s) None)) is)
+        ∙ ap (λ (b : Bool). option_or (find test taken) (cond b (Some s) None)) is)
         ∙ none (find test taken)
     by false c at is = ap (found u) (append-nil taken)
 seat_in-after seats (Unassigned paper user ordinal) order fits u p =
     ap (λ (ts : SeatsState). found u (filter stays ts)) (ties_of-without_seat p paper ordinal seats) ∙ by (eqb p paper) refl
-        ∙ ap (λ b. last_or (seat_in seats u p) (given (b && is_number u user) None)) (turned p paper)
+    ∙ ap (λ b. last_or (seat_in seats u p) (given (b && is_number u user) None)) (turned p paper)
   where
     hers : eqb p paper ≡ true → AreHers user ordinal (seats_taken seats p)
     hers at = are_hers user ordinal (seats_taken seats p) (rising-taken seats order p) (order.single p) (ap (λ n. seat_in seats (Some user) n) (eqb-true p paper at) ∙ fits)

@@ -81,7 +81,7 @@ told-besides paper user (t ∷ ts) all none =
 pub indexed-push : (authors : BareTies) (users : Order) (authored : BareTies) (declared bids : Order) (paper user : ℕ) (users' : Order) (authors' authored' : BareTies) → users' ≡ users → authors' ≡ authors ++ bare_tie paper user ∷ [] → authored' ≡ with_tie users (bare_tie paper user) authored → all_before (pair_of paper user) authors ≡ true → AuthorsIndexed authors users authored declared bids → AuthorsIndexed authors' users' authored' declared bids
 indexed-push authors users authored declared bids paper user users' authors' authored' same pushed put before index =
     let put_so : authored' ≡ with_tie ByUser (bare_tie paper user) authored = put
-        ∙ ap (λ (o : Order). with_tie o (bare_tie paper user) authored) index.by_user in
+    ∙ ap (λ (o : Order). with_tie o (bare_tie paper user) authored) index.by_user in
     record {
       told = subst (λ (ts : BareTies). IsSortedBy is_told_before ts) (sym pushed) (sorted-push is_told_before authors (bare_tie paper user) index.told before);
       by_user = same ∙ index.by_user;

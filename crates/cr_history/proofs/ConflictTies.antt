@@ -155,7 +155,7 @@ declared-entry p v ties maker (Conflict paper user on) wrote rest same =
     let names : Bool = eqb p paper && eqb v user in
     let writes : Bool = is_author_in ties (Some maker) paper in
     let now : has_pair (pair_of p v) (cond writes (with_tie ByPaper (bare_tie paper user) ties.declared) ties.declared)
-        ≡ cond writes (names || there) there = by writes in
+    ≡ cond writes (names || there) there = by writes in
     ap (λ b. there || b) (among-given (eqb paper p && wrote) user v rest)
     ∙ told (eqb paper p) (eqb p paper) (eqb user v) (eqb v user) wrote writes there (is_among v rest) (turned paper p) (turned user v)
     (λ here. same here ∙ ap (is_author_in ties (Some maker)) (sym (eqb-true paper p here)))

@@ -225,9 +225,9 @@ withdrawn-entry : (p : ℕ) (state : PapersState) (maker : ℕ) (e : Entry) → 
 withdrawn-entry p state maker (Submitted paper title abstract) fits rest =
     let last : ℕ = length state.papers + 1 in
     let none : eqb p last ≡ true → numbered state.papers p ≡ None = λ same. let e : p
-        ≡ last = eqb-true p last same in numbered-none state.papers p (omega (arith, e)) in
+    ≡ last = eqb-true p last same in numbered-none state.papers p (omega (arith, e)) in
     ap (λ b. last_or b rest) (sym (ap is_withdrawn_in (numbered-push state.papers (new_paper title abstract) p)
-        ∙ withdrawn-push (numbered state.papers p) (eqb p last) title abstract none))
+    ∙ withdrawn-push (numbered state.papers p) (eqb p last) title abstract none))
 withdrawn-entry p state maker (Revised paper title abstract) fits rest =
     ap (λ b. last_or b rest) (sym (read-kept is_withdrawn_in (with_texts title abstract) state.papers paper p fits.0 (λ y. refl)))
 withdrawn-entry p state maker (Withdrawn paper) fits rest =
@@ -248,7 +248,7 @@ uploads-entry p state maker (Uploaded paper version content) =
     let told : List Upload = upload_told p (Uploaded paper version content) in
     let made : PaperUpload = record { paper = paper; upload = record { version = version; content = content } } in
     ap (λ us. uploads_at state p ++ us) (sym (append-nil told))
-        ∙ sym (flat_map-append (λ (u : PaperUpload). given (eqb u.paper p) u.upload) state.uploads (made ∷ []))
+    ∙ sym (flat_map-append (λ (u : PaperUpload). given (eqb u.paper p) u.upload) state.uploads (made ∷ []))
 uploads-entry p state maker e = append-nil (uploads_at state p)
 
 -- the uploads to a paper are those that the table has, in the same order
@@ -256,7 +256,7 @@ pub uploads_of-tables : (p : ℕ) (H : History) → uploads_of p H ≡ uploads_a
 uploads_of-tables p H =
     told-always ◌++◌ append-nil (λ (t : Tables). uploads_at t.papers p) (λ (s : Stamped). upload_told p s.entry)
     (λ t s rest. sym (append_assoc (uploads_at t.papers p) (upload_told p s.entry) rest)
-        ∙ ap (λ us. us ++ rest) (uploads-entry p t.papers s.maker s.entry)) no_tables H
+    ∙ ap (λ us. us ++ rest) (uploads-entry p t.papers s.maker s.entry)) no_tables H
 
 -- ---- the authors of a paper
 
@@ -272,7 +272,7 @@ pub authors_of-tables : (p : ℕ) (H : History) → authors_of p H ≡ authors_i
 authors_of-tables p H =
     told-always ◌++◌ append-nil (λ (t : Tables). authors_in t.ties p) (λ (s : Stamped). author_told p s.maker s.entry)
     (λ t s rest. sym (append_assoc (authors_in t.ties p) (author_told p s.maker s.entry) rest)
-        ∙ ap (λ xs. xs ++ rest) (authors-entry p t.ties s.maker s.entry)) no_tables H
+    ∙ ap (λ xs. xs ++ rest) (authors-entry p t.ties s.maker s.entry)) no_tables H
 
 pub is_author-tables : (u : Option ℕ) (p : ℕ) (H : History) → is_author u p H ≡ is_author_in (tables_of H).ties u p
 is_author-tables u p H = ap (list_any (is_number u)) (authors_of-tables p H)

@@ -312,7 +312,7 @@ module _ (u : Option ℕ) (H : History) (at : Around) (maker : ℕ) (more : Bool
       → where_shown (is_author u paper H || ((none_in (title_told paper) at.after && m && is_from Bidding (phase_of H)) || (is_number u maker || false))) (Some text) ≡ where_known known text
   text-one paper m s known text may same =
       known-same _ _ text (text-known (is_author u paper H) _ m (is_from Bidding (phase_of H)) (is_number u maker) _ s (none_in-replaced paper at.after) may
-          ∙ same)
+      ∙ same)
 
   pub title-one : (e : Entry) → IsWriters u H maker e → (seen e).title ≡ title_for u H at.after maker e
   title-one (Submitted paper title abstract) writes =

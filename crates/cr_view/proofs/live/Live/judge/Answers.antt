@@ -13,7 +13,7 @@ pub returns-in-Register-clause-drawn : goal.returns-in-Register-clause-drawn
 returns-in-Register-clause-drawn c =
     let t = c.args.self.now.tables in
     c.judge_registration.ensures ∙ sym (judge_by_role-register t c.args.caller.now c.in-Register.name c.in-Register.digest)
-        ∙ sym (ap (judge_by_role t c.args.caller.now) c.in-Register.is)
+    ∙ sym (ap (judge_by_role t c.args.caller.now) c.in-Register.is)
 
 pub returns-in-Register-clause-fits : goal.returns-in-Register-clause-fits
 returns-in-Register-clause-fits c =

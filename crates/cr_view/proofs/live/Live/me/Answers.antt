@@ -17,12 +17,12 @@ returns c =
     let user : ℕ = c.args.user in
     let within = c.law_within.ensures.ties in
     let hers = c.in_ok-papers.ensures ∙ c.authored.ensures.papers ∙ ap (λ (v : SeenTables). papers_tied_to user v.tables.ties.authors) c.self.view_is
-        ∙ own-papers t user within (subst (λ (v : SeenTables). IsRising (papers_tied_to user v.tables.ties.authors)) c.self.view_is c.authored.ensures.rising) in
+    ∙ own-papers t user within (subst (λ (v : SeenTables). IsRising (papers_tied_to user v.tables.ties.authors)) c.self.view_is c.authored.ensures.rising) in
     let declared = c.conflicting.ensures.papers ∙ ap (λ (v : SeenTables). papers_tied_to user v.tables.ties.conflicts) c.self.view_is in
     let others = c.in_ok-conflicts.ensures ∙ ap (λ (ns : List ℕ). filter (λ p. not (is_author_in t.ties (Some user) p)) ns) declared
-        ∙ own-conflicts t user within (subst (λ (v : SeenTables). IsRising (papers_tied_to user v.tables.ties.conflicts)) c.self.view_is c.conflicting.ensures.rising) in
+    ∙ own-conflicts t user within (subst (λ (v : SeenTables). IsRising (papers_tied_to user v.tables.ties.conflicts)) c.self.view_is c.conflicting.ensures.rising) in
     let reviewed = c.in_ok-assigned.ensures
-        ∙ own-seats t user (map (λ (tie : Tie ℕ). tie.pair.paper) c.reviewed.result.now) c.law_within.ensures.seats c.reviewed.ensures.rising
+    ∙ own-seats t user (map (λ (tie : Tie ℕ). tie.pair.paper) c.reviewed.result.now) c.law_within.ensures.seats c.reviewed.ensures.rising
     (λ p. c.reviewed.ensures.papers p ∙ ap (λ (v : SeenTables). is_some (seat_in v.tables.seats (Some user) p)) c.self.view_is) in
     let role = c.standing_for.ensures ∙ ap (λ (v : SeenTables). role_in v.tables.accounts (Some user)) c.self.view_is in
     let bytes = c.bytes_of_user.ensures ∙ ap (λ (v : SeenTables). own_bytes v.tables.papers (Some user)) c.self.view_is in
