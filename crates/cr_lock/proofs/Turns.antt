@@ -1,5 +1,5 @@
 -- The steps of a turn keep the rule.
-use Rattle.std.proofs.Common.{◌≡◌, ◌≢◌, ◌⊎◌, inl, inr, ⊎_elim, ℕ, ◌+◌, ◌-◌, ◌%◌, ◌^◌, ◌<◌, ◌≤◌, Bool, if◌then◌else◌, Option, Some, None, List, [], ◌∷◌, ◌++◌}
+use Rattle.std.proofs.Common.{◌≡◌, ◌≢◌, ◌⊎◌, inl, inr, ⊎_elim, ℕ, ◌+◌, ◌-◌, ◌%◌, ◌^◌, ◌<◌, ◌≤◌, if◌then◌else◌, Option, Some, None, List, [], ◌∷◌, ◌++◌}
 use Rattle.std.proofs.Common.{length, get_or, set, drop, refl, ap, sym, ◌∙◌, subst, arith, mod-eq_of_lt, append-nil, length-drop}
 use Rattle.std.proofs.lemmas.Bool.Decides.{nat_tests}
 use mathlib.Core.Logic.{dite}
@@ -22,7 +22,7 @@ use Rattle.cr_lock.specs.Steps.{Looked, Noted, noted_at, WentOn}
 use Rattle.cr_lock.proofs.Prefixes.{prefix_self, prefix_length, prefix_drop, every_longer, every_snoc}
 use Rattle.cr_lock.proofs.Order.{snoc_in_order, places_below}
 use Rattle.cr_lock.proofs.Sums.{total_append, total_set, total_at, total_two, total_gap, within_join, within_one, within_in, within_is}
-use Rattle.cr_lock.proofs.Changes.{Rule, Rose, has, marked, change, alike_set, risen_same, ticket_small}
+use Rattle.cr_lock.proofs.Changes.{Rule, Rose, has, change, alike_set, risen_same, ticket_small}
 
 -- a turn on a value that stood for the list xs and stands for ys
 abbrev pub after_turn : {E : Type 0} → PassState E → List E → List E → ℕ → ℕ → PassState E
