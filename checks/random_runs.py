@@ -19,7 +19,7 @@ from model import Conference, PHASES, dump, view_lines
 TOP = os.path.dirname(os.path.dirname(os.path.abspath(__file__)))
 CONFD = os.path.join(TOP, "crates/confd/out/confd")
 NAMES = ["alice", "bob", "carol", "dave", "erin", "fay", "gus", "hal", "ivy"]
-STRANGERS = ["zoe", "Bob!", ""]
+STRANGERS = ["zoe", "Bob!"]
 
 
 def secret(name):
@@ -41,7 +41,7 @@ class Run:
                 self.ask("alice", "POST", "/members", {"name": name, "role": role})
         if self.random.random() < 0.7:
             self.ask("alice", "POST", "/mode", {"mode": self.random.choice(["open", "blind", "anonymous"])})
-        steps = {"setup": 5, "submission": 60, "bidding": 90, "reviewing": 50, "discussion": 70, "notification": 50, "closed": 25}
+        steps = {"setup": 5, "submission": 90, "bidding": 160, "reviewing": 80, "discussion": 100, "notification": 50, "closed": 25}
         for phase in PHASES:
             if phase != "setup":
                 self.ask("alice", "POST", "/phase", {"phase": phase})
@@ -53,53 +53,80 @@ class Run:
         self.asked.append((who, method, path, body, code, content))
 
     def paper(self):
+        """Mostly a paper that is there."""
         count = len(self.model.papers())
-        return self.random.choice([str(self.random.randint(1, max(1, count)))] * 30 + [str(count + 1), "0", "01", "zoe", "10000"])
+        if count == 0 or self.random.random() < 0.05:
+            return self.random.choice([str(count + 1), "0", "01", "zoe", "10000"])
+        return str(self.random.randint(1, count))
 
     def name(self):
-        return self.random.choice(NAMES * 4 + STRANGERS[:2])
+        return self.random.choice(NAMES * 4 + STRANGERS)
+
+    def caller(self, fits):
+        """Mostly somebody of whom this holds, if there is anybody."""
+        fitting = [name for name in NAMES if fits(self.model.number_of(name))]
+        if fitting and self.random.random() < 0.6:
+            return self.random.choice(fitting)
+        return self.random.choice(NAMES * 6 + ["-"])
+
+    def chair(self, paper=None):
+        def fits(user):
+            there = paper is not None and paper.isdigit()
+            return self.model.role_of(user) == "chair" and not (there and self.model.conflicted(user, int(paper)))
+
+        return self.caller(fits)
+
+    def author(self, paper):
+        return self.caller(lambda user: paper.isdigit() and user in self.model.authors(int(paper)))
+
+    def deeds(self):
+        """What is asked for, as often as the phase suggests."""
+        asked = ["page"] * 6 + ["me", "conflict", "content", "version", "member", "accounts", "phase", "back"]
+        if self.model.phase == "submission":
+            return asked + ["submit"] * 6 + ["upload", "revise", "conflict"] * 3 + ["withdraw", "bid", "assign", "unassign"]
+        if self.model.phase == "bidding":
+            return asked + ["bid", "assign"] * 5 + ["unassign", "conflict"] * 3 + ["submit", "upload", "revise", "withdraw"]
+        return asked + ["assign"] * 5 + ["unassign", "conflict"] * 3 + ["bid", "submit", "upload", "revise", "withdraw"]
 
     def step(self):
-        choose = self.random
-        who, p = choose.choice(NAMES * 6 + ["-"]), self.paper()
-        title = choose.choice(["Proofs", "Types", "A paper, \"quoted\"", "Übung"])
-        texts = {"title": title, "abstract": choose.choice(["", "We prove.", "Two\nlines.\t\\"])}
-        deed = choose.choice(["page"] * 5 + ["me"] * 2 + ["bid", "assign", "assign", "unassign", "conflict", "conflict"] * 2 +
-                             ["submit", "revise", "withdraw", "upload", "content", "version", "member", "accounts", "phase", "back"])
+        choose, p = self.random, self.paper()
+        anybody = choose.choice(NAMES * 6 + ["-"])
+        texts = {"title": choose.choice(["Proofs", "Types", "A paper, \"quoted\"", "Übung"]), "abstract": choose.choice(["", "We prove.", "Two\nlines.\t\\"])}
+        deed = choose.choice(self.deeds())
         if deed == "page":
-            self.ask(who, "GET", f"/papers/{p}")
+            self.ask(anybody, "GET", f"/papers/{p}")
         elif deed == "me":
-            self.ask(who, "GET", "/me")
+            self.ask(anybody, "GET", "/me")
         elif deed == "bid":
-            self.ask(who, "PUT", f"/papers/{p}/bid", {"bid": choose.randint(-20, 20)})
+            self.ask(anybody, "PUT", f"/papers/{p}/bid", {"bid": choose.randint(-20, 20)})
         elif deed == "assign":
-            self.ask(who, "POST", f"/papers/{p}/reviewers", {"kind": choose.choice(["primary", "secondary", "pc"]), "user": self.name()})
+            self.ask(self.chair(p), "POST", f"/papers/{p}/reviewers", {"kind": choose.choice(["primary", "secondary", "pc"]), "user": self.name()})
         elif deed == "unassign":
-            self.ask(who, "DELETE", f"/papers/{p}/reviewers/{self.name()}")
+            reviewers = [self.model.name_of(seat[1]) for seat in self.model.reviewers(int(p))] if p.isdigit() else []
+            self.ask(self.chair(p), "DELETE", f"/papers/{p}/reviewers/{choose.choice(reviewers + [choose.choice(NAMES + ['zoe'])])}")
         elif deed == "conflict":
-            self.ask(who, "POST", f"/papers/{p}/conflicts", {"on": choose.random() < 0.6, "user": self.name()})
+            self.ask(self.chair(p), "POST", f"/papers/{p}/conflicts", {"on": choose.random() < 0.6, "user": self.name()})
         elif deed == "submit":
             told = [self.name() for _ in range(choose.choice([0, 0, 0, 1, 3]))]
-            self.ask(who, "POST", "/papers", {**texts, "authors": told})
+            self.ask(anybody, "POST", "/papers", {**texts, "authors": told})
         elif deed == "revise":
-            self.ask(who, "PUT", f"/papers/{p}", texts)
+            self.ask(self.author(p), "PUT", f"/papers/{p}", texts)
         elif deed == "withdraw":
-            if choose.random() < 0.3:
-                self.ask(who, "DELETE", f"/papers/{p}")
+            self.ask(self.author(p), "DELETE", f"/papers/{p}")
         elif deed == "upload":
-            self.ask(who, "PUT", f"/papers/{p}/content", "x" * choose.randint(0, 9))
+            self.ask(self.author(p), "PUT", f"/papers/{p}/content", "x" * choose.randint(0, 9))
         elif deed == "content":
-            self.ask(who, "GET", f"/papers/{p}/content")
+            self.ask(anybody, "GET", f"/papers/{p}/content")
         elif deed == "version":
-            self.ask(who, "GET", f"/papers/{p}/content/{choose.randint(1, 3)}")
+            self.ask(anybody, "GET", f"/papers/{p}/content/{choose.randint(1, 3)}")
         elif deed == "member":
-            self.ask(who, "POST", "/members", {"name": self.name(), "role": choose.choice(["member", "chair"])})
+            self.ask(self.chair(), "POST", "/members", {"name": self.name(), "role": choose.choice(["member", "chair"])})
         elif deed == "accounts":
-            self.ask(who, "GET", "/accounts")
+            self.ask(anybody, "GET", "/accounts")
         elif deed == "phase":
-            self.ask(who, "GET", "/phase")
+            self.ask(anybody, "GET", "/phase")
         else:
-            self.ask(who, "POST", "/phase", {"phase": "setup"})
+            self.ask(anybody, "POST", "/phase", {"phase": "setup"})
 
 
 def spelled(who, method, path, body):
