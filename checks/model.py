@@ -4,10 +4,130 @@ A conference is a list of entries; each answer, each rule and each line of a vie
 beside it. It is slow and short, and stands against the program in `random_runs.py`. It answers requests whose bodies are
 well formed; what is wrong with a body or a head stands in cases. Below, `u` and `v` are users' numbers, `p` is a paper's, and
 `t` is the user whom a command names.
-"""who: a registered name, or '-' for nobody."""
+"""
+import hashlib
+import json
+import re
+
+PHASES = ["setup", "submission", "bidding", "reviewing", "discussion", "notification", "closed"]
+NAME = re.compile(r"^[a-z0-9-]{1,32}$")
+
+
+def dump(x):
+    return json.dumps(x, separators=(",", ":"), sort_keys=True, ensure_ascii=False)
+
+
+def err(code, name):
+    return code, dump({"error": name})
+
+
+CODE = {"no_user": 404, "no_paper": 404, "no_content": 404, "not_chair": 403, "not_member": 403, "not_author": 403,
+        "conflict": 403, "not_reviewer": 403}
+
+
+class Conference:
+    def __init__(self):
+        self.history = []  # (maker, kind, fields)
+
+    # ---- facts
+    def entries_of(self, kind):
+        return [(m, f) for m, k, f in self.history if k == kind]
+
+    @property
+    def phase(self):
+        ps = self.entries_of("phase")
+        return ps[-1][1] if ps else "setup"
+
+    @property
+    def mode(self):
+        ms = self.entries_of("mode")
+        return ms[-1][1] if ms else "blind"
+
+    def is_from(self, phase):
+        return PHASES.index(self.phase) >= PHASES.index(phase)
+
+    def users(self):
+        return [f for m, f in self.entries_of("registered")]
+
+    def number_of(self, name):
+        for u, n in self.users():
+            if n == name:
+                return u
+        return None
+
+    def name_of(self, user):
+        return self.users()[user - 1][1]
+
+    def role_of(self, u):
+        r = "account"
+        for m, (v, role) in self.entries_of("named"):
+            if v == u:
+                r = role
+        return r
+
+    def papers(self):
+        return [f[0] for m, f in self.entries_of("submitted")]
+
+    def authors(self, p):
+        out = []
+        for m, k, f in self.history:
+            if k == "submitted" and f[0] == p:
+                out.append(m)
+            if k == "coauthor" and f[0] == p:
+                out.append(f[1])
+        return out
+
+    def declared_on(self, u, p):
+        on = False
+        for m, (q, v, o) in self.entries_of("conflict"):
+            if (q, v) == (p, u):
+                on = o
+        return on
+
+    def conflicted(self, u, p):
+        return u in self.authors(p) or self.declared_on(u, p)
+
+    def seat_of(self, u, p):
+        s = None
+        for m, k, f in self.history:
+            if k == "assigned" and f[:2] == (p, u):
+                s = f[3]
+            if k == "unassigned" and f[:2] == (p, u):
+                s = None
+        return s
+
+    def labels(self, p):
+        return len([1 for m, f in self.entries_of("assigned") if f[0] == p])
+
+    def reviewers(self, p):
+        gone = [f[2] for m, f in self.entries_of("unassigned") if f[0] == p]
+        return [f for m, f in self.entries_of("assigned") if f[0] == p and f[3] not in gone]
+
+    def withdrawn(self, p):
+        return any(f == p for m, f in self.entries_of("withdrawn"))
+
+    def uploads(self, p):
+        return [f for m, f in self.entries_of("uploaded") if f[0] == p]
+
+    def last_texts(self, p):
+        t = None
+        for m, k, f in self.history:
+            if k in ("submitted", "revised") and f[0] == p:
+                t = f[1:]
+        return t
+
+    def bid_of(self, u, p):
+        b = None
+        for m, (q, v) in self.entries_of("bid"):
+            if (m, q) == (u, p):
+                b = v
+        return b
+
+    # ---- one request
+    def ask(self, who, method, path, body=None):
+        """who: a registered name, or '-' for nobody."""
         u = self.number_of(who) if who != "-" else None
         parts = path.strip("/").split("/")
-        key = parts[0]
         if path == "/register":
             return self.register(body)
         if path == "/accounts":
