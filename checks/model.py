@@ -10,7 +10,6 @@ import json
 import re
 
 PHASES = ["setup", "submission", "bidding", "reviewing", "discussion", "notification", "closed"]
-NAME = re.compile(r"^[a-z0-9-]{1,32}$")
 
 
 def dump(x):
