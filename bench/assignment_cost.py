@@ -140,7 +140,7 @@ def model():
 def main():
     here = os.path.dirname(os.path.abspath(__file__))
     program = sys.argv[1] if len(sys.argv) > 1 else f"{here}/../crates/confd/out/confd"
-    count = int(sys.argv[2]) if len(sys.argv) > 2 else 40_000
+    count = int(sys.argv[2]) if len(sys.argv) > 2 else 150_000
     if not os.access(program, os.X_OK):
         sys.exit(f"{program} isn't there: run `rt run` in crates/confd, or name a program")
     print(f"{time.strftime('%Y-%m-%d')}, {os.cpu_count()} processors, {model()}")
