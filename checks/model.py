@@ -122,6 +122,32 @@ class Conference:
                 b = v
         return b
 
+    def forms(self, p, o, entries=None):
+        """The forms under a label, each with its version, among these entries."""
+        told = self.history if entries is None else entries
+        return [f[2:] for m, k, f in told if k == "reviewed" and f[:2] == (p, o)]
+
+    def forms_discussed(self, p, o):
+        """Of a label the last form before the discussion, and all later ones."""
+        at = next((i for i, (m, k, f) in enumerate(self.history) if k == "phase" and f == "discussion"), len(self.history))
+        return self.forms(p, o, self.history[:at])[-1:] + self.forms(p, o, self.history[at:])
+
+    def comments(self, p):
+        return [(m, f) for m, f in self.entries_of("commented") if f[0] == p]
+
+    def own_comments(self, u):
+        return len([1 for m, f in self.entries_of("commented") if m == u])
+
+    def tags(self, u, p):
+        """The tags that are on and for this reader."""
+        on = {}
+        for m, (q, tag, is_on) in self.entries_of("tagged"):
+            private = tag.startswith("~") and not tag.startswith("~~")
+            if q == p and (m == u or not private):
+                on[tag] = is_on
+        chair = self.role_of(u) == "chair"
+        return sorted(tag for tag in on if on[tag] and (chair or not tag.startswith("~~")))
+
     # ---- one request
     def ask(self, who, method, path, body=None):
         """who: a registered name, or '-' for nobody."""
@@ -167,6 +193,14 @@ class Conference:
             return self.assign(u, p, body)
         if rest[0] == "reviewers":
             return self.unassign(u, p, rest[1])
+        if rest == ["review"]:
+            return self.review(u, p, body)
+        if rest == ["reviews"]:
+            return self.reviews(u, p)
+        if rest == ["comments"]:
+            return self.comments_page(u, p) if method == "GET" else self.comment(u, p, body)
+        if rest[0] == "tags":
+            return self.tag(u, p, rest[1], method == "PUT")
         raise ValueError(path)
 
     def first(self, *rules):
@@ -317,17 +351,85 @@ class Conference:
     def unassign(self, u, p, name):
         t = self.number_of(name)
         r = self.first(*self.chairs_rules(u, p, t))
-        r = r or self.first((self.seat_of(t, p) is None, "not_assigned"),)
+        r = r or self.first((self.seat_of(t, p) is None, "not_assigned"), (self.forms(p, self.seat_of(t, p)), "has_review"))
         if r:
             return r
         self.history.append((u, "unassigned", (p, t, self.seat_of(t, p))))
+        return 200, dump({"paper": p})
+
+    def members_rules(self, u, p):
+        return ((not self.is_there(p), "no_paper"), (self.role_of(u) == "account", "not_member"), (self.conflicted(u, p), "conflict"))
+
+    def review(self, u, p, body):
+        r = self.first(*self.members_rules(u, p), (self.seat_of(u, p) is None, "not_reviewer"),
+                       (self.phase not in ("reviewing", "discussion"), "wrong_phase"), (self.withdrawn(p), "withdrawn"))
+        if r:
+            return r
+        o = self.seat_of(u, p)
+        version = len(self.forms(p, o)) + 1
+        self.history.append((u, "reviewed", (p, o, version, body)))
+        return 200, dump({"version": version})
+
+    def assigned_to(self, p, o):
+        return next(f[1] for m, f in self.entries_of("assigned") if (f[0], f[3]) == (p, o))
+
+    def reviews(self, u, p):
+        author = self.is_there(p) and u in self.authors(p)
+        seat, reviewing = self.seat_of(u, p), self.phase == "reviewing"
+        r = self.first((not self.is_there(p), "no_paper"), (author and not self.is_from("notification"), "wrong_phase"),
+                       (not author and self.role_of(u) == "account", "not_member"), (not author and self.conflicted(u, p), "conflict"),
+                       (not author and not self.is_from("discussion") and not (reviewing and seat is not None), "wrong_phase"))
+        if r:
+            return r
+        out = []
+
+        def add(o, forms, keys, named):
+            for version, form in forms:
+                whole = {**form, "label": chr(64 + o), "version": version}
+                out.append({**{k: whole[k] for k in keys}, **({"user": self.name_of(self.assigned_to(p, o))} if named else {})})
+
+        authors_keys = ["confidence", "label", "score", "to_authors"]
+        all_keys = authors_keys + ["to_pc", "version"]
+        for o in range(1, self.labels(p) + 1):
+            if author:
+                add(o, self.forms(p, o)[-1:], authors_keys, self.mode == "open")
+            elif self.is_from("discussion"):
+                add(o, self.forms_discussed(p, o), all_keys, self.role_of(u) == "chair" or self.mode != "anonymous")
+            elif o == seat:
+                add(o, self.forms(p, o), all_keys, False)
+        return 200, dump({"reviews": out})
+
+    def comment(self, u, p, body):
+        r = self.first(*self.members_rules(u, p), (self.phase != "discussion", "wrong_phase"), (self.withdrawn(p), "withdrawn"),
+                       (self.own_comments(u) >= 1000, "quota_comments"))
+        if r:
+            return r
+        n = len(self.comments(p)) + 1
+        self.history.append((u, "commented", (p, n, self.seat_of(u, p) or 0, body["text"])))
+        return 201, dump({"comment": n})
+
+    def comments_page(self, u, p):
+        r = self.first(*self.members_rules(u, p), (not self.is_from("discussion"), "wrong_phase"))
+        if r:
+            return r
+        named = self.role_of(u) == "chair" or self.mode != "anonymous"
+        who = lambda m, o: {"user": self.name_of(m)} if named else ({"label": chr(64 + o)} if o else {})
+        return 200, dump({"comments": [{"n": n, "text": text, **who(m, o)} for m, (q, n, o, text) in self.comments(p)]})
+
+    def tag(self, u, p, tag, on):
+        r = self.first((not self.is_there(p), "no_paper"), (tag.startswith("~~") and self.role_of(u) != "chair", "not_chair"),
+                       (self.role_of(u) == "account", "not_member"), (self.conflicted(u, p), "conflict"),
+                       (not self.committee(), "wrong_phase"), (self.withdrawn(p), "withdrawn"))
+        if r:
+            return r
+        self.history.append((u, "tagged", (p, tag, on)))
         return 200, dump({"paper": p})
 
     def me(self, u):
         ps = self.papers()
         return 200, dump({
             "assigned": [p for p in ps if self.seat_of(u, p) is not None],
-            "bytes": sum(len(f[2]) for m, f in self.entries_of("uploaded") if m == u), "comments": 0,
+            "bytes": sum(len(f[2]) for m, f in self.entries_of("uploaded") if m == u), "comments": self.own_comments(u),
             "conflicts": [p for p in ps if self.conflicted(u, p) and u not in self.authors(p)], "name": self.name_of(u),
             "papers": [p for p in ps if u in self.authors(p)], "role": self.role_of(u), "user": u})
 
@@ -364,13 +466,13 @@ class Conference:
             out["label"] = chr(64 + self.seat_of(u, p))
         lab = lambda f: chr(64 + f[3])
         if cc and bidding:
-            out["reviewers"] = [{"done": False, "kind": f[2], "label": lab(f), "user": self.name_of(f[1])} for f in self.reviewers(p)]
+            out["reviewers"] = [{"done": bool(self.forms(p, f[3])), "kind": f[2], "label": lab(f), "user": self.name_of(f[1])} for f in self.reviewers(p)]
         elif cm and disc:
             out["reviewers"] = [{"kind": f[2], "label": lab(f), **({} if anon else {"user": self.name_of(f[1])})} for f in self.reviewers(p)]
         elif author and notif and self.mode == "open":
             out["reviewers"] = [{"label": lab(f), "user": self.name_of(f[1])} for f in self.reviewers(p)]
         if cm and bidding:
-            out["tags"] = []
+            out["tags"] = self.tags(u, p)
         if author or (member and bidding):
             out["title"] = title
         ups = [f[1] for f in self.uploads(p)]
@@ -394,6 +496,19 @@ def view_lines(c, who):
 
     def last_text(i, p):
         return not any(k in ("submitted", "revised") and f[0] == p for m, k, f in c.history[i + 1:])
+
+    def first_form(i, p, o):
+        return not c.forms(p, o, c.history[:i])
+
+    def last_form(i, p, o):
+        return not c.forms(p, o, c.history[i + 1:])
+
+    def opening(entries):
+        return next((i for i, (m, k, f) in enumerate(entries) if k == "phase" and f == "discussion"), None)
+
+    def discussed_form(i, p, o):
+        later = c.history[i + 1:]
+        return opening(c.history[:i]) is not None or not c.forms(p, o, later[:opening(later)])
 
     def last_upload(i, p):
         return not any(k == "uploaded" and f[0] == p for m, k, f in c.history[i + 1:])
@@ -463,6 +578,17 @@ def view_lines(c, who):
                 row(cm and disc, {x: y for x, y in whole.items() if x != "user"})
                 row(cm and disc and not anon, {"paper": p, "user": f[1]})
                 row(author and overt and notif, {"paper": p, "user": f[1], "ordinal": f[-1]})
+            if k == "reviewed":
+                form = {"paper": p, "ordinal": f[1], "version": f[2], **f[3]}
+                row(mine or (discussed_form(i, p, f[1]) and cm and disc), form)
+                row(first_form(i, p, f[1]) and cc, {"paper": p, "ordinal": f[1], "done": True})
+                row(last_form(i, p, f[1]) and author and notif, {x: form[x] for x in ("paper", "ordinal", "score", "confidence", "to_authors")})
+            if k == "commented":
+                row(mine, {"paper": p, "n": f[1], "ordinal": f[2], "text": f[3]})
+                row(cm and disc, {"paper": p, "n": f[1], "text": f[3], **({"writer": m} if chair or not anon else {"ordinal": f[2]})})
+            if k == "tagged":
+                whole = {"paper": p, "tag": f[1], "on": f[2]}
+                row(mine or (not f[1].startswith("~") and cm and bidding) or (f[1].startswith("~~") and cc and bidding), whole)
         if seen:
             out.append(dump({"kind": kind, **({"mine": True} if mine else {}), **shown}))
     return out

@@ -76,17 +76,25 @@ class Run:
 
         return self.caller(fits)
 
+    def member(self, paper):
+        def fits(user):
+            return self.model.role_of(user) != "account" and paper.isdigit() and not self.model.conflicted(user, int(paper))
+
+        return self.caller(fits)
+
     def author(self, paper):
         return self.caller(lambda user: paper.isdigit() and user in self.model.authors(int(paper)))
 
     def deeds(self):
         """What is asked for, as often as the phase suggests."""
-        asked = ["page"] * 6 + ["me", "conflict", "content", "version", "member", "accounts", "phase", "back"]
+        asked = ["page"] * 6 + ["reviews", "comments"] * 3 + ["me", "conflict", "content", "version", "member", "accounts", "phase", "back", "tag"]
         if self.model.phase == "submission":
             return asked + ["submit"] * 6 + ["upload", "revise", "conflict"] * 3 + ["withdraw", "bid", "assign", "unassign"]
         if self.model.phase == "bidding":
-            return asked + ["bid", "assign"] * 5 + ["unassign", "conflict"] * 3 + ["submit", "upload", "revise", "withdraw"]
-        return asked + ["assign"] * 5 + ["unassign", "conflict"] * 3 + ["bid", "submit", "upload", "revise", "withdraw"]
+            return asked + ["bid", "assign", "tag"] * 5 + ["unassign", "conflict"] * 3 + ["submit", "upload", "revise", "withdraw", "review"]
+        if self.model.phase == "discussion":
+            return asked + ["review", "comment", "tag"] * 6 + ["assign", "unassign", "conflict"] * 2 + ["bid", "submit", "upload", "revise", "withdraw"]
+        return asked + ["review"] * 8 + ["assign", "tag"] * 4 + ["unassign", "conflict"] * 3 + ["bid", "submit", "upload", "revise", "withdraw", "comment"]
 
     def step(self):
         choose, p = self.random, self.paper()
@@ -115,6 +123,19 @@ class Run:
             self.ask(self.author(p), "DELETE", f"/papers/{p}")
         elif deed == "upload":
             self.ask(self.author(p), "PUT", f"/papers/{p}/content", "x" * choose.randint(0, 9))
+        elif deed == "review":
+            reviewer = self.caller(lambda user: p.isdigit() and self.model.seat_of(user, int(p)) is not None)
+            form = {"score": choose.randint(1, 5), "confidence": choose.randint(1, 5), "to_authors": choose.choice(["", "Good.", "Two\nlines."]), "to_pc": choose.choice(["", "ok"])}
+            self.ask(reviewer, "PUT", f"/papers/{p}/review", form)
+        elif deed == "comment":
+            self.ask(self.member(p), "POST", f"/papers/{p}/comments", {"text": choose.choice(["x", "Shall we?", "Übung"])})
+        elif deed == "tag":
+            tag = choose.choice(["hot", "a-1", "~hot", "~mine", "~~hot", "~~chairs"])
+            self.ask(self.member(p), choose.choice(["PUT", "PUT", "DELETE"]), f"/papers/{p}/tags/{tag}")
+        elif deed == "reviews":
+            self.ask(anybody, "GET", f"/papers/{p}/reviews")
+        elif deed == "comments":
+            self.ask(anybody, "GET", f"/papers/{p}/comments")
         elif deed == "content":
             self.ask(anybody, "GET", f"/papers/{p}/content")
         elif deed == "version":

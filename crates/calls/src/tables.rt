@@ -4,8 +4,12 @@ use cr_accounts::Accounts;
 use cr_assign::Seats;
 use cr_base::{Command, Entry, Order, Pair, PaperNo, Query, Reply, Short, Stamped, Tie, UserNo};
 use cr_conflicts::Ties;
+use cr_kept::Files;
 use cr_pairs::{IndexedPairs, PairMap};
 use cr_papers::Papers;
+use cr_reviews::Reviews;
+use cr_tags::{Tag, Tags};
+use cr_talk::Talk;
 use cr_view::Live;
 use std::alloc::{AllocError, Global};
 use std::test::Fail;
@@ -31,6 +35,10 @@ fn make_room(alloc: Global) -> Result<(), AllocError> {
     Papers::new(alloc).room(&group)?;
     Ties::new(alloc).room(&group)?;
     Seats::new(alloc).room(&group)?;
+    Reviews::new(alloc).room(&group)?;
+    Talk::new(alloc).room(&group)?;
+    Tags::new(alloc).room(&group)?;
+    Files::<i8>::new(alloc).room(1)?;
     PairMap::<i8>::new(alloc, Order::ByPaper).room(1)?;
     IndexedPairs::<i8>::new(alloc).room(1)
 }
@@ -69,6 +77,35 @@ fn values_of_pairs(rt: HostRuntime) -> Result<(), Fail> {
     let users = users_of_a_paper(rt.alloc())?;
     assert!(rt; users.as_slice() == [(2, 4), (9_999, -20)].as_slice());
     Ok(())
+}
+
+/// How many of her tags are told to alice, who has set two of which one is private, and turned the other off.
+fn tags_of_alice(alloc: Global) -> Result<usize, AllocError> {
+    let mut tags = Tags::new(alloc);
+    let maker = UserNo::new(1);
+    let paper = PaperNo::new(7);
+    for (bytes, on) in [
+        (b"~mine".as_slice(), true),
+        (b"hot".as_slice(), true),
+        (b"hot".as_slice(), false),
+    ] {
+        let Some(tag) = Tag::read(bytes) else {
+            return Ok(9);
+        };
+        let stamped = Stamped {
+            maker,
+            more: false,
+            entry: Entry::Tagged { paper, tag, on },
+        };
+        tags.room(&[alice()])?;
+        tags.apply(&stamped);
+    }
+    Ok(tags.tags_for(alloc, maker, paper, false)?.as_slice().len())
+}
+
+#[test]
+fn tags_that_are_on(rt: HostRuntime) {
+    assert!(rt; tags_of_alice(rt.alloc()) == Ok(1));
 }
 
 /// The tables where alice has registered.

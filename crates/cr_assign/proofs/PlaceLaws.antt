@@ -1,5 +1,5 @@
 -- The list of seats with one more at its place, or with one left where it stands.
-use Rattle.std.proofs.Common.{ℕ, Bool, true, false, cond, ◌≡◌, ◌≤◌, ◌<◌, ◌+◌, ◌-◌, List, [], ◌∷◌, ◌++◌, length, take, drop, get_or, set, insert, eqb, refl, sym, ap, ◌∙◌, arith, zero, suc, ◌&&◌}
+use Rattle.std.proofs.Common.{ℕ, Bool, true, false, cond, ◌≡◌, ◌≤◌, ◌<◌, ◌+◌, ◌-◌, List, [], ◌∷◌, ◌++◌, length, take, get_or, set, insert, eqb, refl, sym, ap, ◌∙◌, arith, zero, suc, ◌&&◌}
 use Rattle.std.specs.Prelude.{nat_le, nat_lt, not, map, filter}
 use Rattle.std.proofs.lemmas.Bool.{eq-eqb}
 use Rattle.std.proofs.lemmas.Bool.Decides.{nat_tests}
@@ -10,31 +10,12 @@ use Rattle.cr_base.specs.declared.seat.Seat.{Seat}
 use Rattle.cr_base.specs.Lists.{numbers_from}
 use Rattle.cr_base.specs.Pairs.{ties_of}
 use Rattle.cr_base.specs.Seats.{SeatsState, with_seat, vacated, is_seat, without_seat}
+use Rattle.cr_base.proofs.PartLaws.{halves}
 use Rattle.cr_base.proofs.SeatLaws.{left_at}
 use Rattle.cr_pairs.specs.Places.{RisesBy}
 use Rattle.cr_assign.specs.Places.{IsFrom}
 
 -- ---- one more
-
-module _ {A : Type 0} (test : A → Bool) where
-  -- what passes the test is all before a place, and what doesn't is all from there on
-  halves : (xs : List A) (place : ℕ) → place ≤ length xs → ((k : ℕ) (d : A) → k < place → test (get_or xs k d) ≡ true)
-      → ((k : ℕ) (d : A) → place ≤ k → k < length xs → test (get_or xs k d) ≡ false)
-      → (filter test xs ≡ take place xs) × (filter (λ x. not (test x)) xs ≡ drop place xs)
-  halves [] zero within low high = (refl, refl)
-  halves [] (suc place) within low high = absurd (omega arith)
-  halves (x ∷ xs) zero within low high =
-      let rest = halves xs zero (omega arith) (λ k d h. absurd (omega arith)) (λ k d h lt. high (suc k) d (omega arith) (omega arith)) in
-      let first : test x ≡ false = high 0 x (omega arith) (omega arith) in (
-        ap (λ b. cond b (x ∷ filter test xs) (filter test xs)) first ∙ rest.0,
-        ap (λ b. cond (not b) (x ∷ filter (λ y. not (test y)) xs) (filter (λ y. not (test y)) xs)) first ∙ ap (λ (ys : List A). x ∷ ys) rest.1,
-      )
-  halves (x ∷ xs) (suc place) within low high =
-      let rest = halves xs place (omega arith) (λ k d h. low (suc k) d (omega arith)) (λ k d h lt. high (suc k) d (omega arith) (omega arith)) in
-      let first : test x ≡ true = low 0 x (omega arith) in (
-        ap (λ b. cond b (x ∷ filter test xs) (filter test xs)) first ∙ ap (λ (ys : List A). x ∷ ys) rest.0,
-        ap (λ b. cond (not b) (x ∷ filter (λ y. not (test y)) xs) (filter (λ y. not (test y)) xs)) first ∙ rest.1,
-      )
 
 -- a paper has no higher number where it is below the next, and is none below where it isn't
 up-to : (n m : ℕ) → nat_lt n (m + 1) ≡ true → nat_le n m ≡ true

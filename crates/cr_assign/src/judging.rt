@@ -38,14 +38,15 @@ pub(crate) fn assign(
     Ok(Ordinal::new(labels + 1))
 }
 
-/// Taking off who reviews the paper under the ordinal `held`: that ordinal.
+/// Taking off who reviews the paper under the ordinal `held`, where no form is written under it: that ordinal.
 pub(crate) fn unassign(
     by: &Standing,
     withdrawn: bool,
+    has_form: bool,
     held: Option<Ordinal>,
 ) -> Result<Ordinal, Rule>
     ensures { result ≡ judged
-        (unassign_checks by.now (record { there = true; withdrawn = withdrawn }) (Some (target_with Account false held)))
+        (unassign_checks by.now (record { there = true; withdrawn = withdrawn }) (Some (target_with Account false held)) has_form)
         (unwrap_or held 0) }
 {
     match by.may_chair(withdrawn) {
@@ -53,6 +54,7 @@ pub(crate) fn unassign(
         Err(rule) => return Err(rule),
     }
     match held {
+        Some(_) if has_form => Err(Rule::HasReview),
         Some(ordinal) => Ok(ordinal),
         None => Err(Rule::NotAssigned),
     }

@@ -176,23 +176,25 @@ impl Seats {
     }
 
     /// Whether the caller may take this user off this paper, and then the ordinal under which she reviews
-    /// it; or the first broken rule. The parameters are those of `judge_assign`, and so is what it costs,
-    /// with one binary search and one walk.
+    /// it; or the first broken rule. The parameters are those of `judge_assign`, and `has_form`, whether a
+    /// form is written under the user's label, which stands in none of the seats either. It costs one binary
+    /// search and one walk.
     ///
     /// In this order: `NoPaper`, `NoUser`, `NotChair`, `Conflict`, `WrongPhase`, `Withdrawn`,
-    /// `NotAssigned`.
+    /// `NotAssigned`, `HasReview` where a form is written.
     pub fn judge_unassign(
         &self,
         by: &Standing,
         paper: &Option<PaperNo>,
         target: &Option<(UserNo, Role)>,
         withdrawn: bool,
+        has_form: bool,
         earlier: &[Stamped],
     ) -> Result<Ordinal, Rule>
         requires { SeatsFitInTurn self.now.seats earlier.now }
         ensures { let seats = seats_from self.now.seats earlier.now in
             result ≡ judged
-            (unassign_checks by.now (record { there = is_some paper.now; withdrawn = withdrawn }) (target_of seats false paper.now target.now))
+            (unassign_checks by.now (record { there = is_some paper.now; withdrawn = withdrawn }) (target_of seats false paper.now target.now) has_form)
             (held_at seats paper.now target.now) }
     {
         let Some(paper) = paper else {
@@ -202,7 +204,7 @@ impl Seats {
             return Err(Rule::NoUser);
         };
         let held = self.ordinal_behind(*user, *paper, earlier);
-        judging::unassign(by, withdrawn, held)
+        judging::unassign(by, withdrawn, has_form, held)
     }
 }
 

@@ -1,5 +1,5 @@
 -- What a list of checks answers.
-use Rattle.std.proofs.Common.{Bool, true, false, cond, ◌≡◌, List, [], ◌∷◌, ◌++◌, refl, ap, Result, Ok, Err}
+use Rattle.std.proofs.Common.{Bool, true, false, cond, ◌≡◌, List, [], ◌∷◌, ◌++◌, append-nil, refl, sym, ap, ◌∙◌, Result, Ok, Err}
 use Rattle.cr_base.specs.declared.reply.Rule.{Rule}
 use Rattle.cr_base.specs.Checks.{Check, ◌breaks◌, judged}
 
@@ -26,14 +26,20 @@ judged-none {A} (check ∷ checks) drawn none = by check.broken none.0 (judged-n
     by true h rest = cc
     by false h rest = rest
 
--- a broken rule is told whatever would be drawn
-pub judged-Err : {A B : Type 0} (checks : List Check) (x : A) (y : B) (rule : Rule) → ◌≡◌ {A = Result A Rule} (judged checks x) (Err rule) → ◌≡◌ {A = Result B Rule} (judged checks y) (Err rule)
-judged-Err [] x y rule h = cc
-judged-Err {A} {B} (check ∷ checks) x y rule h = by check.broken h (judged-Err checks x y rule)
+-- a broken rule is told whatever stands behind its checks, and whatever would be drawn
+pub judged-front : {A B : Type 0} (checks rest : List Check) (x : A) (y : B) (rule : Rule) → ◌≡◌ {A = Result A Rule} (judged checks x) (Err rule)
+    → ◌≡◌ {A = Result B Rule} (judged (checks ++ rest) y) (Err rule)
+judged-front [] rest x y rule h = cc
+judged-front {A} {B} (check ∷ checks) rest x y rule h = by check.broken h (judged-front checks rest x y rule)
   where
-    by : (b : Bool) → ◌≡◌ {A = Result A Rule} (cond b (Err check.rule) (judged checks x)) (Err rule) → (◌≡◌ {A = Result A Rule} (judged checks x) (Err rule) → ◌≡◌ {A = Result B Rule} (judged checks y) (Err rule)) → ◌≡◌ {A = Result B Rule} (cond b (Err check.rule) (judged checks y)) (Err rule)
-    by true h rest = let e : check.rule ≡ rule = cc in ap (λ (r : Rule). Err r) e
-    by false h rest = rest h
+    by : (b : Bool) → ◌≡◌ {A = Result A Rule} (cond b (Err check.rule) (judged checks x)) (Err rule)
+        → (◌≡◌ {A = Result A Rule} (judged checks x) (Err rule) → ◌≡◌ {A = Result B Rule} (judged (checks ++ rest) y) (Err rule))
+        → ◌≡◌ {A = Result B Rule} (cond b (Err check.rule) (judged (checks ++ rest) y)) (Err rule)
+    by true h deeper = let e : check.rule ≡ rule = cc in ap (λ (r : Rule). Err r) e
+    by false h deeper = deeper h
+
+pub judged-Err : {A B : Type 0} (checks : List Check) (x : A) (y : B) (rule : Rule) → ◌≡◌ {A = Result A Rule} (judged checks x) (Err rule) → ◌≡◌ {A = Result B Rule} (judged checks y) (Err rule)
+judged-Err {A} {B} checks x y rule h = ap (λ (cs : List Check). judged cs y) (sym (append-nil checks)) ∙ judged-front checks [] x y rule h
 
 -- what stands behind some checks is asked only where none of them is broken: so where that gives the same answer then, all of it does
 pub judged-behind : {A : Type 0} (before rest rest' : List Check) (x y : A) → (NoneBroken before → ◌≡◌ {A = Result A Rule} (judged rest x) (judged rest' y))

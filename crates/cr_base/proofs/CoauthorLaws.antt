@@ -73,7 +73,7 @@ users-within accounts names = users-each (HasAccount accounts) (lines_of account
 pub grouped-fits : (t : Tables) (maker : ℕ) (e : Entry) (es : List Entry) → Fits t (record { maker = maker; more = false; entry = e })
     → FitInTurn (tables_after t (record { maker = maker; more = false; entry = e })) (grouped maker es) → FitInTurn t (grouped maker (e ∷ es))
 grouped-fits t maker e [] fit rest = (fit, tt)
-grouped-fits t maker e (next ∷ es) fit rest = (record { accounts = fit.accounts; papers = fit.papers; ties = fit.ties; seats = fit.seats }, rest)
+grouped-fits t maker e (next ∷ es) fit rest = (record { accounts = fit.accounts; papers = fit.papers; ties = fit.ties; seats = fit.seats; reviews = fit.reviews; talk = fit.talk }, rest)
 
 -- these are the paper's authors
 abbrev AreAuthors : BareTies → ℕ → List ℕ → Type 0
@@ -122,7 +122,7 @@ coauthors-fit t maker paper these (user ∷ users) low last up are within =
     by true is same more = same
     by false is same more =
         grouped-fits t maker (Coauthor paper user) (added (besides (these ++ user ∷ []) users))
-        (record { accounts = within.0; papers = (low, last); ties = (up, are user ∙ is); seats = tt }) more
+        (record { accounts = within.0; papers = (low, last); ties = (up, are user ∙ is); seats = tt; reviews = tt; talk = tt }) more
 
 -- ---- a submission
 
@@ -155,7 +155,7 @@ submission-fits t maker paper title abstract users fits before within =
     let next = fits.0 in
     let n = length-append t.papers.papers (new_paper title abstract ∷ []) in
     grouped-fits t maker (Submitted paper title abstract) (map (λ (user : ℕ). Coauthor paper user) (besides (maker ∷ []) users))
-    (record { accounts = tt; papers = fits; ties = before; seats = tt })
+    (record { accounts = tt; papers = fits; ties = before; seats = tt; reviews = tt; talk = tt })
     (coauthors-fit (tables_after t (record { maker = maker; more = false; entry = Submitted paper title abstract })) maker paper (maker ∷ []) users (omega (arith, next)) (omega (arith, n, next))
     (all-push _ t.ties.authors (bare_tie paper maker) (up-to paper t.ties.authors before) (at_most paper))
     (authors-push t.ties.authors paper maker [] (λ v. none-before paper v t.ties.authors before)) within)

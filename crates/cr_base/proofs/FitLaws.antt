@@ -1,12 +1,14 @@
 -- The entries that a command draws fit the tables, each in its turn.
 use Rattle.std.proofs.Common.{ℕ, Bool, true, false, cond, ◌≡◌, ◌≤◌, ◌<◌, ◌+◌, ◌==◌, List, [], ◌∷◌, length, length-append, refl, sym, ap, subst, ◌∙◌, arith, Option, Some, None, is_some, Ok}
-use Rattle.std.specs.Prelude.{is_none, unwrap_or, not, nat_le, nat_lt, ◌||◌}
+use Rattle.std.specs.Prelude.{is_none, unwrap_or, not, nat_le, nat_lt, ◌||◌, map}
 use Rattle.std.specs.List.{flat_map, list_any}
 use Rattle.std.specs.Option.{option_map}
 use Rattle.std.proofs.lemmas.Bool.{leb-false, true≢false}
 use Rattle.std.proofs.lemmas.Bool.Decides.{nat_tests}
+use Rattle.std.proofs.lemmas.List.{append-nil, length-map}
+use Rattle.cr_base.specs.History.{FormTold}
 use Rattle.cr_base.specs.declared.command.Command.{Command}
-use Rattle.cr_base.specs.declared.command.Command.TheVariants.{Register, SetPhase, Submit, Revise, Upload, Withdraw, Name, SetMode, SetConflict, Bid, Assign, Unassign}
+use Rattle.cr_base.specs.declared.command.Command.TheVariants.{Register, SetPhase, Submit, Revise, Upload, Withdraw, Name, SetMode, SetConflict, Bid, Assign, Unassign, Review, Comment, Tag}
 use Rattle.cr_base.specs.declared.entry.Account.{Account}
 use Rattle.cr_base.specs.declared.entry.Entry.TheVariants.{Registered, Named}
 use Rattle.cr_base.specs.declared.target.Target.{Target}
@@ -15,14 +17,18 @@ use Rattle.cr_base.specs.declared.words.Role.TheVariants as roles
 use Rattle.cr_base.specs.Accounts.{number_at, lines_of}
 use Rattle.cr_base.specs.Checks.{NamedPaper, of_role, register_checks, phase_checks, submit_checks, revise_checks, upload_checks}
 use Rattle.cr_base.specs.Checks.{name_checks, mode_checks, conflict_checks, bid_checks, assign_checks, unassign_checks, target_is}
+use Rattle.cr_base.specs.Checks.{review_checks, comment_checks, tag_checks}
 use Rattle.cr_base.specs.Drawn.{Drawn, grouped, registration, registration_drawn, phase_drawn, submission_drawn, revision_drawn, upload_drawn}
-use Rattle.cr_base.specs.Drawn.{withdrawal_drawn, naming_drawn, mode_drawn, conflict_drawn, bid_drawn, assignment_drawn, unassignment_drawn}
+use Rattle.cr_base.specs.Drawn.{withdrawal_drawn, naming_drawn, mode_drawn, conflict_drawn, bid_drawn, assignment_drawn, unassignment_drawn, review_drawn, comment_drawn, tag_drawn}
 use Rattle.cr_base.specs.Judging.{judge_by_role}
-use Rattle.cr_base.specs.Sources.{Facts, standing_at, facts_of_tables, shown_in_tables, user_among, users_among, role_among, has_paper, maker_of, paper_named, target_named}
+use Rattle.cr_base.specs.Sources.{Facts, own_forms_in, standing_at, facts_of_tables, shown_in_tables, user_among, users_among, role_among, has_paper, maker_of, paper_named, target_named}
 use Rattle.cr_base.specs.Papers.{paper_count, paper_numbers, uploads_at, own_count, own_bytes}
-use Rattle.cr_base.specs.Lists.{listed, is_number}
+use Rattle.cr_base.specs.Lists.{listed, is_number, at_some}
 use Rattle.cr_base.specs.Pairs.{users_tied_to}
+use Rattle.cr_base.specs.Reviews.{forms_in, is_written_in, written_told}
 use Rattle.cr_base.specs.Seats.{labels_in, seat_in}
+use Rattle.cr_base.specs.TagTexts.{is_for_chairs}
+use Rattle.cr_base.specs.Talk.{comments_in, comment_as_told, own_comments_in}
 use Rattle.cr_base.specs.Tables.{Tables, FitInTurn}
 use Rattle.cr_base.specs.Ties.{authors_in, AreWithin}
 use Rattle.cr_base.proofs.AccountLaws.{judge_by_role-register, registration-fits}
@@ -41,8 +47,8 @@ registration-in_turn t user name digest fits = by (user == 1)
     by true =
         let added : Account = record { name = name; digest = digest; role = roles.Account } in
         let n = length-append t.accounts (added ∷ []) in
-        (record { accounts = fits; papers = tt; ties = tt; seats = tt }, (record { accounts = (omega (arith, fits.0), omega (arith, n, fits.0)); papers = tt; ties = tt; seats = tt }, tt))
-    by false = (record { accounts = fits; papers = tt; ties = tt; seats = tt }, tt)
+        (record { accounts = fits; papers = tt; ties = tt; seats = tt; reviews = tt; talk = tt }, (record { accounts = (omega (arith, fits.0), omega (arith, n, fits.0)); papers = tt; ties = tt; seats = tt; reviews = tt; talk = tt }, tt))
+    by false = (record { accounts = fits; papers = tt; ties = tt; seats = tt; reviews = tt; talk = tt }, tt)
 
 -- a user named among the lines has an account
 target-in : (t : Tables) (target : Option ℕ) (asked : Role → Target) → is_none (option_map asked (role_among (lines_of t.accounts) target)) ≡ false
@@ -91,6 +97,28 @@ seat-there : (t : Tables) (target : Option ℕ) (p : ℕ) → is_some (seat_in t
 seat-there t None p h asked user = absurd (true≢false user)
 seat-there t (Some v) p h asked user = some-where (seat_in t.seats (Some v) p) h
 
+-- ---- the forms under the caller's own label
+
+-- the forms that are her own are as many as those under the label that she has
+own_forms-count : (t : Tables) (user : Option ℕ) (p o : ℕ) → seat_in t.seats user p ≡ Some o
+    → length (own_forms_in t user p) ≡ length (forms_in t.reviews p o)
+own_forms-count t user p o h =
+    let forms : ℕ → List FormTold = λ o. map written_told (forms_in t.reviews p o) in
+    ap (λ (seat : Option ℕ). length (flat_map forms (listed seat))) h
+    ∙ ap length (append-nil (forms o))
+    ∙ length-map (forms_in t.reviews p o) written_told
+
+-- a reviewer of the paper that is there has a seat
+own-seat : (t : Tables) (user paper : Option ℕ) → not (has_paper (facts_of_tables t user) paper) ≡ false
+    → not (standing_at t user paper).reviewer ≡ false
+    → seat_in t.seats user (unwrap_or paper 0) ≡ Some (unwrap_or (seat_in t.seats user (unwrap_or paper 0)) 0)
+own-seat t user None there reviews = absurd (true≢false there)
+own-seat t user (Some p) there reviews = some-where (seat_in t.seats user p) (by (is_some (seat_in t.seats user p)) reviews)
+  where
+    by : (b : Bool) → not b ≡ false → b ≡ true
+    by true h = refl
+    by false h = absurd (true≢false h)
+
 -- where the papers that have ties are there
 module _ (t : Tables) (within : AreWithin (paper_count t.papers) t.ties) (maker : ℕ) where
   -- the paper that is named, as the rules ask of it
@@ -106,7 +134,7 @@ module _ (t : Tables) (within : AreWithin (paper_count t.papers) t.ties) (maker 
       subst (λ (d : Drawn). FitInTurn t d.group) k.1 (registration-in_turn t (n + 1) name digest (registration-fits t.accounts name digest (n + 1) (sym (judged-none checks (n + 1) k.0))))
   judged-fits (SetPhase to) drawn accepted =
       let k = judged-Ok (phase_checks (standing_at t (Some maker) None) t.stage.phase to) (phase_drawn maker to) drawn accepted in
-      subst (λ (d : Drawn). FitInTurn t d.group) k.1 (record { accounts = tt; papers = tt; ties = tt; seats = tt }, tt)
+      subst (λ (d : Drawn). FitInTurn t d.group) k.1 (record { accounts = tt; papers = tt; ties = tt; seats = tt; reviews = tt; talk = tt }, tt)
   judged-fits (Submit title abstract authors) drawn accepted =
       let n : ℕ = length (paper_numbers t.papers) in
       let users : List (Option ℕ) = users_among (lines_of t.accounts) authors in
@@ -121,7 +149,7 @@ module _ (t : Tables) (within : AreWithin (paper_count t.papers) t.ties) (maker 
       (within-before (paper_count t.papers) (n + 1) (ap (λ m. m + 1) same) t.ties.authors within.authors) (users-within t.accounts authors))
   judged-fits (Revise paper title abstract) drawn accepted =
       let k = judged-Ok (revise_checks (standing_at t (Some maker) paper) (named paper)) (revision_drawn maker (unwrap_or paper 0) title abstract) drawn accepted in
-      subst (λ (d : Drawn). FitInTurn t d.group) k.1 (record { accounts = tt; papers = paper_within t.papers.papers paper k.0.0; ties = tt; seats = tt }, tt)
+      subst (λ (d : Drawn). FitInTurn t d.group) k.1 (record { accounts = tt; papers = paper_within t.papers.papers paper k.0.0; ties = tt; seats = tt; reviews = tt; talk = tt }, tt)
   judged-fits (Upload paper content) drawn accepted =
       let own : ℕ = own_bytes t.papers (Some maker) in
       let p : ℕ = unwrap_or paper 0 in
@@ -129,20 +157,20 @@ module _ (t : Tables) (within : AreWithin (paper_count t.papers) t.ties) (maker 
       (upload_checks (standing_at t (Some maker) paper) (named paper) own (length content))
       (upload_drawn maker p (length (uploads_at t.papers p) + 1) content) drawn accepted in
       subst (λ (d : Drawn). FitInTurn t d.group) k.1
-      (record { accounts = tt; papers = (paper_within t.papers.papers paper k.0.0, refl, not-past 67108864 (own + length content) k.0.1.1.1.1.0); ties = tt; seats = tt }, tt)
+      (record { accounts = tt; papers = (paper_within t.papers.papers paper k.0.0, refl, not-past 67108864 (own + length content) k.0.1.1.1.1.0); ties = tt; seats = tt; reviews = tt; talk = tt }, tt)
     where
       not-past : (most n : ℕ) → nat_lt most n ≡ false → n ≤ most
       not-past most n h = grind (arith, nat_tests, h)
   judged-fits (Withdraw paper) drawn accepted =
       let k = judged-Ok (revise_checks (standing_at t (Some maker) paper) (named paper)) (withdrawal_drawn maker (unwrap_or paper 0)) drawn accepted in
-      subst (λ (d : Drawn). FitInTurn t d.group) k.1 (record { accounts = tt; papers = paper_within t.papers.papers paper k.0.0; ties = tt; seats = tt }, tt)
+      subst (λ (d : Drawn). FitInTurn t d.group) k.1 (record { accounts = tt; papers = paper_within t.papers.papers paper k.0.0; ties = tt; seats = tt; reviews = tt; talk = tt }, tt)
   judged-fits (Name name role) drawn accepted =
       let target : Option ℕ = user_among (lines_of t.accounts) name in
       let k = judged-Ok (name_checks (standing_at t (Some maker) None) (option_map of_role (role_among (lines_of t.accounts) target)) role) (naming_drawn maker (unwrap_or target 0) (unwrap_or name []) role) drawn accepted in
-      subst (λ (d : Drawn). FitInTurn t d.group) k.1 (record { accounts = target-in t target of_role k.0.0; papers = tt; ties = tt; seats = tt }, tt)
+      subst (λ (d : Drawn). FitInTurn t d.group) k.1 (record { accounts = target-in t target of_role k.0.0; papers = tt; ties = tt; seats = tt; reviews = tt; talk = tt }, tt)
   judged-fits (SetMode to) drawn accepted =
       let k = judged-Ok (mode_checks (standing_at t (Some maker) None) t.stage.phase) (mode_drawn maker to) drawn accepted in
-      subst (λ (d : Drawn). FitInTurn t d.group) k.1 (record { accounts = tt; papers = tt; ties = tt; seats = tt }, tt)
+      subst (λ (d : Drawn). FitInTurn t d.group) k.1 (record { accounts = tt; papers = tt; ties = tt; seats = tt; reviews = tt; talk = tt }, tt)
   judged-fits (SetConflict paper name on) drawn accepted =
       let facts : Facts = facts_of_tables t (Some maker) in
       let target : Option ℕ = user_among (lines_of t.accounts) name in
@@ -150,10 +178,10 @@ module _ (t : Tables) (within : AreWithin (paper_count t.papers) t.ties) (maker 
       (conflict_checks (standing_at t (Some maker) paper) (paper_named facts (shown_in_tables t) paper) (target_named facts (shown_in_tables t) (Some maker) paper target) on)
       (conflict_drawn maker (unwrap_or paper 0) (unwrap_or target 0) on) drawn accepted in
       let there = paper_within t.papers.papers paper k.0.0 in
-      subst (λ (d : Drawn). FitInTurn t d.group) k.1 (record { accounts = target-in t target _ k.0.1.0; papers = there; ties = tt; seats = tt }, tt)
+      subst (λ (d : Drawn). FitInTurn t d.group) k.1 (record { accounts = target-in t target _ k.0.1.0; papers = there; ties = tt; seats = tt; reviews = tt; talk = tt }, tt)
   judged-fits (Bid paper value) drawn accepted =
       let k = judged-Ok (bid_checks (standing_at t (Some maker) paper) (named paper)) (bid_drawn maker (unwrap_or paper 0) value) drawn accepted in
-      subst (λ (d : Drawn). FitInTurn t d.group) k.1 (record { accounts = tt; papers = paper_within t.papers.papers paper k.0.0; ties = tt; seats = tt }, tt)
+      subst (λ (d : Drawn). FitInTurn t d.group) k.1 (record { accounts = tt; papers = paper_within t.papers.papers paper k.0.0; ties = tt; seats = tt; reviews = tt; talk = tt }, tt)
   judged-fits (Assign paper name kind) drawn accepted =
       let target : Option ℕ = user_among (lines_of t.accounts) name in
       let p : ℕ = unwrap_or paper 0 in
@@ -165,7 +193,7 @@ module _ (t : Tables) (within : AreWithin (paper_count t.papers) t.ties) (maker 
       let user = target-in t target _ k.0.1.0 in
       let free = none-where (seat_in t.seats (Some (unwrap_or target 0)) p) (seat-named t (Some maker) paper target false k.0.1.0 k.0.0 k.0.1.1.1.1.1.1.1.1.0) in
       subst (λ (d : Drawn). FitInTurn t d.group) k.1
-      (record { accounts = user; papers = there; ties = tt; seats = (refl, few labels k.0.1.1.1.1.1.1.1.1.1.0, free) }, tt)
+      (record { accounts = user; papers = there; ties = tt; seats = (refl, few labels k.0.1.1.1.1.1.1.1.1.1.0, free); reviews = tt; talk = tt }, tt)
     where
       few : (n : ℕ) → nat_le 26 n ≡ false → n + 1 ≤ 26
       few n h = grind (arith, nat_tests, h)
@@ -173,13 +201,37 @@ module _ (t : Tables) (within : AreWithin (paper_count t.papers) t.ties) (maker 
       let target : Option ℕ = user_among (lines_of t.accounts) name in
       let p : ℕ = unwrap_or paper 0 in
       let k = judged-Ok
-      (unassign_checks (standing_at t (Some maker) paper) (named paper) (target_named (facts_of_tables t (Some maker)) (shown_in_tables t) (Some maker) paper target))
+      (unassign_checks (standing_at t (Some maker) paper) (named paper) (target_named (facts_of_tables t (Some maker)) (shown_in_tables t) (Some maker) paper target)
+      (at_some (is_written_in t.reviews p) (seat_in t.seats target p)))
       (unassignment_drawn maker p (unwrap_or target 0) (unwrap_or (seat_in t.seats target p) 0)) drawn accepted in
       let there = paper_within t.papers.papers paper k.0.0 in
       let user = target-in t target _ k.0.1.0 in
       let taken = seat-there t target p (seat-named t (Some maker) paper target true k.0.1.0 k.0.0 (not-false _ k.0.1.1.1.1.1.1.0)) _ k.0.1.0 in
-      subst (λ (d : Drawn). FitInTurn t d.group) k.1 (record { accounts = user; papers = there; ties = tt; seats = taken }, tt)
+      subst (λ (d : Drawn). FitInTurn t d.group) k.1 (record { accounts = user; papers = there; ties = tt; seats = taken; reviews = tt; talk = tt }, tt)
     where
       not-false : (b : Bool) → not b ≡ false → b ≡ true
       not-false true h = refl
       not-false false h = absurd (true≢false h)
+  judged-fits (Review paper form) drawn accepted =
+      let p : ℕ = unwrap_or paper 0 in
+      let ordinal : ℕ = unwrap_or (seat_in t.seats (Some maker) p) 0 in
+      let k = judged-Ok
+      (review_checks (standing_at t (Some maker) paper) (named paper))
+      (review_drawn maker p ordinal (length (own_forms_in t (Some maker) p) + 1) form) drawn accepted in
+      let there = paper_within t.papers.papers paper k.0.0 in
+      let next = ap (λ (n : ℕ). n + 1) (own_forms-count t (Some maker) p ordinal (own-seat t (Some maker) paper k.0.0 k.0.1.1.1.0)) in
+      subst (λ (d : Drawn). FitInTurn t d.group) k.1 (record { accounts = tt; papers = there; ties = tt; seats = tt; reviews = next; talk = tt }, tt)
+  judged-fits (Comment paper text) drawn accepted =
+      let p : ℕ = unwrap_or paper 0 in
+      let own : ℕ = own_comments_in t.talk (Some maker) in
+      let k = judged-Ok
+      (comment_checks (standing_at t (Some maker) paper) (named paper) own)
+      (comment_drawn maker p (length (map comment_as_told (comments_in t.talk p)) + 1) (seat_in t.seats (Some maker) p) text) drawn accepted in
+      let there = paper_within t.papers.papers paper k.0.0 in
+      let next = ap (λ (n : ℕ). n + 1) (length-map (comments_in t.talk p) comment_as_told) in
+      subst (λ (d : Drawn). FitInTurn t d.group) k.1
+      (record { accounts = tt; papers = there; ties = tt; seats = tt; reviews = tt; talk = (next, leb-false 1000 own k.0.1.1.1.1.1.0) }, tt)
+  judged-fits (Tag paper tag on) drawn accepted =
+      let k = judged-Ok (tag_checks (standing_at t (Some maker) paper) (named paper) (is_for_chairs tag)) (tag_drawn maker (unwrap_or paper 0) tag on) drawn accepted in
+      let there = paper_within t.papers.papers paper k.0.0 in
+      subst (λ (d : Drawn). FitInTurn t d.group) k.1 (record { accounts = tt; papers = there; ties = tt; seats = tt; reviews = tt; talk = tt }, tt)

@@ -1,7 +1,8 @@
 -- The last of the values that are told.
-use Rattle.std.proofs.Common.{Bool, true, false, cond, ◌≡◌, List, [], ◌∷◌, ◌++◌, refl, Option, Some}
-use Rattle.std.specs.Prelude.{unwrap_or}
-use Rattle.cr_base.specs.Lists.{given, last_from, last_or}
+use Rattle.std.proofs.Common.{Bool, true, false, cond, ◌≡◌, List, [], ◌∷◌, ◌++◌, refl, Option, Some, None}
+use Rattle.std.specs.Prelude.{unwrap_or, map}
+use Rattle.std.specs.Option.{option_map}
+use Rattle.cr_base.specs.Lists.{given, listed, is_nothing, last_from, last_or}
 
 -- ---- the last, or another
 
@@ -22,3 +23,20 @@ last_or-given false x y xs = refl
 pub last_from-given : {A : Type 0} (b : Bool) (x : A) (o : Option A) (rest : List A) → last_from o (given b x ++ rest) ≡ last_from (cond b (Some x) o) rest
 last_from-given true x o rest = refl
 last_from-given false x o rest = refl
+
+-- ---- what is made of values
+
+-- its last is made of their last
+pub last_from-map : {A B : Type 0} (f : A → B) (o : Option A) (xs : List A) → last_from (option_map f o) (map f xs) ≡ option_map f (last_from o xs)
+last_from-map f o [] = refl
+last_from-map f o (x ∷ xs) = last_from-map f (Some x) xs
+
+-- the same of one that may not be there
+pub listed-map : {A B : Type 0} (f : A → B) (o : Option A) → listed (option_map f o) ≡ map f (listed o)
+listed-map f None = refl
+listed-map f (Some x) = refl
+
+-- and there is nothing where there are none
+pub is_nothing-map : {A B : Type 0} (f : A → B) (xs : List A) → is_nothing (map f xs) ≡ is_nothing xs
+is_nothing-map f [] = refl
+is_nothing-map f (x ∷ xs) = refl

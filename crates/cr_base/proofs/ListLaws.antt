@@ -3,16 +3,22 @@ use Rattle.std.proofs.Common.{ℕ, Bool, true, false, cond, ◌≡◌, ◌≤◌
 use Rattle.std.specs.Prelude.{nat_le}
 use Rattle.std.specs.List.{slice_get, list_any, find}
 use Rattle.std.specs.Option.{option_map, option_and_then}
+use Rattle.std.proofs.lemmas.Bool.{eqb-true, false≢true}
 use Rattle.std.proofs.lemmas.Bool.Decides.{nat_tests}
 use Rattle.cr_base.specs.declared.entry.Account.{Account}
 use Rattle.cr_base.specs.declared.reply.AccountLine.{AccountLine}
 use Rattle.cr_base.specs.Accounts.{lines_from, lines_of, account_at, role_at}
 use Rattle.cr_base.specs.Sources.{name_in, role_among}
-use Rattle.cr_base.specs.Lists.{numbered, numbers_from}
+use Rattle.cr_base.specs.Lists.{is_number, numbered, numbers_from}
 
 -- two numbers are compared either way
 pub turned : (n m : ℕ) → eqb n m ≡ eqb m n
 turned n m = grind (arith, nat_tests)
+
+-- a number that is there and is this one
+pub number-is : (u : Option ℕ) (n : ℕ) → is_number u n ≡ true → u ≡ Some n
+number-is None n is = absurd (false≢true is)
+number-is (Some m) n is = ap (λ k. Some k) (eqb-true m n is)
 
 -- ---- elements by number
 

@@ -13,6 +13,7 @@ use Rattle.cr_base.specs.Lists.{IsRising, numbers_from}
 use Rattle.cr_base.specs.Pairs.{leads, follows, paired, comes_before, stands, IsSortedBy, IsAscending, has_pair, ties_of, others_of}
 use Rattle.cr_base.proofs.ListLaws.{list_any-numbers_from}
 use Rattle.cr_base.proofs.PairLaws.{list_any-others_of}
+use Rattle.cr_base.proofs.SortedLists.{sorted-filter}
 use Rattle.std.proofs.lemmas.Map.Views.{any-filter_same}
 
 -- the number is in the list
@@ -87,25 +88,6 @@ pub rising-numbers_from : {A : Type 0} (n : ℕ) (xs : List A) → IsRising (num
 rising-numbers_from n [] = tt
 rising-numbers_from n (x ∷ xs) = (above-numbers_from n (n + 1) xs (omega arith), rising-numbers_from (n + 1) xs)
 
--- those of which something holds
-above-filter : (m : ℕ) (test : ℕ → Bool) (xs : List ℕ) → list_all (nat_lt m) xs ≡ true → list_all (nat_lt m) (filter test xs) ≡ true
-above-filter m test [] all = refl
-above-filter m test (x ∷ xs) all =
-    let parts = and_parts (nat_lt m x) (list_all (nat_lt m) xs) all in
-    by (test x) (above-filter m test xs parts.1) parts.0
-  where
-    by : (b : Bool) → list_all (nat_lt m) (filter test xs) ≡ true → nat_lt m x ≡ true → list_all (nat_lt m) (cond b (x ∷ filter test xs) (filter test xs)) ≡ true
-    by true rest less = ap (λ b. b && list_all (nat_lt m) (filter test xs)) less ∙ rest
-    by false rest less = rest
-
-pub rising-filter : (test : ℕ → Bool) (xs : List ℕ) → IsRising xs → IsRising (filter test xs)
-rising-filter test [] rising = tt
-rising-filter test (x ∷ xs) rising = by (test x) (rising-filter test xs rising.1)
-  where
-    by : (b : Bool) → IsRising (filter test xs) → IsRising (cond b (x ∷ filter test xs) (filter test xs))
-    by true rest = (above-filter x test xs rising.0, rest)
-    by false rest = rest
-
 -- the other numbers of ties with the same number, where they rise from each tie to those behind it
 module _ {V : Type 0} (before : Pair → Pair → Bool) (order : Order) (n : ℕ) (rises : (p q : Pair) → eqb n (leads order p) ≡ true → eqb n (leads order q) ≡ true → before p q ≡ true → nat_lt (follows order p) (follows order q) ≡ true) where
   above-others_of : (p : Pair) (ts : List (Tie V)) → eqb n (leads order p) ≡ true → list_all (stands before p) ts ≡ true → list_all (nat_lt (follows order p)) (others_of order n ts) ≡ true
@@ -161,7 +143,7 @@ inside v n false h = refl
 pub numbers-others_of : {A V : Type 0} (test : ℕ → Bool) (order : Order) (n : ℕ) (xs : List A) (ts : List (Tie V)) → IsRising (others_of order n ts) → ((m : ℕ) → has_pair (paired order n m) ts ≡ true → (1 ≤ m) × (m ≤ length xs)) → ((m : ℕ) → test m ≡ has_pair (paired order n m) ts) → filter test (numbers_from 1 xs) ≡ others_of order n ts
 numbers-others_of test order n xs ts rising within same =
     let ns : List ℕ = numbers_from 1 xs in
-    rising-same (filter test ns) (others_of order n ts) (rising-filter test ns (rising-numbers_from 1 xs)) rising
+    rising-same (filter test ns) (others_of order n ts) (sorted-filter nat_lt test ns (rising-numbers_from 1 xs)) rising
     (λ m.
     any-filter_same (eqb m) test (test m) (λ k is. ap test (sym (eqb-true m k is))) ns
     ∙ ap (λ b. b && has_number m ns) (same m)

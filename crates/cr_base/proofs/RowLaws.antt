@@ -4,12 +4,12 @@ use Rattle.std.proofs.lemmas.Bool.Decides.{nat_tests}
 use Rattle.std.proofs.lemmas.List.{drop-replicate}
 use Rattle.std.proofs.lemmas.Slice.{drop-append-drop}
 use Rattle.cr_base.specs.Words.{phase_number, phase_numbered, mode_number, mode_numbered, role_number, role_numbered, seat_number, seat_numbered}
-use Rattle.cr_base.specs.Shapes.{FitsShape, HasText, InRange, IsAtMost, unused}
-use Rattle.cr_base.specs.Rows.{kind_number, shape_of, kind_of, row_of, built, stamped, IsBoundedEntry}
+use Rattle.cr_base.specs.Shapes.{FitsShape, HasText, InRange, IsAtMost, unused, some_ordinal_range}
+use Rattle.cr_base.specs.Rows.{kind_number, label_number, label_numbered, shape_of, kind_of, row_of, built, stamped, IsBoundedEntry}
 use Rattle.cr_base.specs.declared.entry.EntryKind.{EntryKind}
 use Rattle.cr_base.specs.declared.entry.EntryKind.TheVariants as kind
 use Rattle.cr_base.specs.declared.entry.Entry.{Entry}
-use Rattle.cr_base.specs.declared.entry.Entry.TheVariants.{Named, PhaseSet, ModeSet, Conflict, Assigned}
+use Rattle.cr_base.specs.declared.entry.Entry.TheVariants.{Named, PhaseSet, ModeSet, Conflict, Assigned, Commented, Tagged}
 use Rattle.cr_base.specs.declared.entry.Stamped.{Stamped}
 use Rattle.cr_base.specs.declared.words.Kind.{Kind}
 use Rattle.cr_base.specs.declared.words.Kind.TheVariants.{Primary, Secondary, Pc}
@@ -87,6 +87,22 @@ bit-back : (o : Bool) → (cond o 1 0 == 1) ≡ o
 bit-back true = refl
 bit-back false = refl
 
+label_number-cond : (b : Bool) (x y : Option ℕ) → label_number (cond b x y) ≡ cond b (label_number x) (label_number y)
+label_number-cond true x y = refl
+label_number-cond false x y = refl
+
+label_number-numbered : (n : ℕ) → label_number (label_numbered n) ≡ n
+label_number-numbered n = simp label_number-cond (grind (arith, nat_tests))
+
+-- where a label is there, its ordinal isn't 0
+label_numbered-number : (x : Option ℕ) → InRange some_ordinal_range (label_number x) → label_numbered (label_number x) ≡ x
+label_numbered-number None h = refl
+label_numbered-number (Some n) h = by (n == 0) refl h
+  where
+    by : (b : Bool) → (n == 0) ≡ b → InRange some_ordinal_range (cond b 27 n) → label_numbered (cond b 27 n) ≡ Some n
+    by true is h = absurd (omega (arith, h.1))
+    by false is h = ap (λ (c : Bool). cond c None (Some n)) is
+
 unused-zero : (n : ℕ) → InRange unused n → 0 ≡ n
 unused-zero n h = omega arith
 
@@ -134,6 +150,7 @@ row_of-stamped kind.Named r hk f = same_row r kind.Named _ _ _ _ _ _ _ hk f (unu
 row_of-stamped kind.PhaseSet r hk f = same_row r kind.PhaseSet _ _ _ _ _ _ _ hk f (unused-zero _ f.n4) (unused-zero _ f.n5) (phase_number-numbered r.n1 f.n1.1) (unused-zero _ f.n2) (unused-zero _ f.n3) (sym f.b1) (sym f.b2)
 row_of-stamped kind.ModeSet r hk f = same_row r kind.ModeSet _ _ _ _ _ _ _ hk f (unused-zero _ f.n4) (unused-zero _ f.n5) (mode_number-numbered r.n1 f.n1.1) (unused-zero _ f.n2) (unused-zero _ f.n3) (sym f.b1) (sym f.b2)
 row_of-stamped kind.Assigned r hk f = same_row r kind.Assigned _ _ _ _ _ _ _ hk f refl (unused-zero _ f.n5) refl refl (seat_number-numbered r.n3 f.n3.0 f.n3.1) (sym f.b1) (sym f.b2)
+row_of-stamped kind.Commented r hk f = same_row r kind.Commented _ _ _ _ _ _ _ hk f (unused-zero _ f.n4) (unused-zero _ f.n5) refl refl (label_number-numbered r.n3) refl (sym f.b2)
 row_of-stamped k r hk f =
     let s : Shape = shape_of k in
     same_row r k _ _ _ _ _ _ _ hk f (plain-is s.n4 r.n4 f.n4) (plain-is s.n5 r.n5 f.n5) (plain-is s.n1 r.n1 f.n1) (plain-is s.n2 r.n2 f.n2) (plain-is s.n3 r.n3 f.n3) (plain_text-is s.b1 r.b1 f.b1) (plain_text-is s.b2 r.b2 f.b2)
@@ -145,6 +162,8 @@ built-row_of (PhaseSet phase) m o h = ap (λ x. PhaseSet x) (phase_numbered-numb
 built-row_of (ModeSet mode) m o h = ap (λ x. ModeSet x) (mode_numbered-number mode)
 built-row_of (Conflict paper user on) m o h = ap (λ x. Conflict paper user x) (bit-back on)
 built-row_of (Assigned paper user seat ordinal) m o h = ap (λ x. Assigned paper user x ordinal) (seat_numbered-number seat)
+built-row_of (Commented paper n ordinal text) m o h = ap (λ x. Commented paper n x text) (label_numbered-number ordinal h.n3)
+built-row_of (Tagged paper tag on) m o h = ap (λ x. Tagged paper tag x) (bit-back on)
 built-row_of e m o h = refl
 
 restamp : (s : Stamped) (p : Bool) (f : Entry) → p ≡ s.more → f ≡ s.entry → ◌≡◌ {A = Stamped} (record { maker = s.maker; more = p; entry = f }) s

@@ -22,38 +22,24 @@ use Rattle.cr_base.specs.Pairs.{ties_of}
 use Rattle.cr_base.specs.Papers.{PapersState, new_paper, with_texts, as_withdrawn, papers_after, paper_count, PapersFit}
 use Rattle.cr_base.specs.Seats.{SeatsState, seat_tie, with_seat, vacated, is_seat, without_seat, seats_after, labels_in, seats_taken, seat_in, SeatsFit, AreOfDifferentUsers, SeatsInOrder}
 use Rattle.cr_base.specs.Ties.{are_within}
-use Rattle.cr_base.proofs.ListLaws.{turned, numbers_from-push}
+use Rattle.cr_base.proofs.FiledLaws.{of-inserted}
+use Rattle.cr_base.proofs.ListLaws.{turned, number-is, numbers_from-push}
 use Rattle.cr_base.proofs.PaperLaws.{length-with_paper}
 use Rattle.cr_base.proofs.RisingLists.{rising-numbers_from}
+use Rattle.cr_base.proofs.SortedLists.{list_all-filter, list_all-append}
 use Rattle.cr_base.proofs.TargetLaws.{paper_within}
 use Rattle.cr_base.proofs.TieLaws.{within-more, in_range}
 
 -- ---- which papers have seats
-
-within-filter : (n : ℕ) (test : Tie Seat → Bool) (ts : SeatsState) → are_within n ts ≡ true → are_within n (filter test ts) ≡ true
-within-filter n test [] all = refl
-within-filter n test (t ∷ ts) all =
-    let parts = and_parts (nat_le 1 t.pair.paper && nat_le t.pair.paper n) (are_within n ts) all in
-    by (test t) parts.0 (within-filter n test ts parts.1)
-  where
-    by : (b : Bool) → (nat_le 1 t.pair.paper && nat_le t.pair.paper n) ≡ true → are_within n (filter test ts) ≡ true
-        → are_within n (cond b (t ∷ filter test ts) (filter test ts)) ≡ true
-    by true first rest = both_true first rest
-    by false first rest = rest
-
-within-append : (n : ℕ) (ts us : SeatsState) → are_within n ts ≡ true → are_within n us ≡ true → are_within n (ts ++ us) ≡ true
-within-append n [] us all behind = behind
-within-append n (t ∷ ts) us all behind =
-    let parts = and_parts (nat_le 1 t.pair.paper && nat_le t.pair.paper n) (are_within n ts) all in
-    both_true parts.0 (within-append n ts us parts.1 behind)
 
 within-with_seat : (n : ℕ) (s : Tie Seat) (ts : SeatsState) → 1 ≤ s.pair.paper → s.pair.paper ≤ n → are_within n ts ≡ true → are_within n (with_seat s ts)
     ≡ true
 within-with_seat n s ts low high all =
     let upto : Tie Seat → Bool = λ t. nat_le t.pair.paper s.pair.paper in
     let behind : Tie Seat → Bool = λ t. not (nat_le t.pair.paper s.pair.paper) in
-    within-append n (filter upto ts) (s ∷ filter behind ts) (within-filter n upto ts all)
-    (both_true (in_range n s.pair.paper low high) (within-filter n behind ts all))
+    let within : Tie Seat → Bool = λ t. nat_le 1 t.pair.paper && nat_le t.pair.paper n in
+    list_all-append within (filter upto ts) (s ∷ filter behind ts) (list_all-filter within upto ts all)
+    (both_true (in_range n s.pair.paper low high) (list_all-filter within behind ts all))
 
 within-without_seat : (n paper ordinal : ℕ) (ts : SeatsState) → are_within n ts ≡ true → are_within n (without_seat paper ordinal ts) ≡ true
 within-without_seat n paper ordinal [] all = refl
@@ -83,51 +69,9 @@ seats-within state seats maker e fits within = within
 
 -- ---- the seats of one paper
 
--- of a paper's seats those stay that pass a test which they pass alike, or none
-of-filter : (p : ℕ) (test : Tie Seat → Bool) (c : Bool) (ts : SeatsState) → ((t : Tie Seat) → eqb p t.pair.paper ≡ true → test t ≡ c)
-    → ties_of ByPaper p (filter test ts) ≡ cond c (ties_of ByPaper p ts) []
-of-filter p test true [] alike = refl
-of-filter p test false [] alike = refl
-of-filter p test c (t ∷ ts) alike =
-    split (test t) (filter test ts)
-    ∙ by (test t) (eqb p t.pair.paper) c (ties_of ByPaper p (filter test ts)) (ties_of ByPaper p ts) (alike t) (of-filter p test c ts alike)
-  where
-    split : (a : Bool) (us : SeatsState) → ties_of ByPaper p (cond a (t ∷ us) us)
-        ≡ cond a (cond (eqb p t.pair.paper) (t ∷ ties_of ByPaper p us) (ties_of ByPaper p us)) (ties_of ByPaper p us)
-    split true us = refl
-    split false us = refl
-
-    by : (a b c : Bool) (us vs : SeatsState) → (b ≡ true → a ≡ c) → us ≡ cond c vs [] → cond a (cond b (t ∷ us) us) us ≡ cond c (cond b (t ∷ vs) vs) []
-    by true true true us vs same rest = ap (λ (xs : SeatsState). t ∷ xs) rest
-    by true true false us vs same rest = absurd (true≢false (same refl))
-    by true false true us vs same rest = rest
-    by true false false us vs same rest = rest
-    by false true true us vs same rest = absurd (true≢false (sym (same refl)))
-    by false true false us vs same rest = rest
-    by false false true us vs same rest = rest
-    by false false false us vs same rest = rest
-
 -- with one seat more, it comes last among those of its paper
 pub ties_of-with_seat : (p : ℕ) (s : Tie Seat) (ts : SeatsState) → ties_of ByPaper p (with_seat s ts) ≡ ties_of ByPaper p ts ++ given (eqb p s.pair.paper) s
-ties_of-with_seat p s ts =
-    let q : ℕ = s.pair.paper in
-    let upto : Tie Seat → Bool = λ t. nat_le t.pair.paper q in
-    let behind : Tie Seat → Bool = λ t. not (nat_le t.pair.paper q) in
-    let of : Tie Seat → Bool = λ t. eqb p t.pair.paper in
-    filter-append of (filter upto ts) (s ∷ filter behind ts)
-    ∙ ap (λ (us : SeatsState). us ++ ties_of ByPaper p (s ∷ filter behind ts)) (of-filter p upto (nat_le p q) ts (λ t same. ap (λ n. nat_le n q) (sym (eqb-true p t.pair.paper same))))
-    ∙ by (nat_le p q) (eqb p q) refl refl (ties_of ByPaper p ts) (ties_of ByPaper p (filter behind ts))
-    (of-filter p behind (not (nat_le p q)) ts (λ t same. ap (λ n. not (nat_le n q)) (sym (eqb-true p t.pair.paper same))))
-  where
-    by : (le is : Bool) → nat_le p s.pair.paper ≡ le → eqb p s.pair.paper ≡ is → (us vs : SeatsState) → vs ≡ cond (not le) us []
-        → cond le us [] ++ cond is (s ∷ vs) vs ≡ us ++ given is s
-    by true true hle his us vs e = ap (λ (xs : SeatsState). us ++ s ∷ xs) e
-    by true false hle his us vs e = ap (λ (xs : SeatsState). us ++ xs) e
-    by false true hle his us vs e = absurd (true≢false (sym (not-less p s.pair.paper his) ∙ hle))
-      where
-        not-less : (p q : ℕ) → eqb p q ≡ true → nat_le p q ≡ true
-        not-less p q h = grind (arith, nat_tests, h)
-    by false false hle his us vs e = e ∙ sym (append-nil us)
+ties_of-with_seat p s ts = of-inserted (λ (t : Tie Seat). t.pair.paper) p s ts
 
 -- a seat as it stands where that one is left
 abbrev pub left_at : ℕ → ℕ → Tie Seat → Tie Seat
@@ -317,6 +261,20 @@ are_hers user ordinal (t ∷ ts) rising different is = by (eqb user t.pair.user)
         )
     by false at is rest = (other ordinal t.value.ordinal (found-above t.value.ordinal user ordinal ts rising.0 is) ∙ sym at, rest is)
 
+-- whoever is found by a seat of that ordinal is she
+hers-found : (user ordinal : ℕ) (ts : List (Tie Seat)) → AreHers user ordinal ts → (u : Option ℕ) → found u ts ≡ Some ordinal → is_number u user ≡ true
+hers-found user ordinal [] hers u is = cc
+hers-found user ordinal (t ∷ ts) hers u is = by (is_number u t.pair.user) refl is (hers-found user ordinal ts hers.1 u)
+  where
+    by : (b : Bool) → is_number u t.pair.user ≡ b
+        → option_map (λ (t : Tie Seat). t.value.ordinal) (cond b (Some t) (find (λ (t : Tie Seat). is_number u t.pair.user) ts)) ≡ Some ordinal
+        → (found u ts ≡ Some ordinal → is_number u user ≡ true) → is_number u user ≡ true
+    by true at is rest =
+        let e : t.value.ordinal ≡ ordinal = cc in
+        let same : user ≡ t.pair.user = eqb-true user t.pair.user (sym hers.0 ∙ eq-eqb ordinal t.value.ordinal (sym e)) in
+        ap (is_number u) same ∙ at
+    by false at is rest = rest is
+
 -- without them, she has none and everybody else has hers
 found-left : (user ordinal : ℕ) (ts : List (Tie Seat)) → AreHers user ordinal ts → (u : Option ℕ)
     → found u (filter (λ (t : Tie Seat). not (eqb ordinal t.value.ordinal)) ts) ≡ cond (is_number u user) None (found u ts)
@@ -497,12 +455,8 @@ seat_in-after seats (Assigned paper user kind ordinal) order fits u p =
     test : Tie Seat → Bool
     test t = is_number u t.pair.user
 
-    user-is : (u : Option ℕ) → is_number u user ≡ true → u ≡ Some user
-    user-is None at = absurd (true≢false (sym at))
-    user-is (Some v) at = ap (λ n. Some n) (eqb-true v user at)
-
     free : eqb p paper ≡ true → is_number u user ≡ true → seat_in seats u p ≡ None
-    free at is = ap (λ (v : Option ℕ). seat_in seats v p) (user-is u is) ∙ ap (λ n. seat_in seats (Some user) n) (eqb-true p paper at) ∙ fits.2
+    free at is = ap (λ (v : Option ℕ). seat_in seats v p) (number-is u user is) ∙ ap (λ n. seat_in seats (Some user) n) (eqb-true p paper at) ∙ fits.2
 
     none : (o : Option (Tie Seat)) → option_map (λ (t : Tie Seat). t.value.ordinal) (option_or o None) ≡ option_map (λ (t : Tie Seat). t.value.ordinal) o
     none None = refl
@@ -542,6 +496,12 @@ seat_in-after seats (Unassigned paper user ordinal) order fits u p =
     by true at = ap (found u) (taken-left p paper ordinal seats at) ∙ found-left user ordinal (seats_taken seats p) (hers at) u ∙ gone (is_number u user)
     by false at = ap (λ (ts : SeatsState). found u (filter stays ts)) (without-other p paper ordinal seats at)
 seat_in-after seats e order fits u p = refl
+
+-- no two users review a paper under the same ordinal
+pub seat_in-single : (seats : SeatsState) → SeatsInOrder seats → (u : Option ℕ) (user p ordinal : ℕ) → seat_in seats u p ≡ Some ordinal
+    → seat_in seats (Some user) p ≡ Some ordinal → is_number u user ≡ true
+seat_in-single seats order u user p ordinal is hers =
+    hers-found user ordinal (seats_taken seats p) (are_hers user ordinal (seats_taken seats p) (rising-taken seats order p) (order.single p) hers) u is
 
 -- no assignments are in order
 pub seats-in_order-nil : SeatsInOrder []

@@ -17,7 +17,8 @@ use Rattle.cr_base.specs.Papers.{PapersState, new_paper, with_texts, as_withdraw
 use Rattle.cr_base.specs.Ties.{BareTies, TiesState, pair_of, bare_tie, switched, ties_after, authors_in, is_conflict_on_in, are_before, are_within, AreWithin}
 use Rattle.cr_base.proofs.ListLaws.{turned}
 use Rattle.cr_base.proofs.PaperLaws.{length-with_paper}
-use Rattle.cr_base.proofs.PairLaws.{same_pair-is, list_all-with_tie, list_all-filter, has_pair-with_tie, has_pair-without_pair}
+use Rattle.cr_base.proofs.PairLaws.{same_pair-is, list_all-with_tie, has_pair-with_tie, has_pair-without_pair}
+use Rattle.cr_base.proofs.SortedLists.{list_all-filter}
 
 -- ---- pairs
 
@@ -122,7 +123,7 @@ within-push n paper user ts low high all = all-push _ ts (bare_tie paper user) a
 within-switched : (n : ℕ) (on : Bool) (paper user : ℕ) (ts : BareTies) → 1 ≤ paper → paper ≤ n → are_within n ts ≡ true
     → are_within n (switched on paper user ts) ≡ true
 within-switched n true paper user ts low high all = list_all-with_tie ByPaper _ (bare_tie paper user) ts (in_range n paper low high) all
-within-switched n false paper user ts low high all = list_all-filter ByPaper _ (λ r. not (is_tied (pair_of paper user) r)) ts all
+within-switched n false paper user ts low high all = list_all-filter _ (λ r. not (is_tied (pair_of paper user) r)) ts all
 
 -- a pair that is there has one of the numbers
 pub within-pair : (n : ℕ) (q : Pair) (ts : BareTies) → are_within n ts ≡ true → has_pair q ts ≡ true → (1 ≤ q.paper) × (q.paper ≤ n)

@@ -1,9 +1,10 @@
 -- The one answer to queries: filled with the facts of a view it is Answer, filled with those of the tables it is RoleAnswer.
-use Rattle.std.specs.Prelude.{ℕ, Bool, true, false, not, ◌&&◌, ◌==◌, List, [], length, map, Option, Some, None, is_some, filter, find, unwrap_or, Result, Ok, Err}
+use Rattle.std.specs.Prelude.{ℕ, Bool, true, false, not, ◌&&◌, ◌==◌, zero, suc, List, [], ◌++◌, length, map, Option, Some, None, is_some, filter, find, unwrap_or, Result, Ok, Err, if◌then◌else◌}
 use Rattle.std.specs.Option.{option_map, option_and_then}
 use Rattle.std.specs.List.{flat_map}
 use Rattle.cr_base.specs.declared.command.Query.{Query}
 use Rattle.cr_base.specs.declared.command.Query.TheVariants as queries
+use Rattle.cr_base.specs.declared.comment.CommentLine.{CommentLine}
 use Rattle.cr_base.specs.declared.me.Me.{Me}
 use Rattle.cr_base.specs.declared.page.Bidder.{Bidder}
 use Rattle.cr_base.specs.declared.page.Page.{Page}
@@ -12,13 +13,17 @@ use Rattle.cr_base.specs.declared.reply.AccountLine.{AccountLine}
 use Rattle.cr_base.specs.declared.reply.Reply.{Reply}
 use Rattle.cr_base.specs.declared.reply.Reply.TheVariants as replies
 use Rattle.cr_base.specs.declared.reply.Rule.{Rule}
+use Rattle.cr_base.specs.declared.review.ReviewLine.{ReviewLine}
 use Rattle.cr_base.specs.declared.standing.Standing.{Standing}
-use Rattle.cr_base.specs.Checks.{Check, judged, of_there, page_checks, content_checks}
-use Rattle.cr_base.specs.History.{Upload, BidTold, SeatTold}
+use Rattle.cr_base.specs.declared.words.Phase.TheVariants.{Discussion}
+use Rattle.cr_base.specs.Checks.{Check, judged, of_there, page_checks, content_checks, reviews_checks, comments_checks}
+use Rattle.cr_base.specs.History.{Upload, BidTold, SeatTold, FormTold, CommentTold}
 use Rattle.cr_base.specs.Lists.{listed, last}
-use Rattle.cr_base.specs.Page.{is_clear_member, is_clear_chair, shows_reviewer, where_told, page_of}
+use Rattle.cr_base.specs.Page.{is_clear_member, is_clear_chair, shows_reviewer, shows_writer, where_told, page_of}
+use Rattle.cr_base.specs.Phases.{is_from}
 use Rattle.cr_base.specs.Sources.{Facts, Shown, names_in, name_in, has_paper, maker_of, facts_of_tables, shown_in_tables}
 use Rattle.cr_base.specs.Tables.{Tables}
+use Rattle.cr_base.specs.Words.{is_chair}
 
 -- which of a paper's uploads are told: all to its authors, the last alone to others
 abbrev pub uploads_told : Bool → List Upload → List Upload
@@ -49,23 +54,25 @@ query_checks facts shown queries.Me = []
 query_checks facts shown (queries.Page paper) = page_checks (facts.standing paper) (of_there (has_paper facts paper))
 query_checks facts shown (queries.Content paper) = content_asked facts shown paper None
 query_checks facts shown (queries.Version paper version) = content_asked facts shown paper (Some version)
+query_checks facts shown (queries.Reviews paper) = reviews_checks (facts.standing paper) (of_there (has_paper facts paper))
+query_checks facts shown (queries.Comments paper) = comments_checks (facts.standing paper) (of_there (has_paper facts paper))
 
 -- a bid with the name of whose it is, where she has one
 abbrev pub bidder_told : List AccountLine → BidTold → Option Bidder
 bidder_told accounts bid = option_map (λ (name : List ℕ). record { bid = bid.value; user = name }) (name_in accounts bid.user)
 
--- a reviewer, as one who stands so to the paper is told of her; nobody has written a review yet
-abbrev pub reviewer_told : Standing → List AccountLine → SeatTold → Reviewer
-reviewer_told by accounts seat = record {
-  done = where_told (is_clear_chair by) (Some false);
+-- a reviewer, as one who stands so to the paper is told of her; `written` says under which ordinals a form is
+abbrev pub reviewer_told : Standing → List AccountLine → (ℕ → Bool) → SeatTold → Reviewer
+reviewer_told by accounts written seat = record {
+  done = where_told (is_clear_chair by) (Some (written seat.ordinal));
   kind = where_told (is_clear_member by) seat.kind;
   label = seat.ordinal;
   user = where_told (shows_reviewer by) (option_and_then (name_in accounts) seat.user);
 }
 
 -- the page of a paper that is there
-abbrev pub page_by : Facts → Shown → ℕ → Page
-page_by facts shown p =
+abbrev pub page_by : Facts → Shown → Option ℕ → ℕ → Page
+page_by facts shown caller p =
     page_of (facts.standing (Some p)) p (record {
       title = shown.title p;
       abstract_ = shown.abstract_ p;
@@ -75,16 +82,64 @@ page_by facts shown p =
       conflicts = names_in facts.accounts (shown.conflicts p);
       declared = names_in facts.accounts (shown.declared p);
       label = facts.own_seat p;
-      reviewers = map (reviewer_told (facts.standing (Some p)) facts.accounts) (shown.reviewers p);
+      reviewers = map (reviewer_told (facts.standing (Some p)) facts.accounts (shown.written p)) (shown.reviewers p);
+      tags = shown.tags caller (is_chair (facts.standing (Some p)).role) p;
       versions = map (λ (u : Upload). u.version) (uploads_told (facts.standing (Some p)).author (shown.uploads p));
       withdrawn = shown.withdrawn p;
     })
+
+-- ---- reviews and comments
+
+-- the most labels that a paper's reviewers are given
+unfoldable pub most_labels : ℕ
+most_labels = 26
+
+-- what is told of each of the first labels, in their order
+abbrev pub by_labels : {A : Type 0} → (ℕ → List A) → ℕ → List A
+by_labels told zero = []
+by_labels told (suc n) = by_labels told n ++ told (suc n)
+
+-- a form under a label, as one who stands so to the paper is told of it: `user` wrote it. Members read all of it; authors neither
+-- which version it is nor what is for the committee
+abbrev pub review_told : Standing → List AccountLine → Bool → Option ℕ → ℕ → FormTold → ReviewLine
+review_told by accounts named user label form = record {
+  confidence = form.confidence;
+  label = label;
+  score = form.score;
+  to_authors = form.to_authors;
+  to_pc = where_told (not by.author) form.to_pc;
+  user = where_told named (option_and_then (name_in accounts) user);
+  version = where_told (not by.author) form.version;
+}
+
+-- the reviews that one who stands so to the paper is told: authors the last form of each label; from the discussion on members the
+-- forms that are discussed; and before it a reviewer her own, without her name
+abbrev pub reviews_by : Facts → Shown → ℕ → List ReviewLine
+reviews_by facts shown p =
+    let by = facts.standing (Some p) in
+    let told = λ (named : Bool) (o : ℕ) (forms : List FormTold). map (review_told by facts.accounts named (shown.assigned p o) o) forms in
+    if by.author then by_labels (λ (o : ℕ). told (shows_reviewer by) o (listed (shown.last_form p o))) most_labels
+    else (if is_from Discussion by.phase then by_labels (λ (o : ℕ). told (shows_reviewer by) o (shown.forms_discussed p o)) most_labels
+    else told false (unwrap_or (facts.own_seat p) 0) (facts.own_forms p))
+
+-- a comment, as one who stands so to the paper is told of it: by its writer's name, or else by her label, where she has one
+abbrev pub comment_line : Standing → List AccountLine → CommentTold → CommentLine
+comment_line by accounts comment = record {
+  label = where_told (not (shows_writer by)) comment.ordinal;
+  n = comment.n;
+  text = comment.text;
+  user = where_told (shows_writer by) (option_and_then (name_in accounts) comment.writer);
+}
+
+abbrev pub comments_by : Facts → Shown → ℕ → List CommentLine
+comments_by facts shown p = map (comment_line (facts.standing (Some p)) facts.accounts) (shown.comments p)
 
 -- what a user is told of herself: nobody is told anything
 abbrev pub me_by : Facts → ℕ → Me
 me_by facts user = record {
   assigned = filter (λ p. (facts.standing (Some p)).reviewer) facts.papers;
   bytes = facts.own_bytes;
+  comments = facts.own_comments;
   conflicts = filter (λ p. (facts.standing (Some p)).conflicted && not (facts.standing (Some p)).author) facts.papers;
   name = unwrap_or (name_in facts.accounts user) [];
   papers = filter (λ p. (facts.standing (Some p)).author) facts.papers;
@@ -99,9 +154,11 @@ told_by facts shown caller queries.Phase =
     let by = facts.standing None in
     replies.Conference (record { mode = by.mode; papers = length facts.papers; phase = by.phase })
 told_by facts shown caller queries.Me = replies.Me (me_by facts (maker_of caller))
-told_by facts shown caller (queries.Page paper) = replies.Page (page_by facts shown (unwrap_or paper 0))
+told_by facts shown caller (queries.Page paper) = replies.Page (page_by facts shown caller (unwrap_or paper 0))
 told_by facts shown caller (queries.Content paper) = replies.Content (unwrap_or (content_by facts shown paper None) [])
 told_by facts shown caller (queries.Version paper version) = replies.Content (unwrap_or (content_by facts shown paper (Some version)) [])
+told_by facts shown caller (queries.Reviews paper) = replies.Reviews (reviews_by facts shown (unwrap_or paper 0))
+told_by facts shown caller (queries.Comments paper) = replies.Comments (comments_by facts shown (unwrap_or paper 0))
 
 -- a reply, or the rule that stands in its way
 abbrev pub reply_or_rule : Result Reply Rule → Reply

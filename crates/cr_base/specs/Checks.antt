@@ -7,7 +7,7 @@ use Rattle.cr_base.specs.declared.reply.Rule.TheVariants as rules
 use Rattle.cr_base.specs.declared.standing.Standing.{Standing}
 use Rattle.cr_base.specs.declared.target.Target.{Target}
 use Rattle.cr_base.specs.declared.words.Phase.{Phase}
-use Rattle.cr_base.specs.declared.words.Phase.TheVariants.{Setup, Submission, Bidding, Notification}
+use Rattle.cr_base.specs.declared.words.Phase.TheVariants.{Setup, Submission, Bidding, Reviewing, Discussion, Notification}
 use Rattle.cr_base.specs.declared.words.Role.{Role}
 use Rattle.cr_base.specs.declared.words.Role.TheVariants.{Account}
 use Rattle.cr_base.specs.Phases.{is_from, is_phase, is_next}
@@ -198,13 +198,19 @@ conflict_checks by paper target on =
 
 -- ---- bids and assignments
 
--- bid: the caller's standing at the paper, and the paper
-abbrev pub bid_checks : Standing → NamedPaper → List Check
-bid_checks by paper =
+-- what is a member's who is in no conflict with the paper
+abbrev pub member_checks : Standing → NamedPaper → List Check
+member_checks by paper =
     not paper.there breaks rules.NoPaper
     ∷ not (is_member by.role) breaks rules.NotMember
     ∷ by.conflicted breaks rules.Conflict
-    ∷ not (is_phase by.phase Bidding) breaks rules.WrongPhase
+    ∷ []
+
+-- bid: the caller's standing at the paper, and the paper
+abbrev pub bid_checks : Standing → NamedPaper → List Check
+bid_checks by paper =
+    member_checks by paper
+    ++ not (is_phase by.phase Bidding) breaks rules.WrongPhase
     ∷ paper.withdrawn breaks rules.Withdrawn
     ∷ []
 
@@ -225,9 +231,56 @@ assign_checks by paper target labels =
     ∷ nat_le 26 labels breaks rules.LabelsSpent
     ∷ []
 
--- unassign: the same
-abbrev pub unassign_checks : Standing → NamedPaper → Option Target → List Check
-unassign_checks by paper target =
+-- unassign: the same, and whether a form is written under the label of the user named
+abbrev pub unassign_checks : Standing → NamedPaper → Option Target → Bool → List Check
+unassign_checks by paper target written =
     reviewer_checks by paper target
     ++ not (target_is (λ (user : Target). user.reviewer) target) breaks rules.NotAssigned
+    ∷ written breaks rules.HasReview
     ∷ []
+
+-- ---- reviews, comments and tags: the caller's standing at the paper, and the paper
+
+-- review
+abbrev pub review_checks : Standing → NamedPaper → List Check
+review_checks by paper =
+    member_checks by paper
+    ++ not by.reviewer breaks rules.NotReviewer
+    ∷ not (is_phase by.phase Reviewing || is_phase by.phase Discussion) breaks rules.WrongPhase
+    ∷ paper.withdrawn breaks rules.Withdrawn
+    ∷ []
+
+-- comment: and how many comments the caller has written
+abbrev pub comment_checks : Standing → NamedPaper → ℕ → List Check
+comment_checks by paper own =
+    member_checks by paper
+    ++ not (is_phase by.phase Discussion) breaks rules.WrongPhase
+    ∷ paper.withdrawn breaks rules.Withdrawn
+    ∷ nat_le 1000 own breaks rules.QuotaComments
+    ∷ []
+
+-- tag: and whether the tag is for chairs
+abbrev pub tag_checks : Standing → NamedPaper → Bool → List Check
+tag_checks by paper for_chairs =
+    not paper.there breaks rules.NoPaper
+    ∷ (for_chairs && not (is_chair by.role)) breaks rules.NotChair
+    ∷ not (is_member by.role) breaks rules.NotMember
+    ∷ by.conflicted breaks rules.Conflict
+    ∷ not (is_in_committee by.phase) breaks rules.WrongPhase
+    ∷ paper.withdrawn breaks rules.Withdrawn
+    ∷ []
+
+-- a paper's reviews: authors from the notification; others are members in no conflict with it, from the discussion, or in
+-- reviewing where they review it
+abbrev pub reviews_checks : Standing → NamedPaper → List Check
+reviews_checks by paper =
+    not paper.there breaks rules.NoPaper
+    ∷ (by.author && not (is_from Notification by.phase)) breaks rules.WrongPhase
+    ∷ not (by.author || is_member by.role) breaks rules.NotMember
+    ∷ (not by.author && by.conflicted) breaks rules.Conflict
+    ∷ not (by.author || is_from Discussion by.phase || (by.reviewer && is_phase by.phase Reviewing)) breaks rules.WrongPhase
+    ∷ []
+
+-- the comments on a paper
+abbrev pub comments_checks : Standing → NamedPaper → List Check
+comments_checks by paper = member_checks by paper ++ not (is_from Discussion by.phase) breaks rules.WrongPhase ∷ []

@@ -1,12 +1,13 @@
 -- What an accepted command draws: the entries that it adds, and its receipt.
-use Rattle.std.specs.Prelude.{ℕ, Bool, true, false, ◌==◌, List, [], ◌∷◌, ◌++◌, map, if◌then◌else◌}
+use Rattle.std.specs.Prelude.{ℕ, Bool, true, false, ◌==◌, List, [], ◌∷◌, ◌++◌, map, Option, if◌then◌else◌}
 use Rattle.std.specs.List.{list_any}
 use Rattle.cr_base.specs.declared.entry.Entry.{Entry}
 use Rattle.cr_base.specs.declared.entry.Entry.TheVariants.{Registered, Named, PhaseSet, ModeSet, Submitted}
 use Rattle.cr_base.specs.declared.entry.Entry.TheVariants.{Coauthor, Revised, Uploaded, Withdrawn, Conflict}
-use Rattle.cr_base.specs.declared.entry.Entry.TheVariants.{Bid, Assigned, Unassigned}
+use Rattle.cr_base.specs.declared.entry.Entry.TheVariants.{Bid, Assigned, Unassigned, Reviewed, Commented, Tagged}
 use Rattle.cr_base.specs.declared.reply.Receipt.{Receipt}
 use Rattle.cr_base.specs.declared.reply.Receipt.TheVariants as receipts
+use Rattle.cr_base.specs.declared.form.Form.{Form}
 use Rattle.cr_base.specs.declared.words.Kind.{Kind}
 use Rattle.cr_base.specs.declared.words.Mode.{Mode}
 use Rattle.cr_base.specs.declared.words.Phase.{Phase}
@@ -80,3 +81,18 @@ assignment_drawn maker paper user kind ordinal = record {
 
 abbrev pub unassignment_drawn : ℕ → ℕ → ℕ → ℕ → Drawn
 unassignment_drawn maker paper user ordinal = record { group = grouped maker (Unassigned paper user ordinal ∷ []); receipt = receipts.Changed paper }
+
+abbrev pub review_drawn : ℕ → ℕ → ℕ → ℕ → Form → Drawn
+review_drawn maker paper ordinal version form = record {
+  group = grouped maker (Reviewed paper ordinal version form ∷ []);
+  receipt = receipts.Version version;
+}
+
+abbrev pub comment_drawn : ℕ → ℕ → ℕ → Option ℕ → List ℕ → Drawn
+comment_drawn maker paper n ordinal text = record {
+  group = grouped maker (Commented paper n ordinal text ∷ []);
+  receipt = receipts.Comment n;
+}
+
+abbrev pub tag_drawn : ℕ → ℕ → List ℕ → Bool → Drawn
+tag_drawn maker paper tag on = record { group = grouped maker (Tagged paper tag on ∷ []); receipt = receipts.Changed paper }

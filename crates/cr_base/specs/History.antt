@@ -6,14 +6,18 @@ use Rattle.std.specs.Str.{bytes_eq}
 use Rattle.cr_base.specs.declared.entry.Entry.{Entry}
 use Rattle.cr_base.specs.declared.entry.Entry.TheVariants.{Registered, Named, PhaseSet, ModeSet, Submitted}
 use Rattle.cr_base.specs.declared.entry.Entry.TheVariants.{Coauthor, Revised, Uploaded, Withdrawn, Conflict}
-use Rattle.cr_base.specs.declared.entry.Entry.TheVariants.{Bid, Assigned, Unassigned}
+use Rattle.cr_base.specs.declared.entry.Entry.TheVariants.{Bid, Assigned, Unassigned, Reviewed, Commented, Tagged}
 use Rattle.cr_base.specs.declared.entry.Stamped.{Stamped}
+use Rattle.cr_base.specs.declared.form.Form.{Form}
+use Rattle.cr_base.specs.declared.tag.SetTag.{SetTag}
 use Rattle.cr_base.specs.declared.words.Kind.{Kind}
 use Rattle.cr_base.specs.declared.words.Phase.{Phase}
+use Rattle.cr_base.specs.declared.words.Phase.TheVariants.{Discussion}
 use Rattle.cr_base.specs.declared.words.Mode.{Mode}
 use Rattle.cr_base.specs.declared.words.Role.{Role}
 use Rattle.cr_base.specs.Lists.{given, is_number}
 use Rattle.cr_base.specs.Phases.{is_phase}
+use Rattle.cr_base.specs.Tags.{tag_owner}
 
 -- History: the entries of the accepted commands, in order. Those of one command stand together, and all of them
 -- but the last have the mark `more`.
@@ -41,6 +45,26 @@ pub record SeatTold : Type 0 where
   pub kind : Option Kind
   pub user : Option ℕ
 
+-- a form of a review: what is for the committee alone, and its number, where that is told
+pub record FormTold : Type 0 where
+  pub version : Option ℕ
+  pub score : ℕ
+  pub confidence : ℕ
+  pub to_authors : List ℕ
+  pub to_pc : Option (List ℕ)
+
+-- a comment: who wrote it, where that is told, and the ordinal under which she reviews the paper, where that is told and she does
+pub record CommentTold : Type 0 where
+  pub n : ℕ
+  pub writer : Option ℕ
+  pub ordinal : Option ℕ
+  pub text : List ℕ
+
+-- a tag that is turned on or off
+pub record TagTold : Type 0 where
+  pub tag : SetTag
+  pub on : Bool
+
 -- what each entry tells, in order
 abbrev pub all_told : {A : Type 0} → (Entry → List A) → History → List A
 all_told told H = flat_map (λ (e : Stamped). told e.entry) H
@@ -62,6 +86,10 @@ mode_told _ = []
 abbrev pub opens : Phase → Entry → Bool
 opens first (PhaseSet phase) = is_phase phase first
 opens first _ = false
+
+-- whether it opens the discussion
+abbrev pub opens_discussion : Stamped → Bool
+opens_discussion e = opens Discussion e.entry
 
 -- the paper that it makes
 abbrev pub paper_told : Entry → List ℕ
@@ -108,6 +136,41 @@ assigned_told p _ = []
 abbrev pub unassigned_told : ℕ → Entry → List ℕ
 unassigned_told p (Unassigned paper user ordinal) = given (paper == p) ordinal
 unassigned_told p _ = []
+
+-- a form, all of it
+abbrev pub whole_form : ℕ → Form → FormTold
+whole_form version form = record {
+  version = Some version;
+  score = form.score;
+  confidence = form.confidence;
+  to_authors = form.to_authors;
+  to_pc = Some form.to_pc;
+}
+
+-- the form that it gives the label of this ordinal
+abbrev pub form_told : ℕ → ℕ → Entry → List FormTold
+form_told p o (Reviewed paper ordinal version form) = given (paper == p && ordinal == o) (whole_form version form)
+form_told p o _ = []
+
+-- the form of the paper that the user wrote, where `maker` made it
+abbrev pub own_form_told : Option ℕ → ℕ → ℕ → Entry → List FormTold
+own_form_told u p maker (Reviewed paper ordinal version form) = given (paper == p && is_number u maker) (whole_form version form)
+own_form_told u p maker _ = []
+
+-- the comment on the paper, where `maker` made it
+abbrev pub comment_told : ℕ → ℕ → Entry → List CommentTold
+comment_told p maker (Commented paper n ordinal text) = given (paper == p) (record { n = n; writer = Some maker; ordinal = ordinal; text = text })
+comment_told p maker _ = []
+
+-- the number of the comment, where the user made it
+abbrev pub own_comment_told : Option ℕ → ℕ → Entry → List ℕ
+own_comment_told u maker (Commented paper n ordinal text) = given (is_number u maker) n
+own_comment_told u maker _ = []
+
+-- the tag that it turns on or off at the paper, where `maker` made it
+abbrev pub tag_told : ℕ → ℕ → Entry → List TagTold
+tag_told p maker (Tagged paper tag on) = given (paper == p) (record { tag = record { tag = tag; owner = tag_owner tag maker }; on = on })
+tag_told p maker _ = []
 
 -- the title, the abstract that it gives the paper
 abbrev pub title_told : ℕ → Entry → List (List ℕ)

@@ -1,6 +1,7 @@
 -- Facts of a history: what it says of the conference, of its papers, and of a user.
-use Rattle.std.specs.Prelude.{ℕ, Bool, false, not, ◌||◌, ◌==◌, List, Option, length, map, Some, None, is_some, filter}
+use Rattle.std.specs.Prelude.{ℕ, Bool, false, not, ◌||◌, ◌==◌, List, [], ◌++◌, Option, length, map, Some, None, is_some, filter, find, fold}
 use Rattle.std.specs.List.{flat_map, list_any}
+use Rattle.std.specs.Option.{option_and_then}
 use Rattle.cr_base.specs.declared.entry.Stamped.{Stamped}
 use Rattle.cr_base.specs.declared.words.Phase.{Phase}
 use Rattle.cr_base.specs.declared.words.Phase.TheVariants.{Setup}
@@ -10,10 +11,13 @@ use Rattle.cr_base.specs.declared.words.Role.{Role}
 use Rattle.cr_base.specs.declared.words.Role.TheVariants.{Account}
 use Rattle.cr_base.specs.declared.reply.AccountLine.{AccountLine}
 use Rattle.cr_base.specs.declared.standing.Standing.{Standing}
-use Rattle.cr_base.specs.Lists.{last, last_or, total, is_number, at_some}
+use Rattle.cr_base.specs.declared.tag.SetTag.{SetTag}
+use Rattle.cr_base.specs.Lists.{last, last_or, listed, total, is_nothing, is_number, at_some, until, since}
+use Rattle.cr_base.specs.Tags.{with_tag}
 use Rattle.cr_base.specs.History.{History, Registration, Upload, SeatTold, all_told, all_told_by, phase_told, mode_told, paper_told}
 use Rattle.cr_base.specs.History.{own_paper_told, author_told, conflict_told, declared_told, title_told}
 use Rattle.cr_base.specs.History.{bid_told, seat_told, assigned_told, unassigned_told}
+use Rattle.cr_base.specs.History.{FormTold, CommentTold, TagTold, form_told, own_form_told, comment_told, own_comment_told, tag_told, opens_discussion}
 use Rattle.cr_base.specs.History.{abstract_told, upload_told, own_bytes_told, withdrawal_told, registration_told, role_told, number_told, caller_told}
 
 -- ---- PublicFacts
@@ -103,6 +107,50 @@ seats_left gone seats = filter (λ (seat : SeatTold). not (list_any (λ o. o == 
 -- the paper's reviewers: the assigned whose ordinal has no unassigned
 abbrev pub reviewers_of : ℕ → History → List SeatTold
 reviewers_of p H = seats_left (all_told (unassigned_told p) H) (seats_of p H)
+
+-- who was assigned to the paper under this ordinal, whether she has left since or not
+abbrev pub assigned_under : ℕ → List SeatTold → Option ℕ
+assigned_under o seats = option_and_then (λ (seat : SeatTold). seat.user) (find (λ (seat : SeatTold). seat.ordinal == o) seats)
+
+-- ---- reviews
+
+-- the forms of the paper's label of this ordinal, in the order in which they were written, which is that of their versions
+abbrev pub forms_of : ℕ → ℕ → History → List FormTold
+forms_of p o H = all_told (form_told p o) H
+
+-- the last of them, which the paper's authors read
+abbrev pub last_form_of : ℕ → ℕ → History → Option FormTold
+last_form_of p o H = last (forms_of p o H)
+
+-- those that the committee discusses: the last that was written before the discussion, and all later ones
+abbrev pub forms_discussed_of : ℕ → ℕ → History → List FormTold
+forms_discussed_of p o H = listed (last (forms_of p o (until opens_discussion H))) ++ forms_of p o (since opens_discussion H)
+
+-- there is one
+abbrev pub is_written : ℕ → ℕ → History → Bool
+is_written p o H = not (is_nothing (forms_of p o H))
+
+-- the forms of the paper that the user wrote
+abbrev pub own_forms_of : Option ℕ → ℕ → History → List FormTold
+own_forms_of u p H = all_told_by (own_form_told u p) H
+
+-- ---- comments and tags
+
+-- the comments on the paper, in the order in which they were written, which is that of their numbers
+abbrev pub comments_of : ℕ → History → List CommentTold
+comments_of p H = all_told_by (comment_told p) H
+
+-- how many comments the user has written
+abbrev pub own_comments_of : Option ℕ → History → ℕ
+own_comments_of u H = length (all_told_by (own_comment_told u) H)
+
+-- what these turnings leave on
+abbrev pub tags_left : List TagTold → List SetTag
+tags_left turned = fold (λ (ts : List SetTag) (t : TagTold). with_tag t.on t.tag ts) [] turned
+
+-- the paper's tags that are on: each by its last entry, a private one by its owner's last
+abbrev pub tags_of : ℕ → History → List SetTag
+tags_of p H = tags_left (all_told_by (tag_told p) H)
 
 -- ---- papers
 

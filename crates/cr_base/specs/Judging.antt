@@ -4,16 +4,21 @@ use Rattle.std.specs.List.{flat_map, list_any}
 use Rattle.std.specs.Option.{option_map}
 use Rattle.cr_base.specs.declared.command.Command.{Command}
 use Rattle.cr_base.specs.declared.command.Command.TheVariants.{Register, SetPhase, Submit, Revise, Upload, Withdraw, Name, SetMode, SetConflict, Bid, Assign, Unassign}
+use Rattle.cr_base.specs.declared.command.Command.TheVariants.{Review, Comment, Tag}
+use Rattle.cr_base.specs.declared.form.Form.{Form}
 use Rattle.cr_base.specs.declared.reply.Rule.{Rule}
 use Rattle.cr_base.specs.declared.words.Kind.{Kind}
 use Rattle.cr_base.specs.declared.words.Role.{Role}
 use Rattle.cr_base.specs.Checks.{judged, of_role, register_checks, phase_checks, submit_checks, revise_checks, upload_checks}
 use Rattle.cr_base.specs.Checks.{name_checks, mode_checks, conflict_checks, bid_checks, assign_checks, unassign_checks}
+use Rattle.cr_base.specs.Checks.{review_checks, comment_checks, tag_checks}
 use Rattle.cr_base.specs.Drawn.{Drawn, registration_drawn, phase_drawn, submission_drawn, revision_drawn, upload_drawn}
 use Rattle.cr_base.specs.Drawn.{withdrawal_drawn, naming_drawn, mode_drawn, conflict_drawn, bid_drawn, assignment_drawn, unassignment_drawn}
-use Rattle.cr_base.specs.Lists.{listed}
+use Rattle.cr_base.specs.Drawn.{review_drawn, comment_drawn, tag_drawn}
+use Rattle.cr_base.specs.Lists.{listed, at_some}
 use Rattle.cr_base.specs.Sources.{Facts, Shown, number_in, user_among, users_among, role_among, paper_named, target_named, maker_of, facts_of_tables, shown_in_tables}
 use Rattle.cr_base.specs.Tables.{Tables}
+use Rattle.cr_base.specs.TagTexts.{is_for_chairs}
 
 -- naming this user, if there is one
 abbrev pub name_judged : Facts → Option ℕ → Option ℕ → List ℕ → Role → Result Drawn Rule
@@ -46,9 +51,32 @@ assignment_judged facts shown caller paper target kind =
 
 abbrev pub unassignment_judged : Facts → Shown → Option ℕ → Option ℕ → Option ℕ → Result Drawn Rule
 unassignment_judged facts shown caller paper target =
+    let p = unwrap_or paper 0 in
+    let seat = shown.seat target p in
     judged
-    (unassign_checks (facts.standing paper) (paper_named facts shown paper) (target_named facts shown caller paper target))
-    (unassignment_drawn (maker_of caller) (unwrap_or paper 0) (unwrap_or target 0) (unwrap_or (shown.seat target (unwrap_or paper 0)) 0))
+    (unassign_checks (facts.standing paper) (paper_named facts shown paper) (target_named facts shown caller paper target) (at_some (shown.written p) seat))
+    (unassignment_drawn (maker_of caller) p (unwrap_or target 0) (unwrap_or seat 0))
+
+-- reviewing a paper, commenting on it, and turning a tag of it on or off
+abbrev pub review_judged : Facts → Shown → Option ℕ → Option ℕ → Form → Result Drawn Rule
+review_judged facts shown caller paper form =
+    let p = unwrap_or paper 0 in
+    judged
+    (review_checks (facts.standing paper) (paper_named facts shown paper))
+    (review_drawn (maker_of caller) p (unwrap_or (facts.own_seat p) 0) (length (facts.own_forms p) + 1) form)
+
+abbrev pub comment_judged : Facts → Shown → Option ℕ → Option ℕ → List ℕ → Result Drawn Rule
+comment_judged facts shown caller paper text =
+    let p = unwrap_or paper 0 in
+    judged
+    (comment_checks (facts.standing paper) (paper_named facts shown paper) facts.own_comments)
+    (comment_drawn (maker_of caller) p (length (shown.comments p) + 1) (facts.own_seat p) text)
+
+abbrev pub tag_judged : Facts → Shown → Option ℕ → Option ℕ → List ℕ → Bool → Result Drawn Rule
+tag_judged facts shown caller paper tag on =
+    judged
+    (tag_checks (facts.standing paper) (paper_named facts shown paper) (is_for_chairs tag))
+    (tag_drawn (maker_of caller) (unwrap_or paper 0) tag on)
 
 -- the first broken rule of a command's list, or what it adds and its receipt
 abbrev pub judge_by : Facts → Shown → Option ℕ → Command → Result Drawn Rule
@@ -80,6 +108,9 @@ judge_by facts shown caller (Assign paper name kind) =
     assignment_judged facts shown caller paper (user_among facts.accounts name) kind
 judge_by facts shown caller (Unassign paper name) =
     unassignment_judged facts shown caller paper (user_among facts.accounts name)
+judge_by facts shown caller (Review paper form) = review_judged facts shown caller paper form
+judge_by facts shown caller (Comment paper text) = comment_judged facts shown caller paper text
+judge_by facts shown caller (Tag paper tag on) = tag_judged facts shown caller paper tag on
 
 -- RoleAnswer of a command: the same by checks on the tables
 abbrev pub judge_by_role : Tables → Option ℕ → Command → Result Drawn Rule

@@ -3,6 +3,7 @@ pub mod Answering
 pub mod Bounds
 pub mod Checks
 pub mod Drawn
+pub mod Filed
 pub mod History
 pub mod HistoryFacts
 pub mod Judging
@@ -12,6 +13,7 @@ pub mod Page
 pub mod Pairs
 pub mod Papers
 pub mod Phases
+pub mod Reviews
 pub mod Rows
 pub mod Seats
 pub mod Shapes
@@ -19,6 +21,9 @@ pub mod Short
 pub mod Sources
 pub mod Stage
 pub mod Tables
+pub mod TagTexts
+pub mod Tags
+pub mod Talk
 pub mod Texts
 pub mod Ties
 pub mod Words

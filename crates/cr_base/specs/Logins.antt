@@ -28,6 +28,12 @@ ask_wants_login asks.SetConflict = true
 ask_wants_login asks.Bid = true
 ask_wants_login asks.Assign = true
 ask_wants_login asks.Unassign = true
+ask_wants_login asks.Review = true
+ask_wants_login asks.Reviews = true
+ask_wants_login asks.Comment = true
+ask_wants_login asks.Comments = true
+ask_wants_login asks.Tag = true
+ask_wants_login asks.Untag = true
 ask_wants_login asks.Me = true
 
 -- whether a request for this reads the field Authorization: a table of its own, since a request may be told who calls
@@ -50,6 +56,12 @@ ask_reads_credentials asks.SetConflict = true
 ask_reads_credentials asks.Bid = true
 ask_reads_credentials asks.Assign = true
 ask_reads_credentials asks.Unassign = true
+ask_reads_credentials asks.Review = true
+ask_reads_credentials asks.Reviews = true
+ask_reads_credentials asks.Comment = true
+ask_reads_credentials asks.Comments = true
+ask_reads_credentials asks.Tag = true
+ask_reads_credentials asks.Untag = true
 ask_reads_credentials asks.Me = true
 
 -- ---- commands and queries
@@ -68,6 +80,10 @@ command_ask (commands.SetConflict paper user on) = asks.SetConflict
 command_ask (commands.Bid paper value) = asks.Bid
 command_ask (commands.Assign paper user kind) = asks.Assign
 command_ask (commands.Unassign paper user) = asks.Unassign
+command_ask (commands.Review paper form) = asks.Review
+command_ask (commands.Comment paper text) = asks.Comment
+command_ask (commands.Tag paper tag true) = asks.Tag
+command_ask (commands.Tag paper tag false) = asks.Untag
 
 abbrev pub query_ask : Query → Ask
 query_ask queries.Me = asks.Me
@@ -76,6 +92,8 @@ query_ask queries.Phase = asks.Phase
 query_ask (queries.Page paper) = asks.Page
 query_ask (queries.Content paper) = asks.Content
 query_ask (queries.Version paper version) = asks.Version
+query_ask (queries.Reviews paper) = asks.Reviews
+query_ask (queries.Comments paper) = asks.Comments
 
 -- each wants the login that its request does
 abbrev pub command_wants_login : Command → Bool

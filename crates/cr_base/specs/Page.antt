@@ -85,11 +85,14 @@ gets_reviewers by = shows_reviewer by || (is_clear_member by && is_from Discussi
 abbrev pub shows_writer : Standing → Bool
 shows_writer by = is_clear_member by && (is_chair by.role || not (is_anonymous by.mode)) && is_from Discussion by.phase
 
+-- the tags that are on: clear members from bidding
+abbrev pub gets_tags : Standing → Bool
+gets_tags by = is_clear_member by && is_from Bidding by.phase
+
 -- the keys that have nothing to tell yet
 abbrev pub bare_keys : Standing → BareKeys
 bare_keys by = record {
   decision = (is_clear_member by && is_from Discussion by.phase) || (by.author && is_from Notification by.phase);
-  tags = is_clear_member by && is_from Bidding by.phase;
 }
 
 -- ---- the page
@@ -105,6 +108,7 @@ pub record PaperTexts : Type 0 where
   pub declared : List (List ℕ)
   pub label : Option ℕ
   pub reviewers : List Reviewer
+  pub tags : List (List ℕ)
   pub versions : List ℕ
   pub withdrawn : Bool
 
@@ -125,6 +129,7 @@ page_of by paper texts = record {
   declared = where_told (gets_declared by) (Some texts.declared);
   label = where_told (gets_label by) texts.label;
   reviewers = where_told (gets_reviewers by) (Some texts.reviewers);
+  tags = where_told (gets_tags by) (Some texts.tags);
   title = where_told (gets_title by) texts.title;
   versions = where_told (gets_versions by) (Some texts.versions);
   withdrawn = where_told (gets_withdrawn by) (Some texts.withdrawn);

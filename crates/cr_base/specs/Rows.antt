@@ -1,18 +1,18 @@
 -- The row of each entry, and the entry of a row, kind by kind.
-use Rattle.std.specs.Prelude.{ℕ, Bool, ◌==◌, List, [], codes, if◌then◌else◌, map}
+use Rattle.std.specs.Prelude.{ℕ, Bool, ◌==◌, List, [], codes, Option, Some, None, if◌then◌else◌, map}
 use Rattle.cr_base.specs.declared.entry.EntryKind.{EntryKind}
 use Rattle.cr_base.specs.declared.entry.EntryKind.TheVariants as kind
 use Rattle.cr_base.specs.declared.entry.Entry.{Entry}
 use Rattle.cr_base.specs.declared.entry.Entry.TheVariants.{Registered, Named, PhaseSet, ModeSet, Submitted}
 use Rattle.cr_base.specs.declared.entry.Entry.TheVariants.{Coauthor, Revised, Uploaded, Withdrawn, Conflict}
-use Rattle.cr_base.specs.declared.entry.Entry.TheVariants.{Bid, Assigned, Unassigned}
+use Rattle.cr_base.specs.declared.entry.Entry.TheVariants.{Bid, Assigned, Unassigned, Reviewed, Commented, Tagged}
 use Rattle.cr_base.specs.declared.entry.Stamped.{Stamped}
 use Rattle.cr_base.specs.declared.row.Row.{Row}
 use Rattle.cr_base.specs.Words.{phase_number, phase_numbered, mode_number, mode_numbered, role_number, role_numbered, seat_number, seat_numbered}
 use Rattle.cr_base.specs.declared.shape.Shape.{Shape}
-use Rattle.cr_base.specs.declared.shape.TextKind.TheVariants.{Nothing, Name, Digest, Title, Abstract, Content}
-use Rattle.cr_base.specs.Shapes.{user_range, paper_range, phase_range, mode_range, bit, role_range, version_range, bid_range, seat_range, ordinal_range}
-use Rattle.cr_base.specs.Shapes.{unused, shape, with_fourth, FitsShape}
+use Rattle.cr_base.specs.declared.shape.TextKind.TheVariants.{Nothing, Name, Digest, Title, Abstract, Content, ReviewText, CommentText, Tag}
+use Rattle.cr_base.specs.Shapes.{user_range, paper_range, phase_range, mode_range, bit, role_range, version_range, bid_range, seat_range, ordinal_range, some_ordinal_range, grade_range}
+use Rattle.cr_base.specs.Shapes.{unused, shape, with_fourth, with_fifth, FitsShape}
 
 -- the number by which rows tell the kind
 abbrev pub kind_number : EntryKind → ℕ
@@ -29,6 +29,9 @@ kind_number kind.Conflict = 10
 kind_number kind.Bid = 11
 kind_number kind.Assigned = 12
 kind_number kind.Unassigned = 13
+kind_number kind.Reviewed = 14
+kind_number kind.Commented = 15
+kind_number kind.Tagged = 16
 
 -- the word for the kind: its name in lower case
 abbrev pub kind_name : EntryKind → List ℕ
@@ -45,6 +48,9 @@ kind_name kind.Conflict = codes "conflict"
 kind_name kind.Bid = codes "bid"
 kind_name kind.Assigned = codes "assigned"
 kind_name kind.Unassigned = codes "unassigned"
+kind_name kind.Reviewed = codes "reviewed"
+kind_name kind.Commented = codes "commented"
+kind_name kind.Tagged = codes "tagged"
 
 -- the fields of each kind, a line a kind
 abbrev pub shape_of : EntryKind → Shape
@@ -61,6 +67,9 @@ shape_of kind.Conflict = shape paper_range user_range bit Nothing Nothing
 shape_of kind.Bid = shape paper_range bid_range unused Nothing Nothing
 shape_of kind.Assigned = with_fourth ordinal_range (shape paper_range user_range seat_range Nothing Nothing)
 shape_of kind.Unassigned = shape paper_range user_range ordinal_range Nothing Nothing
+shape_of kind.Reviewed = with_fifth grade_range (with_fourth grade_range (shape paper_range ordinal_range version_range ReviewText ReviewText))
+shape_of kind.Commented = shape paper_range version_range some_ordinal_range CommentText Nothing
+shape_of kind.Tagged = shape paper_range bit unused Tag Nothing
 
 -- the kind of an entry
 abbrev pub kind_of : Entry → EntryKind
@@ -77,6 +86,9 @@ kind_of (Conflict paper user on) = kind.Conflict
 kind_of (Bid paper value) = kind.Bid
 kind_of (Assigned paper user seat ordinal) = kind.Assigned
 kind_of (Unassigned paper user ordinal) = kind.Unassigned
+kind_of (Reviewed paper ordinal version form) = kind.Reviewed
+kind_of (Commented paper n ordinal text) = kind.Commented
+kind_of (Tagged paper tag on) = kind.Tagged
 
 -- what a row tells of an entry beside its kind, its maker and the mark
 pub record Fields : Type 0 where
@@ -95,6 +107,14 @@ fields n1 n2 n3 b1 b2 = record { n1 = n1; n2 = n2; n3 = n3; n4 = 0; n5 = 0; b1 =
 abbrev pub bit_number : Bool → ℕ
 bit_number b = if b then 1 else 0
 
+-- a label that may be none by its number: its ordinal, or 0; ordinals begin at 1, so a 0 among them has a number that no row has
+abbrev pub label_number : Option ℕ → ℕ
+label_number None = 0
+label_number (Some ordinal) = if ordinal == 0 then 27 else ordinal
+
+abbrev pub label_numbered : ℕ → Option ℕ
+label_numbered n = if n == 0 then None else Some n
+
 -- the numbers and bytes of an entry, each in its field
 abbrev pub fields_of : Entry → Fields
 fields_of (Registered user name digest) = fields user 0 0 name digest
@@ -110,6 +130,10 @@ fields_of (Conflict paper user on) = fields paper user (bit_number on) [] []
 fields_of (Bid paper value) = fields paper value 0 [] []
 fields_of (Assigned paper user seat ordinal) = record (fields paper user (seat_number seat) [] []) { n4 = ordinal }
 fields_of (Unassigned paper user ordinal) = fields paper user ordinal [] []
+fields_of (Reviewed paper ordinal version form) =
+    record (fields paper ordinal version form.to_authors form.to_pc) { n4 = form.score; n5 = form.confidence }
+fields_of (Commented paper n ordinal text) = fields paper n (label_number ordinal) text []
+fields_of (Tagged paper tag on) = fields paper (bit_number on) 0 tag []
 
 -- the row of an entry
 abbrev pub row_of : Stamped → Row
@@ -151,6 +175,9 @@ built kind.Conflict r = Conflict r.n1 r.n2 (r.n3 == 1)
 built kind.Bid r = Bid r.n1 r.n2
 built kind.Assigned r = Assigned r.n1 r.n2 (seat_numbered r.n3) r.n4
 built kind.Unassigned r = Unassigned r.n1 r.n2 r.n3
+built kind.Reviewed r = Reviewed r.n1 r.n2 r.n3 (record { score = r.n4; confidence = r.n5; to_authors = r.b1; to_pc = r.b2 })
+built kind.Commented r = Commented r.n1 r.n2 (label_numbered r.n3) r.b1
+built kind.Tagged r = Tagged r.n1 r.b1 (r.n2 == 1)
 
 abbrev pub stamped : EntryKind → Row → Stamped
 stamped k r = record { maker = r.maker; more = r.more == 1; entry = built k r }

@@ -65,6 +65,10 @@ labels_in seats p = length (ties_of ByPaper p seats)
 abbrev pub told_of : Tie Seat → SeatTold
 told_of t = record { ordinal = t.value.ordinal; kind = Some t.value.kind; user = Some t.pair.user }
 
+-- whoever was assigned to the paper, by label
+abbrev pub seats_in : SeatsState → ℕ → List SeatTold
+seats_in seats p = map told_of (ties_of ByPaper p seats)
+
 -- the paper's seats that nobody has left, by label: the assigned whose ordinal has no unassigned
 abbrev pub seats_taken : SeatsState → ℕ → List (Tie Seat)
 seats_taken seats p = filter (λ (t : Tie Seat). not t.value.vacated) (ties_of ByPaper p seats)

@@ -1,11 +1,12 @@
 -- What may stand in the fields of a row: ranges of numbers and grammars of bytes.
-use Rattle.std.specs.Prelude.{ℕ, ◌≡◌, ◌≤◌, List, [], length, Option, Some, None}
+use Rattle.std.specs.Prelude.{ℕ, ◌≡◌, ◌≤◌, List, [], length, Option, Some, None, IsTrue}
 use Rattle.cr_base.specs.declared.shape.Range.{Range}
 use Rattle.cr_base.specs.declared.shape.Shape.{Shape}
 use Rattle.cr_base.specs.declared.shape.TextKind.{TextKind}
-use Rattle.cr_base.specs.declared.shape.TextKind.TheVariants.{Nothing, Name, Digest, Title, Abstract, Content}
+use Rattle.cr_base.specs.declared.shape.TextKind.TheVariants.{Nothing, Name, Digest, Title, Abstract, Content, ReviewText, CommentText, Tag}
 use Rattle.cr_base.specs.declared.row.Row.{Row}
-use Rattle.cr_base.specs.Texts.{IsName, IsTitle, IsAbstract, IsContent}
+use Rattle.cr_base.specs.TagTexts.{is_tag}
+use Rattle.cr_base.specs.Texts.{IsName, IsTitle, IsAbstract, IsContent, IsReviewText, IsCommentText}
 
 abbrev pub range : ℕ → ℕ → Range
 range low high = record { low = low; high = Some high }
@@ -50,6 +51,14 @@ seat_range = range 1 3
 abbrev pub ordinal_range : Range
 ordinal_range = range 1 26
 
+-- the same, and 0 where there is none
+abbrev pub some_ordinal_range : Range
+some_ordinal_range = range 0 26
+
+-- scores and confidences
+abbrev pub grade_range : Range
+grade_range = range 1 5
+
 -- an unused number is 0
 abbrev pub unused : Range
 unused = range 0 0
@@ -60,6 +69,10 @@ shape n1 n2 n3 b1 b2 = record { n1 = n1; n2 = n2; n3 = n3; n4 = unused; n5 = unu
 -- the same with these numbers in the fourth field
 abbrev pub with_fourth : Range → Shape → Shape
 with_fourth n4 s = record { n1 = s.n1; n2 = s.n2; n3 = s.n3; n4 = n4; n5 = s.n5; b1 = s.b1; b2 = s.b2 }
+
+-- and in the fifth
+abbrev pub with_fifth : Range → Shape → Shape
+with_fifth n5 s = record { n1 = s.n1; n2 = s.n2; n3 = s.n3; n4 = s.n4; n5 = n5; b1 = s.b1; b2 = s.b2 }
 
 -- a number is no more than the greatest, where there is one
 abbrev pub IsAtMost : Option ℕ → ℕ → Type 0
@@ -77,6 +90,9 @@ HasText Digest bytes = length bytes ≡ 32
 HasText Title bytes = IsTitle bytes
 HasText Abstract bytes = IsAbstract bytes
 HasText Content bytes = IsContent bytes
+HasText ReviewText bytes = IsReviewText bytes
+HasText CommentText bytes = IsCommentText bytes
+HasText Tag bytes = IsTrue (is_tag bytes)
 
 -- the row's fields are as the shape wants them; who made it, and the mark, are alike in every kind
 pub record FitsShape (s : Shape) (r : Row) : Type 0 where

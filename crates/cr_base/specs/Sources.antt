@@ -12,15 +12,19 @@ use Rattle.cr_base.specs.Accounts.{lines_of, role_in}
 use Rattle.cr_base.specs.Checks.{NamedPaper}
 use Rattle.cr_base.specs.Lists.{listed, is_number, at_some}
 use Rattle.cr_base.specs.Pairs.{users_tied_to}
-use Rattle.cr_base.specs.History.{Upload, BidTold, SeatTold}
+use Rattle.cr_base.specs.History.{Upload, BidTold, SeatTold, FormTold, CommentTold}
+use Rattle.cr_base.specs.HistoryFacts.{assigned_under}
 use Rattle.cr_base.specs.Papers.{paper_numbers, title_at, abstract_at, is_withdrawn_at, uploads_at, own_count, own_bytes}
 use Rattle.cr_base.specs.Tables.{Tables}
-use Rattle.cr_base.specs.Seats.{labels_in, reviewers_in, seat_in}
+use Rattle.cr_base.specs.Reviews.{last_form_in, forms_in, forms_discussed_in, is_written_in, written_told}
+use Rattle.cr_base.specs.Seats.{labels_in, reviewers_in, seat_in, seats_in}
+use Rattle.cr_base.specs.Tags.{tags_in}
+use Rattle.cr_base.specs.Talk.{comments_in, comment_as_told, own_comments_in}
 use Rattle.cr_base.specs.Ties.{authors_in, is_author_in, is_conflicted_in, bid_in, bids_in}
 
 -- what rules and drawn numbers read: how the caller stands, to a paper if one is named; who has registered; the papers;
--- how many of them are the caller's, and how many bytes she has uploaded; her last bid on each, and the ordinal under which
--- she reviews it
+-- how many of them are the caller's, and how many bytes she has uploaded; her last bid on each, the ordinal under which she
+-- reviews it, and the forms that she has written of it, in order; and how many comments she has written
 pub record Facts : Type 0 where
   pub standing : Option ℕ → Standing
   pub accounts : List AccountLine
@@ -29,11 +33,14 @@ pub record Facts : Type 0 where
   pub own_bytes : ℕ
   pub own_bid : ℕ → Option ℕ
   pub own_seat : ℕ → Option ℕ
+  pub own_forms : ℕ → List FormTold
+  pub own_comments : ℕ
 
 -- what pages, contents and some rules tell of a paper beside the standing: its texts, its authors, who is declared in
 -- conflict with it, and whom its authors declared, both by user number; what was uploaded to it, in order; whether it is
--- withdrawn; the last bids on it, by user number; its reviewers, by label, under which ordinal a user reviews it, and how many
--- labels were given
+-- withdrawn; the last bids on it, by user number; its reviewers, by label, under which ordinal a user reviews it, how many
+-- labels were given, and to whom each; of each label the last form, the forms that the committee discusses, and whether there is
+-- one; the comments on it, by number; and its tags that are for a user, who may be a chair, by their bytes
 pub record Shown : Type 0 where
   pub title : ℕ → Option (List ℕ)
   pub abstract_ : ℕ → Option (List ℕ)
@@ -46,6 +53,12 @@ pub record Shown : Type 0 where
   pub reviewers : ℕ → List SeatTold
   pub seat : Option ℕ → ℕ → Option ℕ
   pub labels : ℕ → ℕ
+  pub assigned : ℕ → ℕ → Option ℕ
+  pub last_form : ℕ → ℕ → Option FormTold
+  pub forms_discussed : ℕ → ℕ → List FormTold
+  pub written : ℕ → ℕ → Bool
+  pub comments : ℕ → List CommentTold
+  pub tags : Option ℕ → Bool → ℕ → List (List ℕ)
 
 -- how a user stands, by the tables
 abbrev pub standing_at : Tables → Option ℕ → Option ℕ → Standing
@@ -58,6 +71,10 @@ standing_at t u paper = record {
   reviewer = at_some (λ p. is_some (seat_in t.seats u p)) paper;
 }
 
+-- the forms that the user has written of the paper: those under her label
+abbrev pub own_forms_in : Tables → Option ℕ → ℕ → List FormTold
+own_forms_in t u p = flat_map (λ (o : ℕ). map written_told (forms_in t.reviews p o)) (listed (seat_in t.seats u p))
+
 -- the facts of the tables
 abbrev pub facts_of_tables : Tables → Option ℕ → Facts
 facts_of_tables t u = record {
@@ -68,6 +85,8 @@ facts_of_tables t u = record {
   own_bytes = own_bytes t.papers u;
   own_bid = bid_in t.ties u;
   own_seat = seat_in t.seats u;
+  own_forms = λ p. own_forms_in t u p;
+  own_comments = own_comments_in t.talk u;
 }
 
 abbrev pub shown_in_tables : Tables → Shown
@@ -83,6 +102,12 @@ shown_in_tables t = record {
   reviewers = reviewers_in t.seats;
   seat = seat_in t.seats;
   labels = labels_in t.seats;
+  assigned = λ p o. assigned_under o (seats_in t.seats p);
+  last_form = λ p o. option_map written_told (last_form_in t.reviews p o);
+  forms_discussed = forms_discussed_in t.reviews;
+  written = is_written_in t.reviews;
+  comments = λ p. map comment_as_told (comments_in t.talk p);
+  tags = tags_in t.tags;
 }
 
 -- who makes the entries of a caller's command: nobody makes any but a registration

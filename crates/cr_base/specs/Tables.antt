@@ -6,20 +6,36 @@ use Rattle.cr_base.specs.History.{History}
 use Rattle.cr_base.specs.Accounts.{accounts_after, AccountsFit}
 use Rattle.cr_base.specs.Stage.{StageState, first_stage, stage_after}
 use Rattle.cr_base.specs.Papers.{PapersState, no_papers, papers_after, PapersFit}
+use Rattle.cr_base.specs.Reviews.{ReviewsState, no_reviews, reviews_after, ReviewsFit}
 use Rattle.cr_base.specs.Seats.{SeatsState, no_seats, seats_after, SeatsFit}
+use Rattle.cr_base.specs.Tags.{TagsState, no_tags, tags_after}
+use Rattle.cr_base.specs.Talk.{TalkState, no_talk, talk_after, TalkFit}
 use Rattle.cr_base.specs.Ties.{TiesState, no_ties, ties_after, TiesFit}
 
--- the tables: the stage, the accounts by user number, the papers, who is tied to them, and who reviews them
+-- the tables: the stage, the accounts by user number, the papers, who is tied to them, who reviews them, what was written in
+-- reviews and in comments, and the tags that are on
 pub record Tables : Type 0 where
   pub stage : StageState
   pub accounts : List Account
   pub papers : PapersState
   pub ties : TiesState
   pub seats : SeatsState
+  pub reviews : ReviewsState
+  pub talk : TalkState
+  pub tags : TagsState
 
 -- the tables of no entries
 abbrev pub no_tables : Tables
-no_tables = record { stage = first_stage; accounts = []; papers = no_papers; ties = no_ties; seats = no_seats }
+no_tables = record {
+  stage = first_stage;
+  accounts = [];
+  papers = no_papers;
+  ties = no_ties;
+  seats = no_seats;
+  reviews = no_reviews;
+  talk = no_talk;
+  tags = no_tags;
+}
 
 -- the tables after one more entry
 abbrev pub tables_after : Tables → Stamped → Tables
@@ -29,6 +45,9 @@ tables_after t s = record {
   papers = papers_after t.papers s.maker s.entry;
   ties = ties_after t.ties s.maker s.entry;
   seats = seats_after t.seats s.entry;
+  reviews = reviews_after t.reviews s.entry;
+  talk = talk_after t.talk s.maker s.entry;
+  tags = tags_after t.tags s.maker s.entry;
 }
 
 -- the tables after these entries
@@ -45,6 +64,8 @@ pub record Fits (t : Tables) (s : Stamped) : Type 0 where
   pub papers : PapersFit t.papers s.maker s.entry
   pub ties : TiesFit t.ties s.entry
   pub seats : SeatsFit t.seats s.entry
+  pub reviews : ReviewsFit t.reviews s.entry
+  pub talk : TalkFit t.talk s.maker s.entry
 
 -- each of these entries may come next in its turn
 abbrev pub FitInTurn : Tables → History → Type 0

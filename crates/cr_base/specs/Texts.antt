@@ -1,4 +1,4 @@
--- The grammar of names, titles and abstracts, and how long a content may be.
+-- The grammar of names, titles, abstracts, reviews and comments, and how long a content may be.
 use Rattle.std.specs.Prelude.{ℕ, Bool, ◌≤◌, ◌==◌, ◌||◌, ◌&&◌, not, nat_le, List, length, IsTrue}
 use Rattle.std.specs.List.{list_all}
 use Rattle.std.specs.Char.{is_ascii_lowercase, is_ascii_digit}
@@ -47,6 +47,26 @@ pub record IsAbstract (text : List ℕ) : Type 0 where
 -- the same as a test
 abbrev pub is_abstract : List ℕ → Bool
 is_abstract text = nat_le (length text) 5000 && is_utf8 text
+
+-- ---- reviews and comments
+
+-- a text of a review: UTF-8, at most 20,000 bytes
+pub record IsReviewText (text : List ℕ) : Type 0 where
+  pub few : length text ≤ 20000
+  pub utf8 : IsTrue (is_utf8 text)
+
+-- a comment: UTF-8, 1 to 10,000 bytes
+pub record IsCommentText (text : List ℕ) : Type 0 where
+  pub some : 1 ≤ length text
+  pub few : length text ≤ 10000
+  pub utf8 : IsTrue (is_utf8 text)
+
+-- the same as tests
+abbrev pub is_review_text : List ℕ → Bool
+is_review_text text = nat_le (length text) 20000 && is_utf8 text
+
+abbrev pub is_comment_text : List ℕ → Bool
+is_comment_text text = nat_le 1 (length text) && nat_le (length text) 10000 && is_utf8 text
 
 -- ---- contents
 

@@ -1,6 +1,6 @@
 -- The words and the numbers of phases, modes, roles and assignments, and of bids: CoCon's phases and roles, the HotCRP
 -- manual's anonymity, its kinds of review (primary, secondary, pc) and its review preferences.
-use Rattle.std.specs.Prelude.{ℕ, ℤ, pos, negsuc, Bool, true, false, List, [], ◌∷◌, Option, Some, None, find, codes, ◌==◌, ◌+◌, ◌-◌, nat_le, nat_lt, if◌then◌else◌}
+use Rattle.std.specs.Prelude.{ℕ, ℤ, pos, negsuc, Bool, true, false, List, [], ◌∷◌, Option, Some, None, find, codes, ◌==◌, ◌+◌, ◌-◌, nat_le, nat_lt, ◌&&◌, if◌then◌else◌}
 use Rattle.std.specs.Str.{bytes_eq}
 use Rattle.cr_base.specs.declared.words.Phase.{Phase}
 use Rattle.cr_base.specs.declared.words.Phase.TheVariants.{Setup, Submission, Bidding, Reviewing, Discussion, Notification, Closed}
@@ -128,6 +128,13 @@ bid_of_value (negsuc n) = if nat_lt n 20 then Some (19 - n) else None
 -- a bid without its sign
 abbrev pub bid_size : ℕ → ℕ
 bid_size raised = if nat_lt raised no_bid then no_bid - raised else raised - no_bid
+
+-- ---- grades
+
+-- the score or the confidence that a whole number is: one from 1 to 5
+abbrev pub grade_of_value : ℤ → Option ℕ
+grade_of_value (pos n) = if nat_le 1 n && nat_le n 5 then Some n else None
+grade_of_value (negsuc n) = None
 
 -- ---- roles
 

@@ -39,13 +39,25 @@ pub enum Ask {
     Assign,
     /// One reviewer less: DELETE of `/papers/{p}/reviewers/{u}`.
     Unassign,
+    /// The reviews of a paper: GET or HEAD of `/papers/{p}/reviews`.
+    Reviews,
+    /// A form of the caller's review of a paper: PUT of `/papers/{p}/review`.
+    Review,
+    /// The comments on a paper: GET or HEAD of `/papers/{p}/comments`.
+    Comments,
+    /// One more comment on a paper: POST of `/papers/{p}/comments`.
+    Comment,
+    /// A tag on a paper: PUT of `/papers/{p}/tags/{t}`.
+    Tag,
+    /// That a tag is on a paper no longer: DELETE of `/papers/{p}/tags/{t}`.
+    Untag,
     /// What the caller is to the conference: GET or HEAD of `/me`.
     Me,
 }
 
 impl Ask {
     /// Whether it is a registered user's, so that nobody is answered `unauthorized`: every command but a registration, a
-    /// paper's page and content, and what the caller is to the conference.
+    /// paper's page, content, reviews and comments, and what the caller is to the conference.
     pub fn wants_login(self) -> bool
         ensures { result ≡ ask_wants_login self }
     {
@@ -54,7 +66,9 @@ impl Ask {
             Ask::Name | Ask::SetMode | Ask::SetPhase | Ask::SetConflict => true,
             Ask::Submit | Ask::Revise | Ask::Upload | Ask::Withdraw => true,
             Ask::Bid | Ask::Assign | Ask::Unassign => true,
+            Ask::Review | Ask::Comment | Ask::Tag | Ask::Untag => true,
             Ask::Me | Ask::Page | Ask::Content | Ask::Version => true,
+            Ask::Reviews | Ask::Comments => true,
         }
     }
 
@@ -69,6 +83,8 @@ impl Ask {
             Ask::Name | Ask::SetMode | Ask::SetPhase | Ask::SetConflict => true,
             Ask::Submit | Ask::Revise | Ask::Upload | Ask::Withdraw => true,
             Ask::Bid | Ask::Assign | Ask::Unassign => true,
+            Ask::Review | Ask::Comment | Ask::Tag | Ask::Untag => true,
+            Ask::Reviews | Ask::Comments => true,
         }
     }
 }

@@ -5,7 +5,9 @@ ghost use Rattle.cr_base.specs.Logins.{command_ask, command_wants_login, query_a
 use crate::ask::Ask;
 use crate::bid::Bid;
 use crate::entry::Digest;
+use crate::form::Form;
 use crate::numbers::PaperNo;
+use crate::tag::Tag;
 use crate::texts::{Blob, Short, Text};
 use crate::told::ToldNames;
 use crate::words::{Kind, Mode, Phase, Role};
@@ -99,6 +101,29 @@ pub enum Command {
         /// The name told of her; None where what was told is no name.
         user: Option<Short>,
     },
+    /// The caller reviews a paper, once more or for the first time.
+    Review {
+        /// The paper told; None where what was told is no number of a paper.
+        paper: Option<PaperNo>,
+        /// What she writes.
+        form: Form,
+    },
+    /// The caller comments on a paper.
+    Comment {
+        /// The paper told; None where what was told is no number of a paper.
+        paper: Option<PaperNo>,
+        /// What she writes: UTF-8, 1 to 10,000 bytes.
+        text: Text,
+    },
+    /// A tag is on at a paper, or no longer.
+    Tag {
+        /// The paper told; None where what was told is no number of a paper.
+        paper: Option<PaperNo>,
+        /// The tag.
+        tag: Tag,
+        /// Whether it is on.
+        on: bool,
+    },
 }
 
 /// What a request may ask.
@@ -127,6 +152,16 @@ pub enum Query {
         /// The version told; 0, which no version has, where what was told is no number of one.
         version: u64,
     },
+    /// The reviews of a paper.
+    Reviews {
+        /// The paper told; None where what was told is no number of a paper.
+        paper: Option<PaperNo>,
+    },
+    /// The comments on a paper.
+    Comments {
+        /// The paper told; None where what was told is no number of a paper.
+        paper: Option<PaperNo>,
+    },
 }
 
 impl Command {
@@ -147,6 +182,10 @@ impl Command {
             Command::Bid { .. } => Ask::Bid,
             Command::Assign { .. } => Ask::Assign,
             Command::Unassign { .. } => Ask::Unassign,
+            Command::Review { .. } => Ask::Review,
+            Command::Comment { .. } => Ask::Comment,
+            Command::Tag { on: true, .. } => Ask::Tag,
+            Command::Tag { on: false, .. } => Ask::Untag,
         }
     }
 
@@ -170,6 +209,8 @@ impl Query {
             Query::Page { .. } => Ask::Page,
             Query::Content { .. } => Ask::Content,
             Query::Version { .. } => Ask::Version,
+            Query::Reviews { .. } => Ask::Reviews,
+            Query::Comments { .. } => Ask::Comments,
         }
     }
 

@@ -3,7 +3,9 @@ ghost use Rattle.std.specs.Prelude.{◌≡◌, IfOk};
 ghost use Rattle.cr_base.specs.Rows.{kind_of};
 
 use crate::bid::Bid;
+use crate::form::Form;
 use crate::numbers::{Ordinal, PaperNo, UserNo};
+use crate::tag::Tag;
 use crate::texts::{Blob, Short, Text};
 use crate::words::{Kind, Mode, Phase, Role};
 use std::alloc::AllocError;
@@ -115,6 +117,37 @@ pub enum Entry {
         /// The ordinal of the label under which she did.
         ordinal: Ordinal,
     },
+    /// A reviewer has written a form of her review of a paper. All forms count, each by when it was written.
+    Reviewed {
+        /// The paper.
+        paper: PaperNo,
+        /// The ordinal of the label under which she reviews it.
+        ordinal: Ordinal,
+        /// The form's number: the count of the label's forms before it plus 1.
+        version: u64,
+        /// What she wrote.
+        form: Form,
+    },
+    /// A member has commented on a paper.
+    Commented {
+        /// The paper.
+        paper: PaperNo,
+        /// The comment's number: the count of comments on the paper before it plus 1.
+        n: u64,
+        /// The ordinal of the label under which she reviews the paper; none where she doesn't.
+        ordinal: Option<Ordinal>,
+        /// What she wrote: UTF-8, 1 to 10,000 bytes.
+        text: Text,
+    },
+    /// A tag is on or off at a paper from here on; a private one for its maker alone.
+    Tagged {
+        /// The paper.
+        paper: PaperNo,
+        /// The tag.
+        tag: Tag,
+        /// Whether it is on.
+        on: bool,
+    },
 }
 
 /// The kind of an entry.
@@ -146,6 +179,12 @@ pub enum EntryKind {
     Assigned,
     /// An [`Entry::Unassigned`].
     Unassigned,
+    /// An [`Entry::Reviewed`].
+    Reviewed,
+    /// An [`Entry::Commented`].
+    Commented,
+    /// An [`Entry::Tagged`].
+    Tagged,
 }
 
 /// An entry with its maker, and whether another entry of the same command follows.
@@ -189,6 +228,9 @@ impl Entry {
             Entry::Bid { .. } => EntryKind::Bid,
             Entry::Assigned { .. } => EntryKind::Assigned,
             Entry::Unassigned { .. } => EntryKind::Unassigned,
+            Entry::Reviewed { .. } => EntryKind::Reviewed,
+            Entry::Commented { .. } => EntryKind::Commented,
+            Entry::Tagged { .. } => EntryKind::Tagged,
         }
     }
 
@@ -268,6 +310,33 @@ impl Entry {
                 paper: *paper,
                 user: *user,
                 ordinal: *ordinal,
+            }),
+            Entry::Reviewed {
+                paper,
+                ordinal,
+                version,
+                form,
+            } => Ok(Entry::Reviewed {
+                paper: *paper,
+                ordinal: *ordinal,
+                version: *version,
+                form: form.copy()?,
+            }),
+            Entry::Commented {
+                paper,
+                n,
+                ordinal,
+                text,
+            } => Ok(Entry::Commented {
+                paper: *paper,
+                n: *n,
+                ordinal: *ordinal,
+                text: text.copy()?,
+            }),
+            Entry::Tagged { paper, tag, on } => Ok(Entry::Tagged {
+                paper: *paper,
+                tag: *tag,
+                on: *on,
             }),
         }
     }

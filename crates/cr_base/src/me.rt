@@ -8,13 +8,15 @@ use crate::words::Role;
 /// Papers by number.
 pub type PaperNos = Items<PaperNo>;
 
-/// What a user is told of herself. She has commented on nothing, since nobody can yet.
+/// What a user is told of herself.
 #[derive(Drop, Debug)]
 pub struct Me {
     /// The papers that she reviews.
     pub assigned: PaperNos,
     /// How many bytes she has uploaded, in all versions of all papers: 0 to 67,108,864.
     pub bytes: u64,
+    /// How many comments she has written: 0 to 1,000.
+    pub comments: u64,
     /// The papers with which she is in conflict and whose author she isn't.
     pub conflicts: PaperNos,
     /// Her name.

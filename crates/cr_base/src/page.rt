@@ -3,6 +3,7 @@
 use crate::bid::Bid;
 use crate::items::Items;
 use crate::numbers::{Ordinal, PaperNo};
+use crate::tag::Tag;
 use crate::texts::{Short, Text};
 use crate::words::Kind;
 
@@ -18,6 +19,9 @@ pub type Bids = Items<Bidder>;
 /// Who reviews a paper, by label.
 pub type Reviewers = Items<Reviewer>;
 
+/// Tags on a paper, by their bytes.
+pub type TagList = Items<Tag>;
+
 /// A bid on a paper, and whose it is.
 #[derive(Clone, Copy, Debug)]
 pub struct Bidder {
@@ -30,7 +34,7 @@ pub struct Bidder {
 /// A reviewer of a paper: each but her label is there only where the caller may be told it.
 #[derive(Clone, Copy, Debug)]
 pub struct Reviewer {
-    /// Whether she has written a review: nobody has yet.
+    /// Whether she has written a review.
     pub done: Option<bool>,
     /// What she is to the paper.
     pub kind: Option<Kind>,
@@ -41,13 +45,11 @@ pub struct Reviewer {
 }
 
 /// Which of those keys of a page are there that have nothing to tell yet, since no entry says it: no
-/// decision, no tag.
+/// decision.
 #[derive(Clone, Copy, Debug, PartialEq, Eq)]
 pub struct BareKeys {
     /// The decision: `none`.
     pub decision: bool,
-    /// The tags: none.
-    pub tags: bool,
 }
 
 /// A paper's page: each key is there only where the caller may be told it.
@@ -73,6 +75,8 @@ pub struct Page {
     pub label: Option<Ordinal>,
     /// Who reviews it, by label.
     pub reviewers: Option<Reviewers>,
+    /// The tags that are on and for the caller, by their bytes.
+    pub tags: Option<TagList>,
     /// Its title.
     pub title: Option<Text>,
     /// The numbers of its versions: all for its authors, the last alone for others.

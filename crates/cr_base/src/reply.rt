@@ -1,10 +1,12 @@
 //! Rules, receipts and replies: what a command or a query is answered.
 
 use crate::bid::Bid;
+use crate::comment::CommentLines;
 use crate::items::Items;
 use crate::me::Me;
 use crate::numbers::{Ordinal, PaperNo, UserNo};
 use crate::page::Page;
+use crate::review::ReviewLines;
 use crate::texts::{Blob, Short};
 use crate::words::{Mode, Phase, Role};
 
@@ -33,8 +35,8 @@ pub enum Rule {
     NotAuthor,
     /// The user named is no member of the committee.
     NotAMember,
-    /// The caller is no member of the committee, and bids or declares a conflict of her own; or she is no
-    /// author of the paper either, and asks for its page or its content.
+    /// The caller is no member of the committee, and bids, declares a conflict of her own, reviews, comments, tags, or asks for
+    /// comments; or she is no author of the paper either, and asks for its page, its content or its reviews.
     NotMember,
     /// The caller is in conflict with the paper.
     Conflict,
@@ -54,6 +56,12 @@ pub enum Rule {
     LabelsSpent,
     /// The user named doesn't review the paper.
     NotAssigned,
+    /// The user named has written a review under her label, and so can't be taken off the paper.
+    HasReview,
+    /// The caller doesn't review the paper.
+    NotReviewer,
+    /// The caller has written 1,000 comments.
+    QuotaComments,
 }
 
 /// What an accepted command is answered.
@@ -86,12 +94,13 @@ pub enum Receipt {
         /// The mode.
         mode: Mode,
     },
-    /// The paper that was revised or withdrawn, with which a conflict was turned on or off, or that has lost a reviewer.
+    /// The paper that was revised or withdrawn, with which a conflict was turned on or off, that has lost a reviewer, or at which a
+    /// tag was turned on or off.
     Changed {
         /// Its number.
         paper: PaperNo,
     },
-    /// The version uploaded.
+    /// The version uploaded, or the version of a review.
     Version {
         /// Its number.
         version: u64,
@@ -105,6 +114,11 @@ pub enum Receipt {
     Label {
         /// Its ordinal.
         ordinal: Ordinal,
+    },
+    /// The comment written.
+    Comment {
+        /// Its number among those on the paper.
+        n: u64,
     },
 }
 
@@ -150,4 +164,8 @@ pub enum Reply {
     Me(Me),
     /// The answer to `Query::Content` and `Query::Version`.
     Content(Blob),
+    /// The answer to `Query::Reviews`.
+    Reviews(ReviewLines),
+    /// The answer to `Query::Comments`.
+    Comments(CommentLines),
 }

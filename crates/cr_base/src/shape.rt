@@ -3,9 +3,10 @@ ghost use Rattle.std.specs.Prelude.{◌≡◌, ◌↔◌, IsTrue};
 ghost use Rattle.cr_base.specs.Shapes.{FitsShape, HasText, InRange, IsAtMost};
 
 use crate::bid::HIGHEST_RAISED;
-use crate::numbers::{LAST_NUMBER, MOST_LABELS};
+use crate::numbers::{HIGHEST_GRADE, LAST_NUMBER, MOST_LABELS};
 use crate::row::Row;
-use crate::texts::{is_abstract, is_content, is_name, is_title};
+use crate::tag::is_tag;
+use crate::texts::{is_abstract, is_comment, is_content, is_name, is_review_text, is_title};
 
 /// The numbers that a field may hold, both ends among them.
 #[derive(Clone, Copy, Debug, PartialEq, Eq)]
@@ -31,6 +32,12 @@ pub enum TextKind {
     Abstract,
     /// A paper's content.
     Content,
+    /// A text of a review.
+    ReviewText,
+    /// A comment.
+    CommentText,
+    /// A tag.
+    Tag,
 }
 
 /// What may stand in a row of one kind.
@@ -95,6 +102,18 @@ pub(crate) const ORDINALS: Range = Range {
     high: Some(MOST_LABELS),
 };
 
+/// Ordinals, and 0 where there is none.
+pub(crate) const SOME_ORDINALS: Range = Range {
+    low: 0,
+    high: Some(MOST_LABELS),
+};
+
+/// Scores and confidences.
+pub(crate) const GRADES: Range = Range {
+    low: 1,
+    high: Some(HIGHEST_GRADE),
+};
+
 pub(crate) const BIT: Range = Range {
     low: 0,
     high: Some(1),
@@ -134,12 +153,15 @@ impl TextKind {
             TextKind::Title => is_title(bytes),
             TextKind::Abstract => is_abstract(bytes),
             TextKind::Content => is_content(bytes),
+            TextKind::ReviewText => is_review_text(bytes),
+            TextKind::CommentText => is_comment(bytes),
+            TextKind::Tag => is_tag(bytes),
         }
     }
 }
 
 impl Shape {
-    ghost use Rattle.cr_base.specs.Shapes.{shape, with_fourth};
+    ghost use Rattle.cr_base.specs.Shapes.{shape, with_fourth, with_fifth};
 
     /// What may stand in rows that leave the last two numbers unused.
     pub(crate) fn of(n1: Range, n2: Range, n3: Range, b1: TextKind, b2: TextKind) -> Shape
@@ -173,6 +195,21 @@ impl Shape {
             n3: self.n3,
             n4,
             n5: self.n5,
+            b1: self.b1,
+            b2: self.b2,
+        }
+    }
+
+    /// The same with these numbers in the field `n5`.
+    pub(crate) fn with_fifth(self, n5: Range) -> Shape
+        ensures { result ≡ with_fifth n5 self }
+    {
+        Shape {
+            n1: self.n1,
+            n2: self.n2,
+            n3: self.n3,
+            n4: self.n4,
+            n5,
             b1: self.b1,
             b2: self.b2,
         }

@@ -1,18 +1,21 @@
 //! The row of an entry, and the entry of a row, kind by kind.
-ghost use Rattle.std.specs.Prelude.{◌≡◌, ◌≢◌, [], length, IfOk, IfSome, IfNone, Some};
+ghost use Rattle.std.specs.Prelude.{◌≡◌, ◌≢◌, ◌≤◌, [], length, IfOk, IfSome, IfNone, Some, IsTrue};
+ghost use Rattle.cr_base.specs.TagTexts.{is_tag};
 ghost use Rattle.cr_base.specs.Shapes.{FitsShape};
-ghost use Rattle.cr_base.specs.Rows.{kind_name, kind_number, shape_of, row_of, bit_number, built, IsBoundedEntry};
+ghost use Rattle.cr_base.specs.Rows.{kind_name, kind_number, shape_of, row_of, bit_number, label_number, label_numbered, built, IsBoundedEntry};
 ghost use Rattle.cr_base.specs.declared.entry.EntryKind.{EntryKind};
 ghost use Rattle.cr_base.specs.declared.entry.Stamped.{Stamped};
 
 use crate::bid::Bid;
 use crate::entry::{Digest, Entry, EntryKind, Stamped};
-use crate::numbers::{Ordinal, PaperNo, UserNo};
+use crate::form::Form;
+use crate::numbers::{Grade, Ordinal, PaperNo, UserNo};
 use crate::row::Row;
 use crate::shape::{
-    BIDS, BIT, KINDS, MODES, ORDINALS, PAPERS, PHASES, ROLES, Shape, TextKind, UNUSED, USERS,
-    VERSIONS,
+    BIDS, BIT, GRADES, KINDS, MODES, ORDINALS, PAPERS, PHASES, ROLES, SOME_ORDINALS, Shape,
+    TextKind, UNUSED, USERS, VERSIONS,
 };
+use crate::tag::Tag;
 use crate::texts::{Blob, Short, Text};
 use crate::words::{Kind, Mode, Phase, Role};
 use std::alloc::{AllocError, Global};
@@ -36,6 +39,9 @@ impl EntryKind {
             EntryKind::Bid => 11,
             EntryKind::Assigned => 12,
             EntryKind::Unassigned => 13,
+            EntryKind::Reviewed => 14,
+            EntryKind::Commented => 15,
+            EntryKind::Tagged => 16,
         }
     }
 
@@ -59,6 +65,9 @@ impl EntryKind {
             11 => Some(EntryKind::Bid),
             12 => Some(EntryKind::Assigned),
             13 => Some(EntryKind::Unassigned),
+            14 => Some(EntryKind::Reviewed),
+            15 => Some(EntryKind::Commented),
+            16 => Some(EntryKind::Tagged),
             _ => None,
         }
     }
@@ -81,6 +90,9 @@ impl EntryKind {
             EntryKind::Bid => "bid",
             EntryKind::Assigned => "assigned",
             EntryKind::Unassigned => "unassigned",
+            EntryKind::Reviewed => "reviewed",
+            EntryKind::Commented => "commented",
+            EntryKind::Tagged => "tagged",
         }
     }
 
@@ -111,6 +123,23 @@ impl EntryKind {
             EntryKind::Bid => Shape::of_numbers(PAPERS, BIDS, UNUSED),
             EntryKind::Assigned => Shape::of_numbers(PAPERS, USERS, KINDS).with_fourth(ORDINALS),
             EntryKind::Unassigned => Shape::of_numbers(PAPERS, USERS, ORDINALS),
+            EntryKind::Reviewed => Shape::of(
+                PAPERS,
+                ORDINALS,
+                VERSIONS,
+                TextKind::ReviewText,
+                TextKind::ReviewText,
+            )
+            .with_fourth(GRADES)
+            .with_fifth(GRADES),
+            EntryKind::Commented => Shape::of(
+                PAPERS,
+                VERSIONS,
+                SOME_ORDINALS,
+                TextKind::CommentText,
+                TextKind::Nothing,
+            ),
+            EntryKind::Tagged => Shape::of(PAPERS, BIT, UNUSED, TextKind::Tag, TextKind::Nothing),
         }
     }
 }
@@ -191,6 +220,36 @@ impl Entry {
                 row.n2 = user.number();
                 row.n3 = ordinal.number();
             }
+            Entry::Reviewed {
+                paper,
+                ordinal,
+                version,
+                form,
+            } => {
+                row.n1 = paper.number();
+                row.n2 = ordinal.number();
+                row.n3 = *version;
+                row.n4 = form.score.number();
+                row.n5 = form.confidence.number();
+                row.b1 = form.to_authors.to_blob()?;
+                row.b2 = form.to_pc.to_blob()?;
+            }
+            Entry::Commented {
+                paper,
+                n,
+                ordinal,
+                text,
+            } => {
+                row.n1 = paper.number();
+                row.n2 = *n;
+                row.n3 = number_of_label(ordinal);
+                row.b1 = text.to_blob()?;
+            }
+            Entry::Tagged { paper, tag, on } => {
+                row.n1 = paper.number();
+                row.n2 = u64::from(*on);
+                row.b1 = Blob::from_slice(alloc, tag.as_slice())?;
+            }
         }
         Ok(row)
     }
@@ -213,6 +272,39 @@ impl Row {
             b1: Blob::empty(),
             b2: Blob::empty(),
         }
+    }
+}
+
+/// The number that rows tell of a label that may be none: its ordinal's, or 0.
+fn number_of_label(ordinal: &Option<Ordinal>) -> u64
+    ensures { result ≡ label_number ordinal.now }
+{
+    match ordinal {
+        Some(ordinal) => ordinal.number(),
+        None => 0,
+    }
+}
+
+/// The label of a number from 0 to 26: none for 0.
+fn label_of_number(number: u64) -> Option<Ordinal>
+    requires { number ≤ 26 }
+    ensures { result ≡ label_numbered number }
+{
+    if number == 0 {
+        None
+    } else {
+        Some(Ordinal::new(number))
+    }
+}
+
+/// The tag that bytes of a tag's grammar are.
+fn tag_of(bytes: &Blob) -> Tag
+    requires { IsTrue (is_tag bytes.now) }
+    ensures { result ≡ bytes.now }
+{
+    match Tag::read(bytes.as_slice()) {
+        Some(tag) => tag,
+        None => unreachable!(),
     }
 }
 
@@ -288,6 +380,28 @@ fn entry_from(kind: EntryKind, row: &Row) -> Result<Entry, AllocError>
             paper: PaperNo::new(row.n1),
             user: UserNo::new(row.n2),
             ordinal: Ordinal::new(row.n3),
+        }),
+        EntryKind::Reviewed => Ok(Entry::Reviewed {
+            paper: PaperNo::new(row.n1),
+            ordinal: Ordinal::new(row.n2),
+            version: row.n3,
+            form: Form {
+                score: Grade::new(row.n4),
+                confidence: Grade::new(row.n5),
+                to_authors: Text::from_blob(&row.b1)?,
+                to_pc: Text::from_blob(&row.b2)?,
+            },
+        }),
+        EntryKind::Commented => Ok(Entry::Commented {
+            paper: PaperNo::new(row.n1),
+            n: row.n2,
+            ordinal: label_of_number(row.n3),
+            text: Text::from_blob(&row.b1)?,
+        }),
+        EntryKind::Tagged => Ok(Entry::Tagged {
+            paper: PaperNo::new(row.n1),
+            tag: tag_of(&row.b1),
+            on: row.n2 == 1,
         }),
     }
 }

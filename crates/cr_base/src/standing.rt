@@ -1,6 +1,6 @@
 //! What a caller is to the conference, and to one paper.
-ghost use Rattle.std.specs.Prelude.{◌≡◌};
-ghost use Rattle.cr_base.specs.Checks.{judged, chair_checks};
+ghost use Rattle.std.specs.Prelude.{◌≡◌, true};
+ghost use Rattle.cr_base.specs.Checks.{judged, of_there, member_checks, chair_checks};
 ghost use Rattle.cr_base.specs.Page.{is_clear_member, is_clear_chair};
 
 use crate::reply::Rule;
@@ -38,6 +38,20 @@ impl Standing {
         ensures { result ≡ is_clear_chair self.now }
     {
         self.role.is_chair() && !self.conflicted
+    }
+
+    /// Whether she may do to the paper, which is there, what members in no conflict with it do, or the first broken rule:
+    /// `NotMember`, `Conflict`.
+    pub fn may_handle(&self) -> Result<(), Rule>
+        ensures { result ≡ judged (member_checks self.now (of_there true)) tt }
+    {
+        if !self.role.is_member() {
+            return Err(Rule::NotMember);
+        }
+        if self.conflicted {
+            return Err(Rule::Conflict);
+        }
+        Ok(())
     }
 
     /// Whether she may do to the paper what chairs do from bidding to discussion, where it is withdrawn or not, or the first

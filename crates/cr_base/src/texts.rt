@@ -2,6 +2,7 @@
 ghost use Rattle.std.specs.Prelude.{◌≡◌, ℕ, ◌≤◌, ◌+◌, List, [], length, take, drop, replicate, IfOk, IfErr, IsTrue, ◌↔◌};
 ghost use Rattle.std.specs.List.{list_all};
 ghost use Rattle.std.specs.Str.{is_utf8};
+ghost use Rattle.cr_base.specs.Texts.{IsReviewText, IsCommentText, is_review_text as is_review_text_of, is_comment_text};
 ghost use Rattle.cr_base.specs.Texts.{IsName, IsTitle, IsAbstract, IsContent, is_name as is_name_text, is_name_byte};
 ghost use Rattle.cr_base.specs.Texts.{is_title as is_title_text, is_title_byte, is_abstract as is_abstract_text};
 
@@ -286,6 +287,22 @@ pub fn is_abstract(bytes: &[u8]) -> bool
     ensures test { result ≡ is_abstract_text bytes.now }
 {
     bytes.len() <= 5_000 && is_text(bytes)
+}
+
+/// Whether these bytes are a text of a review: UTF-8, at most 20,000 bytes.
+pub fn is_review_text(bytes: &[u8]) -> bool
+    ensures text { IsTrue result ↔ IsReviewText bytes.now }
+    ensures test { result ≡ is_review_text_of bytes.now }
+{
+    bytes.len() <= 20_000 && is_text(bytes)
+}
+
+/// Whether these bytes are a comment: UTF-8, 1 to 10,000 bytes.
+pub fn is_comment(bytes: &[u8]) -> bool
+    ensures comment { IsTrue result ↔ IsCommentText bytes.now }
+    ensures test { result ≡ is_comment_text bytes.now }
+{
+    !bytes.is_empty() && bytes.len() <= 10_000 && is_text(bytes)
 }
 
 /// Whether these bytes may be uploaded at once: any, at most 4,194,304.

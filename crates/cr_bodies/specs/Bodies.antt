@@ -3,8 +3,8 @@ use Rattle.std.specs.Prelude.{ℕ, List, Option, Some, None, codes}
 use Rattle.serde_json.specs.Data.{Data}
 use Rattle.cr_base.specs.declared.command.Command.{Command}
 use Rattle.cr_base.specs.declared.command.Command.TheVariants as commands
-use Rattle.cr_bodies.specs.Field.{◌>>=◌, abstract_under, bid_under, digest_under, flag_under, kind_under, mode_under}
-use Rattle.cr_bodies.specs.Field.{name_under, names_under, phase_under, role_under, title_under, user_under}
+use Rattle.cr_bodies.specs.Field.{◌>>=◌, abstract_under, bid_under, comment_under, digest_under, flag_under, grade_under, kind_under, mode_under}
+use Rattle.cr_bodies.specs.Field.{name_under, names_under, phase_under, review_text_under, role_under, title_under, user_under}
 use Rattle.cr_bodies.specs.Json.{json_of}
 use Rattle.cr_base.specs.declared.ask.Ask.{Ask}
 use Rattle.cr_base.specs.declared.ask.Ask.TheVariants as asks
@@ -46,6 +46,15 @@ command_in asks.Assign paper d = do
   kind ← kind_under (codes "kind") d
   user ← user_under (codes "user") d
   Some (commands.Assign paper user kind)
+command_in asks.Review paper d = do
+  score ← grade_under (codes "score") d
+  confidence ← grade_under (codes "confidence") d
+  to_authors ← review_text_under (codes "to_authors") d
+  to_pc ← review_text_under (codes "to_pc") d
+  Some (commands.Review paper (record { score = score; confidence = confidence; to_authors = to_authors; to_pc = to_pc }))
+command_in asks.Comment paper d = do
+  text ← comment_under (codes "text") d
+  Some (commands.Comment paper text)
 command_in asks.Accounts paper d = None
 command_in asks.Phase paper d = None
 command_in asks.Page paper d = None
@@ -54,6 +63,10 @@ command_in asks.Content paper d = None
 command_in asks.Upload paper d = None
 command_in asks.Version paper d = None
 command_in asks.Unassign paper d = None
+command_in asks.Reviews paper d = None
+command_in asks.Comments paper d = None
+command_in asks.Tag paper d = None
+command_in asks.Untag paper d = None
 command_in asks.Me paper d = None
 
 -- the same of a body's bytes

@@ -7,11 +7,11 @@ use Rattle.cr_base.specs.declared.words.Kind.{Kind}
 use Rattle.cr_base.specs.declared.words.Mode.{Mode}
 use Rattle.cr_base.specs.declared.words.Phase.{Phase}
 use Rattle.cr_base.specs.declared.words.Role.{Role}
-use Rattle.cr_base.specs.Texts.{IsAbstract, IsName, IsTitle, is_abstract, is_name, is_title}
-use Rattle.cr_base.specs.Words.{bid_of_value, mode_named, phase_named, role_named, seat_named}
+use Rattle.cr_base.specs.Texts.{IsAbstract, IsCommentText, IsName, IsReviewText, IsTitle, is_abstract, is_comment_text, is_name, is_review_text, is_title}
+use Rattle.cr_base.specs.Words.{bid_of_value, grade_of_value, mode_named, phase_named, role_named, seat_named}
 use Rattle.cr_bodies.specs.Secret.{is_secret}
 use Rattle.cr_bodies.specs.declared.field.Grammar.{Grammar}
-use Rattle.cr_bodies.specs.declared.field.Grammar.TheVariants.{Name, Secret, Title, Abstract}
+use Rattle.cr_bodies.specs.declared.field.Grammar.TheVariants.{Name, Secret, Title, Abstract, ReviewText, CommentText}
 
 -- what follows from a value that is there
 infixl 10 ◌>>=◌
@@ -25,12 +25,16 @@ admits Name text = is_name text
 admits Secret text = is_secret text
 admits Title text = is_title text
 admits Abstract text = is_abstract text
+admits ReviewText text = is_review_text text
+admits CommentText text = is_comment_text text
 
 abbrev pub IsOf : Grammar → List ℕ → Type 0
 IsOf Name text = IsName text
 IsOf Secret text = IsTrue (is_secret text)
 IsOf Title text = IsTitle text
 IsOf Abstract text = IsAbstract text
+IsOf ReviewText text = IsReviewText text
+IsOf CommentText text = IsCommentText text
 
 -- the text, where it passes the test
 abbrev pub passing : (List ℕ → Bool) → List ℕ → Option (List ℕ)
@@ -44,7 +48,7 @@ text_under key d = get key d >>= as_str
 abbrev pub tested_under : Grammar → List ℕ → Data → Option (List ℕ)
 tested_under grammar key d = text_under key d >>= passing (admits grammar)
 
--- the name, the title and the abstract under a key
+-- the name, the title, the abstract, the text of a review and the comment under a key
 abbrev pub name_under : List ℕ → Data → Option (List ℕ)
 name_under key d = tested_under Name key d
 
@@ -53,6 +57,12 @@ title_under key d = tested_under Title key d
 
 abbrev pub abstract_under : List ℕ → Data → Option (List ℕ)
 abstract_under key d = tested_under Abstract key d
+
+abbrev pub review_text_under : List ℕ → Data → Option (List ℕ)
+review_text_under key d = tested_under ReviewText key d
+
+abbrev pub comment_under : List ℕ → Data → Option (List ℕ)
+comment_under key d = tested_under CommentText key d
 
 -- the digest of the secret under a key
 abbrev pub digest_under : List ℕ → Data → Option (List ℕ)
@@ -98,6 +108,10 @@ integer_under key d = get key d >>= as_number >>= as_i64
 -- the bid under a key: a whole number from -20 to 20
 abbrev pub bid_under : List ℕ → Data → Option ℕ
 bid_under key d = integer_under key d >>= bid_of_value
+
+-- the score or the confidence under a key: a whole number from 1 to 5
+abbrev pub grade_under : List ℕ → Data → Option ℕ
+grade_under key d = integer_under key d >>= grade_of_value
 
 -- the phase, the mode, the kind of assignment, and the role that somebody may be named to, whose word stands under a key
 abbrev pub phase_under : List ℕ → Data → Option Phase

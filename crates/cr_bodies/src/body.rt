@@ -10,9 +10,9 @@ ghost use Rattle.cr_bodies.specs.Bodies.{command_in as command_in_text, command_
 ghost use Rattle.cr_bodies.specs.Outcome.{TellsBody, TellsBodySeen};
 
 use crate::field::{
-    Grammar, bid, digest, flag, kind, mode, name, names, phase, role, tested, user,
+    Grammar, bid, digest, flag, grade, kind, mode, name, names, phase, role, tested, user,
 };
-use cr_base::{Ask, Command, PaperNo, Text};
+use cr_base::{Ask, Command, Form, PaperNo, Text};
 use serde_json::Value;
 use std::alloc::{AllocError, Global};
 
@@ -100,8 +100,40 @@ fn assignment(paper: Option<PaperNo>, body: &Value) -> Result<Command, BodyError
     Ok(Command::Assign { paper, user, kind })
 }
 
+/// The review that a JSON value tells.
+fn review(alloc: Global, paper: Option<PaperNo>, body: &Value) -> Result<Command, BodyError>
+    ensures told { TellsBody result (command_in_text Ask.Review paper (view body.now)) }
+    ensures bounded { IfOk result IsBoundedCommand }
+{
+    let score = grade(body, "score")?;
+    let confidence = grade(body, "confidence")?;
+    let to_authors = tested(body, "to_authors", Grammar::ReviewText)?;
+    let to_pc = tested(body, "to_pc", Grammar::ReviewText)?;
+    let to_authors = Text::from_str(alloc, to_authors)?;
+    let to_pc = Text::from_str(alloc, to_pc)?;
+    Ok(Command::Review {
+        paper,
+        form: Form {
+            score,
+            confidence,
+            to_authors,
+            to_pc,
+        },
+    })
+}
+
+/// The comment that a JSON value tells.
+fn comment(alloc: Global, paper: Option<PaperNo>, body: &Value) -> Result<Command, BodyError>
+    ensures told { TellsBody result (command_in_text Ask.Comment paper (view body.now)) }
+    ensures bounded { IfOk result IsBoundedCommand }
+{
+    let text = tested(body, "text", Grammar::CommentText)?;
+    let text = Text::from_str(alloc, text)?;
+    Ok(Command::Comment { paper, text })
+}
+
 /// The command that a JSON value tells a request: the table of what each body must have, a key and a kind of value a
-/// member. Only a submission and a revision take memory, for their texts and for the names of the other authors.
+/// member. Only texts take memory, and the names of a submission's other authors.
 fn command_in(
     alloc: Global,
     ask: Ask,
@@ -138,16 +170,19 @@ fn command_in(
             Ok(Command::Bid { paper, value })
         }
         Ask::Assign => assignment(paper, body),
+        Ask::Review => review(alloc, paper, body),
+        Ask::Comment => comment(alloc, paper, body),
         Ask::Accounts | Ask::Phase | Ask::Page | Ask::Me => Err(BodyError::Bad),
         Ask::Withdraw | Ask::Content | Ask::Upload | Ask::Version => Err(BodyError::Bad),
-        Ask::Unassign => Err(BodyError::Bad),
+        Ask::Unassign | Ask::Reviews | Ask::Comments => Err(BodyError::Bad),
+        Ask::Tag | Ask::Untag => Err(BodyError::Bad),
     }
 }
 
 /// The command that the JSON body of a request tells, with the paper that its path tells, where the command is about one.
 /// Reads the body once. `Bad` comes exactly where the body is no JSON object with the members that such a request must
 /// have, memory aside; so it does where what is asked for is told by no JSON body: a query, an upload, a
-/// withdrawal, or that a reviewer leaves.
+/// withdrawal, that a reviewer leaves, or a tag.
 pub fn read_command(
     alloc: Global,
     ask: Ask,

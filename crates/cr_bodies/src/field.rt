@@ -1,8 +1,9 @@
 //! The members of a JSON object, each by its key and the kind of its value.
 ghost use Rattle.std.specs.Prelude.{◌≡◌, ◌≤◌, length, IfOk, IsTrue};
+ghost use Rattle.cr_base.specs.Bounds.{IsGrade};
 ghost use Rattle.cr_base.specs.Texts.{IsName};
 ghost use Rattle.cr_base.specs.Words.{is_member};
-ghost use Rattle.cr_bodies.specs.Field.{IsOf, admits as admits_text, bid_under, digest_under, flag_under, kind_under, mode_under, name_told, name_under};
+ghost use Rattle.cr_bodies.specs.Field.{IsOf, admits as admits_text, bid_under, digest_under, flag_under, grade_under, kind_under, mode_under, name_told, name_under};
 ghost use Rattle.cr_bodies.specs.Field.{names_of, names_under, phase_under, role_under, text_under, tested_under, user_under};
 ghost use Rattle.cr_bodies.specs.Outcome.{Tells, TellsBody, TellsSeen};
 ghost use Rattle.serde_json.specs.Data.{array};
@@ -11,8 +12,8 @@ ghost use Rattle.serde_json.specs.View.{items_view, view};
 use crate::body::BodyError;
 use crate::secret::{digest_of, is_secret};
 use cr_base::{
-    Bid, Digest, Kind, MOST_COAUTHORS, Mode, Phase, Role, Short, ToldNames, is_abstract, is_name,
-    is_title,
+    Bid, Digest, Grade, Kind, MOST_COAUTHORS, Mode, Phase, Role, Short, ToldNames, is_abstract,
+    is_comment, is_name, is_review_text, is_title,
 };
 use serde_json::Value;
 use std::alloc::Global;
@@ -28,6 +29,10 @@ pub(crate) enum Grammar {
     Title,
     /// An abstract: at most 5,000 bytes of UTF-8.
     Abstract,
+    /// A text of a review: at most 20,000 bytes of UTF-8.
+    ReviewText,
+    /// A comment: 1 to 10,000 bytes of UTF-8.
+    CommentText,
 }
 
 impl Grammar {
@@ -41,6 +46,8 @@ impl Grammar {
             Grammar::Secret => is_secret(text),
             Grammar::Title => is_title(text),
             Grammar::Abstract => is_abstract(text),
+            Grammar::ReviewText => is_review_text(text),
+            Grammar::CommentText => is_comment(text),
         }
     }
 }
@@ -155,6 +162,18 @@ pub(crate) fn bid(body: &Value, key: &str) -> Result<Bid, BodyError>
     let number = body.get(key).and_then(Value::as_i64);
     match number.and_then(Bid::from_value) {
         Some(bid) => Ok(bid),
+        None => Err(BodyError::Bad),
+    }
+}
+
+/// The score or the confidence under a key: a whole number from 1 to 5, written as a bid is.
+pub(crate) fn grade(body: &Value, key: &str) -> Result<Grade, BodyError>
+    ensures told { Tells result (grade_under key.now (view body.now)) }
+    ensures valid { IfOk result IsGrade }
+{
+    let number = body.get(key).and_then(Value::as_i64);
+    match number.and_then(Grade::from_value) {
+        Some(grade) => Ok(grade),
         None => Err(BodyError::Bad),
     }
 }

@@ -30,6 +30,8 @@ asker-there h caller queries.Phase may = tt
 asker-there h caller (queries.Page paper) may = tt
 asker-there h caller (queries.Content paper) may = tt
 asker-there h caller (queries.Version paper version) may = tt
+asker-there h caller (queries.Reviews paper) may = tt
+asker-there h caller (queries.Comments paper) may = tt
 asker-there h None queries.Me may = cc
 asker-there h (Some u) queries.Me may = refl
 

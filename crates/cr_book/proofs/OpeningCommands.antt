@@ -11,15 +11,18 @@ use Rattle.std.proofs.lemmas.List.{length-map}
 use Rattle.cr_base.specs.declared.command.Command.{Command}
 use Rattle.cr_base.specs.declared.command.Command.TheVariants as commands
 use Rattle.cr_base.specs.declared.command.Command.TheVariants.{Register, SetPhase, Submit, Revise, Upload, Withdraw, Name, SetMode, SetConflict}
-use Rattle.cr_base.specs.declared.command.Command.TheVariants.{Assign, Unassign}
+use Rattle.cr_base.specs.declared.command.Command.TheVariants.{Assign, Unassign, Review, Comment, Tag}
 use Rattle.cr_base.specs.declared.entry.Entry.{Entry}
 use Rattle.cr_base.specs.declared.entry.Entry.TheVariants as entries
 use Rattle.cr_base.specs.declared.entry.Entry.TheVariants.{Registered, Named, PhaseSet, ModeSet, Submitted, Revised, Uploaded, Withdrawn, Conflict}
-use Rattle.cr_base.specs.declared.entry.Entry.TheVariants.{Assigned, Unassigned}
+use Rattle.cr_base.specs.declared.entry.Entry.TheVariants.{Assigned, Unassigned, Reviewed, Commented, Tagged}
 use Rattle.cr_base.specs.declared.entry.Stamped.{Stamped}
+use Rattle.cr_base.specs.declared.form.Form.{Form}
 use Rattle.cr_base.specs.declared.reply.AccountLine.{AccountLine}
 use Rattle.cr_base.specs.declared.reply.Rule.{Rule}
+use Rattle.cr_base.specs.declared.reply.Rule.TheVariants as rules
 use Rattle.cr_base.specs.declared.row.Row.{Row}
+use Rattle.cr_base.specs.declared.standing.Standing.{Standing}
 use Rattle.cr_base.specs.declared.target.Target.{Target}
 use Rattle.cr_base.specs.declared.words.Kind.{Kind}
 use Rattle.cr_base.specs.declared.words.Mode.{Mode}
@@ -27,18 +30,23 @@ use Rattle.cr_base.specs.declared.words.Phase.{Phase}
 use Rattle.cr_base.specs.declared.words.Role.{Role}
 use Rattle.cr_base.specs.declared.words.Role.TheVariants as roles
 use Rattle.cr_base.specs.Accounts.{lines_of}
-use Rattle.cr_base.specs.Bounds.{IsBoundedCommand}
+use Rattle.cr_base.specs.Bounds.{IsBoundedCommand, IsForm}
 use Rattle.cr_base.specs.HistoryFacts.{role_of}
 use Rattle.cr_base.specs.History.{History, Registration, all_told, registration_told}
 use Rattle.cr_base.specs.Judging.{judge_by_role}
 use Rattle.cr_base.specs.Drawn.{Drawn, besides, grouped, registration_drawn, phase_drawn, submission_drawn, revision_drawn, upload_drawn, withdrawal_drawn, naming_drawn, mode_drawn, conflict_drawn}
-use Rattle.cr_base.specs.Drawn.{bid_drawn, assignment_drawn, unassignment_drawn}
-use Rattle.cr_base.specs.Lists.{is_nothing, listed}
+use Rattle.cr_base.specs.Drawn.{bid_drawn, assignment_drawn, unassignment_drawn, review_drawn, comment_drawn, tag_drawn}
+use Rattle.cr_base.specs.Lists.{is_nothing, listed, at_some}
+use Rattle.cr_base.specs.Logins.{command_wants_login}
 use Rattle.cr_base.specs.Papers.{own_bytes, uploads_at}
+use Rattle.cr_base.specs.Reviews.{is_written_in}
 use Rattle.cr_base.specs.Seats.{labels_in, seat_in}
 use Rattle.cr_base.specs.Sources.{Facts, number_in, paper_named, role_among, shown_in_tables, target_named, user_among, users_among, facts_of_tables, standing_at}
+use Rattle.cr_base.specs.Sources.{own_forms_in}
+use Rattle.cr_base.specs.TagTexts.{is_for_chairs}
+use Rattle.cr_base.specs.Talk.{comments_in, comment_as_told, own_comments_in}
 use Rattle.cr_base.specs.Checks.{Check, NamedPaper, judged, of_role, register_checks, phase_checks, submit_checks, revise_checks, upload_checks, name_checks, mode_checks, conflict_checks}
-use Rattle.cr_base.specs.Checks.{bid_checks, assign_checks, unassign_checks}
+use Rattle.cr_base.specs.Checks.{bid_checks, assign_checks, unassign_checks, review_checks, comment_checks, tag_checks}
 use Rattle.cr_base.specs.Texts.{IsTitle, IsAbstract}
 use Rattle.cr_base.proofs.CheckLaws.{NoneBroken, judged-Ok, judged-none}
 use Rattle.cr_book.proofs.OpeningAuthors.{new-besides, found-back, none-missing, all-listed, coauthors, grouped-cons, numbers, begin-first, told-first, open-rest, same-begin, IsNumber, bounded-numbers, Rebuilt, rebuilt, Become, become}
@@ -50,7 +58,7 @@ use Rattle.cr_base.specs.Words.{role_number, is_member}
 use Rattle.cr_base.proofs.AccountLaws.{number_in-lines_of}
 use Rattle.cr_base.proofs.ListLaws.{name_in-lines_of}
 use Rattle.cr_policy.specs.Judge.{judge}
-use Rattle.cr_policy.specs.Legal.{Call, IsUser, IsCaller, IsAllowed, Legal}
+use Rattle.cr_policy.specs.Legal.{Call, IsUser, CallsAs, IsCaller, IsAllowed, Legal}
 use Rattle.cr_history.specs.Invariants.{IsRegistered}
 use Rattle.cr_policy.specs.View.{view}
 use Rattle.cr_policy.proofs.LegalLaws.{Legal-fits, Legal-judge}
@@ -100,13 +108,14 @@ pub record Told (t : Tables) (rows : List Row) (drawn : Drawn) : Type 0 where
   pub begins : take (length rows) (rows_of given.group) ≡ rows
 
 -- where the call of an entry is known, what is drawn is what its judgement draws
-pub told-judged : (t : Tables) (authors : List (Option (List ℕ))) (first : Stamped) (command : Command) (judged : Result Drawn Rule)
-    → is_known t (giver_told first.maker first.entry) ≡ true → command_told t authors first.entry ≡ Some command
-    → judge_by_role t (giver_told first.maker first.entry) command ≡ judged → drawn_told t authors first ≡ result_ok judged
-told-judged t authors first command judged known told is =
-    let caller = giver_told first.maker first.entry in
-    ap (λ b. cond b (option_and_then (λ c. result_ok (judge_by_role t caller c)) (command_told t authors first.entry)) None) known
-    ∙ ap (option_and_then (λ c. result_ok (judge_by_role t caller c))) told
+pub told-judged : (t : Tables) (authors : List (Option (List ℕ))) (first : Stamped) (caller : Option ℕ) (command : Command) (judged : Result Drawn Rule)
+    → giver_told first.maker first.entry ≡ caller → is_known t caller ≡ true → command_told t authors first.entry ≡ Some command
+    → judge_by_role t caller command ≡ judged → drawn_told t authors first ≡ result_ok judged
+told-judged t authors first caller command judged given known told is =
+    let drawn : Option ℕ → Option Command → Option Drawn = λ by o. option_and_then (λ c. result_ok (judge_by_role t by c)) o in
+    ap (λ (by : Option ℕ). cond (is_known t by) (drawn by (command_told t authors first.entry)) None) given
+    ∙ ap (λ (b : Bool). cond b (drawn caller (command_told t authors first.entry)) None) known
+    ∙ ap (drawn caller) told
     ∙ ap result_ok is
 
 -- ---- a submission and its co-authors
@@ -140,7 +149,7 @@ module _ (t : Tables) (once : AreNamedOnce t.accounts) (user : ℕ) (known : is_
     rest = grouped user (coauthors next_paper users);
     group_is = group ∙ grouped-cons user e (coauthors next_paper users);
     given = submission_drawn user next_paper title abstract others;
-    told = told-judged t names first (Submit title abstract names) (Ok (submission_drawn user next_paper title abstract others)) known
+    told = told-judged t names first (Some user) (Submit title abstract names) (Ok (submission_drawn user next_paper title abstract others)) refl known
         (ap (λ b. cond b (Some (Submit title abstract names)) None) enough)
         (ap (judged_of title abstract) (ap (users_among (lines_of t.accounts)) back.names ∙ found-back t others back.found)
         ∙ accepted-with title abstract (users_among (lines_of t.accounts) authors) others accepted);
@@ -207,8 +216,7 @@ module _ (t : Tables) (rows : List Row) (drawn : Drawn) (begins : take (length r
         rest = [];
         group_is = ap (λ (d : Drawn). d.group) (sym is) ∙ group;
         given = drawn;
-        told = told-judged t (authors_told t user rows) first command (Ok drawn) (ap (is_known t) caller
-            ∙ known) told (ap (λ (c : Option ℕ). judge_by_role t c command) caller ∙ accepted);
+        told = told-judged t (authors_told t user rows) first (Some user) command (Ok drawn) caller known told accepted;
         begins = begins;
       }
 
@@ -218,12 +226,23 @@ module _ (t : Tables) (rows : List Row) (drawn : Drawn) (begins : take (length r
       let k = judged-Ok (register_checks (is_some (number_in (lines_of t.accounts) name)) n) (registration_drawn (n + 1) name digest) drawn accepted in
       by (eqb (n + 1) 1) (n + 1) (sym (ap (λ (d : Drawn). d.group) k.1))
     where
+      begun : (user : ℕ) (more : Bool) (rest : History)
+          → drawn.group ≡ record { maker = user; more = more; entry = Registered user name digest } ∷ rest → Told t rows drawn
+      begun user more rest is =
+          let first : Stamped = record { maker = user; more = more; entry = Registered user name digest } in
+          record {
+            first = first;
+            rest = rest;
+            group_is = is;
+            given = drawn;
+            told = told-judged t (authors_told t user rows) first None (Register name digest) (Ok drawn) refl refl refl accepted;
+            begins = begins;
+          }
+
       by : (b : Bool) (user : ℕ) → drawn.group
           ≡ grouped user (cond b (Registered user name digest ∷ Named user roles.Chair ∷ []) (Registered user name digest ∷ [])) → Told t rows drawn
-      by true user is = let first : Stamped = record { maker = user; more = true; entry = Registered user name digest } in
-          record { first = first; rest = record { maker = user; more = false; entry = Named user roles.Chair } ∷ []; group_is = is; given = drawn; told = told-judged t (authors_told t user rows) first (Register name digest) (Ok drawn) refl refl accepted; begins = begins }
-      by false user is = let first : Stamped = record { maker = user; more = false; entry = Registered user name digest } in
-          record { first = first; rest = []; group_is = is; given = drawn; told = told-judged t (authors_told t user rows) first (Register name digest) (Ok drawn) refl refl accepted; begins = begins }
+      by true user is = begun user true (record { maker = user; more = false; entry = Named user roles.Chair } ∷ []) is
+      by false user is = begun user false [] is
 
   module _ (user : ℕ) (known : is_known t (Some user) ≡ true) where
     name-told : (name : Option (List ℕ)) (role : Role) → judge_by_role t (Some user) (Name name role) ≡ Ok drawn → Told t rows drawn
@@ -314,15 +333,18 @@ module _ (t : Tables) (rows : List Row) (drawn : Drawn) (begins : take (length r
       tells = λ p v. refl;
     }
 
-    abbrev seat : Option ℕ → Option ℕ → ℕ
-    seat paper target = unwrap_or (seat_in t.seats target (unwrap_or paper 0)) 0
+    abbrev seat : Option ℕ → Option ℕ → Option ℕ
+    seat paper target = seat_in t.seats target (unwrap_or paper 0)
+
+    abbrev written : Option ℕ → Option ℕ → Bool
+    written paper target = at_some (is_written_in t.reviews (unwrap_or paper 0)) (seat paper target)
 
     abbrev unassignment : OnPaper
     unassignment = record {
       made = Unassign;
-      entry = λ p v. Unassigned p v (seat (Some p) (Some v));
-      checks = λ paper target. unassign_checks (standing_at t (Some user) paper) (named_paper paper) (named_user paper target);
-      draws = λ paper target. unassignment_drawn user (unwrap_or paper 0) (unwrap_or target 0) (seat paper target);
+      entry = λ p v. Unassigned p v (unwrap_or (seat (Some p) (Some v)) 0);
+      checks = λ paper target. unassign_checks (standing_at t (Some user) paper) (named_paper paper) (named_user paper target) (written paper target);
+      draws = λ paper target. unassignment_drawn user (unwrap_or paper 0) (unwrap_or target 0) (unwrap_or (seat paper target) 0);
       judges = λ paper name. refl;
       no_paper = λ target none. true≢false none.0;
       no_user = λ p none. true≢false none.1.0;
@@ -331,33 +353,73 @@ module _ (t : Tables) (rows : List Row) (drawn : Drawn) (begins : take (length r
       tells = λ p v. refl;
     }
 
-    -- what is done to a paper without naming a user
+    -- What is done to a paper without naming a user wants the paper to be there. It adds one entry, which tells the command.
+    paper-told : (paper : Option ℕ) (made : Option ℕ → Command) (entry : ℕ → Entry) (checks : ℕ → List Check) (draws : ℕ → Drawn)
+        → judge_by_role t (Some user) (made None) ≡ Err rules.NoPaper
+        → ((p : ℕ) → (judge_by_role t (Some user) (made (Some p)) ≡ judged (checks p) (draws p))
+        × ((draws p).group ≡ grouped user (entry p ∷ [])) × (giver_told user (entry p) ≡ Some user)
+        × (command_told t (authors_told t user rows) (entry p) ≡ Some (made (Some p))))
+        → judge_by_role t (Some user) (made paper) ≡ Ok drawn → Told t rows drawn
+    paper-told None made entry checks draws none is accepted = absurd (no_paper (sym none ∙ accepted))
+      where
+        no_paper : ◌≡◌ {A = Result Drawn Rule} (Err rules.NoPaper) (Ok drawn) → ⊥
+        no_paper e = cc (e)
+    paper-told (Some p) made entry checks draws none is accepted =
+        let one = is p in
+        told-single user (entry p) (made (Some p)) (draws p) one.1 (judged-Ok (checks p) (draws p) drawn (sym one.0 ∙ accepted)).1 one.2 known one.3 accepted
+
+    -- how the user stands to a paper
+    abbrev standing : ℕ → Standing
+    standing p = standing_at t (Some user) (Some p)
+
     revision-told : (paper : Option ℕ) (title abstract : List ℕ) → judge_by_role t (Some user) (Revise paper title abstract) ≡ Ok drawn → Told t rows drawn
-    revision-told None title abstract accepted = absurd (true≢false (judged-Ok (revise_checks (standing_at t (Some user) None) (named_paper None)) (revision_drawn user 0 title abstract) drawn accepted).0.0)
-    revision-told (Some p) title abstract accepted =
-        told-single user (Revised p title abstract) (Revise (Some p) title abstract) (revision_drawn user p title abstract) refl
-        (judged-Ok (revise_checks (standing_at t (Some user) (Some p)) (named_paper (Some p))) (revision_drawn user p title abstract) drawn accepted).1 refl known refl accepted
+    revision-told paper title abstract =
+        paper-told paper (λ paper. Revise paper title abstract) (λ p. Revised p title abstract) (λ p. revise_checks (standing p) (named_paper (Some p)))
+        (λ p. revision_drawn user p title abstract) refl (λ p. (refl, refl, refl, refl))
 
     upload-told : (paper : Option ℕ) (content : List ℕ) → judge_by_role t (Some user) (Upload paper content) ≡ Ok drawn → Told t rows drawn
-    upload-told None content accepted =
-        absurd (true≢false (judged-Ok (upload_checks (standing_at t (Some user) None) (named_paper None) (own_bytes t.papers (Some user)) (length content)) (upload_drawn user 0 (length (uploads_at t.papers 0) + 1) content) drawn accepted).0.0)
-    upload-told (Some p) content accepted =
-        let version : ℕ = length (uploads_at t.papers p) + 1 in
-        told-single user (Uploaded p version content) (Upload (Some p) content) (upload_drawn user p version content) refl
-        (judged-Ok (upload_checks (standing_at t (Some user) (Some p)) (named_paper (Some p)) (own_bytes t.papers (Some user)) (length content)) (upload_drawn user p version content) drawn accepted).1 refl known refl accepted
+    upload-told paper content =
+        paper-told paper (λ paper. Upload paper content) (λ p. Uploaded p (version p) content)
+        (λ p. upload_checks (standing p) (named_paper (Some p)) (own_bytes t.papers (Some user)) (length content))
+        (λ p. upload_drawn user p (version p) content) refl (λ p. (refl, refl, refl, refl))
+      where
+        version : ℕ → ℕ
+        version p = length (uploads_at t.papers p) + 1
 
     withdrawal-told : (paper : Option ℕ) → judge_by_role t (Some user) (Withdraw paper) ≡ Ok drawn → Told t rows drawn
-    withdrawal-told None accepted = absurd (true≢false (judged-Ok (revise_checks (standing_at t (Some user) None) (named_paper None)) (withdrawal_drawn user 0) drawn accepted).0.0)
-    withdrawal-told (Some p) accepted =
-        told-single user (Withdrawn p) (Withdraw (Some p)) (withdrawal_drawn user p) refl
-        (judged-Ok (revise_checks (standing_at t (Some user) (Some p)) (named_paper (Some p))) (withdrawal_drawn user p) drawn accepted).1 refl known refl accepted
+    withdrawal-told paper =
+        paper-told paper Withdraw Withdrawn (λ p. revise_checks (standing p) (named_paper (Some p)))
+        (withdrawal_drawn user) refl (λ p. (refl, refl, refl, refl))
 
     bid-told : (paper : Option ℕ) (value : ℕ) → judge_by_role t (Some user) (commands.Bid paper value) ≡ Ok drawn → Told t rows drawn
-    bid-told None value accepted =
-        absurd (true≢false (judged-Ok (bid_checks (standing_at t (Some user) None) (named_paper None)) (bid_drawn user 0 value) drawn accepted).0.0)
-    bid-told (Some p) value accepted =
-        told-single user (entries.Bid p value) (commands.Bid (Some p) value) (bid_drawn user p value) refl
-        (judged-Ok (bid_checks (standing_at t (Some user) (Some p)) (named_paper (Some p))) (bid_drawn user p value) drawn accepted).1 refl known refl accepted
+    bid-told paper value =
+        paper-told paper (λ paper. commands.Bid paper value) (λ p. entries.Bid p value) (λ p. bid_checks (standing p) (named_paper (Some p)))
+        (λ p. bid_drawn user p value) refl (λ p. (refl, refl, refl, refl))
+
+    review-told : (paper : Option ℕ) (form : Form) → judge_by_role t (Some user) (Review paper form) ≡ Ok drawn → Told t rows drawn
+    review-told paper form =
+        paper-told paper (λ paper. Review paper form) (λ p. Reviewed p (ordinal p) (version p) form) (λ p. review_checks (standing p) (named_paper (Some p)))
+        (λ p. review_drawn user p (ordinal p) (version p) form) refl (λ p. (refl, refl, refl, refl))
+      where
+        ordinal : ℕ → ℕ
+        ordinal p = unwrap_or (seat_in t.seats (Some user) p) 0
+
+        version : ℕ → ℕ
+        version p = length (own_forms_in t (Some user) p) + 1
+
+    comment-told : (paper : Option ℕ) (text : List ℕ) → judge_by_role t (Some user) (Comment paper text) ≡ Ok drawn → Told t rows drawn
+    comment-told paper text =
+        paper-told paper (λ paper. Comment paper text) (λ p. Commented p (n p) (seat_in t.seats (Some user) p) text)
+        (λ p. comment_checks (standing p) (named_paper (Some p)) (own_comments_in t.talk (Some user)))
+        (λ p. comment_drawn user p (n p) (seat_in t.seats (Some user) p) text) refl (λ p. (refl, refl, refl, refl))
+      where
+        n : ℕ → ℕ
+        n p = length (map comment_as_told (comments_in t.talk p)) + 1
+
+    tag-told : (paper : Option ℕ) (tag : List ℕ) (on : Bool) → judge_by_role t (Some user) (Tag paper tag on) ≡ Ok drawn → Told t rows drawn
+    tag-told paper tag on =
+        paper-told paper (λ paper. Tag paper tag on) (λ p. Tagged p tag on) (λ p. tag_checks (standing p) (named_paper (Some p)) (is_for_chairs tag))
+        (λ p. tag_drawn user p tag on) refl (λ p. (refl, refl, refl, refl))
 
     stage-told : (to : Phase) → judge_by_role t (Some user) (SetPhase to) ≡ Ok drawn → Told t rows drawn
     stage-told to accepted =
@@ -368,6 +430,11 @@ module _ (t : Tables) (rows : List Row) (drawn : Drawn) (begins : take (length r
     mode-told to accepted =
         let by = standing_at t (Some user) None in
         told-single user (ModeSet to) (SetMode to) (mode_drawn user to) refl (judged-Ok (mode_checks by by.phase) (mode_drawn user to) drawn accepted).1 refl known refl accepted
+
+-- a tag is turned on, and off, by whoever is logged in
+tags-login : (paper : Option ℕ) (tag : List ℕ) (on : Bool) → command_wants_login (Tag paper tag on) ≡ true
+tags-login paper tag true = refl
+tags-login paper tag false = refl
 
 -- rows that begin the group that an allowed call adds begin with an entry whose call draws one that they begin
 pub accepted-told : (H : History) (call : Call) (drawn : Drawn) (r : Row) (behind : List Row) → Legal H → IsAllowed H call
@@ -387,6 +454,7 @@ accepted-told H call drawn r behind legal allowed accepted begins bounded = by c
     by : (caller : Option ℕ) (command : Command) → IsCaller H caller command → IsBoundedCommand command → judge_by_role t caller command ≡ Ok drawn
         → Told t rows drawn
     by caller (Register name digest) is within judges = register-told t rows drawn begins name digest (ap (λ (c : Option ℕ). judge_by_role t c (Register name digest)) (sym is) ∙ judges)
+    by None (Tag paper tag on) is within judges = absurd (subst (λ (login : Bool). CallsAs H login None) (tags-login paper tag on) is)
     by None command is within judges = absurd is
     by (Some user) (SetPhase to) is within judges = stage-told t rows drawn begins user (registered user is) to judges
     by (Some user) (SetMode to) is within judges = mode-told t rows drawn begins user (registered user is) to judges
@@ -402,6 +470,11 @@ accepted-told H call drawn r behind legal allowed accepted begins bounded = by c
         on-paper-told t rows drawn begins user (registered user is) (assignment t rows drawn begins user (registered user is) kind) paper name judges
     by (Some user) (Unassign paper name) is within judges =
         on-paper-told t rows drawn begins user (registered user is) (unassignment t rows drawn begins user (registered user is)) paper name judges
+    by (Some user) (Review paper form) is within judges = review-told t rows drawn begins user (registered user is) paper form judges
+    by (Some user) (Comment paper text) is within judges = comment-told t rows drawn begins user (registered user is) paper text judges
+    by (Some user) (Tag paper tag on) is within judges =
+        let made = subst (λ (login : Bool). CallsAs H login (Some user)) (tags-login paper tag on) is in
+        tag-told t rows drawn begins user (registered user made) paper tag on judges
 
 -- ---- the call of an entry
 
@@ -453,6 +526,12 @@ module _ (H : History) (legal : Legal H) where
   registered : (user : ℕ) → is_known t (Some user) ≡ true → IsRegistered H user
   registered user known = registered-known H user legal ∙ known
 
+  -- the command that an entry tells is allowed, where it is known
+  same-allowed : (caller : Option ℕ) (told command : Command) → Some told ≡ Some command → IsAllowed H (record { caller = caller; command = told })
+      → IsAllowed H (record { caller = caller; command = command })
+  same-allowed caller told command is allowed =
+      subst (λ (c : Command). IsAllowed H (record { caller = caller; command = c })) (some_is told command is) allowed
+
   -- a submission is allowed, where it has no more co-authors than there may be
   submission-allowed : (maker : ℕ) (title abstract : List ℕ) (authors : List (Option (List ℕ))) (command : Command) → IsTitle title → IsAbstract abstract
       → IsRegistered H maker → cond (nat_le (length authors) 19) (Some (Submit title abstract authors)) None ≡ Some command
@@ -463,7 +542,7 @@ module _ (H : History) (legal : Legal H) where
           → IsAllowed H (record { caller = Some maker; command = command })
       by true few told =
           let le : length authors ≤ 19 = few_of (length authors) few in
-          subst (λ (c : Command). IsAllowed H (record { caller = Some maker; command = c })) (some_is (Submit title abstract authors) command told) (record { caller = made; bounded = (is_title, is_abstract, le) })
+          same-allowed (Some maker) (Submit title abstract authors) command told (record { caller = made; bounded = (is_title, is_abstract, le) })
         where
           few_of : (n : ℕ) → nat_le n 19 ≡ true → n ≤ 19
           few_of n h = grind (arith, nat_tests, h)
@@ -481,18 +560,27 @@ module _ (H : History) (legal : Legal H) where
   user-allowed : (authors : List (Option (List ℕ))) (maker : ℕ) (more : Bool) (e : Entry) (command : Command)
       → IsBoundedEntry (record { maker = maker; more = more; entry = e }) → IsRegistered H maker → user_command_told t authors e ≡ Some command
       → IsAllowed H (record { caller = Some maker; command = command })
-  user-allowed authors maker more (PhaseSet to) command bounded made told = subst (λ (c : Command). IsAllowed H (record { caller = Some maker; command = c })) (some_is (SetPhase to) command told) (record { caller = made; bounded = tt })
-  user-allowed authors maker more (ModeSet to) command bounded made told = subst (λ (c : Command). IsAllowed H (record { caller = Some maker; command = c })) (some_is (SetMode to) command told) (record { caller = made; bounded = tt })
+  user-allowed authors maker more (PhaseSet to) command bounded made told =
+      same-allowed (Some maker) (SetPhase to) command told (record { caller = made; bounded = tt })
+  user-allowed authors maker more (ModeSet to) command bounded made told =
+      same-allowed (Some maker) (SetMode to) command told (record { caller = made; bounded = tt })
   user-allowed authors maker more (Submitted paper title abstract) command bounded made told = submission-allowed maker title abstract authors command bounded.b1 bounded.b2 made told
   user-allowed authors maker more (Revised paper title abstract) command bounded made told =
-      subst (λ (c : Command). IsAllowed H (record { caller = Some maker; command = c })) (some_is (Revise (Some paper) title abstract) command told) (record { caller = made; bounded = (bounded.b1, bounded.b2) })
+      same-allowed (Some maker) (Revise (Some paper) title abstract) command told (record { caller = made; bounded = (bounded.b1, bounded.b2) })
   user-allowed authors maker more (Uploaded paper version content) command bounded made told =
-      subst (λ (c : Command). IsAllowed H (record { caller = Some maker; command = c })) (some_is (Upload (Some paper) content) command told) (record { caller = made; bounded = bounded.b1 })
+      same-allowed (Some maker) (Upload (Some paper) content) command told (record { caller = made; bounded = bounded.b1 })
   user-allowed authors maker more (Withdrawn paper) command bounded made told =
-      subst (λ (c : Command). IsAllowed H (record { caller = Some maker; command = c })) (some_is (Withdraw (Some paper)) command told) (record { caller = made; bounded = tt })
+      same-allowed (Some maker) (Withdraw (Some paper)) command told (record { caller = made; bounded = tt })
   user-allowed authors maker more (entries.Bid paper value) command bounded made told =
-      let is = some_is (commands.Bid (Some paper) value) command told in
-      subst (λ (c : Command). IsAllowed H (record { caller = Some maker; command = c })) is (record { caller = made; bounded = bounded.n2.1 })
+      same-allowed (Some maker) (commands.Bid (Some paper) value) command told (record { caller = made; bounded = bounded.n2.1 })
+  user-allowed authors maker more (Reviewed paper ordinal version form) command bounded made told =
+      let within : IsForm form = record { score = bounded.n4; confidence = bounded.n5; to_authors = bounded.b1; to_pc = bounded.b2 } in
+      same-allowed (Some maker) (Review (Some paper) form) command told (record { caller = made; bounded = within })
+  user-allowed authors maker more (Commented paper n ordinal text) command bounded made told =
+      same-allowed (Some maker) (Comment (Some paper) text) command told (record { caller = made; bounded = bounded.b1 })
+  user-allowed authors maker more (Tagged paper tag on) command bounded made told =
+      let caller = subst (λ (login : Bool). CallsAs H login (Some maker)) (sym (tags-login (Some paper) tag on)) made in
+      same-allowed (Some maker) (Tag (Some paper) tag on) command told (record { caller = caller; bounded = bounded.b1 })
   user-allowed authors maker more (Named user role) command bounded made told =
       naming-allowed maker user command (λ name. Name (Some name) role) (λ name. record { caller = made; bounded = member_named role bounded.n2.0 }) told
   user-allowed authors maker more (Conflict paper user on) command bounded made told =
@@ -507,7 +595,8 @@ module _ (H : History) (legal : Legal H) where
   told-allowed : (authors : List (Option (List ℕ))) (maker : ℕ) (more : Bool) (e : Entry) (command : Command)
       → IsBoundedEntry (record { maker = maker; more = more; entry = e }) → is_known t (giver_told maker e) ≡ true → command_told t authors e ≡ Some command
       → IsAllowed H (record { caller = giver_told maker e; command = command })
-  told-allowed authors maker more (Registered user name digest) command bounded known told = subst (λ (c : Command). IsAllowed H (record { caller = None; command = c })) (some_is (Register name digest) command told) (record { caller = refl; bounded = (bounded.b1, bounded.b2) })
+  told-allowed authors maker more (Registered user name digest) command bounded known told =
+      same-allowed None (Register name digest) command told (record { caller = refl; bounded = (bounded.b1, bounded.b2) })
   told-allowed authors maker more e command bounded known told = user-allowed authors maker more e command bounded (registered maker known) told
 
   -- so an allowed call adds what the call of such an entry draws

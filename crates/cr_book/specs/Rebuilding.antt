@@ -9,6 +9,7 @@ use Rattle.cr_base.specs.declared.command.Command.TheVariants as commands
 use Rattle.cr_base.specs.declared.entry.Entry.{Entry}
 use Rattle.cr_base.specs.declared.entry.Entry.TheVariants.{Registered, Named, PhaseSet, ModeSet, Submitted}
 use Rattle.cr_base.specs.declared.entry.Entry.TheVariants.{Revised, Uploaded, Withdrawn, Conflict, Bid, Assigned, Unassigned}
+use Rattle.cr_base.specs.declared.entry.Entry.TheVariants.{Reviewed, Commented, Tagged}
 use Rattle.cr_base.specs.declared.entry.Stamped.{Stamped}
 use Rattle.cr_base.specs.declared.row.Row.{Row}
 use Rattle.cr_base.specs.Accounts.{account_at}
@@ -72,6 +73,17 @@ naming_command_told t (Assigned paper user kind ordinal) = option_map (λ name. 
 naming_command_told t (Unassigned paper user ordinal) = option_map (λ name. commands.Unassign (Some paper) (Some name)) (name_told t user)
 naming_command_told t _ = None
 
+-- what a user's command was that is on a paper and names no user, or that names one who is there
+abbrev pub paper_command_told : Tables → Entry → Option Command
+paper_command_told t (Revised paper title abstract) = Some (commands.Revise (Some paper) title abstract)
+paper_command_told t (Uploaded paper version content) = Some (commands.Upload (Some paper) content)
+paper_command_told t (Withdrawn paper) = Some (commands.Withdraw (Some paper))
+paper_command_told t (Bid paper value) = Some (commands.Bid (Some paper) value)
+paper_command_told t (Reviewed paper ordinal version form) = Some (commands.Review (Some paper) form)
+paper_command_told t (Commented paper n ordinal text) = Some (commands.Comment (Some paper) text)
+paper_command_told t (Tagged paper tag on) = Some (commands.Tag (Some paper) tag on)
+paper_command_told t e = naming_command_told t e
+
 -- what a user's command was, where the users that it names are there, and co-authors, if it tells them, no more than 19; an
 -- entry that begins no such command's has none
 abbrev pub user_command_told : Tables → List (Option (List ℕ)) → Entry → Option Command
@@ -79,11 +91,7 @@ user_command_told t authors (PhaseSet phase) = Some (commands.SetPhase phase)
 user_command_told t authors (ModeSet mode) = Some (commands.SetMode mode)
 user_command_told t authors (Submitted paper title abstract) =
     if nat_le (length authors) 19 then Some (commands.Submit title abstract authors) else None
-user_command_told t authors (Revised paper title abstract) = Some (commands.Revise (Some paper) title abstract)
-user_command_told t authors (Uploaded paper version content) = Some (commands.Upload (Some paper) content)
-user_command_told t authors (Withdrawn paper) = Some (commands.Withdraw (Some paper))
-user_command_told t authors (Bid paper value) = Some (commands.Bid (Some paper) value)
-user_command_told t authors e = naming_command_told t e
+user_command_told t authors e = paper_command_told t e
 
 -- what it was, by whomever it was given
 abbrev pub command_told : Tables → List (Option (List ℕ)) → Entry → Option Command

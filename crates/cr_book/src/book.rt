@@ -190,9 +190,12 @@ impl<K: Keeper> Book<K> {
     /// login; or the first broken rule, which is told whatever memory there is. `AnswerError::OutOfMemory`
     /// comes for lack of memory alone, and never where the state of the conference is asked for. The
     /// keeper isn't asked. `Query::Accounts` costs a walk over all accounts, `Query::Page` a few look-ups,
-    /// one more for each name that is told, whatever the length of the texts, and a step for each version
-    /// that is told, `Query::Me` a walk over her own papers and conflicts, `Query::Content` and
-    /// `Query::Version` one look-up, whatever the content's length, `Query::Phase` nothing that grows.
+    /// one more for each name that is told, a step for each version and each tag that is told, and, where
+    /// reviewers are told, a walk over the paper's forms, `Query::Me` a walk over her own papers, conflicts and
+    /// assignments, `Query::Reviews` at most three walks over the paper's forms for each of its labels, of which
+    /// there are at most 26, `Query::Comments` a walk over the comments on the paper with a look-up each,
+    /// `Query::Content` and `Query::Version` one look-up, `Query::Phase` nothing that grows. The length of texts
+    /// and contents makes no difference.
     pub fn answer(&self, caller: &Option<UserNo>, query: &Query) -> Result<Reply, AnswerError>
         requires { MayAsk self.now.log (query_wants_login query.now) caller.now }
         ensures answered { AnswersAsDue result (answer caller.now (view caller.now self.now.log) query.now) }

@@ -4,7 +4,8 @@ ghost use Rattle.std.specs.Option.{option_map};
 ghost use Rattle.cr_base.specs.Tables.{FitInTurn};
 ghost use Rattle.cr_base.specs.declared.command.Command.TheVariants as commands;
 ghost use Rattle.cr_view.specs.Draws.{drawn_by};
-ghost use Rattle.cr_book.specs.Rebuilding.{giver_told, command_told, naming_command_told, user_command_told, drawn_told, is_known, IsBegun, NoneBegun};
+ghost use Rattle.cr_book.specs.Rebuilding.{giver_told, command_told, naming_command_told, paper_command_told, user_command_told};
+ghost use Rattle.cr_book.specs.Rebuilding.{drawn_told, is_known, IsBegun, NoneBegun};
 ghost use Rattle.cr_base.specs.declared.row.Row.{Row};
 
 use crate::naming::authors_told;
@@ -57,6 +58,15 @@ fn user_command_of(live: &Live, first: Entry, authors: ToldNames) -> Option<Comm
             abstract_,
             ..
         } => submission_of(title, abstract_, authors),
+        other => paper_command_of(live, other),
+    }
+}
+
+/// The same, where the command is on a paper and names no user, or where it names one.
+fn paper_command_of(live: &Live, first: Entry) -> Option<Command>
+    ensures { result ≡ paper_command_told live.now.tables first }
+{
+    match first {
         Entry::Revised {
             paper,
             title,
@@ -74,6 +84,19 @@ fn user_command_of(live: &Live, first: Entry, authors: ToldNames) -> Option<Comm
         Entry::Bid { paper, value } => Some(Command::Bid {
             paper: Some(paper),
             value,
+        }),
+        Entry::Reviewed { paper, form, .. } => Some(Command::Review {
+            paper: Some(paper),
+            form,
+        }),
+        Entry::Commented { paper, text, .. } => Some(Command::Comment {
+            paper: Some(paper),
+            text,
+        }),
+        Entry::Tagged { paper, tag, on } => Some(Command::Tag {
+            paper: Some(paper),
+            tag,
+            on,
         }),
         other => naming_command_of(live, other),
     }

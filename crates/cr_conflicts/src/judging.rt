@@ -8,11 +8,9 @@ use cr_base::{Phase, Rule, Standing, Target};
 pub(crate) fn bid(by: &Standing, withdrawn: bool) -> Result<(), Rule>
     ensures { result ≡ judged (bid_checks by.now (record { there = true; withdrawn = withdrawn })) tt }
 {
-    if !by.role.is_member() {
-        return Err(Rule::NotMember);
-    }
-    if by.conflicted {
-        return Err(Rule::Conflict);
+    match by.may_handle() {
+        Ok(()) => {}
+        Err(rule) => return Err(rule),
     }
     if !by.phase.is(Phase::Bidding) {
         return Err(Rule::WrongPhase);

@@ -13,9 +13,9 @@ last_or-append a [] ys = refl
 last_or-append a (x ∷ xs) ys = last_or-cons a x (xs ++ ys) ∙ last_or-append x xs ys ∙ ap (λ b. last_or b ys) (sym (last_or-cons a x xs))
 
 -- where each tells nothing, all tell nothing
-pub each-silent : {A : Type 0} (told : Stamped → List A) → ((s : Stamped) → told s ≡ []) → (H : History) → flat_map told H ≡ []
+pub each-silent : {X A : Type 0} (told : X → List A) → ((x : X) → told x ≡ []) → (xs : List X) → flat_map told xs ≡ []
 each-silent told none [] = refl
-each-silent told none (s ∷ H) = ap (λ xs. xs ++ flat_map told H) (none s) ∙ each-silent told none H
+each-silent told none (x ∷ xs) = ap (λ ys. ys ++ flat_map told xs) (none x) ∙ each-silent told none xs
 
 -- a fact that `get` reads in the tables and entries tell as `told`; `join` is the fact with more told of it
 module _ {A X : Type 0} (join : X → List A → X) (nothing : (x : X) → join x [] ≡ x) (get : Tables → X) (told : Stamped → List A) where

@@ -1,14 +1,16 @@
 -- What follows of an entry from fitting the tables: its number and its name are the next and a new one, whom and what it is
 -- about is there; and where the rules let a command add it, it is within its bounds, so that it has a row.
-use Rattle.std.proofs.Common.{ℕ, Bool, true, false, cond, ◌≡◌, ◌≤◌, ◌<◌, ◌+◌, ◌-◌, List, [], ◌∷◌, ◌++◌, length, eqb, refl, sym, ap, ◌∙◌, arith, ◌||◌, ◌&&◌, Some}
+use Rattle.std.proofs.Common.{ℕ, Bool, true, false, cond, ◌≡◌, ◌≤◌, ◌<◌, ◌+◌, ◌-◌, List, [], ◌∷◌, ◌++◌, length, eqb, refl, sym, ap, ◌∙◌, arith, ◌||◌, ◌&&◌, Option, Some, None}
 use Rattle.std.specs.Prelude.{nat_le, map}
 use Rattle.std.specs.List.{All, AllByRecursion, list_any}
+use Rattle.std.proofs.lemmas.Bool.{eqb-true}
 use Rattle.std.proofs.lemmas.Bool.Decides.{nat_tests}
+use Rattle.std.proofs.lemmas.List.{length-map}
 use Rattle.std.proofs.lemmas.List.Elements.{All-from_recursion}
 use Rattle.cr_base.specs.declared.entry.Account.{Account}
 use Rattle.cr_base.specs.declared.entry.Entry.{Entry}
 use Rattle.cr_base.specs.declared.entry.Entry.TheVariants.{Registered, Named, PhaseSet, ModeSet, Submitted, Coauthor, Revised, Uploaded, Withdrawn}
-use Rattle.cr_base.specs.declared.entry.Entry.TheVariants.{Conflict, Bid, Assigned, Unassigned}
+use Rattle.cr_base.specs.declared.entry.Entry.TheVariants.{Conflict, Bid, Assigned, Unassigned, Reviewed, Commented, Tagged}
 use Rattle.cr_base.specs.declared.entry.Stamped.{Stamped}
 use Rattle.cr_base.specs.declared.reply.AccountLine.{AccountLine}
 use Rattle.cr_base.specs.declared.words.Phase.{Phase}
@@ -21,13 +23,15 @@ use Rattle.cr_base.specs.declared.words.Kind.TheVariants as kind
 use Rattle.cr_base.specs.declared.words.Role.TheVariants as role
 use Rattle.cr_base.specs.Accounts.{lines_from}
 use Rattle.cr_base.specs.Drawn.{grouped, submission}
-use Rattle.cr_base.specs.HistoryFacts.{role_of, accounts_of}
+use Rattle.cr_base.specs.HistoryFacts.{role_of, accounts_of, seat_of}
 use Rattle.cr_base.specs.History.{History, Registration, all_told, registration_told}
 use Rattle.cr_base.specs.Lists.{numbers_from}
 use Rattle.cr_base.specs.Papers.{IsPaper}
-use Rattle.cr_base.specs.Rows.{IsBoundedEntry}
-use Rattle.cr_base.specs.Shapes.{InRange, user_range, paper_range, role_range, seat_range, unused}
+use Rattle.cr_base.specs.Reviews.{forms_in, written_told}
+use Rattle.cr_base.specs.Rows.{label_number, IsBoundedEntry}
+use Rattle.cr_base.specs.Shapes.{InRange, user_range, paper_range, role_range, seat_range, ordinal_range, some_ordinal_range, unused}
 use Rattle.cr_base.specs.Tables.{no_tables, tables_of, Fits, FitInTurn}
+use Rattle.cr_base.specs.Talk.{comments_in, comment_as_told}
 use Rattle.cr_base.specs.Words.{phase_number, mode_number, role_number, seat_number}
 use Rattle.cr_base.proofs.AccountLaws.{length-lines_of}
 use Rattle.cr_base.proofs.ListLaws.{length-numbers_from, list_any-numbers_from}
@@ -38,8 +42,10 @@ use Rattle.cr_history.proofs.SizeTies.{IsSized, sized-tables}
 use Rattle.cr_history.proofs.LineTies.{stamp, accounts_of-tables}
 use Rattle.cr_history.proofs.NumberTies.{number_of-tables}
 use Rattle.cr_history.proofs.PaperTies.{papers_of-tables, uploads_of-tables}
-use Rattle.cr_history.proofs.SeatTies.{labels-tables, seat-drawn}
+use Rattle.cr_history.proofs.ReviewTies.{forms_of-tables}
+use Rattle.cr_history.proofs.SeatTies.{labels-tables, seat_of-tables, seat-drawn}
 use Rattle.cr_history.proofs.SubmissionLaws.{submission-in_turn}
+use Rattle.cr_history.proofs.TalkTies.{comments_of-tables}
 
 -- ---- numbers, names, and what is named
 
@@ -80,6 +86,11 @@ module _ (H : History) (fits : FitInTurn no_tables H) where
       ∙ ap (λ n. n + 1) (sym (ap length (papers_of-tables H fits) ∙ length-numbers_from 1 (tables_of H).papers.papers))
   fits-number maker more (Uploaded paper version content) fit = fit.papers.1 ∙ ap (λ n. n + 1) (sym (ap length (uploads_of-tables paper H)))
   fits-number maker more (Assigned paper user kind ordinal) fit = fit.seats.0 ∙ ap (λ n. n + 1) (sym (labels-tables paper H))
+  fits-number maker more (Reviewed paper ordinal version form) fit =
+      fit.reviews
+      ∙ ap (λ n. n + 1) (sym (ap length (forms_of-tables paper ordinal H) ∙ length-map (forms_in (tables_of H).reviews paper ordinal) written_told))
+  fits-number maker more (Commented paper n ordinal text) fit =
+      fit.talk.0 ∙ ap (λ n. n + 1) (sym (ap length (comments_of-tables paper H) ∙ length-map (comments_in (tables_of H).talk paper) comment_as_told))
   fits-number maker more e fit = tt
 
   pub fits-name : (maker : ℕ) (more : Bool) (e : Entry) → Fits (tables_of H) (record { maker = maker; more = more; entry = e }) → HasNewName H e
@@ -98,6 +109,9 @@ module _ (H : History) (fits : FitInTurn no_tables H) where
       (submitted-within paper fit.papers.0 fit.papers.1, registered-within user fit.accounts.0 fit.accounts.1)
   fits-about maker more (Unassigned paper user ordinal) fit =
       (submitted-within paper fit.papers.0 fit.papers.1, registered-within user fit.accounts.0 fit.accounts.1)
+  fits-about maker more (Reviewed paper ordinal version form) fit = submitted-within paper fit.papers.0 fit.papers.1
+  fits-about maker more (Commented paper n ordinal text) fit = submitted-within paper fit.papers.0 fit.papers.1
+  fits-about maker more (Tagged paper tag on) fit = submitted-within paper fit.papers.0 fit.papers.1
   fits-about maker more e fit = tt
 
 -- ---- numbers of fields
@@ -135,6 +149,15 @@ raised_number before role.Account h = (omega (arith, h), omega (arith, h))
 raised_number before role.Member h = (omega arith, omega arith)
 raised_number before role.Chair h = (omega arith, omega arith)
 
+-- a label that may be none, where each that is there is a letter's
+label-few : (ordinal : Option ℕ) → ((o : ℕ) → ordinal ≡ Some o → InRange ordinal_range o) → InRange some_ordinal_range (label_number ordinal)
+label-few None drawn = (omega arith, omega arith)
+label-few (Some o) drawn = let there = drawn o refl in by (eqb o 0) refl there.0 there.1
+  where
+    by : (b : Bool) → eqb o 0 ≡ b → 1 ≤ o → o ≤ 26 → InRange some_ordinal_range (cond b 27 o)
+    by true none low high = let e = eqb-true o 0 none in absurd (omega (arith, e, low))
+    by false some low high = (omega arith, high)
+
 -- ---- bounds
 
 module _ (H : History) (fits : FitInTurn no_tables H) where
@@ -151,6 +174,10 @@ module _ (H : History) (fits : FitInTurn no_tables H) where
 
   paper_numbered : (paper : ℕ) → IsPaper (tables_of H).papers paper → InRange paper_range paper
   paper_numbered paper there = let high = there.1 in let few = sized.papers in (there.0, omega (arith, high, few))
+
+  -- the ordinal under which a user reviews a paper, too
+  label_drawn : (user paper ordinal : ℕ) → seat_of (Some user) paper H ≡ Some ordinal → InRange ordinal_range ordinal
+  label_drawn user paper ordinal is = seat-drawn H fits user paper ordinal (sym (seat_of-tables (Some user) paper H fits) ∙ is)
 
   bounded-coauthor : (maker : ℕ) (more : Bool) (paper user : ℕ) → IsRegistered H maker → Fits (tables_of H) (stamp maker more (Coauthor paper user))
       → IsBoundedEntry (stamp maker more (Coauthor paper user))
@@ -187,6 +214,44 @@ module _ (H : History) (fits : FitInTurn no_tables H) where
   bounded-entry maker more (Unassigned paper user ordinal) made ruled fit =
       let drawn = seat-drawn H fits user paper ordinal fit.seats in
       record { maker = numbered maker made; more = bit_few more; n1 = paper_numbered paper fit.papers; n2 = account_numbered user fit.accounts; n3 = drawn; n4 = zero_in; n5 = zero_in; b1 = refl; b2 = refl }
+  bounded-entry maker more (Reviewed paper ordinal version form) made ruled fit =
+      let next = fit.reviews in
+      record {
+        maker = numbered maker made;
+        more = bit_few more;
+        n1 = paper_numbered paper fit.papers;
+        n2 = label_drawn maker paper ordinal ruled.seat;
+        n3 = (omega (arith, next), tt);
+        n4 = ruled.texts.score;
+        n5 = ruled.texts.confidence;
+        b1 = ruled.texts.to_authors;
+        b2 = ruled.texts.to_pc;
+      }
+  bounded-entry maker more (Commented paper n ordinal text) made ruled fit =
+      let next = fit.talk.0 in
+      record {
+        maker = numbered maker made;
+        more = bit_few more;
+        n1 = paper_numbered paper fit.papers;
+        n2 = (omega (arith, next), tt);
+        n3 = label-few ordinal (λ o is. label_drawn maker paper o (ruled.seat ∙ is));
+        n4 = zero_in;
+        n5 = zero_in;
+        b1 = ruled.texts;
+        b2 = refl;
+      }
+  bounded-entry maker more (Tagged paper tag on) made ruled fit =
+      record {
+        maker = numbered maker made;
+        more = bit_few more;
+        n1 = paper_numbered paper fit.papers;
+        n2 = (omega arith, bit_few on);
+        n3 = zero_in;
+        n4 = zero_in;
+        n5 = zero_in;
+        b1 = ruled.texts;
+        b2 = refl;
+      }
 
   bounded_chair : (user : ℕ) → user ≡ 1 → IsBoundedEntry (stamp user false (Named user role.Chair))
   bounded_chair user is = record { maker = (omega (arith, is), omega (arith, is)); more = omega arith; n1 = (omega (arith, is), omega (arith, is)); n2 = (omega arith, omega arith); n3 = zero_in; n4 = zero_in; n5 = zero_in; b1 = refl; b2 = refl }

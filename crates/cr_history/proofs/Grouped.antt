@@ -7,6 +7,7 @@ use Rattle.cr_base.specs.declared.entry.Entry.TheVariants.{Submitted, Coauthor}
 use Rattle.cr_base.specs.declared.entry.Stamped.{Stamped}
 use Rattle.cr_base.specs.Drawn.{grouped, besides, submission}
 use Rattle.cr_history.specs.Invariants.{IsWhole}
+use Rattle.cr_history.proofs.Folds.{each-silent}
 use Rattle.cr_history.proofs.LineTies.{stamp}
 
 -- what is so of each entry, with its maker and whatever mark, is so of each in the group
@@ -30,7 +31,10 @@ submission-each Q maker paper title abstract users first each = (first, coauthor
     coauthors [] = tt
     coauthors (u ∷ us) = (each u, coauthors us)
 
--- where each tells nothing, all tell nothing
+-- where each tells the same one way and the other, so do all; and where each tells nothing, all tell nothing
+pub all-alike : {A B : Type 0} (f g : A → List B) (xs : List A) → AllByRecursion (λ x. f x ≡ g x) xs → flat_map f xs ≡ flat_map g xs
+all-alike f g [] all = refl
+all-alike f g (x ∷ xs) all = ap (λ ys. ys ++ flat_map f xs) all.0 ∙ ap (λ ys. g x ++ ys) (all-alike f g xs all.1)
+
 pub all-silent : {A B : Type 0} (told : A → List B) (xs : List A) → AllByRecursion (λ x. told x ≡ []) xs → flat_map told xs ≡ []
-all-silent told [] all = refl
-all-silent told (x ∷ xs) all = ap (λ ys. ys ++ flat_map told xs) all.0 ∙ all-silent told xs all.1
+all-silent told xs all = all-alike told (λ x. []) xs all ∙ each-silent (λ x. []) (λ x. refl) xs

@@ -1,5 +1,5 @@
 -- What every legal history keeps, kept as it grows; and what the tables tell of it.
-use Rattle.std.proofs.Common.{◌++◌}
+use Rattle.std.proofs.Common.{◌++◌, refl}
 use Rattle.std.specs.List.{All}
 use Rattle.std.proofs.lemmas.List.Elements.{All-nil, All-append}
 use Rattle.cr_base.specs.Rows.{IsBoundedEntry}
@@ -10,11 +10,15 @@ use Rattle.cr_history.proofs.BidTies.{bid_of-tables}
 use Rattle.cr_history.proofs.ConflictTies.{is_conflict_on-tables, declared_by_authors-tables}
 use Rattle.cr_history.proofs.GroupLaws.{added-bounded}
 use Rattle.cr_history.proofs.InOrder.{in_order-append, whole-added}
-use Rattle.cr_history.proofs.InTime.{in_time-nil, in_time-append}
+use Rattle.cr_history.proofs.InTime.{in_time-nil, in_time-append, discussed-append}
 use Rattle.cr_history.proofs.LineTies.{accounts_of-tables}
 use Rattle.cr_history.proofs.NumberTies.{number_of-tables, caller_of-tables}
 use Rattle.cr_history.proofs.PaperTies.{papers_of-tables, own_papers_of-tables, own_bytes_of-tables, title_of-tables, abstract_of-tables, uploads_of-tables, is_withdrawn-tables, authors_of-tables}
-use Rattle.cr_history.proofs.SeatTies.{seat_of-tables, labels-tables, reviewers_of-tables}
+use Rattle.cr_history.proofs.ReviewTies.{forms_of-tables}
+use Rattle.cr_history.proofs.SeatTies.{seat_of-tables, seats_of-tables, labels-tables, reviewers_of-tables}
+use Rattle.cr_history.proofs.Staying.{stay-append}
+use Rattle.cr_history.proofs.TagTies.{tags_of-tables}
+use Rattle.cr_history.proofs.TalkTies.{comments_of-tables, own_comments_of-tables}
 use Rattle.cr_history.proofs.TableTies.{FitInTurn-append, standing_of-tables}
 
 pub tables_tell : TablesTell
@@ -36,12 +40,17 @@ tables_tell H fits first = record {
   bid = λ u p. bid_of-tables u p H;
   seat = λ u p. seat_of-tables u p H fits;
   labels = λ p. labels-tables p H;
+  seats = λ p. seats_of-tables p H;
   reviewers = λ p. reviewers_of-tables p H fits;
+  forms = λ p o. forms_of-tables p o H;
+  comments = λ p. comments_of-tables p H;
+  own_comments = λ u. own_comments_of-tables u H;
+  tags = λ p. tags_of-tables p H;
 }
 
 pub growth_keeps : GrowthKeeps
 growth_keeps = record {
-  first = record { bounded = All-nil IsBoundedEntry; spelled = λ k d within. stamped-row_of _ (All-nil IsBoundedEntry k d within); fits = tt; in_order = tt; whole = tt; in_time = in_time-nil };
+  first = record { bounded = All-nil IsBoundedEntry; spelled = λ k d within. stamped-row_of _ (All-nil IsBoundedEntry k d within); fits = tt; in_order = tt; whole = tt; in_time = in_time-nil; discussed = refl; stay = All-nil _ };
   more = λ H g kept adds fits.
       let all : All IsBoundedEntry (H ++ g) = All-append IsBoundedEntry H g kept.bounded (added-bounded H kept.fits g adds fits) in
       record {
@@ -51,5 +60,7 @@ growth_keeps = record {
         in_order = in_order-append H g kept.fits adds fits kept.in_order;
         whole = whole-added H g adds kept.whole;
         in_time = in_time-append H g adds kept.in_time;
+        discussed = discussed-append H g adds kept.discussed;
+        stay = stay-append H g adds kept.stay;
       };
 }

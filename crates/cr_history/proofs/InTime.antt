@@ -1,8 +1,8 @@
 -- Which users make the conflict entries of a legal history, before the bidding and from it on.
-use Rattle.std.proofs.Common.{◌≡◌, ◌≤◌, ℕ, Bool, true, false, cond, List, [], ◌∷◌, ◌++◌, refl, sym, ap, ◌∙◌, subst, ◌||◌, ◌&&◌, Option, Some, eqb, arith, ◌+◌}
+use Rattle.std.proofs.Common.{◌≡◌, ℕ, Bool, true, false, cond, List, [], ◌∷◌, ◌++◌, refl, sym, ap, ◌∙◌, subst, ◌||◌, ◌&&◌, Option, Some, eqb, arith, ◌+◌}
 use Rattle.std.specs.Prelude.{not, nat_le}
 use Rattle.std.specs.List.{AllByRecursion, list_any}
-use Rattle.std.proofs.lemmas.Bool.{eqb-true, false≢true, leb-true, le-leb}
+use Rattle.std.proofs.lemmas.Bool.{eqb-true, false≢true}
 use Rattle.std.proofs.lemmas.Bool.Decides.{nat_tests}
 use Rattle.std.proofs.lemmas.List.Concat.{flat_map-append}
 use Rattle.std.proofs.lemmas.List.Folds.{list_any-append}
@@ -17,7 +17,7 @@ use Rattle.cr_base.specs.HistoryFacts.{phase_of, authors_of, is_author}
 use Rattle.cr_base.specs.Phases.{phase_place, is_from, is_phase}
 use Rattle.cr_base.specs.Drawn.{grouped, submission}
 use Rattle.cr_history.proofs.Folds.{last_or-append}
-use Rattle.cr_history.specs.Invariants.{is_opening, ByAuthor, ByHerselfOrOther, Early, Late, DeclaresInTime, IsInPhase, IsByRight}
+use Rattle.cr_history.specs.Invariants.{is_opening, ByAuthor, ByHerselfOrOther, Early, Late, DeclaresInTime, IsDiscussedInTime, IsInPhase, IsByRight}
 use Rattle.cr_history.proofs.ListCuts.{AllByRecursion-append, AllByRecursion-map, AllByRecursion-until, until-none, since-none, until-append, since-append, until-before, since-before}
 use Rattle.cr_history.specs.Groups.{IsRuled, Adds, single, submitted, first_user}
 use Rattle.cr_history.proofs.Grouped.{grouped-each, submission-each, all-silent}
@@ -121,36 +121,6 @@ no_authors H begun p g h =
 
 -- ---- the phase after a group
 
--- a group that leaves the phase doesn't open the bidding
-opens-silent : (e : Entry) → phase_told e ≡ [] → opens Bidding e ≡ false
-opens-silent (PhaseSet phase) h = absurd (filled h)
-  where
-    filled : phase ∷ [] ≡ [] → ⊥
-    filled h = cc
-opens-silent e h = refl
-
-empty_parts : {A : Type 0} (xs ys : List A) → xs ++ ys ≡ [] → (xs ≡ []) × (ys ≡ [])
-empty_parts [] ys h = (refl, h)
-empty_parts (x ∷ xs) ys h = absurd (filled h)
-  where
-    filled : x ∷ (xs ++ ys) ≡ [] → ⊥
-    filled h = cc
-
-no_opening : (g : History) → all_told phase_told g ≡ [] → list_any is_opening g ≡ false
-no_opening [] h = refl
-no_opening (e ∷ g) h =
-    let parts = empty_parts (phase_told e.entry) (all_told phase_told g) h in
-    ap (λ b. b || list_any is_opening g) (opens-silent e.entry parts.0) ∙ no_opening g parts.1
-
--- nothing stands behind the opening in its group
-group_since : (H g : History) → Moves H g → since is_opening g ≡ []
-group_since H g (moved maker to h) = by (is_phase to Bidding)
-  where
-    by : (b : Bool) → cond {A = History} b [] [] ≡ []
-    by true = refl
-    by false = refl
-group_since H g (stayed k h) = since-none is_opening g (no_opening g h)
-
 phase-append : (H g : History) → phase_of (H ++ g) ≡ last_or (phase_of H) (all_told phase_told g)
 phase-append H g =
     ap (last_or Setup) (flat_map-append (λ (e : Stamped). phase_told e.entry) H g)
@@ -162,19 +132,64 @@ phase_stays H g h = phase-append H g ∙ ap (last_or (phase_of H)) h
 phase_moves : (H : History) (maker : ℕ) (to : Phase) → phase_of (H ++ grouped maker (PhaseSet to ∷ [])) ≡ to
 phase_moves H maker to = phase-append H (grouped maker (PhaseSet to ∷ []))
 
-later_still : (m n : ℕ) → n ≡ m + 1 → nat_le 2 m ≡ true → nat_le 2 n ≡ true
-later_still m n e h = let k : 2 ≤ m = leb-true 2 m h in le-leb 2 n (omega arith)
+empty_parts : {A : Type 0} (xs ys : List A) → xs ++ ys ≡ [] → (xs ≡ []) × (ys ≡ [])
+empty_parts [] ys h = (refl, h)
+empty_parts (x ∷ xs) ys h = absurd (filled h)
+  where
+    filled : x ∷ (xs ++ ys) ≡ [] → ⊥
+    filled h = cc
 
-begins_now : (m n : ℕ) → n ≡ m + 1 → nat_le 2 m ≡ false → (eqb n 2 || false) ≡ nat_le 2 n
-begins_now m n e h = grind (arith, nat_tests, e, h)
+-- ---- which phases were opened
 
-still_begun : (H g : History) → Moves H g → is_from Bidding (phase_of H) ≡ true → is_from Bidding (phase_of (H ++ g)) ≡ true
-still_begun H g (moved maker to e) h = ap (is_from Bidding) (phase_moves H maker to) ∙ later_still (phase_place (phase_of H)) (phase_place to) e h
-still_begun H g (stayed k e) h = ap (is_from Bidding) (phase_stays H g e) ∙ h
+module _ (first : Phase) where
+  -- whether the entry opens this one
+  abbrev opens_first : Stamped → Bool
+  opens_first e = opens first e.entry
 
-just_begun : (H g : History) → Moves H g → is_from Bidding (phase_of H) ≡ false → list_any is_opening g ≡ is_from Bidding (phase_of (H ++ g))
-just_begun H g (moved maker to e) h = begins_now (phase_place (phase_of H)) (phase_place to) e h ∙ ap (is_from Bidding) (sym (phase_moves H maker to))
-just_begun H g (stayed k e) h = no_opening g e ∙ sym h ∙ ap (is_from Bidding) (sym (phase_stays H g e))
+  -- it was opened exactly where it is that phase or a later one
+  abbrev IsOpenedInTime : History → Type 0
+  IsOpenedInTime H = list_any opens_first H ≡ is_from first (phase_of H)
+
+  -- a group that leaves the phase opens none
+  opens-silent : (e : Entry) → phase_told e ≡ [] → opens first e ≡ false
+  opens-silent (PhaseSet phase) h = absurd (filled h)
+    where
+      filled : phase ∷ [] ≡ [] → ⊥
+      filled h = cc
+  opens-silent e h = refl
+
+  no_opening : (g : History) → all_told phase_told g ≡ [] → list_any opens_first g ≡ false
+  no_opening [] h = refl
+  no_opening (e ∷ g) h =
+      let parts = empty_parts (phase_told e.entry) (all_told phase_told g) h in
+      ap (λ b. b || list_any opens_first g) (opens-silent e.entry parts.0) ∙ no_opening g parts.1
+
+  -- nothing stands behind the opening in its group
+  group_since : (H g : History) → Moves H g → since opens_first g ≡ []
+  group_since H g (moved maker to h) = by (is_phase to first)
+    where
+      by : (b : Bool) → cond {A = History} b [] [] ≡ []
+      by true = refl
+      by false = refl
+  group_since H g (stayed k h) = since-none opens_first g (no_opening g h)
+
+  still_open : (k m n : ℕ) → n ≡ m + 1 → nat_le k m ≡ true → true ≡ nat_le k n
+  still_open k m n e h = grind (arith, nat_tests, e, h)
+
+  opens_now : (k m n : ℕ) → n ≡ m + 1 → nat_le k m ≡ false → (eqb n k || false) ≡ nat_le k n
+  opens_now k m n e h = grind (arith, nat_tests, e, h)
+
+  in_time-after : (H g : History) → Moves H g → IsOpenedInTime H → IsOpenedInTime (H ++ g)
+  in_time-after H g moves kept = list_any-append opens_first H g ∙ by H g moves (list_any opens_first H) (sym kept)
+    where
+      by : (H g : History) → Moves H g → (opened : Bool) → is_from first (phase_of H) ≡ opened
+          → (opened || list_any opens_first g) ≡ is_from first (phase_of (H ++ g))
+      by H g (moved maker to e) true h =
+          still_open (phase_place first) (phase_place (phase_of H)) (phase_place to) e h ∙ ap (is_from first) (sym (phase_moves H maker to))
+      by H g (moved maker to e) false h =
+          opens_now (phase_place first) (phase_place (phase_of H)) (phase_place to) e h ∙ ap (is_from first) (sym (phase_moves H maker to))
+      by H g (stayed k e) true h = sym (ap (is_from first) (phase_stays H g e) ∙ h)
+      by H g (stayed k e) false h = no_opening g e ∙ sym (ap (is_from first) (phase_stays H g e) ∙ h)
 
 -- ---- the step
 
@@ -201,7 +216,7 @@ in_time-append H g adds kept = by (list_any is_opening H) refl
               (AllByRecursion-append (Late (H ++ g)) (since is_opening H) g
               (AllByRecursion-map (Late H) (Late (H ++ g)) more (since is_opening H) kept.late)
               (AllByRecursion-map (Allowed H) (Late (H ++ g)) (λ e k. more e (late-new H begun e.maker e.entry k)) g entries));
-          begun = list_any-append is_opening H g ∙ ap (λ b. b || list_any is_opening g) h ∙ sym (still_begun H g moves begun);
+          begun = in_time-after Bidding H g moves kept.begun;
         }
     by false h =
         let soon : is_from Bidding (phase_of H) ≡ false = sym kept.begun ∙ h in
@@ -211,6 +226,10 @@ in_time-append H g adds kept = by (list_any is_opening H) refl
               (AllByRecursion-map (Early H) (Early (H ++ g)) (λ e k. early-more H g e.maker e.entry k) H (subst (AllByRecursion (Early H)) (until-none is_opening H h) kept.early))
               (AllByRecursion-until (Early (H ++ g)) is_opening g
               (AllByRecursion-map (Allowed H) (Early (H ++ g)) (λ e k. early-more H g e.maker e.entry (early-new H soon e.maker e.entry k)) g entries)));
-          late = subst (AllByRecursion (Late (H ++ g))) (sym (since-append is_opening H g h ∙ group_since H g moves)) tt;
-          begun = list_any-append is_opening H g ∙ ap (λ b. b || list_any is_opening g) h ∙ just_begun H g moves soon;
+          late = subst (AllByRecursion (Late (H ++ g))) (sym (since-append is_opening H g h ∙ group_since Bidding H g moves)) tt;
+          begun = in_time-after Bidding H g moves kept.begun;
         }
+
+-- and the discussion is opened in time
+pub discussed-append : (H g : History) → Adds H g → IsDiscussedInTime H → IsDiscussedInTime (H ++ g)
+discussed-append H g adds kept = in_time-after Discussion H g (added-moves H g adds) kept

@@ -1,7 +1,9 @@
 pub mod BidTies
 pub mod CallerLaws
 pub mod ConflictTies
+pub mod CountTies
 pub mod Folds
+pub mod FormTies
 pub mod GroupLaws
 pub mod Grouped
 pub mod GrowthLaws
@@ -12,10 +14,14 @@ pub mod ListCuts
 pub mod NumberTies
 pub mod OrderTies
 pub mod PaperTies
+pub mod ReviewTies
 pub mod RoleTies
 pub mod RuleLaws
 pub mod SeatTies
 pub mod SizeTies
 pub mod StageTies
+pub mod Staying
 pub mod SubmissionLaws
 pub mod TableTies
+pub mod TagTies
+pub mod TalkTies

@@ -61,6 +61,11 @@ pub AllByRecursion-map : {A : Type 0} (P Q : A → Type 0) → ((x : A) → P x 
 AllByRecursion-map P Q f [] h = tt
 AllByRecursion-map P Q f (x ∷ xs) h = (f x h.0, AllByRecursion-map P Q f xs h.1)
 
+pub AllByRecursion-both : {A : Type 0} (P Q : A → Type 0) (xs : List A) → AllByRecursion P xs → AllByRecursion Q xs
+    → AllByRecursion (λ x. P x × Q x) xs
+AllByRecursion-both P Q [] hp hq = tt
+AllByRecursion-both P Q (x ∷ xs) hp hq = ((hp.0, hq.0), AllByRecursion-both P Q xs hp.1 hq.1)
+
 pub AllByRecursion-filter : {A : Type 0} (P : A → Type 0) (test : A → Bool) (xs : List A) → AllByRecursion P xs → AllByRecursion P (filter test xs)
 AllByRecursion-filter P test [] h = tt
 AllByRecursion-filter P test (x ∷ xs) h = by (test x) (AllByRecursion-filter P test xs h.1)

@@ -1,25 +1,25 @@
 -- Where each entry fits in its turn, what a history tells of its papers is what the table of papers has, and what it tells
 -- of authors is what the table of ties has.
-use Rattle.std.proofs.Common.{ℕ, Bool, true, false, cond, ◌≡◌, ◌+◌, List, [], ◌∷◌, ◌++◌, length, eqb, refl, sym, ap, ◌∙◌, arith, append_assoc, append-nil, length-append, zero, suc, get_or, Option, Some, None}
+use Rattle.std.proofs.Common.{ℕ, Bool, true, false, cond, ◌≡◌, ◌+◌, List, [], ◌∷◌, ◌++◌, length, eqb, refl, sym, ap, ◌∙◌, arith, append_assoc, append-nil, length-append, Option, Some, None}
 use Rattle.std.specs.List.{list_any}
 use Rattle.std.specs.Option.{option_map, option_map_or}
 use Rattle.std.proofs.lemmas.Bool.{eqb-true}
-use Rattle.std.proofs.lemmas.Bool.Decides.{nat_tests}
 use Rattle.std.proofs.lemmas.List.Concat.{flat_map-append}
 use Rattle.cr_base.specs.declared.entry.Entry.{Entry}
 use Rattle.cr_base.specs.declared.entry.Entry.TheVariants.{Submitted, Coauthor, Revised, Uploaded, Withdrawn, Conflict}
 use Rattle.cr_base.specs.declared.entry.Stamped.{Stamped}
 use Rattle.cr_base.specs.declared.paper.Paper.{Paper}
 use Rattle.cr_base.specs.Lists.{given, last, last_from, last_or, total, is_number, numbered}
-use Rattle.cr_base.specs.History.{History, Upload, all_told, all_told_by, paper_told, own_paper_told, author_told, title_told, abstract_told, upload_told, own_bytes_told, withdrawal_told}
+use Rattle.cr_base.specs.History.{History, Upload, all_told, paper_told, own_paper_told, author_told, title_told, abstract_told, upload_told, own_bytes_told, withdrawal_told}
 use Rattle.cr_base.specs.HistoryFacts.{papers_of, own_papers_of, own_bytes_of, authors_of, is_author, title_of, abstract_of, uploads_of, is_withdrawn}
-use Rattle.cr_base.specs.Papers.{PapersState, PaperUpload, no_papers, with_more, new_paper, with_texts, as_withdrawn, papers_after, paper_numbers, text_at, title_at, abstract_at, is_withdrawn_at, uploads_at, own_count, own_bytes, PapersFit}
+use Rattle.cr_base.specs.Papers.{PapersState, PaperUpload, new_paper, with_texts, as_withdrawn, papers_after, paper_numbers, text_at, title_at, abstract_at, is_withdrawn_at, uploads_at, own_count, own_bytes, PapersFit}
 use Rattle.cr_base.specs.Ties.{TiesState, ties_after, authors_in, is_author_in}
 use Rattle.cr_base.specs.Tables.{Tables, no_tables, tables_of, FitInTurn}
 use Rattle.cr_base.proofs.PaperLaws.{read-changed, read-kept, numbers_from-with_paper}
 use Rattle.cr_base.proofs.LastLaws.{last_from-given, last_or-given}
 use Rattle.cr_base.proofs.ListLaws.{turned, numbered-nil, numbered-none, numbered-push, numbers_from-push}
 use Rattle.cr_base.proofs.TieLaws.{users_tied_to-push}
+use Rattle.cr_history.proofs.CountTies.{sum_at, sum-with_more, plus_nothing, sum-tables}
 use Rattle.cr_history.proofs.Folds.{told-always, told-fitting}
 
 -- ---- the numbers of the papers
@@ -37,75 +37,6 @@ numbers-entry state maker e fits rest = refl
 pub papers_of-tables : (H : History) → FitInTurn no_tables H → papers_of H ≡ paper_numbers (tables_of H).papers
 papers_of-tables H fits = told-fitting ◌++◌ append-nil (λ (t : Tables). paper_numbers t.papers) (λ (s : Stamped). paper_told s.entry) (λ t s fit. numbers-entry t.papers s.maker s.entry fit.papers) no_tables H fits
 
--- ---- what is counted of a user
-
--- a sum is greater by so much at its index, and every other stays
-get-with_more : (i more k : ℕ) (sums : List ℕ) → get_or (with_more i more sums) k 0 ≡ cond (eqb k i) (get_or sums k 0 + more) (get_or sums k 0)
-get-with_more zero more zero [] = plus more
-  where
-    plus : (more : ℕ) → more ≡ 0 + more
-    plus more = omega arith
-get-with_more zero more zero (n ∷ sums) = refl
-get-with_more zero more (suc k) [] = ap (λ b. cond b (0 + more) 0) (never k)
-  where
-    never : (k : ℕ) → false ≡ eqb (suc k) 0
-    never k = grind (arith, nat_tests)
-get-with_more zero more (suc k) (n ∷ sums) = ap (λ b. cond b (get_or sums k 0 + more) (get_or sums k 0)) (never k)
-  where
-    never : (k : ℕ) → false ≡ eqb (suc k) 0
-    never k = grind (arith, nat_tests)
-get-with_more (suc i) more zero [] = ap (λ b. cond b (0 + more) 0) (never i)
-  where
-    never : (i : ℕ) → false ≡ eqb 0 (suc i)
-    never i = grind (arith, nat_tests)
-get-with_more (suc i) more zero (n ∷ sums) = ap (λ b. cond b (n + more) n) (never i)
-  where
-    never : (i : ℕ) → false ≡ eqb 0 (suc i)
-    never i = grind (arith, nat_tests)
-get-with_more (suc i) more (suc k) [] = get-with_more i more k [] ∙ ap (λ b. cond b (0 + more) 0) (step k i)
-  where
-    step : (k i : ℕ) → eqb k i ≡ eqb (suc k) (suc i)
-    step k i = grind (arith, nat_tests)
-get-with_more (suc i) more (suc k) (n ∷ sums) = get-with_more i more k sums ∙ ap (λ b. cond b (get_or sums k 0 + more) (get_or sums k 0)) (step k i)
-  where
-    step : (k i : ℕ) → eqb k i ≡ eqb (suc k) (suc i)
-    step k i = grind (arith, nat_tests)
-
--- a user's sum; nobody has any
-abbrev sum_at : List ℕ → Option ℕ → ℕ
-sum_at sums None = 0
-sum_at sums (Some v) = get_or sums v 0
-
--- what is told, where it is the user's, comes to her sum
-sum-with_more : (u : Option ℕ) (maker more told n : ℕ) (sums : List ℕ) → told ≡ cond (is_number u maker) more 0
-    → sum_at sums u + (told + n) ≡ sum_at (with_more maker more sums) u + n
-sum-with_more None maker more told n sums is = omega (arith, is)
-sum-with_more (Some v) maker more told n sums is =
-    by (eqb v maker) (get_or sums v 0) is ∙ ap (λ m. m + n) (sym (get-with_more maker more v sums))
-  where
-    by : (b : Bool) (m : ℕ) → told ≡ cond b more 0 → m + (told + n) ≡ cond b (m + more) m + n
-    by true m is = omega (arith, is)
-    by false m is = omega (arith, is)
-
-plus_nothing : (n : ℕ) → n + 0 ≡ n
-plus_nothing n = omega arith
-
--- where each entry adds to a user's sum what it tells of her, she has what all of them tell
-module _ (size : List ℕ → ℕ) (nil : size [] ≡ 0) (append : (xs ys : List ℕ) → size (xs ++ ys) ≡ size xs + size ys)
-    (sums : PapersState → List ℕ) (first : sums no_papers ≡ []) (u : Option ℕ) (told : ℕ → Entry → List ℕ) where
-  sum-tables : ((state : PapersState) (maker : ℕ) (e : Entry) (n : ℕ)
-      → sum_at (sums state) u + (size (told maker e) + n) ≡ sum_at (sums (papers_after state maker e)) u + n)
-      → (H : History) → size (all_told_by told H) ≡ sum_at (sums (tables_of H).papers) u
-  sum-tables one H =
-      none u (size (all_told_by told H)) ∙ ap (λ (ns : List ℕ). sum_at ns u + size (all_told_by told H)) (sym first)
-      ∙ told-always (λ n xs. n + size xs) (λ n. ap (λ m. n + m) nil
-      ∙ plus_nothing n) (λ (t : Tables). sum_at (sums t.papers) u) (λ (s : Stamped). told s.maker s.entry)
-      (λ t s rest. ap (λ n. sum_at (sums t.papers) u + n) (append (told s.maker s.entry) rest) ∙ one t.papers s.maker s.entry (size rest)) no_tables H
-    where
-      none : (u : Option ℕ) (n : ℕ) → n ≡ sum_at [] u + n
-      none None n = omega arith
-      none (Some v) n = omega arith
-
 -- ---- how many papers are the user's own
 
 own-entry : (u : Option ℕ) (state : PapersState) (maker : ℕ) (e : Entry) (n : ℕ)
@@ -121,7 +52,8 @@ own-entry u state maker e n = omega arith
 -- a user's own papers are those that she submitted
 pub own_papers_of-tables : (u : Option ℕ) (H : History) → own_papers_of u H ≡ own_count (tables_of H).papers u
 own_papers_of-tables u H =
-    sum-tables length refl length-append (λ (state : PapersState). state.submitted) refl u (own_paper_told u) (own-entry u) H ∙ read u (tables_of H).papers
+    sum-tables length refl length-append (λ (t : Tables). t.papers.submitted) refl u (own_paper_told u) (λ t s n. own-entry u t.papers s.maker s.entry n) H
+    ∙ read u (tables_of H).papers
   where
     read : (u : Option ℕ) (state : PapersState) → sum_at state.submitted u ≡ own_count state u
     read None state = refl
@@ -146,7 +78,8 @@ bytes-entry u state maker e n = omega arith
 -- a user's bytes are those of all that she uploaded
 pub own_bytes_of-tables : (u : Option ℕ) (H : History) → own_bytes_of u H ≡ own_bytes (tables_of H).papers u
 own_bytes_of-tables u H =
-    sum-tables total refl total-append (λ (state : PapersState). state.uploaded) refl u (own_bytes_told u) (bytes-entry u) H ∙ read u (tables_of H).papers
+    sum-tables total refl total-append (λ (t : Tables). t.papers.uploaded) refl u (own_bytes_told u) (λ t s n. bytes-entry u t.papers s.maker s.entry n) H
+    ∙ read u (tables_of H).papers
   where
     read : (u : Option ℕ) (state : PapersState) → sum_at state.uploaded u ≡ own_bytes state u
     read None state = refl

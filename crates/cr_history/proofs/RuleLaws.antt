@@ -8,9 +8,11 @@ use Rattle.std.specs.Str.{bytes_eq}
 use Rattle.std.proofs.lemmas.Bool.{eqb-true, eq-eqb, leb-false, true≢false, and_parts, not-true, not-false, or_left, or_right}
 use Rattle.cr_base.specs.declared.command.Command.{Command}
 use Rattle.cr_base.specs.declared.command.Command.TheVariants.{Register, SetPhase, Submit, Revise, Upload, Withdraw, Name, SetMode, SetConflict}
-use Rattle.cr_base.specs.declared.command.Command.TheVariants.{Bid, Assign, Unassign}
+use Rattle.cr_base.specs.declared.command.Command.TheVariants.{Bid, Assign, Unassign, Review, Comment, Tag}
 use Rattle.cr_base.specs.declared.entry.Entry.TheVariants as entries
 use Rattle.cr_base.specs.declared.entry.Entry.TheVariants.{Registered, Named, PhaseSet, ModeSet, Revised, Uploaded, Withdrawn, Conflict, Assigned, Unassigned}
+use Rattle.cr_base.specs.declared.entry.Entry.TheVariants.{Reviewed, Commented, Tagged}
+use Rattle.cr_base.specs.declared.form.Form.{Form}
 use Rattle.cr_base.specs.declared.reply.AccountLine.{AccountLine}
 use Rattle.cr_base.specs.declared.standing.Standing.{Standing}
 use Rattle.cr_base.specs.declared.target.Target.{Target}
@@ -22,16 +24,19 @@ use Rattle.cr_base.specs.declared.words.Role.TheVariants.{Account, Chair}
 use Rattle.cr_base.specs.Lists.{at_some, is_number, listed}
 use Rattle.cr_base.specs.History.{History, Registration, all_told, registration_told}
 use Rattle.cr_base.specs.HistoryFacts.{phase_of, role_of, accounts_of, papers_of, own_papers_of, own_bytes_of}
-use Rattle.cr_base.specs.HistoryFacts.{is_author, is_conflicted, bid_of, seat_of, seats_of, standing_of}
+use Rattle.cr_base.specs.HistoryFacts.{is_author, is_conflicted, bid_of, seat_of, seats_of, is_written, own_forms_of, own_comments_of, standing_of}
 use Rattle.cr_base.specs.Page.{gets_conflicts}
 use Rattle.cr_base.specs.Phases.{is_from, is_phase, is_next}
 use Rattle.cr_base.specs.Words.{role_number, is_member, is_chair}
-use Rattle.cr_base.specs.Bounds.{IsBoundedCommand}
-use Rattle.cr_base.specs.Texts.{IsName}
+use Rattle.cr_base.specs.Bounds.{IsForm, IsBoundedCommand}
+use Rattle.cr_base.specs.TagTexts.{is_tag, is_for_chairs}
+use Rattle.cr_base.specs.Texts.{IsName, IsCommentText}
 use Rattle.cr_base.specs.Checks.{Check, of_role, target_role, register_checks, phase_checks, submit_checks, revise_checks, upload_checks, name_checks, mode_checks}
 use Rattle.cr_base.specs.Checks.{is_in_committee, chair_checks, conflict_case, conflict_checks, bid_checks, assign_checks, unassign_checks}
+use Rattle.cr_base.specs.Checks.{review_checks, comment_checks, tag_checks}
 use Rattle.cr_base.specs.Drawn.{Drawn, grouped, registration_drawn, phase_drawn, submission_drawn, revision_drawn, upload_drawn}
 use Rattle.cr_base.specs.Drawn.{withdrawal_drawn, naming_drawn, mode_drawn, conflict_drawn, bid_drawn, assignment_drawn, unassignment_drawn}
+use Rattle.cr_base.specs.Drawn.{review_drawn, comment_drawn, tag_drawn}
 use Rattle.cr_base.specs.Judging.{judge_by}
 use Rattle.cr_base.specs.Sources.{Facts, Shown, number_in, user_among, users_among, role_among, paper_named, target_named}
 use Rattle.cr_base.proofs.CheckLaws.{NoneBroken, judged-Ok}
@@ -52,6 +57,8 @@ facts_of u H = record {
   own_bytes = own_bytes_of u H;
   own_bid = λ p. bid_of u p H;
   own_seat = λ p. seat_of u p H;
+  own_forms = λ p. own_forms_of u p H;
+  own_comments = own_comments_of u H;
 }
 
 -- a user named, if there is one, has registered, and her role is the one that the history tells
@@ -195,12 +202,14 @@ module _ (H : History) (maker paper user : ℕ) where
 abbrev pub is_told_all : History → ℕ → ℕ → Bool
 is_told_all H maker p = gets_conflicts (standing_of (Some maker) (Some p) H)
 
--- where the maker is such a chair, she is shown of a user and of a paper's labels what the history tells
+-- where the maker is such a chair, she is shown of a user and of a paper's labels what the history tells, and under which of
+-- them a form is written
 pub record TellsSeats (H : History) (maker : ℕ) (shown : Shown) : Type 0 where
   pub conflicted : (p v : ℕ) → IsRegistered H v → is_told_all H maker p ≡ true
       → (list_any (is_number (Some v)) (shown.authors p) || list_any (is_number (Some v)) (shown.conflicts p)) ≡ is_conflicted (Some v) p H
   pub seat : (p v : ℕ) → is_told_all H maker p ≡ true → shown.seat (Some v) p ≡ seat_of (Some v) p H
   pub labels : (p : ℕ) → is_told_all H maker p ≡ true → shown.labels p ≡ length (seats_of p H)
+  pub written : (p o : ℕ) → is_told_all H maker p ≡ true → shown.written p o ≡ is_written p o H
 
 -- ---- all commands
 
@@ -229,6 +238,10 @@ module _ (H : History) (maker : ℕ) (shown : Shown) (registered : IsRegistered 
   -- the user named, as the rules ask of her
   abbrev asked : Option ℕ → Option ℕ → Option Target
   asked paper target = target_named facts shown (Some maker) paper target
+
+  -- whether she is shown a form under the label of the user named
+  abbrev under_label : Option ℕ → Option ℕ → Bool
+  under_label paper target = at_some (shown.written (unwrap_or paper 0)) (shown.seat target (unwrap_or paper 0))
 
   abbrev wrote : ℕ → ℕ → Bool
   wrote p v = list_any (is_number (Some v)) (shown.authors p)
@@ -268,6 +281,10 @@ module _ (H : History) (maker : ℕ) (shown : Shown) (registered : IsRegistered 
 
   -- ---- bids and assignments
 
+  -- a member in no conflict
+  clear : (member conflicted : Bool) → member ≡ true → conflicted ≡ false → (member && not conflicted) ≡ true
+  clear member conflicted hm hf = grind arith
+
   bid-ruled : (paper : Option ℕ) (value : ℕ) → value ≤ 40 → NoneBroken (bid_checks (standing_of (Some maker) paper H) (paper_named facts shown paper))
       → IsRuled H maker (entries.Bid (unwrap_or paper 0) value)
   bid-ruled None value bounded none = absurd (true≢false none.0)
@@ -282,9 +299,6 @@ module _ (H : History) (maker : ℕ) (shown : Shown) (registered : IsRegistered 
         seat = tt;
         texts = bounded;
       }
-    where
-      clear : (member conflicted : Bool) → member ≡ true → conflicted ≡ false → (member && not conflicted) ≡ true
-      clear member conflicted hm hf = grind arith
 
   -- a chair who assigns or unassigns is told all of the paper's conflicts and reviewers
   chair-told : (p : ℕ) (withdrawn : Bool) → NoneBroken (chair_checks (standing_of (Some maker) (Some p) H) withdrawn) → is_told_all H maker p ≡ true
@@ -322,23 +336,78 @@ module _ (H : History) (maker : ℕ) (shown : Shown) (registered : IsRegistered 
       }
 
   unassigned-ruled : (paper target : Option ℕ)
-      → NoneBroken (unassign_checks (standing_of (Some maker) paper H) (paper_named facts shown paper) (asked paper target))
+      → NoneBroken (unassign_checks (standing_of (Some maker) paper H) (paper_named facts shown paper) (asked paper target) (under_label paper target))
       → IsRuled H maker (Unassigned (unwrap_or paper 0) (unwrap_or target 0) (unwrap_or (shown.seat target (unwrap_or paper 0)) 0))
   unassigned-ruled None target none = absurd (true≢false none.0)
   unassigned-ruled (Some p) None none = absurd (true≢false none.1.0)
   unassigned-ruled (Some p) (Some v) none =
       let by = standing_of (Some maker) (Some p) H in
-      let k = asked-there (λ target. NoneBroken (unassign_checks by (paper_named facts shown (Some p)) target)) p v none.1.0 none in
+      let k = asked-there (λ target. NoneBroken (unassign_checks by (paper_named facts shown (Some p)) target (under_label (Some p) (Some v)))) p v none.1.0 none in
       let of_chair = k.holds.1.1 in
       let all = chair-told p (shown.withdrawn p) (of_chair.0, (of_chair.1.0, (of_chair.1.1.0, (of_chair.1.1.1.0, tt)))) in
+      let taken = some-where (shown.seat (Some v) p) (not-false (is_some (shown.seat (Some v) p)) of_chair.1.1.1.1.0) in
       record {
         phase = not-false (is_in_committee by.phase) of_chair.1.1.0;
         chair = not-false (is_chair by.role) of_chair.0;
         role = tt;
         member = tt;
         right = of_chair.1.0;
-        seat = sym (tells.seat p v all) ∙ some-where (shown.seat (Some v) p) (not-false (is_some (shown.seat (Some v) p)) of_chair.1.1.1.1.0);
+        seat = (
+          sym (tells.seat p v all) ∙ taken,
+          sym (tells.written p (unwrap_or (shown.seat (Some v) p) 0) all)
+              ∙ sym (ap (at_some (shown.written p)) taken) ∙ of_chair.1.1.1.1.1.0,
+        );
         texts = tt;
+      }
+
+  -- ---- reviews, comments and tags
+
+  reviewed-ruled : (paper : Option ℕ) (version : ℕ) (form : Form) → IsForm form
+      → NoneBroken (review_checks (standing_of (Some maker) paper H) (paper_named facts shown paper))
+      → IsRuled H maker (Reviewed (unwrap_or paper 0) (unwrap_or (facts.own_seat (unwrap_or paper 0)) 0) version form)
+  reviewed-ruled None version form bounded none = absurd (true≢false none.0)
+  reviewed-ruled (Some p) version form bounded none =
+      let by = standing_of (Some maker) (Some p) H in
+      record {
+        phase = not-false (is_phase by.phase Reviewing || is_phase by.phase Discussion) none.1.1.1.1.0;
+        chair = tt;
+        role = tt;
+        member = tt;
+        right = clear (is_member by.role) by.conflicted (not-false (is_member by.role) none.1.0) none.1.1.0;
+        seat = some-where (facts.own_seat p) (not-false (is_some (facts.own_seat p)) none.1.1.1.0);
+        texts = bounded;
+      }
+
+  commented-ruled : (paper : Option ℕ) (n own : ℕ) (text : List ℕ) → IsCommentText text
+      → NoneBroken (comment_checks (standing_of (Some maker) paper H) (paper_named facts shown paper) own)
+      → IsRuled H maker (Commented (unwrap_or paper 0) n (facts.own_seat (unwrap_or paper 0)) text)
+  commented-ruled None n own text bounded none = absurd (true≢false none.0)
+  commented-ruled (Some p) n own text bounded none =
+      let by = standing_of (Some maker) (Some p) H in
+      record {
+        phase = not-false (is_phase by.phase Discussion) none.1.1.1.0;
+        chair = tt;
+        role = tt;
+        member = tt;
+        right = clear (is_member by.role) by.conflicted (not-false (is_member by.role) none.1.0) none.1.1.0;
+        seat = refl;
+        texts = bounded;
+      }
+
+  tagged-ruled : (paper : Option ℕ) (tag : List ℕ) (on : Bool) → is_tag tag ≡ true
+      → NoneBroken (tag_checks (standing_of (Some maker) paper H) (paper_named facts shown paper) (is_for_chairs tag))
+      → IsRuled H maker (Tagged (unwrap_or paper 0) tag on)
+  tagged-ruled None tag on bounded none = absurd (true≢false none.0)
+  tagged-ruled (Some p) tag on bounded none =
+      let by = standing_of (Some maker) (Some p) H in
+      record {
+        phase = not-false (is_in_committee by.phase) none.1.1.1.1.0;
+        chair = tt;
+        role = tt;
+        member = tt;
+        right = (clear (is_member by.role) by.conflicted (not-false (is_member by.role) none.1.1.0) none.1.1.1.0, none.1.0);
+        seat = tt;
+        texts = bounded;
       }
 
   pub command-adds : (command : Command) (drawn : Drawn) → IsBoundedCommand command → judge_by facts shown (Some maker) command ≡ Ok drawn → Adds H drawn.group
@@ -407,7 +476,27 @@ module _ (H : History) (maker : ℕ) (shown : Shown) (registered : IsRegistered 
       let target : Option ℕ = user_among facts.accounts name in
       let p : ℕ = unwrap_or paper 0 in
       let ordinal : ℕ = unwrap_or (shown.seat target p) 0 in
-      let k = judged-Ok (unassign_checks (standing_of (Some maker) paper H) (paper_named facts shown paper) (asked paper target))
+      let k = judged-Ok (unassign_checks (standing_of (Some maker) paper H) (paper_named facts shown paper) (asked paper target) (under_label paper target))
       (unassignment_drawn maker p (unwrap_or target 0) ordinal) drawn accepted in
       subst (λ (d : Drawn). Adds H d.group) k.1
       (single maker (Unassigned p (unwrap_or target 0) ordinal) registered tt (unassigned-ruled paper target k.0))
+  command-adds (Review paper form) drawn bounded accepted =
+      let p : ℕ = unwrap_or paper 0 in
+      let ordinal : ℕ = unwrap_or (facts.own_seat p) 0 in
+      let version : ℕ = length (facts.own_forms p) + 1 in
+      let k = judged-Ok (review_checks (standing_of (Some maker) paper H) (paper_named facts shown paper))
+      (review_drawn maker p ordinal version form) drawn accepted in
+      subst (λ (d : Drawn). Adds H d.group) k.1
+      (single maker (Reviewed p ordinal version form) registered tt (reviewed-ruled paper version form bounded k.0))
+  command-adds (Comment paper text) drawn bounded accepted =
+      let p : ℕ = unwrap_or paper 0 in
+      let n : ℕ = length (shown.comments p) + 1 in
+      let k = judged-Ok (comment_checks (standing_of (Some maker) paper H) (paper_named facts shown paper) facts.own_comments)
+      (comment_drawn maker p n (facts.own_seat p) text) drawn accepted in
+      subst (λ (d : Drawn). Adds H d.group) k.1
+      (single maker (Commented p n (facts.own_seat p) text) registered tt (commented-ruled paper n facts.own_comments text bounded k.0))
+  command-adds (Tag paper tag on) drawn bounded accepted =
+      let k = judged-Ok (tag_checks (standing_of (Some maker) paper H) (paper_named facts shown paper) (is_for_chairs tag))
+      (tag_drawn maker (unwrap_or paper 0) tag on) drawn accepted in
+      subst (λ (d : Drawn). Adds H d.group) k.1
+      (single maker (Tagged (unwrap_or paper 0) tag on) registered tt (tagged-ruled paper tag on bounded k.0))

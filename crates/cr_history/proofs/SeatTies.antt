@@ -17,7 +17,7 @@ use Rattle.cr_base.specs.History.{History, SeatTold, all_told, seat_told, assign
 use Rattle.cr_base.specs.HistoryFacts.{seat_of, seats_of, reviewers_of}
 use Rattle.cr_base.specs.Pairs.{ties_of}
 use Rattle.cr_base.specs.Seats.{SeatsState, seat_tie, vacated, is_seat, without_seat, seats_after}
-use Rattle.cr_base.specs.Seats.{labels_in, told_of, reviewers_in, seat_in, SeatsFit, SeatsInOrder}
+use Rattle.cr_base.specs.Seats.{labels_in, told_of, seats_in, reviewers_in, seat_in, SeatsFit, SeatsInOrder}
 use Rattle.cr_base.specs.Shapes.{InRange, ordinal_range}
 use Rattle.cr_base.specs.Tables.{Tables, no_tables, tables_after, tables_from, tables_of, FitInTurn}
 use Rattle.cr_base.proofs.ListLaws.{turned}
@@ -54,7 +54,7 @@ seats-entry p seats (Unassigned paper user ordinal) =
 seats-entry p seats e = append-nil (map told_of (ties_of ByPaper p seats))
 
 -- whoever was assigned to a paper has a seat there, in the same order
-seats_of-tables : (p : ℕ) (H : History) → seats_of p H ≡ map told_of (ties_of ByPaper p (tables_of H).seats)
+pub seats_of-tables : (p : ℕ) (H : History) → seats_of p H ≡ seats_in (tables_of H).seats p
 seats_of-tables p H =
     told-always ◌++◌ append-nil (λ (t : Tables). map told_of (ties_of ByPaper p t.seats)) (λ (s : Stamped). assigned_told p s.entry)
     (λ t s rest.

@@ -1,21 +1,27 @@
 -- What an accepted command may add to a history, by the rules on it.
-use Rattle.std.specs.Prelude.{ℕ, ◌≡◌, ◌≤◌, ◌==◌, List, [], ◌∷◌, length, IsFalse}
+use Rattle.std.specs.Prelude.{ℕ, ◌≡◌, ◌≤◌, ◌==◌, List, [], ◌∷◌, length, IsTrue, IsFalse}
 use Rattle.std.specs.List.{AllByRecursion}
 use Rattle.cr_base.specs.declared.entry.Entry.{Entry}
 use Rattle.cr_base.specs.declared.entry.Entry.TheVariants.{Registered, Named, Submitted, Coauthor, Revised, Uploaded, Bid}
+use Rattle.cr_base.specs.declared.entry.Entry.TheVariants.{Reviewed, Commented, Tagged}
 use Rattle.cr_base.specs.declared.words.Role.TheVariants.{Chair}
 use Rattle.cr_base.specs.History.{History}
 use Rattle.cr_base.specs.Drawn.{grouped, submission}
-use Rattle.cr_base.specs.Texts.{IsName, IsTitle, IsAbstract, IsContent}
+use Rattle.cr_base.specs.Bounds.{IsForm}
+use Rattle.cr_base.specs.TagTexts.{is_tag}
+use Rattle.cr_base.specs.Texts.{IsName, IsTitle, IsAbstract, IsContent, IsCommentText}
 use Rattle.cr_history.specs.Invariants.{IsRegistered, IsMadeByUser, IsInPhase, IsByChair, RaisesRole, IsOfMember, IsByRight, IsSeated}
 
--- the texts of the entry are within their bounds, and so is a bid, which is kept plus 20
+-- the texts of the entry are within their bounds, and so are the grades of a form, and a bid, which is kept plus 20
 abbrev pub HasTexts : Entry → Type 0
 HasTexts (Registered user name digest) = IsName name × (length digest ≡ 32)
 HasTexts (Submitted paper title abstract) = IsTitle title × IsAbstract abstract
 HasTexts (Revised paper title abstract) = IsTitle title × IsAbstract abstract
 HasTexts (Uploaded paper version content) = IsContent content
 HasTexts (Bid paper value) = value ≤ 40
+HasTexts (Reviewed paper ordinal version form) = IsForm form
+HasTexts (Commented paper n ordinal text) = IsCommentText text
+HasTexts (Tagged paper tag on) = IsTrue (is_tag tag)
 HasTexts _ = Unit {0}
 
 -- what the rules say of an entry, on the history before it, and the bounds of its texts
@@ -25,7 +31,7 @@ pub record IsRuled (H : History) (maker : ℕ) (e : Entry) : Type 0 where
   pub role : RaisesRole H e
   pub member : IsOfMember H e
   pub right : IsByRight H maker e
-  pub seat : IsSeated H e
+  pub seat : IsSeated H maker e
   pub texts : HasTexts e
 
 -- the entry may be all that a command adds: the first user's registration isn't, and no co-author is

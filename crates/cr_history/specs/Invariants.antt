@@ -4,16 +4,18 @@ use Rattle.std.specs.List.{All, AllByRecursion, list_any}
 use Rattle.cr_base.specs.declared.entry.Entry.{Entry}
 use Rattle.cr_base.specs.declared.entry.Entry.TheVariants.{Registered, Named, PhaseSet, ModeSet, Submitted}
 use Rattle.cr_base.specs.declared.entry.Entry.TheVariants.{Coauthor, Revised, Uploaded, Withdrawn, Conflict}
-use Rattle.cr_base.specs.declared.entry.Entry.TheVariants.{Bid, Assigned, Unassigned}
+use Rattle.cr_base.specs.declared.entry.Entry.TheVariants.{Bid, Assigned, Unassigned, Reviewed, Commented, Tagged}
 use Rattle.cr_base.specs.declared.entry.Stamped.{Stamped}
-use Rattle.cr_base.specs.declared.words.Phase.TheVariants.{Setup, Submission, Bidding, Notification}
+use Rattle.cr_base.specs.declared.words.Phase.TheVariants.{Setup, Submission, Bidding, Reviewing, Discussion, Notification}
 use Rattle.cr_base.specs.Checks.{is_in_committee}
 use Rattle.cr_base.specs.HistoryFacts.{phase_of, role_of, accounts_of, papers_of, uploads_of, number_of, is_author, is_conflicted, seat_of, seats_of}
-use Rattle.cr_base.specs.History.{History, Registration, all_told, registration_told, opens}
+use Rattle.cr_base.specs.HistoryFacts.{forms_of, is_written, comments_of}
+use Rattle.cr_base.specs.History.{History, Registration, all_told, registration_told, opens, opens_discussion}
 use Rattle.cr_base.specs.Lists.{until, since}
 use Rattle.cr_base.specs.Phases.{is_from, is_phase, is_next}
 use Rattle.cr_base.specs.Rows.{kind_of, row_of, stamped, IsBoundedEntry}
 use Rattle.cr_base.specs.Tables.{no_tables, FitInTurn}
+use Rattle.cr_base.specs.TagTexts.{is_for_chairs}
 use Rattle.cr_base.specs.Words.{role_number, is_member, is_chair}
 
 -- the user has registered
@@ -37,6 +39,9 @@ IsMadeByUser H maker (Conflict paper user on) = IsRegistered H maker
 IsMadeByUser H maker (Bid paper value) = IsRegistered H maker
 IsMadeByUser H maker (Assigned paper user kind ordinal) = IsRegistered H maker
 IsMadeByUser H maker (Unassigned paper user ordinal) = IsRegistered H maker
+IsMadeByUser H maker (Reviewed paper ordinal version form) = IsRegistered H maker
+IsMadeByUser H maker (Commented paper n ordinal text) = IsRegistered H maker
+IsMadeByUser H maker (Tagged paper tag on) = IsRegistered H maker
 
 -- of the entries that commands add, the first user's registration has another of its command behind it, and a submission
 -- and its co-authors may have one
@@ -46,13 +51,15 @@ IsMarked more (Submitted paper title abstract) = Unit {0}
 IsMarked more (Coauthor paper user) = Unit {0}
 IsMarked more _ = IsFalse more
 
--- users are numbered from 1 as they register, papers as they are submitted, the versions of each paper as they are uploaded, and
--- its labels as reviewers are assigned to it
+-- users are numbered from 1 as they register, papers as they are submitted, the versions of each paper as they are uploaded,
+-- its labels as reviewers are assigned to it, the forms of each label as they are written, and the comments on each paper too
 abbrev pub HasNextNumber : History → Entry → Type 0
 HasNextNumber H (Registered user name digest) = user ≡ length (accounts_of H) + 1
 HasNextNumber H (Submitted paper title abstract) = paper ≡ length (papers_of H) + 1
 HasNextNumber H (Uploaded paper version content) = version ≡ length (uploads_of paper H) + 1
 HasNextNumber H (Assigned paper user kind ordinal) = ordinal ≡ length (seats_of paper H) + 1
+HasNextNumber H (Reviewed paper ordinal version form) = version ≡ length (forms_of paper ordinal H) + 1
+HasNextNumber H (Commented paper n ordinal text) = n ≡ length (comments_of paper H) + 1
 HasNextNumber H _ = Unit {0}
 
 -- nobody has registered under the name before
@@ -75,11 +82,15 @@ IsAboutThose H (Conflict paper user on) = IsSubmitted H paper × IsRegistered H 
 IsAboutThose H (Bid paper value) = IsSubmitted H paper
 IsAboutThose H (Assigned paper user kind ordinal) = IsSubmitted H paper × IsRegistered H user
 IsAboutThose H (Unassigned paper user ordinal) = IsSubmitted H paper × IsRegistered H user
+IsAboutThose H (Reviewed paper ordinal version form) = IsSubmitted H paper
+IsAboutThose H (Commented paper n ordinal text) = IsSubmitted H paper
+IsAboutThose H (Tagged paper tag on) = IsSubmitted H paper
 IsAboutThose H _ = Unit {0}
 
 -- the phase goes on by one; the mode is set in setup; papers are submitted, changed and withdrawn in submission; from the notification on
--- nobody is named a member or a chair, and no conflict is turned on or off; bids are told in bidding; and reviewers are assigned
--- and unassigned from bidding to discussion
+-- nobody is named a member or a chair, and no conflict is turned on or off; bids are told in bidding; reviewers are assigned and
+-- unassigned, and tags turned on and off, from bidding to discussion; forms are written in reviewing and in the discussion, and
+-- comments in the discussion
 abbrev pub IsInPhase : History → Entry → Type 0
 IsInPhase H (Registered user name digest) = Unit {0}
 IsInPhase H (Named user role) = IsFalse (is_from Notification (phase_of H))
@@ -94,6 +105,9 @@ IsInPhase H (Conflict paper user on) = IsFalse (is_from Notification (phase_of H
 IsInPhase H (Bid paper value) = IsTrue (is_phase (phase_of H) Bidding)
 IsInPhase H (Assigned paper user kind ordinal) = IsTrue (is_in_committee (phase_of H))
 IsInPhase H (Unassigned paper user ordinal) = IsTrue (is_in_committee (phase_of H))
+IsInPhase H (Reviewed paper ordinal version form) = IsTrue (is_phase (phase_of H) Reviewing || is_phase (phase_of H) Discussion)
+IsInPhase H (Commented paper n ordinal text) = IsTrue (is_phase (phase_of H) Discussion)
+IsInPhase H (Tagged paper tag on) = IsTrue (is_in_committee (phase_of H))
 
 -- chairs set the phase and the mode, name members and chairs, and assign and unassign reviewers; the first user alone is named
 -- otherwise, as she registers, by the second entry of all
@@ -124,26 +138,38 @@ may_turn H maker paper user on =
     then (user == maker && on) || (is_chair (role_of (Some maker) H) && not (is_conflicted (Some maker) paper H))
     else is_author (Some maker) paper H && on
 
+-- a member in no conflict with the paper
+abbrev pub is_clear_member_of : History → ℕ → ℕ → Bool
+is_clear_member_of H maker paper = is_member (role_of (Some maker) H) && not (is_conflicted (Some maker) paper H)
+
 -- and a paper's authors alone name its co-authors, revise it, upload its content and withdraw it; members in no conflict with it
--- bid on it, and chairs in none assign and unassign its reviewers
+-- bid on it, review it, comment on it and tag it, chairs alone with tags for chairs; and chairs in none assign and unassign its
+-- reviewers
 abbrev pub IsByRight : History → ℕ → Entry → Type 0
 IsByRight H maker (Coauthor paper user) = IsTrue (is_author (Some maker) paper H)
 IsByRight H maker (Revised paper title abstract) = IsTrue (is_author (Some maker) paper H)
 IsByRight H maker (Uploaded paper version content) = IsTrue (is_author (Some maker) paper H)
 IsByRight H maker (Withdrawn paper) = IsTrue (is_author (Some maker) paper H)
 IsByRight H maker (Conflict paper user on) = IsTrue (may_turn H maker paper user on)
-IsByRight H maker (Bid paper value) = IsTrue (is_member (role_of (Some maker) H) && not (is_conflicted (Some maker) paper H))
+IsByRight H maker (Bid paper value) = IsTrue (is_clear_member_of H maker paper)
 IsByRight H maker (Assigned paper user kind ordinal) = IsFalse (is_conflicted (Some maker) paper H)
 IsByRight H maker (Unassigned paper user ordinal) = IsFalse (is_conflicted (Some maker) paper H)
+IsByRight H maker (Reviewed paper ordinal version form) = IsTrue (is_clear_member_of H maker paper)
+IsByRight H maker (Commented paper n ordinal text) = IsTrue (is_clear_member_of H maker paper)
+IsByRight H maker (Tagged paper tag on) =
+    IsTrue (is_clear_member_of H maker paper) × IsFalse (is_for_chairs tag && not (is_chair (role_of (Some maker) H)))
 IsByRight H maker _ = Unit {0}
 
 -- whoever is assigned is in no conflict with the paper and doesn't review it, and it has a label left; whoever is unassigned
--- reviews it under that label
-abbrev pub IsSeated : History → Entry → Type 0
-IsSeated H (Assigned paper user kind ordinal) =
+-- reviews it under that label, and has written no form under it; a form is under its maker's own label, and a comment tells that
+-- label, where its maker has one
+abbrev pub IsSeated : History → ℕ → Entry → Type 0
+IsSeated H maker (Assigned paper user kind ordinal) =
     IsFalse (is_conflicted (Some user) paper H) × (seat_of (Some user) paper H ≡ None) × (length (seats_of paper H) < 26)
-IsSeated H (Unassigned paper user ordinal) = seat_of (Some user) paper H ≡ Some ordinal
-IsSeated H _ = Unit {0}
+IsSeated H maker (Unassigned paper user ordinal) = (seat_of (Some user) paper H ≡ Some ordinal) × IsFalse (is_written paper ordinal H)
+IsSeated H maker (Reviewed paper ordinal version form) = seat_of (Some maker) paper H ≡ Some ordinal
+IsSeated H maker (Commented paper n ordinal text) = seat_of (Some maker) paper H ≡ ordinal
+IsSeated H maker _ = Unit {0}
 
 -- the entry turns a conflict with the paper on or off
 abbrev pub is_conflict_with : ℕ → Entry → Bool
@@ -167,7 +193,7 @@ pub record IsInOrder (H : History) (e : Stamped) : Type 0 where
   pub role : RaisesRole H e.entry
   pub member : IsOfMember H e.entry
   pub right : IsByRight H e.maker e.entry
-  pub seat : IsSeated H e.entry
+  pub seat : IsSeated H e.maker e.entry
   pub first : ComesFirst H e.entry
 
 -- it is so of each entry, on what stands before it
@@ -210,6 +236,19 @@ pub record DeclaresInTime (H : History) : Type 0 where
   pub late : AllByRecursion (Late H) (since is_opening H)
   pub begun : list_any is_opening H ≡ is_from Bidding (phase_of H)
 
+-- the discussion was opened exactly where it is that phase or a later one
+abbrev pub IsDiscussedInTime : History → Type 0
+IsDiscussedInTime H = list_any opens_discussion H ≡ is_from Discussion (phase_of H)
+
+-- of a form: who wrote it reviews the paper under that label at the end of the history
+abbrev pub IsHeld : History → ℕ → Entry → Type 0
+IsHeld H maker (Reviewed paper ordinal version form) = seat_of (Some maker) paper H ≡ Some ordinal
+IsHeld H maker e = Unit {0}
+
+-- whoever has written a form stays a reviewer of the paper, under the label under which she wrote it
+abbrev pub ReviewersStay : History → Type 0
+ReviewersStay H = All (λ (e : Stamped). IsHeld H e.maker e.entry) H
+
 -- ---- all of them
 
 -- the row of the entry spells the entry
@@ -217,7 +256,8 @@ abbrev pub IsSpelled : Stamped → Type 0
 IsSpelled e = stamped (kind_of e.entry) (row_of e) ≡ e
 
 -- what every legal history keeps. Each entry is within its bounds, so that its row spells it; it fits the tables of what
--- stands before it; and it is in order there. No command's entries are cut off, and conflicts are declared in time
+-- stands before it; and it is in order there. No command's entries are cut off, conflicts are declared in time, the discussion is
+-- opened once, and whoever has written a form stays a reviewer
 pub record Invariants (H : History) : Type 0 where
   pub bounded : All IsBoundedEntry H
   pub spelled : All IsSpelled H
@@ -225,3 +265,5 @@ pub record Invariants (H : History) : Type 0 where
   pub in_order : InTurn IsInOrder [] H
   pub whole : IsWhole H
   pub in_time : DeclaresInTime H
+  pub discussed : IsDiscussedInTime H
+  pub stay : ReviewersStay H

@@ -1,17 +1,20 @@
 -- The laws of histories: what the tables tell of them, and what is kept as they grow.
-use Rattle.std.specs.Prelude.{ℕ, ◌≡◌, ◌==◌, List, [], ◌++◌, length, Option}
+use Rattle.std.specs.Prelude.{ℕ, ◌≡◌, ◌==◌, List, [], ◌++◌, length, map, Option}
 use Rattle.std.specs.List.{list_any}
 use Rattle.cr_base.specs.Accounts.{lines_of, number_at, caller_at}
 use Rattle.cr_base.specs.HistoryFacts.{standing_of, accounts_of, number_of, caller_of, papers_of, own_papers_of, own_bytes_of}
-use Rattle.cr_base.specs.HistoryFacts.{bid_of, seat_of, seats_of, reviewers_of}
+use Rattle.cr_base.specs.HistoryFacts.{bid_of, seat_of, seats_of, reviewers_of, forms_of, forms_discussed_of, own_forms_of, comments_of, own_comments_of, tags_of}
 use Rattle.cr_base.specs.HistoryFacts.{title_of, abstract_of, uploads_of, is_withdrawn, authors_of, is_conflict_on, declared_by_authors}
 use Rattle.cr_base.specs.declared.entry.Stamped.{Stamped}
 use Rattle.cr_base.specs.History.{History}
-use Rattle.cr_base.specs.Sources.{standing_at}
+use Rattle.cr_base.specs.Filed.{filed_of}
+use Rattle.cr_base.specs.Reviews.{forms_in, forms_discussed_in, written_told}
+use Rattle.cr_base.specs.Sources.{standing_at, own_forms_in}
 use Rattle.cr_base.specs.Pairs.{has_pair}
 use Rattle.cr_base.specs.Papers.{paper_numbers, own_count, own_bytes, title_at, abstract_at, uploads_at, is_withdrawn_at}
 use Rattle.cr_base.specs.Tables.{no_tables, tables_of, FitInTurn}
-use Rattle.cr_base.specs.Seats.{labels_in, reviewers_in, seat_in}
+use Rattle.cr_base.specs.Seats.{labels_in, reviewers_in, seat_in, seats_in}
+use Rattle.cr_base.specs.Talk.{comments_in, comment_as_told, own_comments_in}
 use Rattle.cr_base.specs.Ties.{pair_of, authors_in, is_conflict_on_in, bid_in}
 use Rattle.cr_history.specs.Groups.{Adds}
 use Rattle.cr_history.specs.Invariants.{Invariants, InTurn, ComesFirst}
@@ -35,11 +38,26 @@ pub record AreTold (H : History) : Type 0 where
   pub bid : (u : Option ℕ) (p : ℕ) → bid_of u p H ≡ bid_in (tables_of H).ties u p
   pub seat : (u : Option ℕ) (p : ℕ) → seat_of u p H ≡ seat_in (tables_of H).seats u p
   pub labels : (p : ℕ) → length (seats_of p H) ≡ labels_in (tables_of H).seats p
+  pub seats : (p : ℕ) → seats_of p H ≡ seats_in (tables_of H).seats p
   pub reviewers : (p : ℕ) → reviewers_of p H ≡ reviewers_in (tables_of H).seats p
+  pub forms : (p o : ℕ) → forms_of p o H ≡ map written_told (forms_in (tables_of H).reviews p o)
+  pub comments : (p : ℕ) → comments_of p H ≡ map comment_as_told (comments_in (tables_of H).talk p)
+  pub own_comments : (u : Option ℕ) → own_comments_of u H ≡ own_comments_in (tables_of H).talk u
+  pub tags : (p : ℕ) → tags_of p H ≡ filed_of p (tables_of H).tags
 
 -- TablesTell: it is so where each entry fits in its turn, and a paper's co-authors are told before any conflict with it
 abbrev pub TablesTell : Type 0
 TablesTell = (H : History) → FitInTurn no_tables H → InTurn (λ (before : History) (e : Stamped). ComesFirst before e.entry) [] H → AreTold H
+
+-- which forms the committee discusses, and which are a user's own, is what the tables have, where phases only go on and whoever
+-- has written a form stays a reviewer
+pub record AreFormsTold (H : History) : Type 0 where
+  pub discussed : (p o : ℕ) → forms_discussed_of p o H ≡ forms_discussed_in (tables_of H).reviews p o
+  pub own : (u : Option ℕ) (p : ℕ) → own_forms_of u p H ≡ own_forms_in (tables_of H) u p
+
+-- FormsTell: so it is of what keeps the invariants
+abbrev pub FormsTell : Type 0
+FormsTell = (H : History) → Invariants H → AreFormsTold H
 
 -- GrowthKeeps: histories that grow by what the rules let commands add and the tables take keep the invariants
 pub record GrowthKeeps : Type 0 where

@@ -1,5 +1,5 @@
 -- The pairs by user stay the same as those by paper.
-use Rattle.std.proofs.Common.{◌≡◌, ◌∙◌, ◌||◌, ◌&&◌, ℕ, List, refl, sym, ap, subst}
+use Rattle.std.proofs.Common.{◌≡◌, ◌∙◌, ◌||◌, ◌&&◌, ℕ, List, sym, ap, subst}
 use Rattle.std.specs.Prelude.{not}
 use Rattle.cr_base.specs.declared.pairs.Order.{Order}
 use Rattle.cr_base.specs.declared.pairs.Order.TheVariants.{ByPaper, ByUser}

@@ -1,2 +1,2 @@
-pub mod SumLaws
+pub mod NumberLaws
 pub mod UploadLaws

@@ -12,8 +12,3 @@ pub record SeenUploads : Type 0 where
   pub uploads : List PaperUpload
   pub papers : ℕ
   pub room : ℕ
-
--- the sums by user number, and how many fit without taking memory
-pub record SeenSums : Type 0 where
-  pub sums : List ℕ
-  pub capacity : ℕ

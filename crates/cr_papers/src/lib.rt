@@ -4,7 +4,6 @@
 #![tactic(auto)]
 
 mod papers;
-mod sums;
 mod uploads;
 
 pub use papers::{MOST_OWN_BYTES, MOST_OWN_PAPERS, Papers};

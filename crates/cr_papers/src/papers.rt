@@ -8,12 +8,12 @@ ghost use Rattle.cr_base.specs.Papers.{no_papers, papers_after, paper_count, pap
 ghost use Rattle.cr_base.specs.Papers.{is_withdrawn_at, uploads_at, own_count, own_bytes};
 ghost use Rattle.cr_papers.specs.Named.{named_in};
 
-use crate::sums::Sums;
 use crate::uploads::Uploads;
 use cr_base::{
     Blob, Entry, LAST_NUMBER, Paper, PaperNo, Phase, Rule, Stamped, Standing, Text, UserNo,
     Versions,
 };
+use cr_kept::Sums;
 use std::alloc::{AllocError, Global};
 use std::marker::Model;
 
@@ -244,7 +244,10 @@ impl Papers {
         let Some(paper) = paper else {
             return Err(Rule::NoPaper);
         };
-        self.may_change(by, *paper)?;
+        match self.may_change(by, *paper) {
+            Ok(()) => {}
+            Err(rule) => return Err(rule),
+        }
         if self.bytes_of_user(maker).saturating_add(bytes) > MOST_OWN_BYTES {
             return Err(Rule::QuotaBytes);
         }

@@ -2,35 +2,37 @@
 use Rattle.std.proofs.Common.{ℕ, Bool, true, false, ◌≡◌, List, ◌||◌, ◌&&◌, eqb, refl, sym, ap, ◌∙◌, arith, Option, Some, None, Ok}
 use Rattle.std.specs.Prelude.{map}
 use Rattle.std.specs.List.{list_any}
-use Rattle.std.proofs.lemmas.Bool.{eqb-true}
+use Rattle.std.proofs.lemmas.Bool.{and_parts, eqb-true}
 use Rattle.std.proofs.lemmas.Map.Views.{any-filter_same}
 use Rattle.cr_base.specs.declared.command.Command.{Command}
-use Rattle.cr_base.specs.declared.command.Command.TheVariants.{Register}
+use Rattle.cr_base.specs.declared.command.Command.TheVariants.{Register, Tag}
 use Rattle.cr_base.specs.declared.reply.AccountLine.{AccountLine}
 use Rattle.cr_base.specs.Bounds.{IsBoundedCommand}
 use Rattle.cr_base.specs.Drawn.{Drawn}
 use Rattle.cr_base.specs.History.{History}
-use Rattle.cr_base.specs.HistoryFacts.{accounts_of, is_author}
+use Rattle.cr_base.specs.HistoryFacts.{accounts_of, is_author, standing_of}
 use Rattle.cr_base.specs.Lists.{is_number}
+use Rattle.cr_base.specs.Page.{is_clear_chair}
 use Rattle.cr_base.specs.Judging.{judge_by, judge_by_role}
 use Rattle.cr_base.specs.Sources.{Facts, Shown}
-use Rattle.cr_base.specs.Tables.{Tables, no_tables, tables_of, FitInTurn}
+use Rattle.cr_base.specs.Tables.{Tables, tables_of, FitInTurn}
 use Rattle.cr_base.proofs.FitLaws.{judged-fits}
 use Rattle.cr_base.proofs.ListLaws.{turned}
 use Rattle.cr_history.specs.Groups.{Adds}
-use Rattle.cr_history.specs.Laws.{AreTold}
-use Rattle.cr_history.specs.Invariants.{IsRegistered}
+use Rattle.cr_history.specs.Laws.{AreTold, AreFormsTold}
+use Rattle.cr_history.specs.Invariants.{IsRegistered, Invariants}
 use Rattle.cr_history.proofs.RuleLaws.{facts_of, is_told_all, TellsSeats, registration-adds, command-adds}
 use Rattle.cr_history.proofs.SizeTies.{sized-tables}
 use Rattle.cr_policy.specs.Judge.{judge}
-use Rattle.cr_policy.specs.Legal.{IsCaller}
+use Rattle.cr_policy.specs.Legal.{IsCaller, IsUser}
 use Rattle.cr_policy.specs.View.{View, view}
 use Rattle.cr_policy.specs.ViewFacts.{accounts_in_view, is_conflict_on_in_view, users_where, facts_in_view, shown_in_view}
 use Rattle.cr_policy.proofs.BidTies.{users-registered}
 use Rattle.cr_policy.proofs.JudgeTies.{judge-tables}
 use Rattle.cr_policy.proofs.PageTells.{authors-seen, conflicts-seen}
 use Rattle.cr_policy.proofs.ReviewerTells.{seat-seen_by_chair, labels-seen}
-use Rattle.cr_policy.proofs.StandingLaws.{standing_from_view, accounts-seen, papers-seen, own_papers-seen, own_bytes-seen, own_bid-seen, seat-seen}
+use Rattle.cr_policy.proofs.ReviewTells.{own_forms-seen, written-seen}
+use Rattle.cr_policy.proofs.StandingLaws.{standing_from_view, accounts-seen, papers-seen, own_papers-seen, own_bytes-seen, own_bid-seen, seat-seen, own_comments-seen}
 
 -- any user's view tells the facts of a history
 facts-seen : (u : Option ℕ) (H : History) → facts_in_view u (view u H) ≡ facts_of u H
@@ -42,9 +44,12 @@ facts-seen u H = λ i. record {
   own_bytes = own_bytes-seen u H i;
   own_bid = λ p. own_bid-seen u p H i;
   own_seat = λ p. seat-seen u p H i;
+  own_forms = λ p. own_forms-seen u p H i;
+  own_comments = own_comments-seen u H i;
 }
 
--- and to a clear chair, from the bidding on, who is in conflict with a paper, who reviews it, and how many labels were given
+-- and to a clear chair, from the bidding on, who is in conflict with a paper, who reviews it, how many labels were given, and under which
+-- there is a form
 module _ (user : ℕ) (H : History) where
   abbrev V : View
   V = view (Some user) H
@@ -78,6 +83,7 @@ module _ (user : ℕ) (H : History) where
         (users_where-seen v (λ w. is_conflict_on_in_view (Some w) p V) registered ∙ conflicts-seen (Some user) p H told (Some v));
     seat = λ p v told. seat-seen_by_chair (Some user) (Some v) p H told;
     labels = λ p told. labels-seen (Some user) p H told;
+    written = λ p o told. written-seen (Some user) p o H (and_parts (is_clear_chair (standing_of (Some user) (Some p) H)) _ told).0;
   }
     where
       shown : (author chair member : Bool) → chair ≡ true → (author || chair || member || false) ≡ true
@@ -91,22 +97,31 @@ user-adds H user command drawn bounded registered accepted =
     command-adds H user shown registered (seats-told user H) command drawn bounded
     (sym (ap (λ (facts : Facts). judge_by facts shown (Some user) command) (facts-seen (Some user) H)) ∙ accepted)
 
+-- a tag is turned on, and off, by a registered user
+tags-user : (H : History) (caller paper : Option ℕ) (tag : List ℕ) (on : Bool) → IsCaller H caller (Tag paper tag on) → IsUser H caller
+tags-user H caller paper tag true is = is
+tags-user H caller paper tag false is = is
+
 -- the group of an accepted command is one that the rules allow
 pub accepted-adds : (H : History) (caller : Option ℕ) (command : Command) (drawn : Drawn) → IsBoundedCommand command → IsCaller H caller command
     → judge caller (view caller H) command ≡ Ok drawn → Adds H drawn.group
 accepted-adds H caller (Register name digest) drawn bounded is accepted = registration-adds H caller (facts_in_view caller (view caller H)) (shown_in_view caller (view caller H)) name digest drawn bounded accepted
+accepted-adds H None (Tag paper tag on) drawn bounded is accepted = absurd (tags-user H None paper tag on is)
 accepted-adds H None command drawn bounded is accepted = absurd is
+accepted-adds H (Some user) (Tag paper tag on) drawn bounded is accepted =
+    user-adds H user (Tag paper tag on) drawn bounded (tags-user H (Some user) paper tag on is) accepted
 accepted-adds H (Some user) command drawn bounded is accepted = user-adds H user command drawn bounded is accepted
 
 -- and the tables take it. Nobody's is a registration, which doesn't ask who gives it
-pub accepted-fits : (H : History) (caller : Option ℕ) (command : Command) (drawn : Drawn) → FitInTurn no_tables H → AreTold H → IsCaller H caller command
-    → judge caller (view caller H) command ≡ Ok drawn → FitInTurn (tables_of H) drawn.group
-accepted-fits H caller command drawn fits told is accepted = by caller command is (sym (judge-tables caller H command fits told) ∙ accepted)
+pub accepted-fits : (H : History) (caller : Option ℕ) (command : Command) (drawn : Drawn) → Invariants H → AreTold H → AreFormsTold H
+    → IsCaller H caller command → judge caller (view caller H) command ≡ Ok drawn → FitInTurn (tables_of H) drawn.group
+accepted-fits H caller command drawn kept told forms is accepted = by caller command is (sym (judge-tables caller H command kept told forms) ∙ accepted)
   where
     t : Tables
     t = tables_of H
 
     by : (caller : Option ℕ) (command : Command) → IsCaller H caller command → judge_by_role t caller command ≡ Ok drawn → FitInTurn t drawn.group
-    by (Some user) command is accepted = judged-fits t (sized-tables H fits).ties user command drawn accepted
-    by None (Register name digest) is accepted = judged-fits t (sized-tables H fits).ties 0 (Register name digest) drawn accepted
+    by (Some user) command is accepted = judged-fits t (sized-tables H kept.fits).ties user command drawn accepted
+    by None (Register name digest) is accepted = judged-fits t (sized-tables H kept.fits).ties 0 (Register name digest) drawn accepted
+    by None (Tag paper tag on) is accepted = absurd (tags-user H None paper tag on is)
     by None command is accepted = absurd is

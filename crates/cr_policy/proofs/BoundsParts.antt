@@ -1,34 +1,40 @@
 -- What an entry shows, part by part, is what the bounds give: one lemma a part.
 use Rattle.std.proofs.Common.{◌≡◌, ℕ, Bool, true, false, List, [], ◌∷◌, ◌++◌, eqb, refl, sym, ap, ◌∙◌, arith, ◌||◌, ◌&&◌, Option, Some}
-use Rattle.std.specs.Prelude.{not}
+use Rattle.std.specs.Prelude.{not, unwrap_or}
 use Rattle.std.specs.List.{list_any}
-use Rattle.std.proofs.lemmas.Bool.{true≢false, false≢true}
+use Rattle.std.proofs.lemmas.Bool.{true≢false, false≢true, and_right}
 use Rattle.std.proofs.Math.Bool.{or-false}
 use Rattle.cr_base.specs.declared.entry.Entry.{Entry}
-use Rattle.cr_base.specs.declared.entry.Entry.TheVariants.{Registered, Submitted, Coauthor, Revised, Uploaded, Conflict, Bid, Assigned, Unassigned}
+use Rattle.cr_base.specs.declared.entry.Entry.TheVariants.{Registered, Submitted, Coauthor, Revised, Uploaded, Conflict, Bid, Assigned, Unassigned, PhaseSet}
+use Rattle.cr_base.specs.declared.entry.Entry.TheVariants.{Reviewed, Commented, Tagged}
 use Rattle.cr_base.specs.declared.entry.Stamped.{Stamped}
+use Rattle.cr_base.specs.declared.form.Form.{Form}
 use Rattle.cr_base.specs.declared.words.Phase.{Phase}
 use Rattle.cr_base.specs.declared.words.Phase.TheVariants.{Setup, Submission, Bidding, Reviewing, Discussion, Notification, Closed}
 use Rattle.cr_base.specs.declared.words.Mode.{Mode}
 use Rattle.cr_base.specs.declared.words.Mode.TheVariants.{Overt, Blind, Anonymous}
 use Rattle.cr_base.specs.declared.words.Role.{Role}
 use Rattle.cr_base.specs.declared.words.Role.TheVariants.{Account, Member, Chair}
-use Rattle.cr_base.specs.Lists.{given, is_nothing, is_number}
-use Rattle.cr_base.specs.History.{History, all_told, title_told, upload_told}
+use Rattle.cr_base.specs.Lists.{given, is_nothing, is_number, until}
+use Rattle.cr_base.specs.History.{History, all_told, opens, opens_discussion, title_told, upload_told, form_told, whole_form}
 use Rattle.cr_base.specs.HistoryFacts.{phase_of, mode_of, role_of, is_author, is_conflicted}
-use Rattle.cr_base.specs.Phases.{is_from}
+use Rattle.cr_base.specs.Phases.{is_from, is_phase}
+use Rattle.cr_base.specs.TagTexts.{is_for_all, is_for_chairs}
 use Rattle.cr_base.specs.Words.{is_anonymous, is_overt, is_member, is_chair}
 use Rattle.cr_history.proofs.LineTies.{stamp}
 use Rattle.cr_policy.specs.Sighting.{Sighting, where_shown}
 use Rattle.cr_policy.specs.Part as part
 use Rattle.cr_policy.specs.Part.{whole}
-use Rattle.cr_policy.specs.Triggers.{Reader, reader, Around, none_in, TriggerRow, ◌see◌, user_named, seat_rows, applies_any, shows}
+use Rattle.cr_policy.specs.Triggers.{Reader, reader, Around, none_in, TriggerRow, ◌see◌, position_of, user_named, seat_rows, rows, applies_any, shows}
 use Rattle.cr_policy.specs.View.{is_seen, joined}
 use Rattle.cr_policy.specs.ShownTo.{is_on_committee, leads_committee, is_past_submission, is_past_reviewing, is_past_discussion}
 use Rattle.cr_policy.specs.ShownTo.{hides_authors, hides_reviewers, names_reviewers, serves, handles, oversees, leads, discusses, is_answered}
+use Rattle.cr_policy.specs.ShownTo.{is_notified, knows_writers, is_discussion, begins_discussion, gives_form, is_reviewed, is_discussed}
+use Rattle.cr_policy.specs.ShownTo.{reads_form, learns_form, counts_form, reads_review, is_committees, is_chairs}
 use Rattle.cr_policy.specs.ShownTo.{gives_texts, is_replaced, gives_content, is_superseded, owns, is_party, is_told, where_known}
 use Rattle.cr_policy.specs.ShownTo.{kind_for, mark_for, paper_for, reviewer_for, user_for, name_for, digest_for, role_for, phase_for, mode_for, maker_for}
 use Rattle.cr_policy.specs.ShownTo.{title_for, abstract_for, version_for, content_for, switch_for, value_for, seat_for, ordinal_for}
+use Rattle.cr_policy.specs.ShownTo.{score_for, confidence_for, to_authors_for, to_pc_for, done_for, n_for, text_for, tag_for}
 
 -- ---- the words of the table, and those of the bounds
 
@@ -77,6 +83,16 @@ mode-words Overt = record { authors = refl; reviewers = refl; named = refl; neve
 mode-words Blind = record { authors = refl; reviewers = refl; named = refl; never_both = refl }
 mode-words Anonymous = record { authors = refl; reviewers = refl; named = refl; never_both = refl }
 
+-- whom a tag is for
+for-committee : (tag : List ℕ) → is_for_all tag ≡ is_committees tag
+for-committee [] = refl
+for-committee (a ∷ tag) = refl
+
+for-chairs : (tag : List ℕ) → is_for_chairs tag ≡ is_chairs tag
+for-chairs [] = refl
+for-chairs (a ∷ []) = and_right (eqb a 126) false refl
+for-chairs (a ∷ b ∷ tag) = refl
+
 -- entries that tell nothing of a matter are those of which none gives a paper anything of it
 append-nothing : {A : Type 0} (xs ys : List A) (gives later : Bool) → is_nothing xs ≡ not gives → is_nothing ys ≡ not later → is_nothing (xs ++ ys)
     ≡ not (gives || later)
@@ -109,6 +125,43 @@ none_in-superseded p H = none-told (upload_told p) (gives_content p) one H
     one : (e : Entry) → is_nothing (upload_told p e) ≡ not (gives_content p e)
     one (Uploaded paper version content) = given-nothing (eqb paper p) (record { version = version; content = content })
     one e = refl
+
+none_in-reviewed : (p o : ℕ) (H : History) → none_in (form_told p o) H ≡ not (is_reviewed p o H)
+none_in-reviewed p o H = none-told (form_told p o) (gives_form p o) one H
+  where
+    one : (e : Entry) → is_nothing (form_told p o e) ≡ not (gives_form p o e)
+    one (Reviewed paper ordinal version form) = given-nothing (eqb paper p && eqb ordinal o) (whole_form version form)
+    one e = refl
+
+-- what opens the discussion begins it, and so a form stands as the table says
+phase-discussion : (phase : Phase) → is_phase phase Discussion ≡ is_discussion phase
+phase-discussion Setup = refl
+phase-discussion Submission = refl
+phase-discussion Bidding = refl
+phase-discussion Reviewing = refl
+phase-discussion Discussion = refl
+phase-discussion Notification = refl
+phase-discussion Closed = refl
+
+opens-begins : (e : Entry) → opens Discussion e ≡ begins_discussion e
+opens-begins (PhaseSet phase) = phase-discussion phase
+opens-begins e = refl
+
+abbrev begins : Stamped → Bool
+begins e = begins_discussion e.entry
+
+discussion-tests : opens_discussion ≡ begins
+discussion-tests = λ i e. opens-begins e.entry i
+
+discussed-same : (p o : ℕ) (before later : History)
+    → ((not (list_any opens_discussion before) && none_in (form_told p o) (until opens_discussion later)) || list_any opens_discussion before)
+    ≡ is_discussed p o before later
+discussed-same p o before later =
+    ap (λ (test : Stamped → Bool). (not (list_any test before) && none_in (form_told p o) (until test later)) || list_any test before) discussion-tests
+    ∙ by (list_any begins before) _ _ (none_in-reviewed p o (until begins later))
+  where
+    by : (begun none reviewed : Bool) → none ≡ not reviewed → ((not begun && none) || begun) ≡ (begun || not reviewed)
+    by begun none reviewed h = grind (arith, h)
 
 -- ---- one entry
 
@@ -150,6 +203,30 @@ seat-kind n c m f own l d hl hd = grind (arith, hl, hd)
 
 seat-ordinal : (n c m f a own l d r : Bool) → c ≡ l → (m && f) ≡ d → a ≡ r → (n || (c || ((m && f) || (a || (own || false))))) ≡ ((n || own || l) || d || r)
 seat-ordinal n c m f a own l d r hl hd hr = grind (arith, hl, hd, hr)
+
+-- a form: who is told of it, who reads all of it, what is for authors, and that it is there. `c` is that it is counted, `d` that it is
+-- discussed, `l` that it is learnt
+form-seen : (c d l own c' d' l' : Bool) → c ≡ c' → d ≡ d' → l ≡ l' → (c || (d || (l || (own || false)))) ≡ ((own || d') || c' || l')
+form-seen c d l own c' d' l' hc hd hl = grind (arith, hc, hd, hl)
+
+whole-shown : (d own d' : Bool) → d ≡ d' → (d || (own || false)) ≡ (own || d')
+whole-shown d own d' hd = grind (arith, hd)
+
+form-review : (d l own d' l' : Bool) → d ≡ d' → l ≡ l' → (d || (l || (own || false))) ≡ ((own || d') || l')
+form-review d l own d' l' hd hl = grind (arith, hd, hl)
+
+-- a comment: who is told of it, who of its writer, and who of her label. `d` is that the reader discusses the paper, `w` that she is
+-- told who comments
+comment-seen : (d w own d' : Bool) → d ≡ d' → (d || ((d && w) || ((d && not w) || (own || false)))) ≡ (own || d')
+comment-seen d w own d' hd = grind (arith, hd)
+
+comment-label : (d w own d' w' : Bool) → (d && not w) ≡ (d' && not w') → ((d && not w) || (own || false)) ≡ (own || (d' && not w'))
+comment-label d w own d' w' h = grind (arith, h)
+
+-- a tag: who is told of it. `m` is that she is a member in no conflict, `c` a chair in none, `f` that it is the bidding or later
+tag-seen : (all chairs m c f own all' chairs' h o : Bool) → all ≡ all' → chairs ≡ chairs' → (m && f) ≡ h → (c && f) ≡ o
+    → ((all && m && f) || ((chairs && c && f) || (own || false))) ≡ (own || ((all' && h) || (chairs' && o)))
+tag-seen all chairs m c f own all' chairs' h o ha hc hh ho = grind (arith, ha, hc, hh, ho)
 
 module _ (u : Option ℕ) (H : History) (at : Around) (maker : ℕ) (more : Bool) where
   abbrev r : Reader
@@ -241,9 +318,89 @@ module _ (u : Option ℕ) (H : History) (at : Around) (maker : ℕ) (more : Bool
         seat-ordinal named leading clear discussed answered own (leads u paper H) (discusses u paper H) (is_answered u paper H)
         (leads-same paper) (discusses-same paper) (answered-same paper)
 
+  -- ---- who is told of a form, and what of it
+
+  abbrev rows_to : Entry → List TriggerRow
+  rows_to e = rows r (position_of at e) maker e ++ user_named r maker see whole ∷ []
+
+  notified-same : (p : ℕ) → (is_author u p H && is_from Notification (phase_of H)) ≡ is_notified u p H
+  notified-same p = ap (λ b. is_author u p H && b) (phase-words (phase_of H)).notification
+
+  module _ (paper ordinal version : ℕ) (form : Form) where
+    abbrev reviewed : Entry
+    reviewed = Reviewed paper ordinal version form
+
+    -- the tests of the rows: it is the first and she leads the paper; it is among those that are discussed, and she discusses the
+    -- paper; it is the last, and she is notified
+    abbrev counted : Bool
+    counted = (position_of at reviewed).first && (is_chair (role_of u H) && not (is_conflicted u paper H))
+
+    abbrev is_read : Bool
+    is_read =
+        ((position_of at reviewed).last_before_discussion || (position_of at reviewed).from_discussion)
+        && ((is_member (role_of u H) && not (is_conflicted u paper H)) && is_from Discussion (phase_of H))
+
+    abbrev learnt : Bool
+    learnt = (position_of at reviewed).last && is_author u paper H && is_from Notification (phase_of H)
+
+    counted-same : counted ≡ counts_form u H at.before paper ordinal
+    counted-same = by _ _ _ _ (none_in-reviewed paper ordinal at.before) (leads-same paper)
+      where
+        by : (n n' c c' : Bool) → n ≡ n' → c ≡ c' → (n && c) ≡ (c' && n')
+        by n n' c c' hn hc = grind (arith, hn, hc)
+
+    read-same : is_read ≡ (discusses u paper H && is_discussed paper ordinal at.before at.after)
+    read-same = by _ _ _ _ (discussed-same paper ordinal at.before at.after) (discusses-same paper)
+      where
+        by : (k k' d d' : Bool) → k ≡ k' → d ≡ d' → (k && d) ≡ (d' && k')
+        by k k' d d' hk hd = grind (arith, hk, hd)
+
+    learnt-same : learnt ≡ learns_form u H at.after paper ordinal
+    learnt-same = by _ _ (is_author u paper H) (is_from Notification (phase_of H)) _ (none_in-reviewed paper ordinal at.after) (notified-same paper)
+      where
+        by : (n n' a f l : Bool) → n ≡ n' → (a && f) ≡ l → (n && a && f) ≡ (l && n')
+        by n n' a f l hn hl = grind (arith, hn, hl)
+
+    review-seen : applies_any (rows_to reviewed)
+        ≡ (reads_form u H at.before at.after maker paper ordinal || counts_form u H at.before paper ordinal || learns_form u H at.after paper ordinal)
+    review-seen = form-seen counted is_read learnt (is_number u maker) _ _ _ counted-same read-same learnt-same
+
+    form-read : (is_read || (is_number u maker || false)) ≡ reads_form u H at.before at.after maker paper ordinal
+    form-read = whole-shown is_read (is_number u maker) _ read-same
+
+    review-read : (is_read || (learnt || (is_number u maker || false))) ≡ reads_review u H at.before at.after maker paper ordinal
+    review-read = form-review is_read learnt (is_number u maker) _ _ read-same learnt-same
+
+  -- ---- who is told of a comment, and what of it
+
+  module _ (paper : ℕ) where
+    -- the tests of the rows: she discusses the paper, and is told who comments
+    abbrev discussing : Bool
+    discussing = (is_member (role_of u H) && not (is_conflicted u paper H)) && is_from Discussion (phase_of H)
+
+    abbrev naming : Bool
+    naming = (is_chair (role_of u H) && not (is_conflicted u paper H)) || not (is_anonymous (mode_of H))
+
+    writer-same : (discussing && naming) ≡ (discusses u paper H && knows_writers u H)
+    writer-same =
+        by (is_member (role_of u H)) (not (is_conflicted u paper H)) (is_from Discussion (phase_of H)) _ _ _ _ _
+        (chair-leads (role_of u H)) (mode-words (mode_of H)).reviewers (discusses-same paper)
+      where
+        by : (m c f chair l a h d : Bool) → chair ≡ l → a ≡ h → ((m && c) && f) ≡ d → (((m && c) && f) && ((chair && c) || not a)) ≡ (d && (l || not h))
+        by m c f chair l a h d hc ha hd = grind (arith, hc, ha, hd)
+
+    label-same : (discussing && not naming) ≡ (discusses u paper H && not (knows_writers u H))
+    label-same =
+        by (is_member (role_of u H)) (not (is_conflicted u paper H)) (is_from Discussion (phase_of H)) _ _ _ _ _
+        (chair-leads (role_of u H)) (mode-words (mode_of H)).reviewers (discusses-same paper)
+      where
+        by : (m c f chair l a h d : Bool) → chair ≡ l → a ≡ h → ((m && c) && f) ≡ d
+            → (((m && c) && f) && not ((chair && c) || not a)) ≡ (d && not (l || not h))
+        by m c f chair l a h d hc ha hd = grind (arith, hc, ha, hd)
+
   -- ---- part by part
 
-  pub seen-told : (e : Entry) → is_seen r at (stamp maker more e) ≡ is_told u H at.after maker e
+  pub seen-told : (e : Entry) → is_seen r at (stamp maker more e) ≡ is_told u H at.before at.after maker e
   seen-told (Registered user name digest) = refl
   seen-told (Revised paper title abstract) =
       revision-seen (is_author u paper H) _ (is_member (role_of u H)) (is_from Bidding (phase_of H)) (is_conflicted u paper H) (is_number u maker) _ _
@@ -253,6 +410,12 @@ module _ (u : Option ℕ) (H : History) (at : Around) (maker : ℕ) (more : Bool
       (none_in-superseded paper at.after) (handles-same paper)
   seen-told (Assigned paper user seat ordinal) = assignment-seen paper user
   seen-told (Unassigned paper user ordinal) = assignment-seen paper user
+  seen-told (Reviewed paper ordinal version form) = review-seen paper ordinal version form
+  seen-told (Commented paper n ordinal text) = comment-seen (discussing paper) (naming paper) (is_number u maker) _ (discusses-same paper)
+  seen-told (Tagged paper tag on) =
+      tag-seen (is_for_all tag) (is_for_chairs tag) (is_member (role_of u H) && not (is_conflicted u paper H))
+      (is_chair (role_of u H) && not (is_conflicted u paper H)) (is_from Bidding (phase_of H)) (is_number u maker) _ _ _ _
+      (for-committee tag) (for-chairs tag) (handles-same paper) (oversees-same paper)
   seen-told e =
       let chair = chair-leads (role_of u H) in
       let on_it = chair-committee (role_of u H) in
@@ -263,36 +426,37 @@ module _ (u : Option ℕ) (H : History) (at : Around) (maker : ℕ) (more : Bool
 
   -- the parts that are shown to all who are told of the entry
   pub record AreShown (e : Entry) : Type 0 where
-    pub kind : (seen e).kind ≡ kind_for u H at.after maker e
-    pub paper : (seen e).paper ≡ paper_for u H at.after maker e
-    pub name : (seen e).name ≡ name_for u H at.after maker e
-    pub role : (seen e).role ≡ role_for u H at.after maker e
-    pub phase : (seen e).phase ≡ phase_for u H at.after maker e
-    pub mode : (seen e).mode ≡ mode_for u H at.after maker e
+    pub kind : (seen e).kind ≡ kind_for u H at.before at.after maker e
+    pub paper : (seen e).paper ≡ paper_for u H at.before at.after maker e
+    pub name : (seen e).name ≡ name_for u H at.before at.after maker e
+    pub role : (seen e).role ≡ role_for u H at.before at.after maker e
+    pub phase : (seen e).phase ≡ phase_for u H at.before at.after maker e
+    pub mode : (seen e).mode ≡ mode_for u H at.before at.after maker e
 
   pub shown-one : (e : Entry) → AreShown e
   shown-one (Registered user name digest) = record { kind = refl; paper = refl; name = refl; role = refl; phase = refl; mode = refl }
   shown-one e = record { kind = refl; paper = refl; name = refl; role = refl; phase = refl; mode = refl }
 
-  pub mark-one : (e : Entry) → (seen e).mine ≡ mark_for u H at.after maker e
+  pub mark-one : (e : Entry) → (seen e).mine ≡ mark_for u H at.before at.after maker e
   mark-one e = refl
 
-  pub user-one : (e : Entry) → is_told u H at.after maker e ≡ true → (seen e).user ≡ user_for u H at.after maker e
+  pub user-one : (e : Entry) → is_told u H at.before at.after maker e ≡ true → (seen e).user ≡ user_for u H at.before at.after maker e
   user-one (Coauthor paper user) told = ap (λ b. where_known b user) (seen-told (Coauthor paper user) ∙ told)
   user-one (Conflict paper user on) told = ap (λ b. where_known b user) (seen-told (Conflict paper user on) ∙ told)
   user-one (Assigned paper user seat ordinal) told = reviewer-shown paper user
   user-one (Unassigned paper user ordinal) told = reviewer-shown paper user
   user-one e told = refl
 
-  pub digest-one : (e : Entry) → (seen e).digest ≡ digest_for u H at.after maker e
+  pub digest-one : (e : Entry) → (seen e).digest ≡ digest_for u H at.before at.after maker e
   digest-one (Registered user name digest) = known-same _ (is_number u maker) digest (or-false (is_number u maker))
   digest-one e = refl
 
-  pub switch-one : (e : Entry) → is_told u H at.after maker e ≡ true → (seen e).on ≡ switch_for u H at.after maker e
+  pub switch-one : (e : Entry) → is_told u H at.before at.after maker e ≡ true → (seen e).on ≡ switch_for u H at.before at.after maker e
   switch-one (Conflict paper user on) told = ap (λ b. where_known b on) (seen-told (Conflict paper user on) ∙ told)
+  switch-one (Tagged paper tag on) told = ap (λ b. where_known b on) (seen-told (Tagged paper tag on) ∙ told)
   switch-one e told = refl
 
-  pub maker-one : (e : Entry) → (seen e).by ≡ maker_for u H at.after maker e
+  pub maker-one : (e : Entry) → (seen e).by ≡ maker_for u H at.before at.after maker e
   maker-one (Registered user name digest) = refl
   maker-one (Submitted paper title abstract) =
       known-same _ _ maker
@@ -303,25 +467,28 @@ module _ (u : Option ℕ) (H : History) (at : Around) (maker : ℕ) (more : Bool
       let hides = (mode-words (mode_of H)).authors in
       grind (arith, chair, on_it, member, from, hides))
   maker-one (Bid paper value) = known-same _ _ maker (or-false _ ∙ oversees-same paper)
+  maker-one (Commented paper n ordinal text) = known-same _ _ maker (or-false _ ∙ writer-same paper)
   maker-one e = refl
 
   -- a title or an abstract: who owns the entry, and the last one who may read it from the bidding on; of a submission the
   -- bounds name its authors alone, since its maker is one
   text-one : (paper : ℕ) (m s known : Bool) (text : List ℕ) → (m && is_from Bidding (phase_of H)) ≡ s
       → (owns u H maker paper || (not (is_replaced paper at.after) && s)) ≡ known
-      → where_shown (is_author u paper H || ((none_in (title_told paper) at.after && m && is_from Bidding (phase_of H)) || (is_number u maker || false))) (Some text) ≡ where_known known text
+      → where_shown (is_author u paper H || ((none_in (title_told paper) at.after && m && is_from Bidding (phase_of H)) || (is_number u maker || false)))
+      (Some text)
+      ≡ where_known known text
   text-one paper m s known text may same =
       known-same _ _ text (text-known (is_author u paper H) _ m (is_from Bidding (phase_of H)) (is_number u maker) _ s (none_in-replaced paper at.after) may
       ∙ same)
 
-  pub title-one : (e : Entry) → IsWriters u H maker e → (seen e).title ≡ title_for u H at.after maker e
+  pub title-one : (e : Entry) → IsWriters u H maker e → (seen e).title ≡ title_for u H at.before at.after maker e
   title-one (Submitted paper title abstract) writes =
       text-one paper (is_member (role_of u H)) (serves u H) _ title serves-same (own-author (is_author u paper H) (is_number u maker) _ writes)
   title-one (Revised paper title abstract) writes = text-one paper (is_member (role_of u H)) (serves u H) _ title serves-same refl
   title-one (Registered user name digest) writes = refl
   title-one e writes = refl
 
-  pub abstract-one : (e : Entry) → IsWriters u H maker e → (seen e).abstract ≡ abstract_for u H at.after maker e
+  pub abstract-one : (e : Entry) → IsWriters u H maker e → (seen e).abstract ≡ abstract_for u H at.before at.after maker e
   abstract-one (Submitted paper title abstract) writes =
       text-one paper (is_member (role_of u H) && not (is_conflicted u paper H)) (handles u paper H) _ abstract (handles-same paper)
       (own-author (is_author u paper H) (is_number u maker) _ writes)
@@ -331,25 +498,65 @@ module _ (u : Option ℕ) (H : History) (at : Around) (maker : ℕ) (more : Bool
   abstract-one e writes = refl
 
   -- the number and the content of a version are shown to all who are told of the upload
-  pub version-one : (e : Entry) → (seen e).version ≡ version_for u H at.after maker e
+  pub version-one : (e : Entry) → (seen e).version ≡ version_for u H at.before at.after maker e
   version-one (Uploaded paper version content) = known-same _ _ version (seen-told (Uploaded paper version content))
+  version-one (Reviewed paper ordinal version form) = known-same _ _ version (form-read paper ordinal version form)
   version-one e = refl
 
-  pub content-one : (e : Entry) → (seen e).content ≡ content_for u H at.after maker e
+  pub content-one : (e : Entry) → (seen e).content ≡ content_for u H at.before at.after maker e
   content-one (Uploaded paper version content) = known-same _ _ content (seen-told (Uploaded paper version content))
   content-one e = refl
 
   -- a bid, and the ordinal of a label, are shown to all who are told of the entry; what a reviewer is to the paper to those who
   -- are told all of it, or discuss the paper
-  pub value-one : (e : Entry) → is_told u H at.after maker e ≡ true → (seen e).value ≡ value_for u H at.after maker e
+  pub value-one : (e : Entry) → is_told u H at.before at.after maker e ≡ true → (seen e).value ≡ value_for u H at.before at.after maker e
   value-one (Bid paper value) told = ap (λ b. where_known b value) (seen-told (Bid paper value) ∙ told)
   value-one e told = refl
 
-  pub seat-one : (e : Entry) → (seen e).seat ≡ seat_for u H at.after maker e
+  pub seat-one : (e : Entry) → (seen e).seat ≡ seat_for u H at.before at.after maker e
   seat-one (Assigned paper user seat ordinal) = known-same _ _ seat (kind-shown paper user)
   seat-one e = refl
 
-  pub ordinal-one : (e : Entry) → is_told u H at.after maker e ≡ true → (seen e).ordinal ≡ ordinal_for u H at.after maker e
+  pub ordinal-one : (e : Entry) → is_told u H at.before at.after maker e ≡ true → (seen e).ordinal ≡ ordinal_for u H at.before at.after maker e
   ordinal-one (Assigned paper user seat ordinal) told = ap (λ b. where_known b ordinal) (label-shown paper user ∙ told)
   ordinal-one (Unassigned paper user ordinal) told = ap (λ b. where_known b ordinal) (label-shown paper user ∙ told)
+  ordinal-one (Reviewed paper ordinal version form) told = ap (λ b. where_known b ordinal) (review-seen paper ordinal version form ∙ told)
+  ordinal-one (Commented paper n ordinal text) told =
+      known-same _ _ (unwrap_or ordinal 0) (comment-label (discussing paper) (naming paper) (is_number u maker) _ _ (label-same paper))
   ordinal-one e told = refl
+
+  -- of a form its grades and the text to the authors are shown to those who read or learn it, the text to the committee to those
+  -- who read it, and the mark to those who count it
+  pub score-one : (e : Entry) → (seen e).score ≡ score_for u H at.before at.after maker e
+  score-one (Reviewed paper ordinal version form) = known-same _ _ form.score (review-read paper ordinal version form)
+  score-one e = refl
+
+  pub confidence-one : (e : Entry) → (seen e).confidence ≡ confidence_for u H at.before at.after maker e
+  confidence-one (Reviewed paper ordinal version form) = known-same _ _ form.confidence (review-read paper ordinal version form)
+  confidence-one e = refl
+
+  pub to_authors-one : (e : Entry) → (seen e).to_authors ≡ to_authors_for u H at.before at.after maker e
+  to_authors-one (Reviewed paper ordinal version form) = known-same _ _ form.to_authors (review-read paper ordinal version form)
+  to_authors-one e = refl
+
+  pub to_pc-one : (e : Entry) → (seen e).to_pc ≡ to_pc_for u H at.before at.after maker e
+  to_pc-one (Reviewed paper ordinal version form) = known-same _ _ form.to_pc (form-read paper ordinal version form)
+  to_pc-one e = refl
+
+  pub done-one : (e : Entry) → (seen e).done ≡ done_for u H at.before at.after maker e
+  done-one (Reviewed paper ordinal version form) = known-same _ _ true (or-false _ ∙ counted-same paper ordinal version form)
+  done-one e = refl
+
+  -- a comment's number and text, and a tag, are shown to all who are told of the entry
+  pub n-one : (e : Entry) → is_told u H at.before at.after maker e ≡ true → (seen e).n ≡ n_for u H at.before at.after maker e
+  n-one (Commented paper n ordinal text) told = ap (λ b. where_known b n) (whole-shown (discussing paper) (is_number u maker) _ (discusses-same paper) ∙ told)
+  n-one e told = refl
+
+  pub comment-one : (e : Entry) → is_told u H at.before at.after maker e ≡ true → (seen e).text ≡ text_for u H at.before at.after maker e
+  comment-one (Commented paper n ordinal text) told =
+      ap (λ b. where_known b text) (whole-shown (discussing paper) (is_number u maker) _ (discusses-same paper) ∙ told)
+  comment-one e told = refl
+
+  pub tag-one : (e : Entry) → is_told u H at.before at.after maker e ≡ true → (seen e).tag ≡ tag_for u H at.before at.after maker e
+  tag-one (Tagged paper tag on) told = ap (λ b. where_known b tag) (seen-told (Tagged paper tag on) ∙ told)
+  tag-one e told = refl

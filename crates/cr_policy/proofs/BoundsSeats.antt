@@ -5,7 +5,6 @@ use Rattle.std.proofs.lemmas.Bool.{eqb-true, false≢true, and_parts}
 use Rattle.cr_base.specs.declared.entry.Entry.{Entry}
 use Rattle.cr_base.specs.declared.entry.Entry.TheVariants.{Bid, Assigned, Unassigned}
 use Rattle.cr_base.specs.declared.entry.EntryKind.TheVariants as kinds
-use Rattle.cr_base.specs.declared.entry.Stamped.{Stamped}
 use Rattle.cr_base.specs.Lists.{is_number}
 use Rattle.cr_base.specs.History.{History}
 use Rattle.cr_base.specs.HistoryFacts.{phase_of, mode_of, is_author}
@@ -15,25 +14,24 @@ use Rattle.cr_policy.specs.ViewFacts.{is_user, is_kind}
 use Rattle.cr_policy.specs.ShownTo.{is_past_reviewing, is_past_discussion, hides_reviewers, names_reviewers, handles, oversees, leads, discusses, is_answered}
 use Rattle.cr_policy.specs.ShownTo.{is_party, is_told, reviewer_for}
 use Rattle.cr_policy.specs.ViewBounds.{is_of_other, BidsAreOwn, ReviewersFromAuthors, ReviewersEarly, ReviewersUnnamed}
-use Rattle.cr_policy.proofs.BoundsParts.{phase-words, mode-words, IsWriters}
-use Rattle.cr_policy.proofs.BoundsWalk.{shown_to, writers-all, all-view}
+use Rattle.cr_policy.proofs.BoundsParts.{phase-words, mode-words}
+use Rattle.cr_policy.proofs.BoundsWalk.{shown_to, each-view}
 use Rattle.cr_policy.proofs.BoundsLeft.{known-not, user-known}
 
 -- ---- bids
 
 pub own-bids : BidsAreOwn
 own-bids u p H apart =
-    all-view u H (λ (s : Sighting). (is_kind kinds.Bid s && is_number s.paper p) ≡ true → s.mine ≡ true)
-    (λ (e : Stamped). IsWriters u H e.maker e.entry) each (writers-all u H)
+    each-view u H (λ (s : Sighting). (is_kind kinds.Bid s && is_number s.paper p) ≡ true → s.mine ≡ true) each
   where
     own : (o over : Bool) → over ≡ false → (o || over) ≡ true → o ≡ true
     own o over h told = grind (arith, h, told)
 
-    each : (later : History) (maker : ℕ) (more : Bool) (e : Entry) → IsWriters u H maker e → is_told u H later maker e ≡ true
-        → (is_kind kinds.Bid (shown_to u H later maker e) && is_number (shown_to u H later maker e).paper p) ≡ true → is_number u maker ≡ true
-    each later maker more (Bid paper value) writes told on_it =
+    each : (before later : History) (maker : ℕ) (e : Entry) → is_told u H before later maker e ≡ true
+        → (is_kind kinds.Bid (shown_to u H before later maker e) && is_number (shown_to u H before later maker e).paper p) ≡ true → is_number u maker ≡ true
+    each before later maker (Bid paper value) told on_it =
         own (is_number u maker) (oversees u paper H) (ap (λ n. oversees u n H) (eqb-true paper p on_it) ∙ apart) told
-    each later maker more e writes told on_it = absurd (false≢true on_it)
+    each before later maker e told on_it = absurd (false≢true on_it)
 
 -- ---- who reviews
 
@@ -62,7 +60,7 @@ module _ (u : Option ℕ) (p : ℕ) (H : History) where
   -- who neither leads the paper nor discusses it nor is named its reviewers sees none of another
   unseen : leads u p H ≡ false → discusses u p H ≡ false → is_answered u p H ≡ false → All (λ (s : Sighting). is_of_other u p s ≡ false) (view u H)
   unseen apart silent unanswered =
-      all-view u H (λ (s : Sighting). is_of_other u p s ≡ false) (λ (e : Stamped). IsWriters u H e.maker e.entry) each (writers-all u H)
+      each-view u H (λ (s : Sighting). is_of_other u p s ≡ false) each
     where
       one : (maker paper user : ℕ) → (is_party u H maker paper user || discusses u paper H || is_answered u paper H) ≡ true
           → (same : Bool) → (same ≡ true → paper ≡ p) → (same && is_other maker paper user) ≡ false
@@ -73,14 +71,14 @@ module _ (u : Option ℕ) (p : ℕ) (H : History) where
           (is_answered u paper H) (ap (λ n. leads u n H) (on_it refl) ∙ apart) (ap (λ n. discusses u n H) (on_it refl) ∙ silent)
           (ap (λ n. is_answered u n H) (on_it refl) ∙ unanswered) told
 
-      each : (later : History) (maker : ℕ) (more : Bool) (e : Entry) → IsWriters u H maker e → is_told u H later maker e ≡ true
-          → is_of_other u p (shown_to u H later maker e) ≡ false
-      each later maker more (Assigned paper user seat ordinal) writes told = one maker paper user told (eqb paper p) (eqb-true paper p)
-      each later maker more (Unassigned paper user ordinal) writes told = one maker paper user told (eqb paper p) (eqb-true paper p)
-      each later maker more e writes told = refl
+      each : (before later : History) (maker : ℕ) (e : Entry) → is_told u H before later maker e ≡ true
+          → is_of_other u p (shown_to u H before later maker e) ≡ false
+      each before later maker (Assigned paper user seat ordinal) told = one maker paper user told (eqb paper p) (eqb-true paper p)
+      each before later maker (Unassigned paper user ordinal) told = one maker paper user told (eqb paper p) (eqb-true paper p)
+      each before later maker e told = refl
 
   -- an author is in conflict, so she neither leads nor discusses her paper
-  author-apart : is_author u p H ≡ true → (leads u p H ≡ false) × (handles u p H ≡ false)
+  pub author-apart : is_author u p H ≡ true → (leads u p H ≡ false) × (handles u p H ≡ false)
   author-apart wrote = (by _ _ _ wrote, by _ _ _ wrote)
     where
       by : (rest a c : Bool) → a ≡ true → (rest && not (a || c)) ≡ false
@@ -96,7 +94,7 @@ module _ (u : Option ℕ) (p : ℕ) (H : History) where
   unnamed : leads u p H ≡ false → hides_reviewers (mode_of H) ≡ true → is_answered u p H ≡ false
       → All (λ (s : Sighting). is_of_other u p s ≡ true → s.user ≡ None) (view u H)
   unnamed apart hides unanswered =
-      all-view u H (λ (s : Sighting). is_of_other u p s ≡ true → s.user ≡ None) (λ (e : Stamped). IsWriters u H e.maker e.entry) each (writers-all u H)
+      each-view u H (λ (s : Sighting). is_of_other u p s ≡ true → s.user ≡ None) each
     where
       one : (maker paper user : ℕ) → (eqb paper p && is_other maker paper user) ≡ true → reviewer_for u H maker paper user ≡ None
       one maker paper user other =
@@ -106,11 +104,11 @@ module _ (u : Option ℕ) (p : ℕ) (H : History) where
           (none-named (is_number u user) (is_number u maker) (leads u paper H) (discusses u paper H) (not (hides_reviewers (mode_of H))) (is_answered u paper H)
           (ap (λ n. leads u n H) same ∙ apart) (ap not hides) (ap (λ n. is_answered u n H) same ∙ unanswered) (sym (other-known maker paper user) ∙ parts.1))
 
-      each : (later : History) (maker : ℕ) (more : Bool) (e : Entry) → IsWriters u H maker e → is_told u H later maker e ≡ true
-          → is_of_other u p (shown_to u H later maker e) ≡ true → (shown_to u H later maker e).user ≡ None
-      each later maker more (Assigned paper user seat ordinal) writes told other = one maker paper user other
-      each later maker more (Unassigned paper user ordinal) writes told other = one maker paper user other
-      each later maker more e writes told other = absurd (false≢true other)
+      each : (before later : History) (maker : ℕ) (e : Entry) → is_told u H before later maker e ≡ true
+          → is_of_other u p (shown_to u H before later maker e) ≡ true → (shown_to u H before later maker e).user ≡ None
+      each before later maker (Assigned paper user seat ordinal) told other = one maker paper user other
+      each before later maker (Unassigned paper user ordinal) told other = one maker paper user other
+      each before later maker e told other = absurd (false≢true other)
 
 pub reviewers-from-authors : ReviewersFromAuthors
 reviewers-from-authors u p H wrote unnamed =

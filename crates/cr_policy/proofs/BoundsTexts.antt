@@ -1,6 +1,7 @@
 -- Others than a paper's authors are shown one of its titles at most that they didn't give it, and one of its abstracts and of
 -- its contents.
-use Rattle.std.proofs.Common.{◌≡◌, ◌≤◌, ℕ, Bool, true, false, List, [], ◌∷◌, ◌++◌, eqb, refl, sym, ap, subst, ◌∙◌, arith, ◌||◌, ◌&&◌, append-nil, length, Option}
+use Rattle.std.proofs.Common.{◌≡◌, ◌≤◌, ℕ, Bool, true, false, List, [], ◌∷◌, ◌++◌, eqb, refl, sym, ap, subst, ◌∙◌, arith}
+use Rattle.std.proofs.Common.{◌||◌, ◌&&◌, append-nil, length, Option}
 use Rattle.std.specs.Prelude.{not}
 use Rattle.std.specs.List.{flat_map, list_any}
 use Rattle.std.proofs.lemmas.Bool.{eqb-true, or_parts}
@@ -34,7 +35,8 @@ told_of-few true false true x = omega arith
 told_of-few true false false x = omega arith
 
 -- it counts who may know it only where it is on the paper and another made it
-told_of-same : {A : Type 0} (same own known known' : Bool) (x : A) → (same ≡ true → own ≡ false → known ≡ known') → told_of same own known x ≡ told_of same own known' x
+told_of-same : {A : Type 0} (same own known known' : Bool) (x : A) → (same ≡ true → own ≡ false → known ≡ known')
+    → told_of same own known x ≡ told_of same own known' x
 told_of-same false own known known' x h = only-false _ ∙ sym (only-false _)
 told_of-same true true known known' x h = only-false _ ∙ sym (only-false _)
 told_of-same true false known known' x h = ap (λ b. told_of true false b x) (h refl refl)
@@ -49,58 +51,69 @@ module _ (u : Option ℕ) (p : ℕ) (H : History) (gives : Entry → Bool) (valu
 
   -- of what others gave, only the last is shown, to those who may know it
   abbrev ShowsLast : Type 0
-  ShowsLast = (later : History) (maker : ℕ) (e : Entry) → seen (shown_to u H later maker e) ≡ told_of (gives e) (is_number u maker) (not (is_late later) && may) (value e)
+  ShowsLast =
+      (before later : History) (maker : ℕ) (e : Entry)
+      → seen (shown_to u H before later maker e) ≡ told_of (gives e) (is_number u maker) (not (is_late later) && may) (value e)
 
   module _ (shows : ShowsLast) where
-    abbrev all_seen : History → List (List ℕ)
-    all_seen G = flat_map seen (each_told u H (shown_to u H) G)
+    abbrev all_seen : History → History → List (List ℕ)
+    all_seen before G = flat_map seen (each_told u H (shown_to u H) before G)
 
     -- of each entry at most one, nothing of those that give it none, and nothing where a later entry gives it another
-    few : (later : History) (maker : ℕ) (e : Entry) → length (seen (shown_to u H later maker e)) ≤ 1
-    few later maker e = subst (λ (xs : List (List ℕ)). length xs ≤ 1) (sym (shows later maker e)) (told_of-few (gives e) (is_number u maker) _ (value e))
+    few : (before later : History) (maker : ℕ) (e : Entry) → length (seen (shown_to u H before later maker e)) ≤ 1
+    few before later maker e =
+        subst (λ (xs : List (List ℕ)). length xs ≤ 1) (sym (shows before later maker e)) (told_of-few (gives e) (is_number u maker) _ (value e))
 
-    other : (later : History) (maker : ℕ) (e : Entry) → gives e ≡ false → seen (shown_to u H later maker e) ≡ []
-    other later maker e h = shows later maker e ∙ ap (λ b. told_of b (is_number u maker) (not (is_late later) && may) (value e)) h ∙ only-false _
+    other : (before later : History) (maker : ℕ) (e : Entry) → gives e ≡ false → seen (shown_to u H before later maker e) ≡ []
+    other before later maker e h = shows before later maker e ∙ ap (λ b. told_of b (is_number u maker) (not (is_late later) && may) (value e)) h ∙ only-false _
 
-    late : (later : History) (maker : ℕ) (e : Entry) → is_late later ≡ true → seen (shown_to u H later maker e) ≡ []
-    late later maker e h = shows later maker e ∙ ap (λ b. told_of (gives e) (is_number u maker) (not b && may) (value e)) h
+    late : (before later : History) (maker : ℕ) (e : Entry) → is_late later ≡ true → seen (shown_to u H before later maker e) ≡ []
+    late before later maker e h = shows before later maker e ∙ ap (λ b. told_of (gives e) (is_number u maker) (not b && may) (value e)) h
 
-    first-seen : (e : Stamped) (G : History) → all_seen (e ∷ G) ≡ only (is_told u H G e.maker e.entry) (seen (shown_to u H G e.maker e.entry)) ++ all_seen G
-    first-seen e G =
-        flat_map-append seen (given (is_told u H G e.maker e.entry) (shown_to u H G e.maker e.entry)) (each_told u H (shown_to u H) G)
-        ∙ ap (λ xs. xs ++ all_seen G) (flat_map-given seen (is_told u H G e.maker e.entry) (shown_to u H G e.maker e.entry))
+    first-seen : (before : History) (e : Stamped) (G : History)
+        → all_seen before (e ∷ G) ≡ only (is_told u H before G e.maker e.entry) (seen (shown_to u H before G e.maker e.entry)) ++ all_seen (before ++ e ∷ []) G
+    first-seen before e G =
+        let told : Bool = is_told u H before G e.maker e.entry in
+        let one : Sighting = shown_to u H before G e.maker e.entry in
+        flat_map-append seen (given told one) (each_told u H (shown_to u H) (before ++ e ∷ []) G)
+        ∙ ap (λ xs. xs ++ all_seen (before ++ e ∷ []) G) (flat_map-given seen told one)
 
     only-nothing : (b : Bool) (xs : List (List ℕ)) → xs ≡ [] → only b xs ≡ []
     only-nothing b xs h = ap (only b) h
 
-    none-seen : (G : History) → is_late G ≡ false → all_seen G ≡ []
-    none-seen [] h = refl
-    none-seen (e ∷ G) h =
+    none-seen : (before G : History) → is_late G ≡ false → all_seen before G ≡ []
+    none-seen before [] h = refl
+    none-seen before (e ∷ G) h =
         let parts = or_parts (gives e.entry) (is_late G) h in
-        first-seen e G
-        ∙ ap (λ xs. xs ++ all_seen G) (only-nothing (is_told u H G e.maker e.entry) (seen (shown_to u H G e.maker e.entry)) (other G e.maker e.entry parts.0))
-        ∙ none-seen G parts.1
+        first-seen before e G
+        ∙ ap (λ xs. xs ++ all_seen (before ++ e ∷ []) G)
+        (only-nothing (is_told u H before G e.maker e.entry) (seen (shown_to u H before G e.maker e.entry)) (other before G e.maker e.entry parts.0))
+        ∙ none-seen (before ++ e ∷ []) G parts.1
 
     only-few : (b : Bool) (xs : List (List ℕ)) → length xs ≤ 1 → length (only b xs) ≤ 1
     only-few true xs h = subst (λ (ys : List (List ℕ)). length ys ≤ 1) (sym (only-true xs)) h
     only-few false xs h = subst (λ (ys : List (List ℕ)). length ys ≤ 1) (sym (only-false xs)) (omega arith)
 
-    one-seen : (G : History) → length (all_seen G) ≤ 1
-    one-seen [] = omega arith
-    one-seen (e ∷ G) =
-        subst (λ (xs : List (List ℕ)). length xs ≤ 1) (sym (first-seen e G))
-        (by (only (is_told u H G e.maker e.entry) (seen (shown_to u H G e.maker e.entry))) (all_seen G) (is_late G)
-        (none-seen G)
-        (only-few (is_told u H G e.maker e.entry) (seen (shown_to u H G e.maker e.entry)) (few G e.maker e.entry))
-        (λ more. only-nothing (is_told u H G e.maker e.entry) (seen (shown_to u H G e.maker e.entry)) (late G e.maker e.entry more))
-        (one-seen G))
+    one-seen : (before G : History) → length (all_seen before G) ≤ 1
+    one-seen before [] = omega arith
+    one-seen before (e ∷ G) =
+        let told : Bool = is_told u H before G e.maker e.entry in
+        let one : List (List ℕ) = seen (shown_to u H before G e.maker e.entry) in
+        subst (λ (xs : List (List ℕ)). length xs ≤ 1) (sym (first-seen before e G))
+        (by (only told one) (all_seen (before ++ e ∷ []) G) (is_late G)
+        (none-seen (before ++ e ∷ []) G)
+        (only-few told one (few before G e.maker e.entry))
+        (λ more. only-nothing told one (late before G e.maker e.entry more))
+        (one-seen (before ++ e ∷ []) G))
       where
         by : (xs ys : List (List ℕ)) (more : Bool) → (more ≡ false → ys ≡ []) → length xs ≤ 1 → (more ≡ true → xs ≡ []) → length ys ≤ 1 → length (xs ++ ys) ≤ 1
         by xs ys true none few late rest = subst (λ (zs : List (List ℕ)). length (zs ++ ys) ≤ 1) (sym (late refl)) rest
-        by xs ys false none few late rest = subst (λ (zs : List (List ℕ)). length (xs ++ zs) ≤ 1) (sym (none refl)) (subst (λ (zs : List (List ℕ)). length zs ≤ 1) (sym (append-nil xs)) few)
+        by xs ys false none few late rest =
+            subst (λ (zs : List (List ℕ)). length (xs ++ zs) ≤ 1) (sym (none refl))
+            (subst (λ (zs : List (List ℕ)). length zs ≤ 1) (sym (append-nil xs)) few)
 
     one-view : length (flat_map seen (view u H)) ≤ 1
-    one-view = subst (λ (V : List Sighting). length (flat_map seen V) ≤ 1) (sym (view-told u H)) (one-seen H)
+    one-view = subst (λ (V : List Sighting). length (flat_map seen V) ≤ 1) (sym (view-told u H)) (one-seen [] H)
 
 -- ---- the three matters
 
@@ -122,12 +135,16 @@ content_given _ = []
 -- who is no author of the paper may know what another gave it only where it is the last; `late` tells whether another comes
 -- later to a paper, and `may` who may know the last
 module _ (u : Option ℕ) (p : ℕ) (H : History) (stranger : is_author u p H ≡ false) (late may : ℕ → Bool) where
-  author-known : {A : Type 0} (own : Bool) (paper : ℕ) (x : A) → told_of (eqb paper p) own (is_author u paper H || (not (late paper) && may paper)) x ≡ told_of (eqb paper p) own (not (late p) && may p) x
+  author-known : {A : Type 0} (own : Bool) (paper : ℕ) (x : A)
+      → told_of (eqb paper p) own (is_author u paper H || (not (late paper) && may paper)) x
+      ≡ told_of (eqb paper p) own (not (late p) && may p) x
   author-known own paper x = told_of-same (eqb paper p) own _ _ x (λ same other.
       let e : paper ≡ p = eqb-true paper p same in
       ap (λ n. is_author u n H || (not (late n) && may n)) e ∙ ap (λ b. b || (not (late p) && may p)) stranger)
 
-  owner-known : {A : Type 0} (own : Bool) (paper : ℕ) (x : A) → told_of (eqb paper p) own ((own || is_author u paper H) || (not (late paper) && may paper)) x ≡ told_of (eqb paper p) own (not (late p) && may p) x
+  owner-known : {A : Type 0} (own : Bool) (paper : ℕ) (x : A)
+      → told_of (eqb paper p) own ((own || is_author u paper H) || (not (late paper) && may paper)) x
+      ≡ told_of (eqb paper p) own (not (late p) && may p) x
   owner-known own paper x =
       told_of-same (eqb paper p) own _ _ x (λ same other. ap (λ b. (b || is_author u paper H) || (not (late paper) && may paper)) other)
       ∙ author-known own paper x
@@ -135,25 +152,33 @@ module _ (u : Option ℕ) (p : ℕ) (H : History) (stranger : is_author u p H �
 pub one-title : OneTitle
 one-title u p H stranger = one-view u p H (gives_texts p) title_given (serves u H) (text_shown (λ (s : Sighting). s.title) p) shows
   where
-    shows : (later : History) (maker : ℕ) (e : Entry)
-        → text_shown (λ (s : Sighting). s.title) p (shown_to u H later maker e) ≡ told_of (gives_texts p e) (is_number u maker) (not (is_replaced p later) && serves u H) (title_given e)
-    shows later maker (Submitted paper title abstract) = author-known u p H stranger (λ n. is_replaced n later) (λ n. serves u H) (is_number u maker) paper title
-    shows later maker (Revised paper title abstract) = owner-known u p H stranger (λ n. is_replaced n later) (λ n. serves u H) (is_number u maker) paper title
-    shows later maker e = sym (only-false _)
+    shows : (before later : History) (maker : ℕ) (e : Entry)
+        → text_shown (λ (s : Sighting). s.title) p (shown_to u H before later maker e)
+        ≡ told_of (gives_texts p e) (is_number u maker) (not (is_replaced p later) && serves u H) (title_given e)
+    shows before later maker (Submitted paper title abstract) =
+        author-known u p H stranger (λ n. is_replaced n later) (λ n. serves u H) (is_number u maker) paper title
+    shows before later maker (Revised paper title abstract) =
+        owner-known u p H stranger (λ n. is_replaced n later) (λ n. serves u H) (is_number u maker) paper title
+    shows before later maker e = sym (only-false _)
 
 pub one-abstract : OneAbstract
 one-abstract u p H stranger = one-view u p H (gives_texts p) abstract_given (handles u p H) (text_shown (λ (s : Sighting). s.abstract) p) shows
   where
-    shows : (later : History) (maker : ℕ) (e : Entry)
-        → text_shown (λ (s : Sighting). s.abstract) p (shown_to u H later maker e) ≡ told_of (gives_texts p e) (is_number u maker) (not (is_replaced p later) && handles u p H) (abstract_given e)
-    shows later maker (Submitted paper title abstract) = author-known u p H stranger (λ n. is_replaced n later) (λ n. handles u n H) (is_number u maker) paper abstract
-    shows later maker (Revised paper title abstract) = owner-known u p H stranger (λ n. is_replaced n later) (λ n. handles u n H) (is_number u maker) paper abstract
-    shows later maker e = sym (only-false _)
+    shows : (before later : History) (maker : ℕ) (e : Entry)
+        → text_shown (λ (s : Sighting). s.abstract) p (shown_to u H before later maker e)
+        ≡ told_of (gives_texts p e) (is_number u maker) (not (is_replaced p later) && handles u p H) (abstract_given e)
+    shows before later maker (Submitted paper title abstract) =
+        author-known u p H stranger (λ n. is_replaced n later) (λ n. handles u n H) (is_number u maker) paper abstract
+    shows before later maker (Revised paper title abstract) =
+        owner-known u p H stranger (λ n. is_replaced n later) (λ n. handles u n H) (is_number u maker) paper abstract
+    shows before later maker e = sym (only-false _)
 
 pub one-content : OneContent
 one-content u p H stranger = one-view u p H (gives_content p) content_given (handles u p H) (text_shown (λ (s : Sighting). s.content) p) shows
   where
-    shows : (later : History) (maker : ℕ) (e : Entry)
-        → text_shown (λ (s : Sighting). s.content) p (shown_to u H later maker e) ≡ told_of (gives_content p e) (is_number u maker) (not (is_superseded p later) && handles u p H) (content_given e)
-    shows later maker (Uploaded paper version content) = owner-known u p H stranger (λ n. is_superseded n later) (λ n. handles u n H) (is_number u maker) paper content
-    shows later maker e = sym (only-false _)
+    shows : (before later : History) (maker : ℕ) (e : Entry)
+        → text_shown (λ (s : Sighting). s.content) p (shown_to u H before later maker e)
+        ≡ told_of (gives_content p e) (is_number u maker) (not (is_superseded p later) && handles u p H) (content_given e)
+    shows before later maker (Uploaded paper version content) =
+        owner-known u p H stranger (λ n. is_superseded n later) (λ n. handles u n H) (is_number u maker) paper content
+    shows before later maker e = sym (only-false _)

@@ -1,5 +1,5 @@
 -- A view is what the bounds give of the entries, one after another.
-use Rattle.std.proofs.Common.{◌≡◌, ℕ, Bool, true, false, [], ◌∷◌, ◌++◌, eqb, refl, sym, ap, ◌∙◌, ◌||◌, append_assoc, Option}
+use Rattle.std.proofs.Common.{◌≡◌, ℕ, Bool, true, false, [], ◌∷◌, ◌++◌, eqb, refl, sym, ap, ◌∙◌, ◌||◌, append_assoc, List, Option}
 use Rattle.std.specs.Prelude.{map, All}
 use Rattle.std.specs.List.{list_any, AllByRecursion}
 use Rattle.std.proofs.lemmas.Bool.{eq-eqb}
@@ -19,35 +19,46 @@ use Rattle.cr_policy.specs.Triggers.{reader, Around}
 use Rattle.cr_policy.specs.View.{sight, sights, view, is_seen, joined}
 use Rattle.cr_policy.specs.ShownTo.{PartFor, is_told, each_told, kind_for, mark_for, paper_for, user_for, name_for, digest_for, role_for, phase_for, mode_for}
 use Rattle.cr_policy.specs.ShownTo.{maker_for, title_for, abstract_for, version_for, content_for, switch_for, value_for, seat_for, ordinal_for}
+use Rattle.cr_policy.specs.ShownTo.{score_for, confidence_for, to_authors_for, to_pc_for, done_for, n_for, text_for, tag_for}
 use Rattle.cr_policy.specs.ViewBounds.{EntriesShown, MarksShown, PapersShown, UsersShown, NamesShown, DigestsShown, RolesShown, PhasesShown, ModesShown}
 use Rattle.cr_policy.specs.ViewBounds.{MakersShown, TitlesShown, AbstractsShown, VersionsShown, ContentsShown, SwitchesShown, ValuesShown}
-use Rattle.cr_policy.specs.ViewBounds.{SeatsShown, OrdinalsShown}
+use Rattle.cr_policy.specs.ViewBounds.{SeatsShown, OrdinalsShown, ScoresShown, ConfidencesShown, TextsToAuthorsShown, TextsToPcShown, DoneShown}
+use Rattle.cr_policy.specs.ViewBounds.{NumbersShown, CommentsShown, TagsShown}
 use Rattle.cr_policy.proofs.BoundsParts.{IsWriters, seen-told, shown-one, mark-one, user-one, digest-one, maker-one, title-one, abstract-one, version-one}
-use Rattle.cr_policy.proofs.BoundsParts.{content-one, switch-one, value-one, seat-one, ordinal-one}
+use Rattle.cr_policy.proofs.BoundsParts.{content-one, switch-one, value-one, seat-one, ordinal-one, score-one, confidence-one, to_authors-one}
+use Rattle.cr_policy.proofs.BoundsParts.{to_pc-one, done-one, n-one, comment-one, tag-one}
 
 -- ---- one entry
 
 -- all its parts
 abbrev pub shown_to : PartFor Sighting
-shown_to u H later maker e = record {
-  kind = kind_for u H later maker e;
-  mine = mark_for u H later maker e;
-  paper = paper_for u H later maker e;
-  user = user_for u H later maker e;
-  name = name_for u H later maker e;
-  digest = digest_for u H later maker e;
-  role = role_for u H later maker e;
-  phase = phase_for u H later maker e;
-  mode = mode_for u H later maker e;
-  by = maker_for u H later maker e;
-  title = title_for u H later maker e;
-  abstract = abstract_for u H later maker e;
-  version = version_for u H later maker e;
-  content = content_for u H later maker e;
-  on = switch_for u H later maker e;
-  value = value_for u H later maker e;
-  seat = seat_for u H later maker e;
-  ordinal = ordinal_for u H later maker e;
+shown_to u H before later maker e = record {
+  kind = kind_for u H before later maker e;
+  mine = mark_for u H before later maker e;
+  paper = paper_for u H before later maker e;
+  user = user_for u H before later maker e;
+  name = name_for u H before later maker e;
+  digest = digest_for u H before later maker e;
+  role = role_for u H before later maker e;
+  phase = phase_for u H before later maker e;
+  mode = mode_for u H before later maker e;
+  by = maker_for u H before later maker e;
+  title = title_for u H before later maker e;
+  abstract = abstract_for u H before later maker e;
+  version = version_for u H before later maker e;
+  content = content_for u H before later maker e;
+  on = switch_for u H before later maker e;
+  value = value_for u H before later maker e;
+  seat = seat_for u H before later maker e;
+  ordinal = ordinal_for u H before later maker e;
+  score = score_for u H before later maker e;
+  confidence = confidence_for u H before later maker e;
+  to_authors = to_authors_for u H before later maker e;
+  to_pc = to_pc_for u H before later maker e;
+  done = done_for u H before later maker e;
+  n = n_for u H before later maker e;
+  text = text_for u H before later maker e;
+  tag = tag_for u H before later maker e;
 }
 
 module _ (u : Option ℕ) (H : History) where
@@ -58,8 +69,8 @@ module _ (u : Option ℕ) (H : History) where
       by true h = ap (λ (x : A). x ∷ []) (h refl)
       by false h = refl
 
-  joined-one : (at : Around) (maker : ℕ) (more : Bool) (e : Entry) → IsWriters u H maker e → is_told u H at.after maker e ≡ true
-      → joined (reader u H) at (stamp maker more e) ≡ shown_to u H at.after maker e
+  joined-one : (at : Around) (maker : ℕ) (more : Bool) (e : Entry) → IsWriters u H maker e → is_told u H at.before at.after maker e ≡ true
+      → joined (reader u H) at (stamp maker more e) ≡ shown_to u H at.before at.after maker e
   joined-one at maker more e writes told = λ i. record {
     kind = (shown-one u H at maker more e).kind i;
     mine = mark-one u H at maker more e i;
@@ -79,12 +90,21 @@ module _ (u : Option ℕ) (H : History) where
     value = value-one u H at maker more e told i;
     seat = seat-one u H at maker more e i;
     ordinal = ordinal-one u H at maker more e told i;
+    score = score-one u H at maker more e i;
+    confidence = confidence-one u H at maker more e i;
+    to_authors = to_authors-one u H at maker more e i;
+    to_pc = to_pc-one u H at maker more e i;
+    done = done-one u H at maker more e i;
+    n = n-one u H at maker more e told i;
+    text = comment-one u H at maker more e told i;
+    tag = tag-one u H at maker more e told i;
   }
 
   sight-one : (at : Around) (maker : ℕ) (more : Bool) (e : Entry) → IsWriters u H maker e → sight (reader u H) at (stamp maker more e)
-      ≡ given (is_told u H at.after maker e) (shown_to u H at.after maker e)
+      ≡ given (is_told u H at.before at.after maker e) (shown_to u H at.before at.after maker e)
   sight-one at maker more e writes =
-      given-same (is_seen (reader u H) at (stamp maker more e)) (is_told u H at.after maker e) (joined (reader u H) at (stamp maker more e)) (shown_to u H at.after maker e)
+      given-same (is_seen (reader u H) at (stamp maker more e)) (is_told u H at.before at.after maker e)
+      (joined (reader u H) at (stamp maker more e)) (shown_to u H at.before at.after maker e)
       (seen-told u H at maker more e) (joined-one at maker more e writes)
 
   -- ---- the entries of a history
@@ -93,7 +113,8 @@ module _ (u : Option ℕ) (H : History) where
   writes-one : (before : History) (maker : ℕ) (more : Bool) (e : Entry) (after : History) → before ++ (stamp maker more e ∷ after) ≡ H → IsWriters u H maker e
   writes-one before maker more (Submitted paper title abstract) after whole = λ own.
       ap (is_author u paper) (sym whole)
-      ∙ ap (list_any (is_number u)) (flat_map-append (λ (e : Stamped). author_told paper e.maker e.entry) before (stamp maker more (Submitted paper title abstract) ∷ after))
+      ∙ ap (list_any (is_number u))
+      (flat_map-append (λ (e : Stamped). author_told paper e.maker e.entry) before (stamp maker more (Submitted paper title abstract) ∷ after))
       ∙ list_any-append (is_number u) (authors_of paper before) (given (eqb paper paper) maker ++ authors_of paper after)
       ∙ ap (λ b. list_any (is_number u) (authors_of paper before) || list_any (is_number u) (given b maker ++ authors_of paper after)) (eq-eqb paper paper refl)
       ∙ ap (λ b. list_any (is_number u) (authors_of paper before) || (b || list_any (is_number u) (authors_of paper after))) own
@@ -109,18 +130,20 @@ module _ (u : Option ℕ) (H : History) where
 
   writes-all : (before after : History) → before ++ after ≡ H → AllByRecursion Writes after
   writes-all before [] whole = tt
-  writes-all before (e ∷ after) whole = (writes-one before e.maker e.more e.entry after whole, writes-all (before ++ e ∷ []) after (append_assoc before (e ∷ []) after ∙ whole))
+  writes-all before (e ∷ after) whole =
+      (writes-one before e.maker e.more e.entry after whole, writes-all (before ++ e ∷ []) after (append_assoc before (e ∷ []) after ∙ whole))
 
   pub writers-all : AllByRecursion Writes H
   writers-all = writes-all [] H refl
 
-  sights-told : (before after : History) → AllByRecursion Writes after → sights (reader u H) before after ≡ each_told u H (shown_to u H) after
+  sights-told : (before after : History) → AllByRecursion Writes after → sights (reader u H) before after ≡ each_told u H (shown_to u H) before after
   sights-told before [] writes = refl
   sights-told before (e ∷ after) writes =
       ap (λ xs. xs ++ sights (reader u H) (before ++ e ∷ []) after) (sight-one (record { before = before; after = after }) e.maker e.more e.entry writes.0)
-      ∙ ap (λ ys. given (is_told u H after e.maker e.entry) (shown_to u H after e.maker e.entry) ++ ys) (sights-told (before ++ e ∷ []) after writes.1)
+      ∙ ap (λ ys. given (is_told u H before after e.maker e.entry) (shown_to u H before after e.maker e.entry) ++ ys)
+      (sights-told (before ++ e ∷ []) after writes.1)
 
-  pub view-told : view u H ≡ each_told u H (shown_to u H) H
+  pub view-told : view u H ≡ each_told u H (shown_to u H) [] H
   view-told = sights-told [] H writers-all
 
   -- ---- a part of them
@@ -129,39 +152,50 @@ module _ (u : Option ℕ) (H : History) where
   map-given f true x = refl
   map-given f false x = refl
 
-  map-told : {A : Type 0} (f : Sighting → A) (G : History) → map f (each_told u H (shown_to u H) G)
-      ≡ each_told u H (λ later maker e. f (shown_to u H later maker e)) G
-  map-told f [] = refl
-  map-told f (e ∷ G) =
-      let s : Sighting = shown_to u H G e.maker e.entry in
-      map-append f (given (is_told u H G e.maker e.entry) s) (each_told u H (shown_to u H) G)
-      ∙ ap (λ xs. xs ++ map f (each_told u H (shown_to u H) G)) (map-given f (is_told u H G e.maker e.entry) s)
-      ∙ ap (λ ys. given (is_told u H G e.maker e.entry) (f s) ++ ys) (map-told f G)
+  map-told : {A : Type 0} (f : Sighting → A) (before G : History) → map f (each_told u H (shown_to u H) before G)
+      ≡ each_told u H (λ before later maker e. f (shown_to u H before later maker e)) before G
+  map-told f before [] = refl
+  map-told f before (e ∷ G) =
+      let s : Sighting = shown_to u H before G e.maker e.entry in
+      let rest : List Sighting = each_told u H (shown_to u H) (before ++ e ∷ []) G in
+      map-append f (given (is_told u H before G e.maker e.entry) s) rest
+      ∙ ap (λ xs. xs ++ map f rest) (map-given f (is_told u H before G e.maker e.entry) s)
+      ∙ ap (λ ys. given (is_told u H before G e.maker e.entry) (f s) ++ ys) (map-told f (before ++ e ∷ []) G)
 
-  map-view : {A : Type 0} (f : Sighting → A) → map f (view u H) ≡ each_told u H (λ later maker e. f (shown_to u H later maker e)) H
-  map-view f = ap (map f) view-told ∙ map-told f H
+  map-view : {A : Type 0} (f : Sighting → A) → map f (view u H) ≡ each_told u H (λ before later maker e. f (shown_to u H before later maker e)) [] H
+  map-view f = ap (map f) view-told ∙ map-told f [] H
 
 -- ---- each sighting
 
 -- what is so of each entry that the user is told of, as she is shown it, is so of each sighting
 module _
     (u : Option ℕ) (H : History) (P : Sighting → Type 0) (Q : Stamped → Type 0)
-    (each : (later : History) (maker : ℕ) (more : Bool) (e : Entry) → Q (stamp maker more e) → is_told u H later maker e ≡ true
-    → P (shown_to u H later maker e))
+    (each : (before later : History) (maker : ℕ) (more : Bool) (e : Entry) → Q (stamp maker more e) → is_told u H before later maker e ≡ true
+    → P (shown_to u H before later maker e))
   where
-    all-told : (G : History) → AllByRecursion Q G → All P (each_told u H (shown_to u H) G)
-    all-told [] h = All-nil P
-    all-told (e ∷ G) h =
-        All-append P (given (is_told u H G e.maker e.entry) (shown_to u H G e.maker e.entry)) (each_told u H (shown_to u H) G)
-        (by (is_told u H G e.maker e.entry) (each G e.maker e.more e.entry h.0))
-        (all-told G h.1)
+    all-told : (before G : History) → AllByRecursion Q G → All P (each_told u H (shown_to u H) before G)
+    all-told before [] h = All-nil P
+    all-told before (e ∷ G) h =
+        All-append P (given (is_told u H before G e.maker e.entry) (shown_to u H before G e.maker e.entry)) (each_told u H (shown_to u H) (before ++ e ∷ []) G)
+        (by (is_told u H before G e.maker e.entry) (each before G e.maker e.more e.entry h.0))
+        (all-told (before ++ e ∷ []) G h.1)
       where
-        by : (told : Bool) → (told ≡ true → P (shown_to u H G e.maker e.entry)) → All P (given told (shown_to u H G e.maker e.entry))
-        by true one = All-cons P (shown_to u H G e.maker e.entry) [] (one refl) (All-nil P)
+        by : (told : Bool) → (told ≡ true → P (shown_to u H before G e.maker e.entry)) → All P (given told (shown_to u H before G e.maker e.entry))
+        by true one = All-cons P (shown_to u H before G e.maker e.entry) [] (one refl) (All-nil P)
         by false one = All-nil P
 
     pub all-view : AllByRecursion Q H → All P (view u H)
-    all-view h = All-same P (view u H) (each_told u H (shown_to u H) H) (view-told u H) (all-told H h)
+    all-view h = All-same P (view u H) (each_told u H (shown_to u H) [] H) (view-told u H) (all-told [] H h)
+
+-- the same, whatever is so of the entries
+module _
+    (u : Option ℕ) (H : History) (P : Sighting → Type 0)
+    (each : (before later : History) (maker : ℕ) (e : Entry) → is_told u H before later maker e ≡ true → P (shown_to u H before later maker e))
+  where
+    pub each-view : All P (view u H)
+    each-view =
+        all-view u H P (λ (e : Stamped). IsWriters u H e.maker e.entry) (λ before later maker more e writes told. each before later maker e told)
+        (writers-all u H)
 
 -- ---- the laws
 
@@ -218,3 +252,27 @@ seats-shown u H = map-view u H (λ (s : Sighting). s.seat)
 
 pub ordinals-shown : OrdinalsShown
 ordinals-shown u H = map-view u H (λ (s : Sighting). s.ordinal)
+
+pub scores-shown : ScoresShown
+scores-shown u H = map-view u H (λ (s : Sighting). s.score)
+
+pub confidences-shown : ConfidencesShown
+confidences-shown u H = map-view u H (λ (s : Sighting). s.confidence)
+
+pub texts-to-authors-shown : TextsToAuthorsShown
+texts-to-authors-shown u H = map-view u H (λ (s : Sighting). s.to_authors)
+
+pub texts-to-pc-shown : TextsToPcShown
+texts-to-pc-shown u H = map-view u H (λ (s : Sighting). s.to_pc)
+
+pub done-shown : DoneShown
+done-shown u H = map-view u H (λ (s : Sighting). s.done)
+
+pub numbers-shown : NumbersShown
+numbers-shown u H = map-view u H (λ (s : Sighting). s.n)
+
+pub comments-shown : CommentsShown
+comments-shown u H = map-view u H (λ (s : Sighting). s.text)
+
+pub tags-shown : TagsShown
+tags-shown u H = map-view u H (λ (s : Sighting). s.tag)

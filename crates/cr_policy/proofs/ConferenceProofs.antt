@@ -1,87 +1,94 @@
--- The small conference is legal, and each reader's view of it is the one that is written.
-use Rattle.std.proofs.Common.{ℕ, Bool, true, false, List, [], ◌∷◌, ◌++◌, refl, ◌≡◌, length, ◌&&◌, Some, arith}
-use Rattle.std.specs.Prelude.{codes, nat_le}
-use Rattle.std.specs.List.{list_all}
+-- The small conference is legal, each reader's view of it is the one that is written, and those who may not know see the same of its
+-- twins.
+use Rattle.std.proofs.Common.{ℕ, Bool, true, false, List, [], ◌∷◌, ◌++◌, map, refl, sym, ◌≡◌, length, ◌&&◌, Option, Some, None, if◌then◌else◌, arith}
+use Rattle.std.specs.Prelude.{codes, nat_le, ◌≤◌, ◌==◌, IsTrue}
+use Rattle.std.specs.List.{list_all, list_any}
+use Rattle.std.specs.Str.{is_utf8}
 use Rattle.std.proofs.lemmas.Bool.{and_parts, leb-true, true≢false}
+use Rattle.std.proofs.lemmas.Option.{none-some, same_Some}
 use Rattle.cr_base.specs.declared.command.Command.{Command}
 use Rattle.cr_base.specs.declared.command.Command.TheVariants.{SetPhase, Submit, Revise, Upload, Withdraw, Name, SetMode, SetConflict}
-use Rattle.cr_base.specs.declared.command.Command.TheVariants.{Bid, Assign, Unassign}
+use Rattle.cr_base.specs.declared.command.Command.TheVariants.{Bid, Assign, Unassign, Review, Comment, Tag}
+use Rattle.cr_base.specs.declared.form.Form.{Form}
 use Rattle.cr_base.specs.declared.words.Kind.TheVariants.{Primary, Secondary, Pc}
 use Rattle.cr_base.specs.declared.words.Mode.{Mode}
 use Rattle.cr_base.specs.declared.words.Mode.TheVariants.{Overt, Blind, Anonymous}
-use Rattle.cr_base.specs.declared.words.Phase.{Phase}
 use Rattle.cr_base.specs.declared.words.Phase.TheVariants.{Submission, Bidding, Reviewing, Discussion, Notification}
 use Rattle.cr_base.specs.declared.words.Role.TheVariants.{Member, Chair}
-use Rattle.cr_base.specs.Bounds.{IsBoundedCommand}
-use Rattle.cr_base.specs.History.{History}
-use Rattle.cr_base.specs.Texts.{IsName, IsTitle, IsAbstract, is_name_byte, is_name, is_title_byte}
-use Rattle.cr_policy.specs.Conference.{alice, bob, carol, dave, fay, gus, hal, Digests, AreDigests, proofs, we_prove, types, we_type, drafts, we_draft}
-use Rattle.cr_policy.specs.Conference.{fewer_proofs, we_prove_less, more_proofs, we_prove_more, first_version, second_version, only_version}
-use Rattle.cr_policy.specs.Conference.{registered, opened, submitted, before_bidding, having_bids, in_bidding, in_reviewing, in_discussion, at_notification}
-use Rattle.cr_policy.specs.ConferenceLaws.{IsReviewed, ConferenceLegal, ViewsBeforeBidding, ViewsInBidding, ViewsInDiscussion, ViewsAtNotification, TwinsAlike}
-use Rattle.cr_policy.specs.Legal.{IsCaller, Call, IsAllowed, LeadsTo, Legal}
+use Rattle.cr_base.specs.Bounds.{IsGrade, IsForm, IsBoundedCommand}
+use Rattle.cr_base.specs.History.{History, Registration, all_told, registration_told}
+use Rattle.cr_base.specs.Logins.{command_wants_login}
+use Rattle.cr_base.specs.Texts.{IsName, IsTitle, IsAbstract, IsReviewText, IsCommentText, is_name_byte, is_name, is_title_byte}
+use Rattle.cr_policy.specs.Conference.{alice, bob, carol, dave, fay, gus, hal, Digests, AreDigests, Asides, AreAsides, other_than}
+use Rattle.cr_policy.specs.Conference.{proofs, we_prove, types, we_type, drafts, we_draft, fewer_proofs, we_prove_less, more_proofs, we_prove_more}
+use Rattle.cr_policy.specs.Conference.{first_version, second_version, only_version, hot, own_tag, chairs_tag}
+use Rattle.cr_policy.specs.Conference.{first_form, second_form, last_form, alices_form, agreed}
+use Rattle.cr_policy.specs.Conference.{registered, opened, submitted, before_bidding, having_tags, in_bidding, in_reviewing, in_discussion, at_notification}
+use Rattle.cr_policy.specs.ConferenceLaws.{IsReviewed, ConferenceLegal, views_of, ViewsBeforeBidding, ViewsInBidding, ViewsInReviewing}
+use Rattle.cr_policy.specs.ConferenceLaws.{ViewsInDiscussion, ViewsAtNotification, TwinsAlike, AsidesHidden}
+use Rattle.cr_policy.specs.ConferenceViews.{views_before, views_in_bidding, views_in_reviewing, views_in_discussion, views_at_notification}
+use Rattle.cr_policy.specs.Legal.{CallsAs, Call, step, LeadsTo, Legal}
 use Rattle.cr_policy.proofs.LegalLaws.{LeadsTo-append}
 use Rattle.cr_policy.proofs.WitnessLaws.{register, ascii-utf8}
 
--- ---- legal
+-- ---- calls
 
--- more calls behind a legal history
-goes_on : (from to : History) (calls : List Call) → Legal from → LeadsTo from calls to → Legal to
-goes_on from to calls legal leads = (legal.0 ++ calls, LeadsTo-append [] from to legal.0 calls legal.1 leads)
+-- a call that is within its bounds
+record Turn : Type 0 where
+  call : Call
+  bounded : IsBoundedCommand call.command
+
+abbrev calls_of : List Turn → List Call
+calls_of turns = map (λ (turn : Turn). turn.call) turns
+
+-- who calls may do so, as a test
+abbrev calls_as : History → Bool → Option ℕ → Bool
+calls_as H false None = true
+calls_as H false (Some user) = false
+calls_as H true None = false
+calls_as H true (Some user) = list_any (λ (r : Registration). r.user == user) (all_told registration_told H)
+
+calls_as-so : (H : History) (login : Bool) (caller : Option ℕ) → calls_as H login caller ≡ true → CallsAs H login caller
+calls_as-so H false None h = refl
+calls_as-so H false (Some user) h = absurd (true≢false (sym h))
+calls_as-so H true None h = absurd (true≢false (sym h))
+calls_as-so H true (Some user) h = h
+
+-- the history to which the turns lead, where each is taken by who may
+abbrev reached : History → List Turn → Option History
+reached H [] = Some H
+reached H (turn ∷ turns) = if calls_as H (command_wants_login turn.call.command) turn.call.caller then reached (step H turn.call) turns else None
+
+reached-leads : (from to : History) (turns : List Turn) → reached from turns ≡ Some to → LeadsTo from (calls_of turns) to
+reached-leads from to [] h = same_Some from to h
+reached-leads from to (turn ∷ turns) h =
+    let login : Bool = command_wants_login turn.call.command in
+    called (calls_as from login turn.call.caller) refl (λ i. reached-leads (step from turn.call) to turns i) h
+  where
+    called : (may : Bool) → calls_as from (command_wants_login turn.call.command) turn.call.caller ≡ may
+        → (reached (step from turn.call) turns ≡ Some to → LeadsTo (step from turn.call) (calls_of turns) to)
+        → (if may then reached (step from turn.call) turns else None) ≡ Some to → LeadsTo from (turn.call ∷ calls_of turns) to
+    called false is rest h = absurd (none-some to h)
+    called true is rest h =
+        (record { caller = calls_as-so from (command_wants_login turn.call.command) turn.call.caller is; bounded = turn.bounded }, rest h)
+
+-- a legal history goes on by turns
+goes_on : (from to : History) (turns : List Turn) → reached from turns ≡ Some to → Legal from → Legal to
+goes_on from to turns leads legal = (legal.0 ++ calls_of turns, LeadsTo-append [] from to legal.0 (calls_of turns) legal.1 (reached-leads from to turns leads))
 
 -- a user's command
-abbrev by : ℕ → Command → Call
-by user command = record { caller = Some user; command = command }
+abbrev by : (user : ℕ) (command : Command) → IsBoundedCommand command → Turn
+by user command bounded = record { call = record { caller = Some user; command = command }; bounded = bounded }
 
--- names are within their bounds by computing
+-- ---- bounds, by computing
+
 is_name-bounded : (name : List ℕ) → is_name name ≡ true → IsName name
 is_name-bounded name h =
     let bytes = and_parts (nat_le 1 (length name) && nat_le (length name) 32) (list_all is_name_byte name) h in
     let sized = and_parts (nat_le 1 (length name)) (nat_le (length name) 32) bytes.0 in
     record { some = leb-true 1 (length name) sized.0; few = leb-true (length name) 32 sized.1; bytes = bytes.1 }
 
--- a call is allowed, and others go on behind it
-may : {H : History} {call : Call} → IsCaller H call.caller call.command → IsBoundedCommand call.command → IsAllowed H call
-may caller bounded = record { caller = caller; bounded = bounded }
-
-infixr 40 ◌then◌
-◌then◌ : {A B : Type 0} → A → B → A × B
-first then rest = (first, rest)
-
--- anybody may register
-joins : {H : History} {name digest : List ℕ} → is_name name ≡ true → length digest ≡ 32 → IsAllowed H (register name digest)
-joins {H} {name} {digest} named digested = may refl (is_name-bounded name named, digested)
-
-registered-legal : (d : Digests) → AreDigests d → Legal (registered d)
-registered-legal d are = (
-  register (codes "alice") d.alice
-      ∷ register (codes "bob") d.bob
-      ∷ register (codes "carol") d.carol
-      ∷ register (codes "dave") d.dave
-      ∷ register (codes "erin") d.erin
-      ∷ register (codes "fay") d.fay
-      ∷ register (codes "gus") d.gus
-      ∷ register (codes "hal") d.hal
-      ∷ [],
-  joins refl are.alice then joins refl are.bob then joins refl are.carol then joins refl are.dave then joins refl are.erin
-      then joins refl are.fay then joins refl are.gus then joins refl are.hal then refl,
-)
-
-opened-legal : (d : Digests) (mode : Mode) → Legal (registered d) → Legal (opened d mode)
-opened-legal d mode legal =
-    goes_on (registered d) (opened d mode)
-    (
-    by alice (Name (Some (codes "carol")) Member)
-    ∷ by alice (Name (Some (codes "dave")) Member)
-    ∷ by alice (Name (Some (codes "fay")) Chair)
-    ∷ by alice (Name (Some (codes "hal")) Member)
-    ∷ by alice (SetMode mode)
-    ∷ by alice (SetPhase Submission)
-    ∷ []
-    )
-    legal (may refl refl then may refl refl then may refl refl then may refl refl then may refl tt then may refl tt then refl)
-
--- texts are within their bounds by computing, where their bytes are below 128
+-- of texts whose bytes are below 128
 ascii-title : (text : List ℕ) → (nat_le 1 (length text) && nat_le (length text) 200 && list_all is_title_byte text && list_all (λ b. nat_le b 127) text)
     ≡ true → IsTitle text
 ascii-title text h =
@@ -90,48 +97,99 @@ ascii-title text h =
     let sized = and_parts (nat_le 1 (length text)) (nat_le (length text) 200) q.0 in
     record { some = leb-true 1 (length text) sized.0; few = leb-true (length text) 200 sized.1; bytes = q.1; utf8 = ascii-utf8 text p.1 }
 
+few-ascii : (limit : ℕ) (text : List ℕ) → (nat_le (length text) limit && list_all (λ b. nat_le b 127) text) ≡ true
+    → (length text ≤ limit) × IsTrue (is_utf8 text)
+few-ascii limit text h =
+    let p = and_parts (nat_le (length text) limit) (list_all (λ b. nat_le b 127) text) h in (leb-true (length text) limit p.0, ascii-utf8 text p.1)
+
 ascii-abstract : (text : List ℕ) → (nat_le (length text) 5000 && list_all (λ b. nat_le b 127) text) ≡ true → IsAbstract text
-ascii-abstract text h =
-    let p = and_parts (nat_le (length text) 5000) (list_all (λ b. nat_le b 127) text) h in
-    record { few = leb-true (length text) 5000 p.0; utf8 = ascii-utf8 text p.1 }
+ascii-abstract text h = let p = few-ascii 5000 text h in record { few = p.0; utf8 = p.1 }
 
-submitted-legal : (d : Digests) (mode : Mode) → Legal (opened d mode) → Legal (submitted d mode)
-submitted-legal d mode legal =
-    goes_on (opened d mode) (submitted d mode)
-    (by bob (Submit proofs we_prove (Some (codes "gus") ∷ [])) ∷ by gus (Submit types we_type []) ∷ by gus (Submit drafts we_draft []) ∷ [])
-    legal
-    (may refl (ascii-title proofs refl, ascii-abstract we_prove refl, omega arith)
-    then may refl (ascii-title types refl, ascii-abstract we_type refl, omega arith)
-    then may refl (ascii-title drafts refl, ascii-abstract we_draft refl, omega arith)
-    then refl)
+ascii-review : (text : List ℕ) → (nat_le (length text) 20000 && list_all (λ b. nat_le b 127) text) ≡ true → IsReviewText text
+ascii-review text h = let p = few-ascii 20000 text h in record { few = p.0; utf8 = p.1 }
 
-before-legal : (d : Digests) (mode : Mode) → Legal (submitted d mode) → Legal (before_bidding d mode)
-before-legal d mode legal =
-    goes_on (submitted d mode) (before_bidding d mode)
+agreed-bounded : IsCommentText agreed
+agreed-bounded = let p = few-ascii 10000 agreed refl in record { some = omega arith; few = p.0; utf8 = p.1 }
+
+-- of forms whose text to the committee is
+bounded-form : (form : Form) → (nat_le 1 form.score && nat_le form.score 5) ≡ true → (nat_le 1 form.confidence && nat_le form.confidence 5) ≡ true
+    → (nat_le (length form.to_authors) 20000 && list_all (λ b. nat_le b 127) form.to_authors) ≡ true → IsReviewText form.to_pc → IsForm form
+bounded-form form score confidence to_authors to_pc = record {
+  score = grade form.score score;
+  confidence = grade form.confidence confidence;
+  to_authors = ascii-review form.to_authors to_authors;
+  to_pc = to_pc;
+}
+  where
+    grade : (n : ℕ) → (nat_le 1 n && nat_le n 5) ≡ true → IsGrade n
+    grade n h = let p = and_parts (nat_le 1 n) (nat_le n 5) h in (leb-true 1 n p.0, leb-true n 5 p.1)
+
+-- ---- before the bidding
+
+-- anybody may register
+abbrev joins : (name digest : List ℕ) → is_name name ≡ true → length digest ≡ 32 → Turn
+joins name digest named digested = record { call = register name digest; bounded = (is_name-bounded name named, digested) }
+
+registered-legal : (d : Digests) → AreDigests d → Legal (registered d)
+registered-legal d are =
+    goes_on [] (registered d)
     (
-    by bob (Upload (Some 1) first_version)
-    ∷ by gus (Upload (Some 2) only_version)
-    ∷ by bob (Upload (Some 1) second_version)
-    ∷ by bob (Revise (Some 1) fewer_proofs we_prove_less)
-    ∷ by gus (Revise (Some 1) more_proofs we_prove_more)
-    ∷ by gus (Withdraw (Some 3))
-    ∷ by bob (SetConflict (Some 1) (Some (codes "carol")) true)
-    ∷ by gus (SetConflict (Some 1) (Some (codes "fay")) true)
+    joins (codes "alice") d.alice refl are.alice
+    ∷ joins (codes "bob") d.bob refl are.bob
+    ∷ joins (codes "carol") d.carol refl are.carol
+    ∷ joins (codes "dave") d.dave refl are.dave
+    ∷ joins (codes "erin") d.erin refl are.erin
+    ∷ joins (codes "fay") d.fay refl are.fay
+    ∷ joins (codes "gus") d.gus refl are.gus
+    ∷ joins (codes "hal") d.hal refl are.hal
     ∷ []
     )
-    legal
-    (may refl (omega arith)
-    then may refl (omega arith)
-    then may refl (omega arith)
-    then may refl (ascii-title fewer_proofs refl, ascii-abstract we_prove_less refl)
-    then may refl (ascii-title more_proofs refl, ascii-abstract we_prove_more refl)
-    then may refl tt
-    then may refl tt
-    then may refl tt
-    then refl)
+    refl ([], refl)
 
--- what is done from the bidding on. That each call is allowed is computed in each mode where it tells who sees the co-author, and for
--- each of the two members whom alice may assign to paper 1: dave, or in the twin hal
+opened-legal : (d : Digests) (mode : Mode) → Legal (registered d) → Legal (opened d mode)
+opened-legal d mode =
+    goes_on (registered d) (opened d mode)
+    (
+    by alice (Name (Some (codes "carol")) Member) refl
+    ∷ by alice (Name (Some (codes "dave")) Member) refl
+    ∷ by alice (Name (Some (codes "fay")) Chair) refl
+    ∷ by alice (Name (Some (codes "hal")) Member) refl
+    ∷ by alice (SetMode mode) tt
+    ∷ by alice (SetPhase Submission) tt
+    ∷ []
+    )
+    refl
+
+submitted-legal : (d : Digests) (mode : Mode) → Legal (opened d mode) → Legal (submitted d mode)
+submitted-legal d mode =
+    goes_on (opened d mode) (submitted d mode)
+    (
+    by bob (Submit proofs we_prove (Some (codes "gus") ∷ [])) (ascii-title proofs refl, ascii-abstract we_prove refl, omega arith)
+    ∷ by gus (Submit types we_type []) (ascii-title types refl, ascii-abstract we_type refl, omega arith)
+    ∷ by gus (Submit drafts we_draft []) (ascii-title drafts refl, ascii-abstract we_draft refl, omega arith)
+    ∷ []
+    )
+    refl
+
+before-legal : (d : Digests) (mode : Mode) → Legal (submitted d mode) → Legal (before_bidding d mode)
+before-legal d mode =
+    goes_on (submitted d mode) (before_bidding d mode)
+    (
+    by bob (Upload (Some 1) first_version) (omega arith)
+    ∷ by gus (Upload (Some 2) only_version) (omega arith)
+    ∷ by bob (Upload (Some 1) second_version) (omega arith)
+    ∷ by bob (Revise (Some 1) fewer_proofs we_prove_less) (ascii-title fewer_proofs refl, ascii-abstract we_prove_less refl)
+    ∷ by gus (Revise (Some 1) more_proofs we_prove_more) (ascii-title more_proofs refl, ascii-abstract we_prove_more refl)
+    ∷ by gus (Withdraw (Some 3)) tt
+    ∷ by bob (SetConflict (Some 1) (Some (codes "carol")) true) tt
+    ∷ by gus (SetConflict (Some 1) (Some (codes "fay")) true) tt
+    ∷ []
+    )
+    refl
+
+-- ---- from the bidding on
+
+-- the two members whom alice may assign to paper 1: dave, or in the twin hal
 abbrev assigned : Bool → ℕ
 assigned false = dave
 assigned true = hal
@@ -140,76 +198,112 @@ abbrev assigned_name : Bool → List ℕ
 assigned_name false = codes "dave"
 assigned_name true = codes "hal"
 
-abbrev bidding_calls : List Call
-bidding_calls =
-    by alice (SetPhase Bidding)
-    ∷ by alice (SetConflict (Some 1) (Some (codes "fay")) false)
-    ∷ by fay (SetConflict (Some 1) (Some (codes "fay")) true)
-    ∷ by dave (SetConflict (Some 2) (Some (codes "dave")) true)
-    ∷ by alice (SetConflict (Some 2) (Some (codes "dave")) false)
-    ∷ by dave (Bid (Some 1) 25)
-    ∷ by carol (Bid (Some 2) 17)
-    ∷ by alice (Bid (Some 1) 0)
-    ∷ by dave (Bid (Some 1) 40)
+abbrev bidding_turns : (a : Asides) → AreAsides a → List Turn
+bidding_turns a are =
+    by alice (SetPhase Bidding) tt
+    ∷ by alice (SetConflict (Some 1) (Some (codes "fay")) false) tt
+    ∷ by fay (SetConflict (Some 1) (Some (codes "fay")) true) tt
+    ∷ by dave (SetConflict (Some 2) (Some (codes "dave")) true) tt
+    ∷ by alice (SetConflict (Some 2) (Some (codes "dave")) false) tt
+    ∷ by dave (Bid (Some 1) 25) (omega arith)
+    ∷ by carol (Bid (Some 2) 17) (omega arith)
+    ∷ by alice (Bid (Some 1) 0) (omega arith)
+    ∷ by dave (Bid (Some 1) 40) (omega arith)
+    ∷ by dave (Tag (Some 1) hot true) refl
+    ∷ by dave (Tag (Some 1) (own_tag a) true) are.tag
+    ∷ by alice (Tag (Some 1) chairs_tag true) refl
+    ∷ by hal (Tag (Some 1) hot false) refl
+    ∷ by fay (Tag (Some 2) chairs_tag true) refl
     ∷ []
 
-bidding-leads : (d : Digests) (mode : Mode) → LeadsTo (before_bidding d mode) bidding_calls (having_bids d mode)
-bidding-leads d Anonymous =
-    may refl tt then may refl tt then may refl tt then may refl tt then may refl tt
-    then may refl (omega arith) then may refl (omega arith) then may refl (omega arith) then may refl (omega arith) then refl
-bidding-leads d mode =
-    may refl tt then may refl tt then may refl tt then may refl tt then may refl tt
-    then may refl (omega arith) then may refl (omega arith) then may refl (omega arith) then may refl (omega arith) then refl
-
-abbrev assigning_calls : Bool → List Call
-assigning_calls twin =
-    by alice (Assign (Some 1) (Some (assigned_name twin)) Primary)
-    ∷ by alice (Assign (Some 1) (Some (codes "alice")) Secondary)
-    ∷ by alice (Assign (Some 2) (Some (codes "fay")) Pc)
+abbrev assigning_turns : Bool → List Turn
+assigning_turns twin =
+    by alice (Assign (Some 1) (Some (assigned_name twin)) Primary) tt
+    ∷ by alice (Assign (Some 1) (Some (codes "alice")) Secondary) tt
+    ∷ by alice (Assign (Some 2) (Some (codes "fay")) Pc) tt
     ∷ []
 
-assigning-leads : (d : Digests) (mode : Mode) (twin : Bool) → LeadsTo (having_bids d mode) (assigning_calls twin) (in_bidding d mode (assigned twin))
-assigning-leads d mode false = may refl tt then may refl tt then may refl tt then refl
-assigning-leads d mode true = may refl tt then may refl tt then may refl tt then refl
-
-abbrev reviewing_calls : Bool → List Call
-reviewing_calls twin =
-    by alice (SetPhase Reviewing)
-    ∷ by alice (Unassign (Some 1) (Some (assigned_name twin)))
-    ∷ by alice (Assign (Some 1) (Some (assigned_name twin)) Pc)
+abbrev reviewing_turns : Bool → List Turn
+reviewing_turns twin =
+    by alice (SetPhase Reviewing) tt
+    ∷ by alice (Unassign (Some 1) (Some (assigned_name twin))) tt
+    ∷ by alice (Assign (Some 1) (Some (assigned_name twin)) Pc) tt
+    ∷ by (assigned twin) (Review (Some 1) first_form) (bounded-form first_form refl refl refl (ascii-review first_form.to_pc refl))
+    ∷ by alice (Review (Some 1) alices_form) (bounded-form alices_form refl refl refl (ascii-review alices_form.to_pc refl))
+    ∷ by (assigned twin) (Review (Some 1) second_form) (bounded-form second_form refl refl refl (ascii-review second_form.to_pc refl))
     ∷ []
 
-reviewing-leads : (d : Digests) (mode : Mode) (twin : Bool)
-    → LeadsTo (in_bidding d mode (assigned twin)) (reviewing_calls twin) (in_reviewing d mode (assigned twin))
-reviewing-leads d mode false = may refl tt then may refl tt then may refl tt then refl
-reviewing-leads d mode true = may refl tt then may refl tt then may refl tt then refl
+abbrev discussion_turns : (a : Asides) → AreAsides a → Bool → List Turn
+discussion_turns a are twin =
+    by alice (SetPhase Discussion) tt
+    ∷ by (assigned twin) (Review (Some 1) (last_form a)) (bounded-form (last_form a) refl refl refl are.to_pc)
+    ∷ by (assigned twin) (Comment (Some 1) a.comment) are.comment
+    ∷ by (other_than (assigned twin)) (Comment (Some 1) agreed) agreed-bounded
+    ∷ []
 
-abbrev opens : Phase → List Call
-opens phase = by alice (SetPhase phase) ∷ []
+abbrev notification_turns : List Turn
+notification_turns = by alice (SetPhase Notification) tt ∷ []
 
-discussion-leads : (d : Digests) (mode : Mode) (twin : Bool)
-    → LeadsTo (in_reviewing d mode (assigned twin)) (opens Discussion) (in_discussion d mode (assigned twin))
-discussion-leads d mode false = may refl tt then refl
-discussion-leads d mode true = may refl tt then refl
+-- that each call is allowed is computed: in each mode where a member calls who may not oversee the paper, and for each of the two whom
+-- alice may assign
+bidding-leads : (d : Digests) (mode : Mode) (a : Asides) (are : AreAsides a)
+    → reached (before_bidding d mode) (bidding_turns a are) ≡ Some (having_tags d mode a)
+bidding-leads d Anonymous a are = refl
+bidding-leads d mode a are = refl
 
-notification-leads : (d : Digests) (mode : Mode) (twin : Bool)
-    → LeadsTo (in_discussion d mode (assigned twin)) (opens Notification) (at_notification d mode (assigned twin))
-notification-leads d mode false = may refl tt then refl
-notification-leads d mode true = may refl tt then refl
+assigning-leads : (d : Digests) (mode : Mode) (a : Asides) (twin : Bool)
+    → reached (having_tags d mode a) (assigning_turns twin) ≡ Some (in_bidding d mode a (assigned twin))
+assigning-leads d mode a false = refl
+assigning-leads d mode a true = refl
 
--- each phase is legal, and who is what in it is computed for each of the two members
-reviewed : (d : Digests) (mode : Mode) (twin : Bool) → Legal (before_bidding d mode) → IsReviewed d mode (assigned twin)
-reviewed d mode twin before =
-    let member : ℕ = assigned twin in
-    let bids = goes_on (before_bidding d mode) (having_bids d mode) bidding_calls before (bidding-leads d mode) in
-    let bidding = goes_on (having_bids d mode) (in_bidding d mode member) (assigning_calls twin) bids (assigning-leads d mode twin) in
-    let reviewing = goes_on (in_bidding d mode member) (in_reviewing d mode member) (reviewing_calls twin) bidding (reviewing-leads d mode twin) in
-    let discussion = goes_on (in_reviewing d mode member) (in_discussion d mode member) (opens Discussion) reviewing (discussion-leads d mode twin) in
-    by_member twin bidding reviewing discussion
-    (goes_on (in_discussion d mode member) (at_notification d mode member) (opens Notification) discussion (notification-leads d mode twin))
+reviewing-leads : (d : Digests) (mode : Mode) (a : Asides) (twin : Bool)
+    → reached (in_bidding d mode a (assigned twin)) (reviewing_turns twin) ≡ Some (in_reviewing d mode a (assigned twin))
+reviewing-leads d Anonymous a false = refl
+reviewing-leads d Anonymous a true = refl
+reviewing-leads d mode a false = refl
+reviewing-leads d mode a true = refl
+
+discussion-leads : (d : Digests) (mode : Mode) (a : Asides) (are : AreAsides a) (twin : Bool)
+    → reached (in_reviewing d mode a (assigned twin)) (discussion_turns a are twin) ≡ Some (in_discussion d mode a (assigned twin))
+discussion-leads d Anonymous a are false = refl
+discussion-leads d Anonymous a are true = refl
+discussion-leads d mode a are false = refl
+discussion-leads d mode a are true = refl
+
+notification-leads : (d : Digests) (mode : Mode) (a : Asides) (twin : Bool)
+    → reached (in_discussion d mode a (assigned twin)) notification_turns ≡ Some (at_notification d mode a (assigned twin))
+notification-leads d mode a false = refl
+notification-leads d mode a true = refl
+
+-- each phase is legal
+module _ (d : Digests) (mode : Mode) (a : Asides) (are : AreAsides a) (twin : Bool) where
+  bidding-legal : Legal (before_bidding d mode) → Legal (in_bidding d mode a (assigned twin))
+  bidding-legal legal =
+      goes_on (having_tags d mode a) (in_bidding d mode a (assigned twin)) (assigning_turns twin) (assigning-leads d mode a twin)
+      (goes_on (before_bidding d mode) (having_tags d mode a) (bidding_turns a are) (bidding-leads d mode a are) legal)
+
+  reviewing-legal : Legal (in_bidding d mode a (assigned twin)) → Legal (in_reviewing d mode a (assigned twin))
+  reviewing-legal = goes_on (in_bidding d mode a (assigned twin)) (in_reviewing d mode a (assigned twin)) (reviewing_turns twin) (reviewing-leads d mode a twin)
+
+  discussion-legal : Legal (in_reviewing d mode a (assigned twin)) → Legal (in_discussion d mode a (assigned twin))
+  discussion-legal =
+      goes_on (in_reviewing d mode a (assigned twin)) (in_discussion d mode a (assigned twin)) (discussion_turns a are twin)
+      (discussion-leads d mode a are twin)
+
+  notification-legal : Legal (in_discussion d mode a (assigned twin)) → Legal (at_notification d mode a (assigned twin))
+  notification-legal =
+      goes_on (in_discussion d mode a (assigned twin)) (at_notification d mode a (assigned twin)) notification_turns (notification-leads d mode a twin)
+
+-- and who is what in it is computed for each of the two members
+reviewed : (d : Digests) (mode : Mode) (a : Asides) → AreAsides a → Legal (before_bidding d mode) → (twin : Bool) → IsReviewed d mode a (assigned twin)
+reviewed d mode a are before twin =
+    let bidding = bidding-legal d mode a are twin before in
+    let reviewing = reviewing-legal d mode a are twin bidding in
+    let discussion = discussion-legal d mode a are twin reviewing in
+    by_member twin bidding reviewing discussion (notification-legal d mode a are twin discussion)
   where
-    by_member : (twin : Bool) → Legal (in_bidding d mode (assigned twin)) → Legal (in_reviewing d mode (assigned twin))
-        → Legal (in_discussion d mode (assigned twin)) → Legal (at_notification d mode (assigned twin)) → IsReviewed d mode (assigned twin)
+    by_member : (twin : Bool) → Legal (in_bidding d mode a (assigned twin)) → Legal (in_reviewing d mode a (assigned twin))
+        → Legal (in_discussion d mode a (assigned twin)) → Legal (at_notification d mode a (assigned twin)) → IsReviewed d mode a (assigned twin)
     by_member false bidding reviewing discussion notification = record {
       bidding = record { legal = bidding; cast = refl };
       reviewing = record { legal = reviewing; cast = refl };
@@ -224,39 +318,41 @@ reviewed d mode twin before =
     }
 
 pub conference-legal : ConferenceLegal
-conference-legal d mode are =
-    let before = before-legal d mode (submitted-legal d mode (opened-legal d mode (registered-legal d are))) in (
-      record { legal = before; cast = refl },
-      reviewed d mode false before,
-      reviewed d mode true before,
-    )
+conference-legal d mode a digests asides =
+    let before = before-legal d mode (submitted-legal d mode (opened-legal d mode (registered-legal d digests))) in
+    record {
+      before = record { legal = before; cast = refl };
+      reviewed = reviewed d mode a asides before false;
+      twin = reviewed d mode a asides before true;
+    }
 
 -- ---- views: each is computed, in each mode
 
+-- what holds in each mode
+in_each_mode : (P : Mode → Type 0) → P Overt → P Blind → P Anonymous → (mode : Mode) → P mode
+in_each_mode P overt blind anonymous Overt = overt
+in_each_mode P overt blind anonymous Blind = blind
+in_each_mode P overt blind anonymous Anonymous = anonymous
+
 pub views-before : ViewsBeforeBidding
-views-before d Overt = refl
-views-before d Blind = refl
-views-before d Anonymous = refl
+views-before d mode a = in_each_mode (λ mode. views_of (before_bidding d mode) ≡ views_before d mode) refl refl refl mode
 
 pub views-bidding : ViewsInBidding
-views-bidding d Overt = refl
-views-bidding d Blind = refl
-views-bidding d Anonymous = refl
+views-bidding d mode a = in_each_mode (λ mode. views_of (in_bidding d mode a dave) ≡ views_in_bidding d mode a) refl refl refl mode
+
+pub views-reviewing : ViewsInReviewing
+views-reviewing d mode a = in_each_mode (λ mode. views_of (in_reviewing d mode a dave) ≡ views_in_reviewing d mode a) refl refl refl mode
 
 pub views-discussion : ViewsInDiscussion
-views-discussion d Overt = refl
-views-discussion d Blind = refl
-views-discussion d Anonymous = refl
+views-discussion d mode a = in_each_mode (λ mode. views_of (in_discussion d mode a dave) ≡ views_in_discussion d mode a) refl refl refl mode
 
 pub views-notification : ViewsAtNotification
-views-notification d Overt = refl
-views-notification d Blind = refl
-views-notification d Anonymous = refl
+views-notification d mode a = in_each_mode (λ mode. views_of (at_notification d mode a dave) ≡ views_at_notification d mode a) refl refl refl mode
 
--- ---- the twin
+-- ---- the twins
 
 pub twins-alike : TwinsAlike
-twins-alike d Overt = record {
+twins-alike d Overt a = record {
   author = refl;
   author_throughout = λ hidden. absurd (true≢false hidden);
   coauthor = refl;
@@ -264,7 +360,7 @@ twins-alike d Overt = record {
   conflicted_member = refl;
   conflicted_chair = refl;
 }
-twins-alike d mode = record {
+twins-alike d mode a = record {
   author = refl;
   author_throughout = λ hidden. refl;
   coauthor = refl;
@@ -272,3 +368,6 @@ twins-alike d mode = record {
   conflicted_member = refl;
   conflicted_chair = refl;
 }
+
+pub asides-hidden : AsidesHidden
+asides-hidden d mode a b = record { author = refl; coauthor = refl; conflicted_member = refl; conflicted_chair = refl }

@@ -1,10 +1,10 @@
 -- An author sees whom her paper's authors declared in conflict with it, where each was declared in time.
 use Rattle.std.proofs.Common.{◌≡◌, ℕ, Bool, true, false, List, [], ◌∷◌, ◌++◌, refl, sym, ap, ◌∙◌, ◌||◌, ◌&&◌, Option, Some, None, eqb, arith}
 use Rattle.std.specs.Prelude.{not}
-use Rattle.std.specs.List.{flat_map, list_any}
+use Rattle.std.specs.List.{flat_map}
 use Rattle.std.proofs.lemmas.Bool.{eqb-true, true≢false, false≢true}
 use Rattle.cr_base.specs.declared.entry.Entry.{Entry}
-use Rattle.cr_base.specs.declared.entry.Entry.TheVariants.{PhaseSet, Conflict}
+use Rattle.cr_base.specs.declared.entry.Entry.TheVariants.{Conflict}
 use Rattle.cr_base.specs.declared.entry.Stamped.{Stamped}
 use Rattle.cr_base.specs.declared.words.Phase.TheVariants.{Bidding}
 use Rattle.cr_base.specs.Lists.{given, listed, is_number, until, since}
@@ -15,35 +15,14 @@ use Rattle.cr_base.specs.Phases.{is_from}
 use Rattle.cr_base.specs.Words.{is_chair}
 use Rattle.cr_history.specs.Invariants.{is_opening, ByAuthor, ByHerselfOrOther, Early, Late, DeclaresInTime}
 use Rattle.cr_policy.specs.Part as part
-use Rattle.cr_policy.specs.Sighting.{Sighting, where_shown}
+use Rattle.cr_policy.specs.Sighting.{where_shown}
 use Rattle.cr_policy.specs.Triggers.{Reader, reader, Around, standing_to, user_named}
-use Rattle.cr_policy.specs.View.{view, sight, is_seen, joined}
+use Rattle.cr_policy.specs.View.{view, sight}
 use Rattle.cr_policy.specs.ViewFacts.{only, is_user, conflict_user_seen, own_or_other_seen, bidding_seen, declared_in_view}
-use Rattle.cr_policy.proofs.Cuts.{CutsAt, sights-until, sights-since, kept_until-each, kept_since-each, flat_map-cut}
+use Rattle.cr_policy.proofs.Cuts.{opening_cuts, sights-until, sights-since, kept_until-each, kept_since-each, flat_map-cut}
 use Rattle.cr_history.proofs.LineTies.{stamp}
 use Rattle.cr_policy.proofs.Tells.{passes, silent, told_where, paper_value}
 use Rattle.cr_policy.proofs.Walk.{only-false, list_any-nobody, Tells}
-
--- ---- everyone sees the bidding opened
-
-module _ (r : Reader) (at : Around) (maker : ℕ) (more : Bool) where
-  opening-one : (e : Entry) → opens Bidding e ≡ true → (s : Sighting) × ((sight r at (stamp maker more e) ≡ s ∷ []) × (bidding_seen s ≡ true))
-  opening-one (PhaseSet phase) h = (joined r at (stamp maker more (PhaseSet phase)), (refl, h))
-  opening-one e h = absurd (false≢true h)
-
-  opening-other : (e : Entry) → opens Bidding e ≡ false → list_any bidding_seen (sight r at (stamp maker more e)) ≡ false
-  opening-other (PhaseSet phase) h = ap (λ b. b || false) h
-  opening-other e h = by (is_seen r at (stamp maker more e)) (joined r at (stamp maker more e)) refl
-    where
-      by : (b : Bool) (s : Sighting) → bidding_seen s ≡ false → list_any bidding_seen (given b s) ≡ false
-      by true s h = ap (λ b. b || false) h
-      by false s h = refl
-
-opening_cuts : (r : Reader) → CutsAt r is_opening bidding_seen
-opening_cuts r = record {
-  one = λ at e h. opening-one r at e.maker e.more e.entry h;
-  other = λ at e h. opening-other r at e.maker e.more e.entry h;
-}
 
 -- ---- what is told of the user named
 
@@ -156,10 +135,10 @@ module _ (u p : ℕ) (H : History) (author : is_author (Some u) p H ≡ true) wh
   declared-seen_by : DeclaresInTime H → declared_in_view (Some u) p (view (Some u) H) ≡ declared_by_authors p H
   declared-seen_by in_time =
       let first : flat_map (conflict_user_seen p) (until bidding_seen (view (Some u) H)) ≡ flat_map made_told (until is_opening H) =
-      sights-until r is_opening bidding_seen (opening_cuts r) (conflict_user_seen p) (λ (e : Stamped). user_told p e.entry) (passes part.user r) (user_tells r p) [] H
+      sights-until r is_opening bidding_seen (opening_cuts r Bidding) (conflict_user_seen p) (λ (e : Stamped). user_told p e.entry) (passes part.user r) (user_tells r p) [] H
       ∙ kept_until-each is_opening (passes part.user r) (λ (e : Stamped). user_told p e.entry) made_told (Early H) (λ at e h. early_at at e.maker e.more e.entry h) [] H in_time.early in
       let second : flat_map (own_or_other_seen (Some u) p) (since bidding_seen (view (Some u) H)) ≡ flat_map made_told (since is_opening H) =
-      sights-since r is_opening bidding_seen (opening_cuts r) (own_or_other_seen (Some u) p) (λ (e : Stamped). own_or_other_told (Some u) p e.maker e.entry) (passes part.user r) (own_or_other_tells r p) [] H
+      sights-since r is_opening bidding_seen (opening_cuts r Bidding) (own_or_other_seen (Some u) p) (λ (e : Stamped). own_or_other_told (Some u) p e.maker e.entry) (passes part.user r) (own_or_other_tells r p) [] H
       ∙ kept_since-each is_opening (passes part.user r) (λ (e : Stamped). own_or_other_told (Some u) p e.maker e.entry) made_told (Late H) (λ at e h. late_at at e.maker e.more e.entry h) [] H in_time.late in
       ap (λ xs. xs ++ flat_map (own_or_other_seen (Some u) p) (since bidding_seen (view (Some u) H))) first
       ∙ ap (λ ys. flat_map made_told (until is_opening H) ++ ys) second

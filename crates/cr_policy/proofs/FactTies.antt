@@ -1,31 +1,31 @@
 -- Where the tables tell what a history tells, what rules and answers read in a view is what they read in the tables.
-use Rattle.std.proofs.Common.{ℕ, Bool, true, false, ◌≡◌, List, length, sym, ap, subst, ◌∙◌, Option, Some}
-use Rattle.std.specs.Prelude.{map}
-use Rattle.cr_base.specs.declared.reply.AccountLine.{AccountLine}
+use Rattle.std.proofs.Common.{ℕ, Bool, true, false, ◌≡◌, length, sym, ap, ◌∙◌, Option, Some}
 use Rattle.cr_base.specs.declared.standing.Standing.{Standing}
-use Rattle.cr_base.specs.Answering.{uploads_told, reviewer_told}
+use Rattle.cr_base.specs.Answering.{uploads_told}
 use Rattle.cr_base.specs.History.{History}
-use Rattle.cr_base.specs.HistoryFacts.{is_author, uploads_of, reviewers_of}
-use Rattle.cr_base.specs.Page.{shows_author, gets_conflicts, gets_versions, gets_withdrawn, gets_reviewers}
+use Rattle.cr_base.specs.HistoryFacts.{is_author, uploads_of}
+use Rattle.cr_base.specs.Page.{shows_author, gets_conflicts, gets_versions, gets_withdrawn}
 use Rattle.cr_base.specs.Papers.{uploads_at, is_withdrawn_at}
-use Rattle.cr_base.specs.Seats.{seat_in, labels_in, reviewers_in}
+use Rattle.cr_base.specs.Seats.{seat_in, labels_in}
 use Rattle.cr_base.specs.Ties.{authors_in}
 use Rattle.cr_base.specs.Tables.{tables_of}
 use Rattle.cr_base.specs.Sources.{standing_at, facts_of_tables}
-use Rattle.cr_history.specs.Laws.{AreTold}
+use Rattle.cr_history.specs.Laws.{AreTold, AreFormsTold}
 use Rattle.cr_policy.specs.View.{view}
-use Rattle.cr_policy.specs.ViewFacts.{authors_in_view, uploads_in_view, is_withdrawn_in_view, seat_in_view, seats_in_view, reviewers_in_view, facts_in_view}
-use Rattle.cr_policy.proofs.StandingLaws.{standing_from_view, accounts-seen, papers-seen, own_papers-seen, own_bytes-seen, own_bid-seen, seat-seen}
-use Rattle.cr_policy.proofs.ReviewerTells.{seat-seen_by_chair, labels-seen, reviewers-seen}
+use Rattle.cr_policy.specs.ViewFacts.{authors_in_view, uploads_in_view, is_withdrawn_in_view, seat_in_view, seats_in_view, facts_in_view}
+use Rattle.cr_policy.proofs.StandingLaws.{standing_from_view, accounts-seen, papers-seen, own_papers-seen, own_bytes-seen, own_comments-seen, own_bid-seen, seat-seen}
+use Rattle.cr_policy.proofs.ReviewerTells.{seat-seen_by_chair, labels-seen}
+use Rattle.cr_policy.proofs.ReviewTells.{own_forms-seen}
 use Rattle.cr_policy.proofs.PageTells.{authors-seen, uploads-seen_by_author, uploads-seen, withdrawn-seen}
 
 -- the facts of any user's view are those of the tables
-pub facts_in_view-tables : (u : Option ℕ) (H : History) → AreTold H → facts_in_view u (view u H) ≡ facts_of_tables (tables_of H) u
-facts_in_view-tables u H told =
+pub facts_in_view-tables : (u : Option ℕ) (H : History) → AreTold H → AreFormsTold H → facts_in_view u (view u H) ≡ facts_of_tables (tables_of H) u
+facts_in_view-tables u H told forms =
     let accounts = accounts-seen u H ∙ told.accounts in
     let papers = papers-seen u H ∙ told.papers in
     let own = own_papers-seen u H ∙ told.own_papers u in
     let bytes = own_bytes-seen u H ∙ told.own_bytes u in
+    let comments = own_comments-seen u H ∙ told.own_comments u in
     λ i. record {
       standing = λ paper. (standing_from_view u paper H ∙ told.standing u paper) i;
       accounts = accounts i;
@@ -34,6 +34,8 @@ facts_in_view-tables u H told =
       own_bytes = bytes i;
       own_bid = λ p. (own_bid-seen u p H ∙ told.bid u p) i;
       own_seat = λ p. (seat-seen u p H ∙ told.seat u p) i;
+      own_forms = λ p. (own_forms-seen u p H ∙ forms.own u p) i;
+      own_comments = comments i;
     }
 
 module _ (u : Option ℕ) (H : History) (told : AreTold H) (p : ℕ) where
@@ -72,14 +74,3 @@ module _ (u : Option ℕ) (H : History) (told : AreTold H) (p : ℕ) where
   -- and how many labels were given
   pub labels-tables : gets_conflicts by ≡ true → length (seats_in_view p (view u H)) ≡ labels_in (tables_of H).seats p
   labels-tables may = labels-seen u p H (ap gets_conflicts (told.standing u (Some p)) ∙ may) ∙ told.labels p
-
-  -- ---- who reviews the paper, as far as any reader is told of it
-
-  pub reviewers-tables : (accounts : List AccountLine) → gets_reviewers by ≡ true
-      → map (reviewer_told by accounts) (reviewers_in_view p (view u H)) ≡ map (reviewer_told by accounts) (reviewers_in (tables_of H).seats p)
-  reviewers-tables accounts may =
-      subst
-      (λ (s : Standing). gets_reviewers s ≡ true
-      → map (reviewer_told s accounts) (reviewers_in_view p (view u H)) ≡ map (reviewer_told s accounts) (reviewers_of p H))
-      (told.standing u (Some p)) (λ gets. reviewers-seen u p H accounts gets) may
-      ∙ ap (map (reviewer_told by accounts)) (told.reviewers p)

@@ -4,7 +4,7 @@ use Rattle.std.proofs.Common.{None, Result, Err}
 use Rattle.std.specs.Prelude.{unwrap_or, is_some, not, nat_le, nat_lt}
 use Rattle.std.specs.List.{list_any}
 use Rattle.std.specs.Option.{option_map}
-use Rattle.std.proofs.lemmas.Bool.{and_parts, not-false, or_left, or_right}
+use Rattle.std.proofs.lemmas.Bool.{and_parts, not-false, or_left, or_right, true≢false}
 use Rattle.std.proofs.lemmas.Bool.Decides.{nat_tests}
 use Rattle.cr_base.specs.declared.command.Command.{Command}
 use Rattle.cr_base.specs.declared.command.Command.TheVariants as commands
@@ -13,28 +13,33 @@ use Rattle.cr_base.specs.declared.reply.Rule.TheVariants as rules
 use Rattle.cr_base.specs.declared.standing.Standing.{Standing}
 use Rattle.cr_base.specs.declared.target.Target.{Target}
 use Rattle.cr_base.specs.declared.words.Kind.{Kind}
-use Rattle.cr_base.specs.declared.words.Phase.TheVariants.{Submission, Bidding, Notification}
+use Rattle.cr_base.specs.declared.words.Phase.{Phase}
+use Rattle.cr_base.specs.declared.words.Phase.TheVariants.{Submission, Bidding, Reviewing, Discussion, Notification}
 use Rattle.cr_base.specs.declared.words.Role.{Role}
 use Rattle.cr_base.specs.declared.words.Role.TheVariants.{Account, Member, Chair}
 use Rattle.cr_base.specs.Checks.{Check, ◌breaks◌, judged, is_in_committee, declare_checks, own_checks, other_checks, off_checks, conflict_case, conflict_checks}
-use Rattle.cr_base.specs.Checks.{bid_checks, reviewer_checks, assign_checks, unassign_checks}
-use Rattle.cr_base.specs.Lists.{is_number}
+use Rattle.cr_base.specs.Checks.{bid_checks, reviewer_checks, assign_checks, unassign_checks, review_checks, comment_checks, tag_checks}
+use Rattle.cr_base.specs.Lists.{at_some, is_number}
 use Rattle.cr_base.specs.History.{History, Upload}
-use Rattle.cr_base.specs.Page.{shows_author, gets_conflicts, gets_withdrawn}
+use Rattle.cr_base.specs.Page.{is_clear_member, is_clear_chair, shows_author, gets_conflicts, gets_withdrawn}
 use Rattle.cr_base.specs.Phases.{phase_place, is_from, is_phase}
-use Rattle.cr_base.specs.Tables.{no_tables, tables_of, FitInTurn}
+use Rattle.cr_base.specs.Tables.{tables_of}
+use Rattle.cr_base.specs.TagTexts.{is_for_chairs}
 use Rattle.cr_base.specs.Words.{is_anonymous, is_member, is_chair}
 use Rattle.cr_base.specs.Drawn.{Drawn, revision_drawn, upload_drawn, withdrawal_drawn, conflict_drawn}
-use Rattle.cr_base.specs.Drawn.{bid_drawn, assignment_drawn, unassignment_drawn}
+use Rattle.cr_base.specs.Drawn.{bid_drawn, assignment_drawn, unassignment_drawn, review_drawn, comment_drawn, tag_drawn}
 use Rattle.cr_base.specs.Judging.{conflict_judged, assignment_judged, unassignment_judged, judge_by, judge_by_role}
-use Rattle.cr_base.specs.Sources.{Facts, Shown, maker_of, user_among, role_among, has_paper, paper_named, facts_of_tables, shown_in_tables}
-use Rattle.cr_base.proofs.CheckLaws.{judged-behind, asked-behind}
-use Rattle.cr_history.specs.Laws.{AreTold}
+use Rattle.cr_base.specs.Sources.{Facts, Shown, maker_of, user_among, role_among, has_paper, paper_named, standing_at, facts_of_tables, shown_in_tables}
+use Rattle.cr_base.proofs.CheckLaws.{NoneBroken, judged-behind, asked-behind}
+use Rattle.cr_history.specs.Invariants.{Invariants}
+use Rattle.cr_history.specs.Laws.{AreTold, AreFormsTold}
 use Rattle.cr_policy.specs.View.{view}
 use Rattle.cr_policy.specs.ViewFacts.{shown_in_view}
 use Rattle.cr_policy.specs.Judge.{judge}
 use Rattle.cr_policy.proofs.FactTies.{facts_in_view-tables, authors-tables, withdrawn-tables, own_uploads-tables, seat-tables, labels-tables}
 use Rattle.cr_policy.proofs.PageTies.{conflicts-tables}
+use Rattle.cr_policy.proofs.ReviewTies.{written-tables}
+use Rattle.cr_policy.proofs.TalkTies.{comment_count-tables}
 
 -- ---- judgement
 
@@ -160,6 +165,9 @@ record Agree (facts : Facts) (shown tabled : Shown) : Type 0 where
   conflicts : (p : ℕ) → gets_conflicts (facts.standing (Some p)) ≡ true → shown.conflicts p ≡ tabled.conflicts p
   seat : (p : ℕ) → gets_conflicts (facts.standing (Some p)) ≡ true → (v : Option ℕ) → shown.seat v p ≡ tabled.seat v p
   labels : (p : ℕ) → gets_conflicts (facts.standing (Some p)) ≡ true → shown.labels p ≡ tabled.labels p
+  written : (p : ℕ) → gets_conflicts (facts.standing (Some p)) ≡ true → (o : ℕ) → shown.written p o ≡ tabled.written p o
+  comments : (p : ℕ) → is_clear_member (facts.standing (Some p)) ≡ true → is_from Discussion (facts.standing (Some p)).phase ≡ true
+      → length (shown.comments p) ≡ length (tabled.comments p)
 
 -- a paper's authors are judged alike: whether it is withdrawn is asked, and what was uploaded is counted, only behind the
 -- rule that lets authors alone through
@@ -229,31 +237,96 @@ conflict-same facts shown tabled u (Some p) target on same = by (role_among fact
         (reviews shown) (reviews tabled)
         (λ told. ap (list_any (is_number target)) (same.authors p told)))
 
--- ---- bids and assignments
+-- ---- bids, reviews, comments and tags
 
--- whether a paper is withdrawn is asked of a bid only behind the rules that let through members in the bidding
-bid-same : (facts : Facts) (shown tabled : Shown) (p : ℕ) (drawn : Drawn) → Agree facts shown tabled
-    → judged (bid_checks (facts.standing (Some p)) (paper_named facts shown (Some p))) drawn
-    ≡ judged (bid_checks (facts.standing (Some p)) (paper_named facts tabled (Some p))) drawn
-bid-same facts shown tabled p drawn same =
-    asked-behind
-    (not (has_paper facts (Some p)) breaks rules.NoPaper ∷ not (is_member by.role) breaks rules.NotMember
-    ∷ by.conflicted breaks rules.Conflict ∷ not (is_phase by.phase Bidding) breaks rules.WrongPhase ∷ [])
-    (shown.withdrawn p) (tabled.withdrawn p) rules.Withdrawn [] drawn
-    (λ none. same.withdrawn p (told-member by drawn none.1.0 (begun-bidding (phase_place by.phase) (not-false (is_phase by.phase Bidding) none.1.1.1.0))))
-  where
-    by : Standing
-    by = facts.standing (Some p)
+-- whether a paper is withdrawn is asked of these only behind the rules that let through members from the bidding on
+module _ (facts : Facts) (shown tabled : Shown) (same : Agree facts shown tabled) (p : ℕ) where
+  abbrev by_member : Standing
+  by_member = facts.standing (Some p)
 
-    begun-bidding : (n : ℕ) → eqb n 2 ≡ true → nat_le 2 n ≡ true
-    begun-bidding n h = grind (arith, nat_tests)
+  abbrev for_members : List Check → List Check
+  for_members more =
+      not (has_paper facts (Some p)) breaks rules.NoPaper ∷ not (is_member by_member.role) breaks rules.NotMember
+      ∷ by_member.conflicted breaks rules.Conflict ∷ more
 
--- what the rules on reviewers ask of the paper and of the user named, and how many labels were given, which is drawn from
+  -- it is told from each of these phases on
+  at_phase : (first : Phase) → nat_le 2 (phase_place first) ≡ true → is_phase by_member.phase first ≡ true → is_from Bidding by_member.phase ≡ true
+  at_phase first late is = begun (phase_place by_member.phase) (phase_place first) late is
+    where
+      begun : (n m : ℕ) → nat_le 2 m ≡ true → eqb n m ≡ true → nat_le 2 n ≡ true
+      begun n m late is = grind (arith, nat_tests)
+
+  withdrawn-same : (before : List Check) (drawn : Drawn)
+      → (NoneBroken before → (not (is_member by_member.role) ≡ false) × (is_from Bidding by_member.phase ≡ true))
+      → judged (before ++ (shown.withdrawn p breaks rules.Withdrawn ∷ [])) drawn ≡ judged (before ++ (tabled.withdrawn p breaks rules.Withdrawn ∷ [])) drawn
+  withdrawn-same before drawn may =
+      asked-behind before (shown.withdrawn p) (tabled.withdrawn p) rules.Withdrawn [] drawn
+      (λ none. let is = may none in same.withdrawn p (told-member by_member drawn is.0 is.1))
+
+  bid-same : (drawn : Drawn)
+      → judged (bid_checks by_member (paper_named facts shown (Some p))) drawn ≡ judged (bid_checks by_member (paper_named facts tabled (Some p))) drawn
+  bid-same drawn =
+      withdrawn-same (for_members (not (is_phase by_member.phase Bidding) breaks rules.WrongPhase ∷ [])) drawn
+      (λ none. (none.1.0, at_phase Bidding refl (not-false (is_phase by_member.phase Bidding) none.1.1.1.0)))
+
+  review-same : (drawn : Drawn)
+      → judged (review_checks by_member (paper_named facts shown (Some p))) drawn ≡ judged (review_checks by_member (paper_named facts tabled (Some p))) drawn
+  review-same drawn =
+      withdrawn-same
+      (for_members (not by_member.reviewer breaks rules.NotReviewer
+      ∷ not (is_phase by_member.phase Reviewing || is_phase by_member.phase Discussion) breaks rules.WrongPhase ∷ [])) drawn
+      (λ none. (none.1.0, begun (is_phase by_member.phase Reviewing) (is_phase by_member.phase Discussion) refl refl none.1.1.1.1.0))
+    where
+      begun : (r d : Bool) → is_phase by_member.phase Reviewing ≡ r → is_phase by_member.phase Discussion ≡ d → not (r || d) ≡ false
+          → is_from Bidding by_member.phase ≡ true
+      begun true d hr hd h = at_phase Reviewing refl hr
+      begun false true hr hd h = at_phase Discussion refl hd
+      begun false false hr hd h = absurd (true≢false h)
+
+  tag-same : (for_chairs : Bool) (drawn : Drawn)
+      → judged (tag_checks by_member (paper_named facts shown (Some p)) for_chairs) drawn
+      ≡ judged (tag_checks by_member (paper_named facts tabled (Some p)) for_chairs) drawn
+  tag-same for_chairs drawn =
+      withdrawn-same
+      (not (has_paper facts (Some p)) breaks rules.NoPaper ∷ (for_chairs && not (is_chair by_member.role)) breaks rules.NotChair
+      ∷ not (is_member by_member.role) breaks rules.NotMember ∷ by_member.conflicted breaks rules.Conflict
+      ∷ not (is_in_committee by_member.phase) breaks rules.WrongPhase ∷ []) drawn
+      (λ none. (none.1.1.0, in_committee by_member drawn none.1.1.1.1.0))
+
+  -- so it is of a comment, and how many there are is counted only behind those that let through members from the discussion on
+  comment-same : (own : ℕ) (drawn : ℕ → Drawn)
+      → judged (comment_checks by_member (paper_named facts shown (Some p)) own) (drawn (length (shown.comments p)))
+      ≡ judged (comment_checks by_member (paper_named facts tabled (Some p)) own) (drawn (length (tabled.comments p)))
+  comment-same own drawn =
+      judged-behind (for_members (not (is_phase by_member.phase Discussion) breaks rules.WrongPhase ∷ []))
+      (behind (shown.withdrawn p)) (behind (tabled.withdrawn p))
+      (drawn (length (shown.comments p))) (drawn (length (tabled.comments p)))
+      (λ none.
+      let now = not-false (is_phase by_member.phase Discussion) none.1.1.1.0 in
+      ap (λ (withdrawn : Bool). judged (behind withdrawn) (drawn (length (shown.comments p))))
+      (same.withdrawn p (told-member by_member (drawn 0) none.1.0 (at_phase Discussion refl now)))
+      ∙ ap (λ (n : ℕ). judged (behind (tabled.withdrawn p)) (drawn n))
+      (same.comments p (clear (is_member by_member.role) by_member.conflicted none.1.0 none.1.1.0) (discussed (phase_place by_member.phase) now)))
+    where
+      behind : Bool → List Check
+      behind withdrawn = withdrawn breaks rules.Withdrawn ∷ nat_le 1000 own breaks rules.QuotaComments ∷ []
+
+      clear : (k c : Bool) → not k ≡ false → c ≡ false → (k && not c) ≡ true
+      clear k c hk hc = grind arith
+
+      discussed : (n : ℕ) → eqb n 4 ≡ true → nat_le 4 n ≡ true
+      discussed n h = grind (arith, nat_tests)
+
+-- ---- assignments
+
+-- what the rules on reviewers ask of the paper and of the user named, how many labels were given, which is drawn from, and whether a
+-- form is under hers
 record Asked : Type 0 where
   withdrawn : Bool
   user : Target
   seat : Option ℕ
   labels : ℕ
+  written : Bool
 
 -- all of it is asked only behind the rules that let through a clear chair from the bidding on
 module _ (facts : Facts) (shown tabled : Shown) (same : Agree facts shown tabled) (u : Option ℕ) (p : ℕ) (target : Option ℕ) where
@@ -269,6 +342,7 @@ module _ (facts : Facts) (shown tabled : Shown) (same : Agree facts shown tabled
         user = named role (is_number target (maker_of u)) wrote (wrote || declared) (is_some (source.seat target p));
         seat = source.seat target p;
         labels = source.labels p;
+        written = at_some (source.written p) (source.seat target p);
       }
 
   asked-same : (drawn : Drawn) (role : Role) → not (is_chair chair.role) ≡ false → chair.conflicted ≡ false → not (is_in_committee chair.phase) ≡ false
@@ -287,6 +361,7 @@ module _ (facts : Facts) (shown tabled : Shown) (same : Agree facts shown tabled
         user = named role (is_number target (maker_of u)) (wrote i) (wrote i || declared i) (is_some (seat i));
         seat = seat i;
         labels = labels i;
+        written = at_some (λ o. same.written p told o i) (seat i);
       }
     where
       all : (chair clash begun : Bool) → chair ≡ true → clash ≡ false → begun ≡ true → ((chair && not clash) && begun) ≡ true
@@ -332,13 +407,14 @@ module _ (facts : Facts) (shown tabled : Shown) (same : Agree facts shown tabled
       judged_by : Shown → Option Role → Result Drawn Rule
       judged_by source role =
           judged
-          (unassign_checks chair (paper_named facts source (Some p)) (option_map (λ (r : Role). (asked_of source r).user) role))
+          (unassign_checks chair (paper_named facts source (Some p)) (option_map (λ (r : Role). (asked_of source r).user) role)
+          (at_some (source.written p) (source.seat target p)))
           (unassignment_drawn (maker_of u) p (unwrap_or target 0) (unwrap_or (source.seat target p) 0))
 
       by : (role : Option Role) → judged_by shown role ≡ judged_by tabled role
       by None = refl
       by (Some role) =
-          reviewer-same role (λ asked. not asked.user.reviewer breaks rules.NotAssigned ∷ [])
+          reviewer-same role (λ asked. not asked.user.reviewer breaks rules.NotAssigned ∷ asked.written breaks rules.HasReview ∷ [])
           (λ asked. unassignment_drawn (maker_of u) p (unwrap_or target 0) (unwrap_or asked.seat 0))
 
 -- so what is shown makes no other judgement than what the tables hold
@@ -350,21 +426,28 @@ command-same facts shown tabled u (commands.Upload (Some p) content) same =
     (λ uploads. upload_drawn (maker_of u) p (length uploads + 1) content)
 command-same facts shown tabled u (commands.Withdraw (Some p)) same = author-same facts shown tabled same p [] (λ _. withdrawal_drawn (maker_of u) p)
 command-same facts shown tabled u (commands.SetConflict paper name on) same = conflict-same facts shown tabled u paper (user_among facts.accounts name) on same
-command-same facts shown tabled u (commands.Bid (Some p) value) same = bid-same facts shown tabled p (bid_drawn (maker_of u) p value) same
+command-same facts shown tabled u (commands.Bid (Some p) value) same = bid-same facts shown tabled same p (bid_drawn (maker_of u) p value)
 command-same facts shown tabled u (commands.Assign (Some p) name kind) same = assign-same facts shown tabled same u p (user_among facts.accounts name) kind
 command-same facts shown tabled u (commands.Unassign (Some p) name) same = unassign-same facts shown tabled same u p (user_among facts.accounts name)
+command-same facts shown tabled u (commands.Review (Some p) form) same =
+    review-same facts shown tabled same p (review_drawn (maker_of u) p (unwrap_or (facts.own_seat p) 0) (length (facts.own_forms p) + 1) form)
+command-same facts shown tabled u (commands.Comment (Some p) text) same =
+    comment-same facts shown tabled same p facts.own_comments (λ n. comment_drawn (maker_of u) p (n + 1) (facts.own_seat p) text)
+command-same facts shown tabled u (commands.Tag (Some p) tag on) same = tag-same facts shown tabled same p (is_for_chairs tag) (tag_drawn (maker_of u) p tag on)
 command-same facts shown tabled u command same = refl
 
 -- the judgement by any user's view is the one by the tables
-pub judge-tables : (u : Option ℕ) (H : History) (command : Command) → FitInTurn no_tables H → AreTold H
+pub judge-tables : (u : Option ℕ) (H : History) (command : Command) → Invariants H → AreTold H → AreFormsTold H
     → judge u (view u H) command ≡ judge_by_role (tables_of H) u command
-judge-tables u H command fits told =
-    ap (λ (facts : Facts). judge_by facts (shown_in_view u (view u H)) u command) (facts_in_view-tables u H told)
+judge-tables u H command kept told forms =
+    ap (λ (facts : Facts). judge_by facts (shown_in_view u (view u H)) u command) (facts_in_view-tables u H told forms)
     ∙ command-same (facts_of_tables (tables_of H) u) (shown_in_view u (view u H)) (shown_in_tables (tables_of H)) u command (record {
       withdrawn = λ p may. withdrawn-tables u H told p may;
       authors = λ p may. authors-tables u H told p may;
       uploads = λ p may. own_uploads-tables u H told p may;
-      conflicts = λ p may. conflicts-tables u H p fits told (ap gets_conflicts (told.standing u (Some p)) ∙ may);
+      conflicts = λ p may. conflicts-tables u H p kept.fits told (ap gets_conflicts (told.standing u (Some p)) ∙ may);
       seat = λ p may v. seat-tables u H told p may v;
       labels = λ p may. labels-tables u H told p may;
+      written = λ p may o. written-tables u H told p (and_parts (is_clear_chair (standing_at (tables_of H) u (Some p))) _ may).0 o;
+      comments = λ p clear discussed. comment_count-tables u H told p kept.bounded clear discussed;
     })

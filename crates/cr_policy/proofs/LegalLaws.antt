@@ -14,6 +14,7 @@ use Rattle.cr_base.specs.Tables.{no_tables, tables_of, FitInTurn}
 use Rattle.cr_history.specs.Invariants.{Invariants, InTurn, IsInOrder, ComesFirst, DeclaresInTime}
 use Rattle.cr_history.specs.Laws.{AreTold}
 use Rattle.cr_history.proofs.CallerLaws.{caller-registered}
+use Rattle.cr_history.proofs.FormTies.{forms_tell}
 use Rattle.cr_history.proofs.GrowthLaws.{growth_keeps, tables_tell}
 use Rattle.cr_policy.specs.View.{view}
 use Rattle.cr_policy.specs.Judge.{judge, answer}
@@ -64,7 +65,7 @@ followed-keeps : (H : History) (call : Call) → Invariants H → IsAllowed H ca
     → judge call.caller (view call.caller H) call.command ≡ r → Invariants (followed_by H r)
 followed-keeps H call kept allowed (Err rule) is = kept
 followed-keeps H call kept allowed (Ok drawn) is =
-    let fits = accepted-fits H call.caller call.command drawn kept.fits (Kept-told H kept) allowed.caller is in
+    let fits = accepted-fits H call.caller call.command drawn kept (Kept-told H kept) (forms_tell H kept) allowed.caller is in
     growth_keeps.more H drawn.group kept (accepted-adds H call.caller call.command drawn allowed.bounded allowed.caller is) fits
 
 leads-keeps : (from to : History) (calls : List Call) → Invariants from → LeadsTo from calls to → Invariants to
@@ -106,10 +107,10 @@ Legal-caller_registered name digest H u is = caller-registered name digest H u i
 
 -- judgement and answer by any user's view are those by the tables
 pub Legal-judge : (u : Option ℕ) (H : History) (command : Command) → Legal H → judge u (view u H) command ≡ judge_by_role (tables_of H) u command
-Legal-judge u H command legal = judge-tables u H command (Legal-fits H legal) (Legal-told H legal)
+Legal-judge u H command legal = let kept = legal_invariants H legal in judge-tables u H command kept (Kept-told H kept) (forms_tell H kept)
 
 pub Legal-answer : (u : Option ℕ) (H : History) (query : Query) → Legal H → answer u (view u H) query ≡ answer_by_role (tables_of H) u query
-Legal-answer u H query legal = answer-tables u H (Legal-fits H legal) (Legal-told H legal) (legal_invariants H legal).in_order (Legal-in_time H legal) query
+Legal-answer u H query legal = let kept = legal_invariants H legal in answer-tables u H kept (Kept-told H kept) (forms_tell H kept) query
 
 -- an author's view tells whom the paper's authors declared
 pub Legal-declared : DeclaredFromView

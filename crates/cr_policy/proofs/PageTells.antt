@@ -1,5 +1,5 @@
 -- What a view says of a paper is what the history says, where the reader's standing tells them.
-use Rattle.std.proofs.Common.{◌≡◌, ℕ, Bool, true, false, List, [], ◌∷◌, ◌++◌, refl, sym, ap, ◌∙◌, ◌||◌, ◌&&◌, Option, Some, eqb, arith}
+use Rattle.std.proofs.Common.{◌≡◌, ℕ, Bool, true, false, [], ◌∷◌, refl, sym, ap, ◌∙◌, ◌||◌, ◌&&◌, Option, Some, eqb, arith}
 use Rattle.std.specs.List.{flat_map}
 use Rattle.cr_base.specs.declared.entry.Entry.{Entry}
 use Rattle.cr_base.specs.declared.entry.Entry.TheVariants.{Submitted, Revised}
@@ -17,7 +17,7 @@ use Rattle.cr_policy.specs.View.{view, is_seen}
 use Rattle.cr_policy.specs.ViewFacts.{author_seen, title_seen, abstract_seen, upload_seen, withdrawal_seen}
 use Rattle.cr_policy.specs.ViewFacts.{title_in_view, abstract_in_view, authors_in_view, is_conflict_on_in_view, uploads_in_view, is_withdrawn_in_view}
 use Rattle.cr_policy.proofs.StandingLaws.{first_of, declared-seen_where}
-use Rattle.cr_policy.proofs.Walk.{fold_last, fold_all}
+use Rattle.cr_policy.proofs.Walk.{is_nothing-append, fold_last, fold_all}
 use Rattle.cr_policy.proofs.Tells.{passes, names_author, author_tells, title_tells, abstract_tells, upload_tells, withdrawal_tells}
 use Rattle.cr_policy.proofs.Tells.{author_value, title_value, abstract_value, upload_value, withdrawal_value}
 
@@ -39,10 +39,6 @@ title-seen u p H told =
     }) e) [] H
 
 -- ---- abstracts
-
-is_nothing-append : {A : Type 0} (xs ys : List A) → is_nothing (xs ++ ys) ≡ (is_nothing xs && is_nothing ys)
-is_nothing-append [] ys = refl
-is_nothing-append (x ∷ xs) ys = refl
 
 same_given : {A B : Type 0} (c : Bool) (x : A) (y : B) → is_nothing (given c x) ≡ is_nothing (given c y)
 same_given true x y = refl

@@ -1,10 +1,12 @@
 -- Where the tables tell what a history tells and conflicts are declared in time, answers by a view are those by the tables.
-use Rattle.std.proofs.Common.{ℕ, Bool, true, false, ◌≡◌, List, [], ◌∷◌, ◌||◌, ◌&&◌, refl, ap, ◌∙◌, arith, Option, Some, None, Result}
+use Rattle.std.proofs.Common.{ℕ, Bool, true, false, ◌≡◌, List, [], ◌∷◌, ◌||◌, ◌&&◌, refl, ap, ◌∙◌, arith, Option, Some, None, Result, Ok}
 use Rattle.std.specs.Prelude.{◌==◌, unwrap_or, not, is_some, map}
 use Rattle.std.specs.List.{flat_map, list_any, filter}
 use Rattle.std.specs.Option.{option_map}
+use Rattle.std.proofs.lemmas.Bool.{not-false}
 use Rattle.cr_base.specs.declared.command.Query.{Query}
 use Rattle.cr_base.specs.declared.command.Query.TheVariants as queries
+use Rattle.cr_base.specs.declared.comment.CommentLine.{CommentLine}
 use Rattle.cr_base.specs.declared.page.Bidder.{Bidder}
 use Rattle.cr_base.specs.declared.page.Page.{Page}
 use Rattle.cr_base.specs.declared.reply.AccountLine.{AccountLine}
@@ -13,33 +15,35 @@ use Rattle.cr_base.specs.declared.reply.Reply.TheVariants as replies
 use Rattle.cr_base.specs.declared.reply.Rule.{Rule}
 use Rattle.cr_base.specs.declared.reply.Rule.TheVariants as rules
 use Rattle.cr_base.specs.declared.standing.Standing.{Standing}
-use Rattle.cr_base.specs.declared.words.Phase.TheVariants.{Bidding}
+use Rattle.cr_base.specs.declared.words.Phase.TheVariants.{Bidding, Discussion}
 use Rattle.cr_base.specs.Accounts.{lines_of}
 use Rattle.cr_base.specs.Checks.{Check, ◌breaks◌, judged}
 use Rattle.cr_base.specs.History.{History, Upload, BidTold}
 use Rattle.cr_base.specs.HistoryFacts.{standing_of}
 use Rattle.cr_base.specs.Lists.{listed}
 use Rattle.cr_base.specs.Page.{PaperTexts, page_of, where_told, gets_title, gets_abstract, shows_author, gets_conflict, gets_conflicts, gets_declared}
-use Rattle.cr_base.specs.Page.{gets_versions, gets_withdrawn, gets_bid, gets_bids, gets_label, gets_reviewers, bare_keys}
+use Rattle.cr_base.specs.Page.{gets_versions, gets_withdrawn, gets_bid, gets_bids, gets_label, gets_reviewers, gets_tags, bare_keys}
 use Rattle.cr_base.specs.Phases.{is_from}
 use Rattle.cr_base.specs.Tables.{Tables, no_tables, tables_of, FitInTurn}
 use Rattle.cr_base.specs.Answering.{uploads_told, upload_of, content_by, content_asked, query_checks, bidder_told, reviewer_told, page_by}
-use Rattle.cr_base.specs.Answering.{reply_or_rule, answer_by, answer_by_role}
+use Rattle.cr_base.specs.Answering.{comments_by, reply_or_rule, answer_by, answer_by_role}
 use Rattle.cr_base.specs.Sources.{Facts, Shown, has_paper, facts_of_tables, shown_in_tables, names_in}
-use Rattle.cr_base.specs.Words.{is_member, no_bid}
+use Rattle.cr_base.specs.Words.{is_chair, is_member, no_bid}
 use Rattle.cr_base.proofs.CheckLaws.{judged-behind}
-use Rattle.cr_history.specs.Laws.{AreTold}
+use Rattle.cr_history.specs.Laws.{AreTold, AreFormsTold}
 use Rattle.cr_policy.specs.View.{view}
 use Rattle.cr_policy.specs.ViewFacts.{is_conflict_on_in_view, declared_in_view, users_where, shown_in_view}
 use Rattle.cr_policy.specs.Judge.{answer}
 use Rattle.cr_policy.proofs.DeclaredLaws.{declared-seen_by_author}
-use Rattle.cr_history.specs.Invariants.{InTurn, IsInOrder, DeclaresInTime}
+use Rattle.cr_history.specs.Invariants.{DeclaresInTime, Invariants}
 use Rattle.cr_history.proofs.OrderTies.{has_order-tables, users-tied_to}
 use Rattle.cr_policy.proofs.StandingLaws.{accounts-seen}
 use Rattle.cr_policy.proofs.BidTies.{bids-tables}
 use Rattle.cr_policy.proofs.ReviewerTells.{same_key}
 use Rattle.cr_policy.proofs.PageTells.{title-seen, abstract-seen, conflicts-seen}
-use Rattle.cr_policy.proofs.FactTies.{facts_in_view-tables, authors-tables, withdrawn-tables, uploads-tables, reviewers-tables}
+use Rattle.cr_policy.proofs.FactTies.{facts_in_view-tables, authors-tables, withdrawn-tables, uploads-tables}
+use Rattle.cr_policy.proofs.ReviewTies.{reviewers-tables, reviews-tables}
+use Rattle.cr_policy.proofs.TalkTies.{comments-tables, tags-tables}
 
 -- ---- users by number
 
@@ -81,6 +85,7 @@ record AgreeWhereTold (by : Standing) (x y : PaperTexts) : Type 0 where
   declared : gets_declared by ≡ true → x.declared ≡ y.declared
   bids : gets_bids by ≡ true → x.bids ≡ y.bids
   reviewers : gets_reviewers by ≡ true → x.reviewers ≡ y.reviewers
+  tags : gets_tags by ≡ true → x.tags ≡ y.tags
   versions : gets_versions by ≡ true → x.versions ≡ y.versions
   withdrawn : gets_withdrawn by ≡ true → x.withdrawn ≡ y.withdrawn
 
@@ -97,13 +102,14 @@ page_of-same by p x y agree = λ i. record {
   declared = same_key (gets_declared by) (Some x.declared) (Some y.declared) (λ told. ap Some (agree.declared told)) i;
   label = where_told (gets_label by) (agree.label i);
   reviewers = same_key (gets_reviewers by) (Some x.reviewers) (Some y.reviewers) (λ told. ap Some (agree.reviewers told)) i;
+  tags = same_key (gets_tags by) (Some x.tags) (Some y.tags) (λ told. ap Some (agree.tags told)) i;
   title = same_key (gets_title by) x.title y.title agree.title i;
   versions = same_key (gets_versions by) (Some x.versions) (Some y.versions) (λ told. ap Some (agree.versions told)) i;
   withdrawn = same_key (gets_withdrawn by) (Some x.withdrawn) (Some y.withdrawn) (λ told. ap Some (agree.withdrawn told)) i;
   bare = bare_keys by;
 }
 
-module _ (u : Option ℕ) (H : History) (fits : FitInTurn no_tables H) (told : AreTold H) (in_order : InTurn IsInOrder [] H) (in_time : DeclaresInTime H) where
+module _ (u : Option ℕ) (H : History) (kept : Invariants H) (told : AreTold H) (forms : AreFormsTold H) where
   abbrev facts : Facts
   facts = facts_of_tables (tables_of H) u
 
@@ -114,7 +120,7 @@ module _ (u : Option ℕ) (H : History) (fits : FitInTurn no_tables H) (told : A
   tabled = shown_in_tables (tables_of H)
 
   -- the page of any paper by any user's view is the one by the tables
-  page-tables : (p : ℕ) → page_by facts shown p ≡ page_by facts tabled p
+  page-tables : (p : ℕ) → page_by facts shown u p ≡ page_by facts tabled u p
   page-tables p =
       let by : Standing = facts.standing (Some p) in
       let names : List ℕ → List (List ℕ) = names_in facts.accounts in
@@ -129,7 +135,8 @@ module _ (u : Option ℕ) (H : History) (fits : FitInTurn no_tables H) (told : A
         conflicts = names (from.conflicts p);
         declared = names (from.declared p);
         label = facts.own_seat p;
-        reviewers = map (reviewer_told by facts.accounts) (from.reviewers p);
+        reviewers = map (reviewer_told by facts.accounts (from.written p)) (from.reviewers p);
+        tags = from.tags u (is_chair by.role) p;
         versions = numbers (uploads_told by.author (from.uploads p));
         withdrawn = from.withdrawn p;
       } in
@@ -140,10 +147,11 @@ module _ (u : Option ℕ) (H : History) (fits : FitInTurn no_tables H) (told : A
         title = λ may. title-seen u p H (ap gets_title stands ∙ may) ∙ told.title p;
         abstract_ = λ may. abstract-seen u p H (ap gets_abstract stands ∙ may) ∙ told.abstract_ p;
         authors = λ may. ap names (authors-tables u H told p may);
-        conflicts = λ may. ap names (conflicts-tables u H p fits told (ap gets_conflicts stands ∙ may));
-        declared = λ may. ap names (declared-tables u H p fits told in_time (ap gets_declared stands ∙ may));
-        bids = λ may. ap bidders (bids-tables u H told in_order p may);
+        conflicts = λ may. ap names (conflicts-tables u H p kept.fits told (ap gets_conflicts stands ∙ may));
+        declared = λ may. ap names (declared-tables u H p kept.fits told kept.in_time (ap gets_declared stands ∙ may));
+        bids = λ may. ap bidders (bids-tables u H told kept.in_order p may);
         reviewers = λ may. reviewers-tables u H told p facts.accounts may;
+        tags = λ may. tags-tables u H told p may;
         versions = λ may. ap numbers (uploads-tables u H told p may);
         withdrawn = λ may. withdrawn-tables u H told p may;
       })
@@ -186,6 +194,29 @@ module _ (u : Option ℕ) (H : History) (fits : FitInTurn no_tables H) (told : A
           → (author || ((member && not clash) && begun)) ≡ true
       reads author member clash begun h1 h2 h3 = grind arith
 
+  -- ---- comments
+
+  -- they matter only where she may ask for them
+  comments-same : (paper : Option ℕ)
+      → judged (query_checks facts shown (queries.Comments paper)) (replies.Comments (comments_by facts shown (unwrap_or paper 0)))
+      ≡ judged (query_checks facts tabled (queries.Comments paper)) (replies.Comments (comments_by facts tabled (unwrap_or paper 0)))
+  comments-same None = refl
+  comments-same (Some p) =
+      judged-behind (query_checks facts shown (queries.Comments (Some p))) [] []
+      (replies.Comments (comments_by facts shown p)) (replies.Comments (comments_by facts tabled p))
+      (λ none. ap answered
+      (comments-tables u H told p facts.accounts kept.bounded (clear (is_member by.role) by.conflicted none.1.0 none.1.1.0)
+      (not-false (is_from Discussion by.phase) none.1.1.1.0)))
+    where
+      by : Standing
+      by = facts.standing (Some p)
+
+      answered : List CommentLine → Result Reply Rule
+      answered lines = Ok (replies.Comments lines)
+
+      clear : (k c : Bool) → not k ≡ false → c ≡ false → (k && not c) ≡ true
+      clear k c hk hc = grind arith
+
   -- ---- answers
 
   answer-shown : (query : Query) → answer_by facts shown u query ≡ answer_by_role (tables_of H) u query
@@ -195,7 +226,10 @@ module _ (u : Option ℕ) (H : History) (fits : FitInTurn no_tables H) (told : A
   answer-shown (queries.Page paper) = ap (λ (page : Page). reply_or_rule (judged (query_checks facts shown (queries.Page paper)) (replies.Page page))) (page-tables (unwrap_or paper 0))
   answer-shown (queries.Content paper) = ap reply_or_rule (content-tables paper None)
   answer-shown (queries.Version paper version) = ap reply_or_rule (content-tables paper (Some version))
+  answer-shown (queries.Reviews None) = refl
+  answer-shown (queries.Reviews (Some p)) = ap reply_or_rule (reviews-tables u H told p forms)
+  answer-shown (queries.Comments paper) = ap reply_or_rule (comments-same paper)
 
   -- and so is the answer
   pub answer-tables : (query : Query) → answer u (view u H) query ≡ answer_by_role (tables_of H) u query
-  answer-tables query = ap (λ (facts : Facts). answer_by facts shown u query) (facts_in_view-tables u H told) ∙ answer-shown query
+  answer-tables query = ap (λ (facts : Facts). answer_by facts shown u query) (facts_in_view-tables u H told forms) ∙ answer-shown query

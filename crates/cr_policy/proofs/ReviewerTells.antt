@@ -1,6 +1,6 @@
 -- What a view says of a paper's bids and of its reviewers is what the history says, where the reader's standing tells them.
-use Rattle.std.proofs.Common.{◌≡◌, ℕ, Bool, true, false, List, [], ◌∷◌, refl, sym, ap, ◌∙◌, ◌||◌, ◌&&◌, Option, Some, cond, length, arith}
-use Rattle.std.specs.Prelude.{map, not, filter, ◌==◌}
+use Rattle.std.proofs.Common.{◌≡◌, ℕ, Bool, true, false, List, [], ◌∷◌, refl, sym, ap, ◌∙◌, ◌||◌, ◌&&◌, Option, Some, None, cond, length, arith}
+use Rattle.std.specs.Prelude.{map, not, filter, find, ◌==◌}
 use Rattle.std.specs.Cmp.Derive.{both_true}
 use Rattle.std.specs.List.{flat_map, list_any}
 use Rattle.std.specs.Option.{option_and_then}
@@ -15,7 +15,7 @@ use Rattle.cr_base.specs.declared.words.Phase.TheVariants.{Bidding, Discussion, 
 use Rattle.cr_base.specs.Answering.{reviewer_told}
 use Rattle.cr_base.specs.Lists.{last}
 use Rattle.cr_base.specs.History.{History, SeatTold, bid_told, assigned_told, unassigned_told}
-use Rattle.cr_base.specs.HistoryFacts.{phase_of, standing_of, is_conflict_on, bid_of, seat_of, seats_of, seats_left, reviewers_of}
+use Rattle.cr_base.specs.HistoryFacts.{phase_of, standing_of, is_conflict_on, bid_of, seat_of, seats_of, seats_left, reviewers_of, assigned_under}
 use Rattle.cr_base.specs.Page.{is_clear_member, is_clear_chair, gets_bids, gets_conflicts, gets_reviewers, shows_reviewer, where_told}
 use Rattle.cr_base.specs.Phases.{is_from}
 use Rattle.cr_base.specs.Sources.{name_in}
@@ -83,8 +83,27 @@ told-left told label gone (seat ∷ seats) =
     by false true same later = absurd (cc)
     by false false same later = later
 
+-- a seat without what its reviewer is to the paper
+abbrev named_alone : SeatTold → SeatTold
+named_alone seat = record { ordinal = seat.ordinal; kind = None; user = seat.user }
+
+under-named : (o : ℕ) (seats : List SeatTold) → assigned_under o (map named_alone seats) ≡ assigned_under o seats
+under-named o [] = refl
+under-named o (seat ∷ seats) = by (seat.ordinal == o) (under-named o seats)
+  where
+    found : SeatTold → Bool
+    found seat = seat.ordinal == o
+
+    user : Option SeatTold → Option ℕ
+    user seat = option_and_then (λ (seat : SeatTold). seat.user) seat
+
+    by : (b : Bool) → assigned_under o (map named_alone seats) ≡ assigned_under o seats
+        → user (cond b (Some (named_alone seat)) (find found (map named_alone seats))) ≡ user (cond b (Some seat) (find found seats))
+    by true later = refl
+    by false later = later
+
 -- one who is told of reviewers sees the label of each, what she is to the paper as far as the standing tells that, and who she is
-module _ (u : Option ℕ) (p : ℕ) (H : History) (accounts : List AccountLine) (told : gets_reviewers (standing_of u (Some p) H) ≡ true) where
+module _ (u : Option ℕ) (p : ℕ) (H : History) (accounts : List AccountLine) (written : ℕ → Bool) (told : gets_reviewers (standing_of u (Some p) H) ≡ true) where
   abbrev by : Standing
   by = standing_of u (Some p) H
 
@@ -99,6 +118,9 @@ module _ (u : Option ℕ) (p : ℕ) (H : History) (accounts : List AccountLine) 
 
   abbrev notified : Bool
   notified = is_from Notification by.phase
+
+  abbrev tell : SeatTold → Reviewer
+  tell = reviewer_told by accounts written
 
   abbrev shown_label : Bool → Bool → Bool
   shown_label named own = named || (chair || ((member && discussed) || ((by.author && is_overt by.mode && notified) || (own || false))))
@@ -131,7 +153,7 @@ module _ (u : Option ℕ) (p : ℕ) (H : History) (accounts : List AccountLine) 
       shown : (c b m a named own : Bool) → ((c && b) || m || a) ≡ true → (named || (c || (m || (a || (own || false))))) ≡ true
       shown c b m a named own h = grind arith
 
-  assigned-shown : (at : Around) → ShowsAssigned (reviewer_told by accounts) (reader u H) at p
+  assigned-shown : (at : Around) → ShowsAssigned tell (reader u H) at p
   assigned-shown at maker more user kind ordinal =
       let named : Bool = user_named (reader u H) user in
       let own : Bool = user_named (reader u H) maker in
@@ -142,15 +164,17 @@ module _ (u : Option ℕ) (p : ℕ) (H : History) (accounts : List AccountLine) 
       let kinds = same_key member shown_kind (Some kind) (λ clear. ap (λ b. where_shown b (Some kind)) (kind_shown named own clear)) in
       let names = same_key (shows_reviewer by) (name shown_user) (name (Some user))
       (λ h. ap (λ b. name (where_shown b (Some user))) (user_shown named own h)) in
-      (label_shown named own, λ i. record { done = where_told chair (Some false); kind = kinds i; label = ordinal; user = names i })
+      (label_shown named own, λ i. record { done = where_told chair (Some (written ordinal)); kind = kinds i; label = ordinal; user = names i })
 
-  seats-seen : map (reviewer_told by accounts) (seats_in_view p (view u H)) ≡ map (reviewer_told by accounts) (seats_of p H)
-  seats-seen =
-      let tell : SeatTold → Reviewer = reviewer_told by accounts in
-      map-flat_map tell (assigned_seen p) (view u H)
-      ∙ sights-all (reader u H) (λ (s : Sighting). map tell (assigned_seen p s)) (λ (e : Stamped). map tell (assigned_told p e.entry))
-      (assigned_tells tell (reader u H) p assigned-shown) [] H
-      ∙ sym (map-flat_map tell (λ (e : Stamped). assigned_told p e.entry) H)
+  seats-as : {B : Type 0} (m : SeatTold → B) → ((at : Around) → ShowsAssigned m (reader u H) at p) → map m (seats_in_view p (view u H)) ≡ map m (seats_of p H)
+  seats-as m shown =
+      map-flat_map m (assigned_seen p) (view u H)
+      ∙ sights-all (reader u H) (λ (s : Sighting). map m (assigned_seen p s)) (λ (e : Stamped). map m (assigned_told p e.entry))
+      (assigned_tells m (reader u H) p shown) [] H
+      ∙ sym (map-flat_map m (λ (e : Stamped). assigned_told p e.entry) H)
+
+  seats-seen : map tell (seats_in_view p (view u H)) ≡ map tell (seats_of p H)
+  seats-seen = seats-as tell assigned-shown
 
   gone-seen : flat_map (unassigned_seen p) (view u H) ≡ flat_map (λ (e : Stamped). unassigned_told p e.entry) H
   gone-seen =
@@ -159,9 +183,8 @@ module _ (u : Option ℕ) (p : ℕ) (H : History) (accounts : List AccountLine) 
       (λ at e. unassigned_value (reader u H) at u p
       (λ maker more user ordinal. label_shown (user_named (reader u H) user) (user_named (reader u H) maker)) e) [] H
 
-  pub reviewers-seen : map (reviewer_told by accounts) (reviewers_in_view p (view u H)) ≡ map (reviewer_told by accounts) (reviewers_of p H)
+  pub reviewers-seen : map tell (reviewers_in_view p (view u H)) ≡ map tell (reviewers_of p H)
   reviewers-seen =
-      let tell : SeatTold → Reviewer = reviewer_told by accounts in
       let left : List ℕ → List Reviewer → List Reviewer = λ gone rs. filter (λ (r : Reviewer). not (list_any (λ o. o == r.label) gone)) rs in
       told-left tell (λ seat. refl) (flat_map (unassigned_seen p) (view u H)) (seats_in_view p (view u H))
       ∙ ap (λ gone. left gone (map tell (seats_in_view p (view u H)))) gone-seen
@@ -170,11 +193,27 @@ module _ (u : Option ℕ) (p : ℕ) (H : History) (accounts : List AccountLine) 
 
   labels-seen_where : length (seats_in_view p (view u H)) ≡ length (seats_of p H)
   labels-seen_where =
-      let tell : SeatTold → Reviewer = reviewer_told by accounts in
       sym (length-map (seats_in_view p (view u H)) tell) ∙ ap length seats-seen ∙ length-map (seats_of p H) tell
+
+  -- who has a label, or has had it, where reviewers are told by name
+  assigned-seen_where : shows_reviewer by ≡ true → (o : ℕ) → assigned_under o (seats_in_view p (view u H)) ≡ assigned_under o (seats_of p H)
+  assigned-seen_where names o =
+      sym (under-named o (seats_in_view p (view u H)))
+      ∙ ap (assigned_under o) (seats-as named_alone shown)
+      ∙ under-named o (seats_of p H)
+    where
+      shown : (at : Around) → ShowsAssigned named_alone (reader u H) at p
+      shown at maker more user kind ordinal =
+          let named : Bool = user_named (reader u H) user in
+          let own : Bool = user_named (reader u H) maker in
+          (label_shown named own, ap (λ b. record { ordinal = ordinal; kind = None; user = where_shown b (Some user) }) (user_shown named own names))
+
+pub assigned-seen : (u : Option ℕ) (p : ℕ) (H : History) → shows_reviewer (standing_of u (Some p) H) ≡ true
+    → (o : ℕ) → assigned_under o (seats_in_view p (view u H)) ≡ assigned_under o (seats_of p H)
+assigned-seen u p H names o = assigned-seen_where u p H [] (λ _. false) (first_of (shows_reviewer (standing_of u (Some p) H)) _ names) names o
 
 -- so a clear chair sees how many labels were given from the bidding on
 pub labels-seen : (u : Option ℕ) (p : ℕ) (H : History) → gets_conflicts (standing_of u (Some p) H) ≡ true
     → length (seats_in_view p (view u H)) ≡ length (seats_of p H)
-labels-seen u p H told = labels-seen_where u p H []
+labels-seen u p H told = labels-seen_where u p H [] (λ _. false)
     (first_of (shows_reviewer (standing_of u (Some p) H)) _ (first_of _ _ (first_of (gets_conflicts (standing_of u (Some p) H)) _ told)))

@@ -2,7 +2,7 @@
 use Rattle.std.proofs.Common.{◌≡◌, ℕ, Bool, true, false, [], ◌∷◌, refl, sym, ap, subst, ◌∙◌, ◌&&◌, Option, Some, None, eqb}
 use Rattle.std.specs.Prelude.{map}
 use Rattle.std.specs.List.{flat_map}
-use Rattle.std.proofs.lemmas.Bool.{eqb-true, and_parts, or_left, or_right, true≢false}
+use Rattle.std.proofs.lemmas.Bool.{eqb-true, and_parts, or_left, or_right}
 use Rattle.cr_base.specs.declared.entry.Entry.{Entry}
 use Rattle.cr_base.specs.declared.entry.Entry.TheVariants.{Bid, Assigned, Unassigned}
 use Rattle.cr_base.specs.declared.entry.Stamped.{Stamped}
@@ -14,10 +14,10 @@ use Rattle.cr_policy.specs.Part as part
 use Rattle.cr_policy.specs.Part.{Part}
 use Rattle.cr_policy.specs.Sighting.{Sighting, where_shown}
 use Rattle.cr_policy.specs.Triggers.{Reader, Around}
-use Rattle.cr_policy.specs.View.{sight, is_seen, joined, rows_at}
+use Rattle.cr_policy.specs.View.{sight, is_seen, joined}
 use Rattle.cr_policy.specs.ViewFacts.{only, bid_seen, own_bid_seen, seat_seen, assigned_seen, unassigned_seen}
 use Rattle.cr_policy.proofs.Walk.{only-false, flat_map-given, Tells, TellsAll}
-use Rattle.cr_policy.proofs.Tells.{passes, passes_both, paper_value, own_value, pair_value, hidden, silent, told_where, told_both, shown_value, of_paper}
+use Rattle.cr_policy.proofs.Tells.{passes, passes_both, paper_value, own_value, pair_value, seen_where, silent, told_where, told_both, shown_value, of_paper}
 
 -- ---- bids and seats of a user
 
@@ -32,8 +32,11 @@ module _ (r : Reader) (at : Around) (maker : ℕ) (more : Bool) where
   own_bid_at : (p : ℕ) (e : Entry) → flat_map (own_bid_seen p) (sight r at (stamp maker more e)) ≡ bid_told r.number p maker e
   own_bid_at p (Bid paper value) =
       flat_map-given (own_bid_seen p) (is_seen r at (stamp maker more (Bid paper value))) (joined r at (stamp maker more (Bid paper value)))
-      ∙ own_value (is_seen r at (stamp maker more (Bid paper value))) (eqb paper p) (is_number r.number maker) value
-      (λ b. listed (where_shown b (Some value))) refl (λ hers. or_right _ _ (or_left (is_number r.number maker) false hers))
+      ∙ own_value (is_seen r at (stamp maker more (Bid paper value))) (eqb paper p) (is_number r.number maker) value _
+      (λ own. ap (λ b. listed (where_shown b (Some value))) (hers own)) hers
+    where
+      hers : is_number r.number maker ≡ true → is_seen r at (stamp maker more (Bid paper value)) ≡ true
+      hers own = or_right _ _ (or_left (is_number r.number maker) false own)
   own_bid_at p e = silent r at maker more (own_bid_seen p) e refl
 
   seat_at : (u : Option ℕ) (p : ℕ) (e : Entry)
@@ -137,14 +140,6 @@ module _ {B : Type 0} (m : SeatTold → B) (r : Reader) (at : Around) where
         user = where_shown (passes part.user r at (stamp maker more (Assigned p user kind ordinal))) (Some user);
       }) ≡ m (record { ordinal = ordinal; kind = Some kind; user = Some user }))
 
-  -- a part that is shown is one of an entry that is seen
-  seen_where : (p : Part) (e : Stamped) → passes p r at e ≡ true → is_seen r at e ≡ true
-  seen_where p e h = by (is_seen r at e) refl
-    where
-      by : (b : Bool) → is_seen r at e ≡ b → b ≡ true
-      by true is = refl
-      by false is = absurd (true≢false (sym h ∙ hidden (rows_at r at e) p is))
-
   seat_told_so : (same seen c : Bool) (ordinal : ℕ) (shown told : ℕ → SeatTold)
       → (same ≡ true → (seen ≡ true) × (c ≡ true) × (m (shown ordinal) ≡ m (told ordinal)))
       → only seen (map m (only same (map shown (listed (where_shown c (Some ordinal)))))) ≡ map m (given same (told ordinal))
@@ -165,7 +160,7 @@ module _ {B : Type 0} (m : SeatTold → B) (r : Reader) (at : Around) where
       (λ (o : ℕ). record { ordinal = o; kind = Some kind; user = Some user })
       (λ same.
       let hers = subst (λ (n : ℕ). ShowsAssigned n) (sym (eqb-true paper p same)) shown maker more user kind ordinal in
-      (seen_where part.ordinal e hers.0, hers.0, hers.1))
+      (seen_where r at part.ordinal e hers.0, hers.0, hers.1))
   assigned_at p shown maker more e = silent r at maker more (λ (s : Sighting). map m (assigned_seen p s)) e refl
 
 pub assigned_tells : {B : Type 0} (m : SeatTold → B) (r : Reader) (p : ℕ) → ((at : Around) → ShowsAssigned m r at p)

@@ -11,23 +11,23 @@ use Rattle.cr_base.specs.declared.words.Role.{Role}
 use Rattle.cr_base.specs.declared.words.Role.TheVariants.{Account}
 use Rattle.cr_base.specs.declared.reply.AccountLine.{AccountLine}
 use Rattle.cr_base.specs.Lists.{last, last_or, total, is_number, at_some}
-use Rattle.cr_base.specs.History.{History, Registration, all_told, phase_told, mode_told, paper_told, own_paper_told, own_bytes_told, author_told}
+use Rattle.cr_base.specs.History.{History, Registration, all_told, phase_told, mode_told, paper_told, own_paper_told, own_bytes_told, own_comment_told, author_told}
 use Rattle.cr_base.specs.History.{conflict_told, registration_told, role_told, number_told, bid_told, seat_told}
-use Rattle.cr_base.specs.HistoryFacts.{phase_of, mode_of, role_of, papers_of, own_papers_of, own_bytes_of, accounts_of, number_of, authors_of}
+use Rattle.cr_base.specs.HistoryFacts.{phase_of, mode_of, role_of, papers_of, own_papers_of, own_bytes_of, own_comments_of, accounts_of, number_of, authors_of}
 use Rattle.cr_base.specs.HistoryFacts.{is_author, is_conflict_on, is_conflicted, bid_of, seat_of, is_reviewer}
 use Rattle.cr_policy.specs.Part as part
 use Rattle.cr_policy.specs.Triggers.{reader, Around}
 use Rattle.cr_policy.specs.View.{view}
-use Rattle.cr_policy.specs.ViewFacts.{phase_seen, mode_seen, paper_seen, own_paper_seen, own_bytes_seen, author_seen, conflict_seen}
+use Rattle.cr_policy.specs.ViewFacts.{phase_seen, mode_seen, paper_seen, own_paper_seen, own_bytes_seen, own_comment_seen, author_seen, conflict_seen}
 use Rattle.cr_policy.specs.ViewFacts.{registration_seen, role_seen, number_seen, own_bid_seen, seat_seen, own_bid_in_view, seat_in_view}
-use Rattle.cr_policy.specs.ViewFacts.{phase_in_view, mode_in_view, role_in_view, papers_in_view, own_papers_in_view, own_bytes_in_view}
+use Rattle.cr_policy.specs.ViewFacts.{phase_in_view, mode_in_view, role_in_view, papers_in_view, own_papers_in_view, own_bytes_in_view, own_comments_in_view}
 use Rattle.cr_policy.specs.ViewFacts.{accounts_in_view, number_in_view, authors_in_view, is_author_in_view, is_conflict_on_in_view}
 use Rattle.cr_policy.specs.ViewFacts.{is_conflicted_in_view}
 use Rattle.cr_policy.specs.Laws.{StandingFromView, PublicFactsFromView}
 use Rattle.cr_policy.proofs.Walk.{sights-all, sights-kept, fold_all, list_any-kept}
 use Rattle.cr_history.proofs.LineTies.{stamp}
 use Rattle.cr_policy.proofs.SeatTells.{ShowsSeat, own_bid_tells, seat_tells, seat_value}
-use Rattle.cr_policy.proofs.Tells.{passes, passes_both, names_author, phase_tells, mode_tells, paper_tells, own_paper_tells, own_bytes_tells}
+use Rattle.cr_policy.proofs.Tells.{passes, passes_both, names_author, phase_tells, mode_tells, paper_tells, own_paper_tells, own_bytes_tells, own_comment_tells}
 use Rattle.cr_policy.proofs.Tells.{author_tells, author_value, conflict_tells, conflict_value, registration_tells, role_tells, number_tells}
 
 -- ---- the conference
@@ -64,6 +64,10 @@ own_papers-seen u H = ap length (sights-all (reader u H) own_paper_seen (λ (e :
 
 pub own_bytes-seen : (u : Option ℕ) (H : History) → own_bytes_in_view (view u H) ≡ own_bytes_of u H
 own_bytes-seen u H = ap total (sights-all (reader u H) own_bytes_seen (λ (e : Stamped). own_bytes_told u e.maker e.entry) (own_bytes_tells (reader u H)) [] H)
+
+pub own_comments-seen : (u : Option ℕ) (H : History) → own_comments_in_view (view u H) ≡ own_comments_of u H
+own_comments-seen u H =
+    ap length (sights-all (reader u H) own_comment_seen (λ (e : Stamped). own_comment_told u e.maker e.entry) (own_comment_tells (reader u H)) [] H)
 
 pub first_of : (a rest : Bool) → a ≡ true → (a || rest) ≡ true
 first_of a rest h = ap (λ b. b || rest) h
@@ -145,5 +149,6 @@ public_from_view u H = record {
   papers = papers-seen u H;
   own_papers = own_papers-seen u H;
   own_bytes = own_bytes-seen u H;
+  own_comments = own_comments-seen u H;
   number = λ name. number-seen u name H;
 }

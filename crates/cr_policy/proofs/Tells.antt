@@ -3,13 +3,13 @@ use Rattle.std.proofs.Common.{◌≡◌, ℕ, Bool, true, false, List, [], ◌�
 use Rattle.std.specs.Prelude.{map}
 use Rattle.std.specs.List.{flat_map}
 use Rattle.std.specs.Str.{bytes_eq}
-use Rattle.std.proofs.lemmas.Bool.{eqb-true, or_parts, and_parts, or_left, or_right}
+use Rattle.std.proofs.lemmas.Bool.{eqb-true, or_parts, and_parts, or_left, or_right, true≢false}
 use Rattle.cr_base.specs.declared.entry.Entry.{Entry}
 use Rattle.cr_base.specs.declared.entry.Entry.TheVariants.{Registered, Named, PhaseSet, ModeSet, Submitted}
-use Rattle.cr_base.specs.declared.entry.Entry.TheVariants.{Coauthor, Revised, Uploaded, Withdrawn, Conflict}
+use Rattle.cr_base.specs.declared.entry.Entry.TheVariants.{Coauthor, Revised, Uploaded, Withdrawn, Conflict, Commented}
 use Rattle.cr_base.specs.declared.entry.Stamped.{Stamped}
 use Rattle.cr_base.specs.Lists.{given, listed, is_number}
-use Rattle.cr_base.specs.History.{phase_told, mode_told, paper_told, own_paper_told, own_bytes_told, author_told, conflict_told}
+use Rattle.cr_base.specs.History.{phase_told, mode_told, paper_told, own_paper_told, own_bytes_told, own_comment_told, author_told, conflict_told}
 use Rattle.cr_base.specs.History.{title_told, abstract_told, upload_told, withdrawal_told, registration_told, role_told, number_told}
 use Rattle.cr_history.proofs.LineTies.{stamp}
 use Rattle.cr_policy.specs.Part as part
@@ -17,7 +17,7 @@ use Rattle.cr_policy.specs.Part.{Part}
 use Rattle.cr_policy.specs.Sighting.{Sighting, where_shown}
 use Rattle.cr_policy.specs.Triggers.{Reader, Around, TriggerRow, applies_any, shows}
 use Rattle.cr_policy.specs.View.{sight, is_seen, joined, rows_at}
-use Rattle.cr_policy.specs.ViewFacts.{only, is_user, phase_seen, mode_seen, paper_seen, own_paper_seen, author_seen, conflict_seen, title_seen, abstract_seen, upload_shown, upload_seen, own_bytes_seen, withdrawal_seen, registration_seen, role_seen, number_seen}
+use Rattle.cr_policy.specs.ViewFacts.{only, is_user, phase_seen, mode_seen, paper_seen, own_paper_seen, author_seen, conflict_seen, title_seen, abstract_seen, upload_shown, upload_seen, own_bytes_seen, own_comment_seen, withdrawal_seen, registration_seen, role_seen, number_seen}
 use Rattle.cr_policy.proofs.Walk.{only-true, only-false, flat_map-given, Tells, TellsAll}
 
 -- whether a part of an entry is shown
@@ -53,18 +53,18 @@ upload_pair false true version content = refl
 upload_pair false false version content = refl
 
 -- what the reader's own entry tells of a paper, or of nothing but herself: where it is hers it is shown her whole
-pub own_value : {A : Type 0} (seen same own : Bool) (x : A) (shown : Bool → List A) → shown true ≡ x ∷ [] → (own ≡ true → seen ≡ true)
-    → only seen (only (same && own) (shown seen)) ≡ given (same && own) x
+pub own_value : {A : Type 0} (seen same own : Bool) (x : A) (shown : List A) → (own ≡ true → shown ≡ x ∷ []) → (own ≡ true → seen ≡ true)
+    → only seen (only (same && own) shown) ≡ given (same && own) x
 own_value seen same true x shown is hers =
-    ap (λ b. only b (only (same && true) (shown b))) (hers refl)
-    ∙ ap (λ xs. only true (only (same && true) xs)) is
+    ap (λ b. only b (only (same && true) shown)) (hers refl)
+    ∙ ap (λ xs. only true (only (same && true) xs)) (is refl)
     ∙ by (same && true)
   where
     by : (b : Bool) → only true (only b (x ∷ [])) ≡ given b x
     by true = refl
     by false = refl
-own_value seen true false x shown is hers = ap (only seen) (only-false (shown seen))
-own_value seen false false x shown is hers = ap (only seen) (only-false (shown seen))
+own_value seen true false x shown is hers = ap (only seen) (only-false shown)
+own_value seen false false x shown is hers = ap (only seen) (only-false shown)
 
 -- what is told of a user and a paper, where the user (c) and the value (d) are shown
 pub pair_value : {A : Type 0} (a c d : Bool) (u : Option ℕ) (v : ℕ) (x : A) (shown : Bool → List A) → shown true ≡ x ∷ [] → shown false ≡ []
@@ -89,7 +89,7 @@ user_value a c u v x =
     twice false = refl
 
 -- where no row applies, none shows a part
-pub hidden : (rows : List TriggerRow) (p : Part) → applies_any rows ≡ false → shows rows p ≡ false
+hidden : (rows : List TriggerRow) (p : Part) → applies_any rows ≡ false → shows rows p ≡ false
 hidden [] p h = refl
 hidden (row ∷ rows) p h =
     let parts = or_parts row.applies (applies_any rows) h in
@@ -97,6 +97,14 @@ hidden (row ∷ rows) p h =
   where
     neither : (n a rest : Bool) → a ≡ false → rest ≡ false → ((n && a) || rest) ≡ false
     neither n a rest ha hr = grind arith
+
+-- a part that is shown is one of an entry that is seen
+pub seen_where : (r : Reader) (at : Around) (p : Part) (e : Stamped) → passes p r at e ≡ true → is_seen r at e ≡ true
+seen_where r at p e h = by (is_seen r at e) refl
+  where
+    by : (b : Bool) → is_seen r at e ≡ b → b ≡ true
+    by true is = refl
+    by false is = absurd (true≢false (sym h ∙ hidden (rows_at r at e) p is))
 
 module _ (r : Reader) (at : Around) (maker : ℕ) (more : Bool) where
   -- a sighting that tells nothing tells nothing, whether it is there or not
@@ -164,10 +172,25 @@ module _ (r : Reader) (at : Around) (maker : ℕ) (more : Bool) where
   own_bytes_at : (e : Entry) → flat_map own_bytes_seen (sight r at (stamp maker more e)) ≡ own_bytes_told r.number maker e
   own_bytes_at (Uploaded paper version content) =
       flat_map-given own_bytes_seen (is_seen r at (stamp maker more (Uploaded paper version content))) (joined r at (stamp maker more (Uploaded paper version content)))
-      ∙ own_value (is_seen r at (stamp maker more (Uploaded paper version content))) true (is_number r.number maker) (length content)
-      (λ b. map length (listed (where_shown b (Some content)))) refl
-      (λ hers. or_right (r.author paper) _ (or_right _ _ (or_left (is_number r.number maker) false hers)))
+      ∙ own_value (is_seen r at (stamp maker more (Uploaded paper version content))) true (is_number r.number maker) (length content) _
+      (λ own. ap (λ b. map length (listed (where_shown b (Some content)))) (hers own)) hers
+    where
+      hers : is_number r.number maker ≡ true → is_seen r at (stamp maker more (Uploaded paper version content)) ≡ true
+      hers own = or_right (r.author paper) _ (or_right _ _ (or_left (is_number r.number maker) false own))
   own_bytes_at e = silent own_bytes_seen e refl
+
+  own_comment_at : (e : Entry) → flat_map own_comment_seen (sight r at (stamp maker more e)) ≡ own_comment_told r.number maker e
+  own_comment_at (Commented paper n ordinal text) =
+      flat_map-given own_comment_seen (is_seen r at e) (joined r at e)
+      ∙ own_value (is_seen r at e) true (is_number r.number maker) n _
+      (λ own. ap (λ b. listed (where_shown b (Some n))) (numbered own)) (λ own. seen_where r at part.n e (numbered own))
+    where
+      e : Stamped
+      e = stamp maker more (Commented paper n ordinal text)
+
+      numbered : is_number r.number maker ≡ true → passes part.n r at e ≡ true
+      numbered own = or_right _ _ (or_left (is_number r.number maker) false own)
+  own_comment_at e = silent own_comment_seen e refl
 
   -- ---- what is shown to some
 
@@ -236,6 +259,9 @@ own_paper_tells r at e = own_paper_at r at e.maker e.more e.entry
 
 pub own_bytes_tells : (r : Reader) → TellsAll r own_bytes_seen (λ (e : Stamped). own_bytes_told r.number e.maker e.entry)
 own_bytes_tells r at e = own_bytes_at r at e.maker e.more e.entry
+
+pub own_comment_tells : (r : Reader) → TellsAll r own_comment_seen (λ (e : Stamped). own_comment_told r.number e.maker e.entry)
+own_comment_tells r at e = own_comment_at r at e.maker e.more e.entry
 
 pub author_tells : (r : Reader) (p : ℕ) → Tells r (author_seen p) (λ (e : Stamped). author_told p e.maker e.entry) (names_author r)
 author_tells r p at e = author_at r at e.maker e.more p e.entry

@@ -1,16 +1,19 @@
 -- A small conference, from its first registration to the notification: eight users, three papers, and every kind of entry. In its
--- twin alice assigns another member to paper 1.
-use Rattle.std.specs.Prelude.{ℕ, ◌≡◌, true, false, List, [], ◌∷◌, ◌++◌, length, codes}
+-- twin alice assigns another member to paper 1. What the committee says that no author reads is whatever it is.
+use Rattle.std.specs.Prelude.{ℕ, ◌≡◌, true, false, List, [], ◌∷◌, ◌++◌, length, Some, None, codes, ◌==◌, if◌then◌else◌, IsTrue}
 use Rattle.cr_base.specs.declared.entry.Entry.{Entry}
 use Rattle.cr_base.specs.declared.entry.Entry.TheVariants.{Registered, Named, PhaseSet, ModeSet, Submitted}
 use Rattle.cr_base.specs.declared.entry.Entry.TheVariants.{Coauthor, Revised, Uploaded, Withdrawn, Conflict}
-use Rattle.cr_base.specs.declared.entry.Entry.TheVariants.{Bid, Assigned, Unassigned}
+use Rattle.cr_base.specs.declared.entry.Entry.TheVariants.{Bid, Assigned, Unassigned, Reviewed, Commented, Tagged}
 use Rattle.cr_base.specs.declared.entry.Stamped.{Stamped}
+use Rattle.cr_base.specs.declared.form.Form.{Form}
 use Rattle.cr_base.specs.declared.words.Kind.TheVariants.{Primary, Secondary, Pc}
 use Rattle.cr_base.specs.declared.words.Mode.{Mode}
 use Rattle.cr_base.specs.declared.words.Phase.TheVariants.{Submission, Bidding, Reviewing, Discussion, Notification}
 use Rattle.cr_base.specs.declared.words.Role.TheVariants.{Member, Chair}
 use Rattle.cr_base.specs.History.{History}
+use Rattle.cr_base.specs.TagTexts.{is_tag}
+use Rattle.cr_base.specs.Texts.{IsReviewText, IsCommentText}
 
 -- ---- who takes part
 
@@ -70,6 +73,8 @@ pub record AreDigests (d : Digests) : Type 0 where
   pub gus : length d.gus ≡ 32
   pub hal : length d.hal ≡ 32
 
+-- ---- texts
+
 -- the texts of the three papers, and those that paper 1 is given later
 abbrev pub proofs : List ℕ
 proofs = codes "Proofs"
@@ -110,6 +115,46 @@ second_version = codes "Let x be, and y."
 
 abbrev pub only_version : List ℕ
 only_version = codes "x : A"
+
+-- what the committee says that no author reads: how dave's own tag goes on, what the last form tells the committee alone, and the
+-- first comment
+pub record Asides : Type 0 where
+  pub tag : List ℕ
+  pub to_pc : List ℕ
+  pub comment : List ℕ
+
+-- a tag for all, dave's own, and one for chairs
+abbrev pub hot : List ℕ
+hot = codes "hot"
+
+abbrev pub own_tag : Asides → List ℕ
+own_tag a = codes "~x" ++ a.tag
+
+abbrev pub chairs_tag : List ℕ
+chairs_tag = codes "~~x"
+
+-- three forms of the member who reviews paper 1, and one of alice's
+abbrev pub first_form : Form
+first_form = record { score = 2; confidence = 3; to_authors = codes "Weak."; to_pc = codes "New to me." }
+
+abbrev pub second_form : Form
+second_form = record { score = 3; confidence = 4; to_authors = codes "Fair."; to_pc = codes "I read on." }
+
+abbrev pub last_form : Asides → Form
+last_form a = record { score = 5; confidence = 4; to_authors = codes "Good."; to_pc = a.to_pc }
+
+abbrev pub alices_form : Form
+alices_form = record { score = 4; confidence = 2; to_authors = codes "Thin."; to_pc = codes "Take it." }
+
+-- the second comment
+abbrev pub agreed : List ℕ
+agreed = codes "Agreed."
+
+-- what is said so is within its bounds
+pub record AreAsides (a : Asides) : Type 0 where
+  pub tag : IsTrue (is_tag (own_tag a))
+  pub to_pc : IsReviewText a.to_pc
+  pub comment : IsCommentText a.comment
 
 -- ---- what they do
 
@@ -191,27 +236,53 @@ having_bids d mode =
     ∷ dave adds Bid 1 40
     ∷ []
 
--- alice assigns a member to paper 1, dave or in the twin hal, and herself, and fay to paper 2
-abbrev pub in_bidding : Digests → Mode → ℕ → History
-in_bidding d mode reviewer =
+-- dave tags paper 1 for all, and for himself, and alice for chairs; hal turns the first tag off; and fay tags paper 2 for chairs
+abbrev pub having_tags : Digests → Mode → Asides → History
+having_tags d mode a =
     having_bids d mode
+    ++ dave adds Tagged 1 hot true
+    ∷ dave adds Tagged 1 (own_tag a) true
+    ∷ alice adds Tagged 1 chairs_tag true
+    ∷ hal adds Tagged 1 hot false
+    ∷ fay adds Tagged 2 chairs_tag true
+    ∷ []
+
+-- alice assigns a member to paper 1, dave or in the twin hal, and herself, and fay to paper 2
+abbrev pub in_bidding : Digests → Mode → Asides → ℕ → History
+in_bidding d mode a reviewer =
+    having_tags d mode a
     ++ alice adds Assigned 1 reviewer Primary 1
     ∷ alice adds Assigned 1 alice Secondary 2
     ∷ alice adds Assigned 2 fay Pc 1
     ∷ []
 
--- she opens the reviewing, takes the member off paper 1 and assigns the same one again, under the next label
-abbrev pub in_reviewing : Digests → Mode → ℕ → History
-in_reviewing d mode reviewer =
-    in_bidding d mode reviewer
+-- she opens the reviewing, takes the member off paper 1 and assigns the same one again, under the next label; the member writes two
+-- forms, and alice one between them
+abbrev pub in_reviewing : Digests → Mode → Asides → ℕ → History
+in_reviewing d mode a reviewer =
+    in_bidding d mode a reviewer
     ++ alice adds PhaseSet Reviewing
     ∷ alice adds Unassigned 1 reviewer 1
     ∷ alice adds Assigned 1 reviewer Pc 3
+    ∷ reviewer adds Reviewed 1 3 1 first_form
+    ∷ alice adds Reviewed 1 2 1 alices_form
+    ∷ reviewer adds Reviewed 1 3 2 second_form
     ∷ []
 
--- she opens the discussion, and the notification
-abbrev pub in_discussion : Digests → Mode → ℕ → History
-in_discussion d mode reviewer = in_reviewing d mode reviewer ++ alice adds PhaseSet Discussion ∷ []
+-- of dave and hal the one who doesn't review paper 1
+abbrev pub other_than : ℕ → ℕ
+other_than reviewer = if reviewer == dave then hal else dave
 
-abbrev pub at_notification : Digests → Mode → ℕ → History
-at_notification d mode reviewer = in_discussion d mode reviewer ++ alice adds PhaseSet Notification ∷ []
+-- she opens the discussion; the member writes a last form, and comments on paper 1, and so does the other one
+abbrev pub in_discussion : Digests → Mode → Asides → ℕ → History
+in_discussion d mode a reviewer =
+    in_reviewing d mode a reviewer
+    ++ alice adds PhaseSet Discussion
+    ∷ reviewer adds Reviewed 1 3 3 (last_form a)
+    ∷ reviewer adds Commented 1 1 (Some 3) a.comment
+    ∷ other_than reviewer adds Commented 1 2 None agreed
+    ∷ []
+
+-- and she opens the notification
+abbrev pub at_notification : Digests → Mode → Asides → ℕ → History
+at_notification d mode a reviewer = in_discussion d mode a reviewer ++ alice adds PhaseSet Notification ∷ []

@@ -1,5 +1,5 @@
 -- The laws of the small conference: it is legal, its readers see what is written of them, and those who may not know who reviews a
--- paper see the same of it and of its twin.
+-- paper, or what the committee says of it, see the same whoever does, and whatever that is.
 use Rattle.std.specs.Prelude.{ℕ, ◌≡◌, List, [], ◌∷◌, ◌++◌, Some, None, map, filter, IsFalse}
 use Rattle.cr_base.specs.declared.words.Kind.{Kind}
 use Rattle.cr_base.specs.declared.words.Kind.TheVariants.{Primary, Secondary, Pc}
@@ -9,16 +9,9 @@ use Rattle.cr_base.specs.declared.words.Role.TheVariants.{Account, Member, Chair
 use Rattle.cr_base.specs.HistoryFacts.{role_of, papers_of, authors_of, is_conflicted, is_withdrawn, reviewers_of}
 use Rattle.cr_base.specs.History.{History, SeatTold}
 use Rattle.cr_base.specs.Words.{is_overt}
-use Rattle.cr_policy.specs.Conference.{alice, bob, carol, dave, erin, fay, gus, hal, cast, Digests, AreDigests}
+use Rattle.cr_policy.specs.Conference.{alice, bob, carol, dave, erin, fay, gus, hal, cast, Digests, AreDigests, Asides, AreAsides}
 use Rattle.cr_policy.specs.Conference.{before_bidding, in_bidding, in_reviewing, in_discussion, at_notification}
-use Rattle.cr_policy.specs.ConferenceViews.{nobody_before, erin_before, bob_before, gus_before}
-use Rattle.cr_policy.specs.ConferenceViews.{hal_before, dave_before, carol_before, alice_before, fay_before}
-use Rattle.cr_policy.specs.ConferenceViews.{nobody_in_bidding, erin_in_bidding, bob_in_bidding, gus_in_bidding}
-use Rattle.cr_policy.specs.ConferenceViews.{hal_in_bidding, dave_in_bidding, carol_in_bidding, alice_in_bidding, fay_in_bidding}
-use Rattle.cr_policy.specs.ConferenceViews.{nobody_in_discussion, erin_in_discussion, bob_in_discussion, gus_in_discussion}
-use Rattle.cr_policy.specs.ConferenceViews.{hal_in_discussion, dave_in_discussion, carol_in_discussion, alice_in_discussion, fay_in_discussion}
-use Rattle.cr_policy.specs.ConferenceViews.{nobody_at_notification, erin_at_notification, bob_at_notification, gus_at_notification}
-use Rattle.cr_policy.specs.ConferenceViews.{hal_at_notification, dave_at_notification, carol_at_notification, alice_at_notification, fay_at_notification}
+use Rattle.cr_policy.specs.ConferenceViews.{Views, views_before, views_in_bidding, views_in_reviewing, views_in_discussion, views_at_notification}
 use Rattle.cr_policy.specs.Legal.{Legal}
 use Rattle.cr_policy.specs.View.{View, view}
 
@@ -72,31 +65,22 @@ abbrev pub by_last : ℕ → Casting
 by_last member = reviewed_by ((reviewing 2 Secondary alice ∷ reviewing 3 Pc member ∷ []) ∷ (reviewing 1 Pc fay ∷ []) ∷ [] ∷ [])
 
 -- in each phase from the bidding on, where this member is assigned to paper 1
-pub record IsReviewed (d : Digests) (mode : Mode) (member : ℕ) : Type 0 where
-  pub bidding : IsConference (in_bidding d mode member) (by_first member)
-  pub reviewing : IsConference (in_reviewing d mode member) (by_last member)
-  pub discussion : IsConference (in_discussion d mode member) (by_last member)
-  pub notification : IsConference (at_notification d mode member) (by_last member)
+pub record IsReviewed (d : Digests) (mode : Mode) (a : Asides) (member : ℕ) : Type 0 where
+  pub bidding : IsConference (in_bidding d mode a member) (by_first member)
+  pub reviewing : IsConference (in_reviewing d mode a member) (by_last member)
+  pub discussion : IsConference (in_discussion d mode a member) (by_last member)
+  pub notification : IsConference (at_notification d mode a member) (by_last member)
 
 -- the conference, and its twin
+pub record IsLegal (d : Digests) (mode : Mode) (a : Asides) : Type 0 where
+  pub before : IsConference (before_bidding d mode) by_none
+  pub reviewed : IsReviewed d mode a dave
+  pub twin : IsReviewed d mode a hal
+
 abbrev pub ConferenceLegal : Type 0
-ConferenceLegal =
-    (d : Digests) (mode : Mode) → AreDigests d
-    → IsConference (before_bidding d mode) by_none × IsReviewed d mode dave × IsReviewed d mode hal
+ConferenceLegal = (d : Digests) (mode : Mode) (a : Asides) → AreDigests d → AreAsides a → IsLegal d mode a
 
 -- ---- what each reader sees of it
-
--- a view for each kind of reader
-pub record Views : Type 0 where
-  pub nobody : View
-  pub account : View
-  pub author : View
-  pub coauthor : View
-  pub member : View
-  pub reviewer : View
-  pub conflicted_member : View
-  pub chair : View
-  pub conflicted_chair : View
 
 abbrev pub views_of : History → Views
 views_of H = record {
@@ -111,89 +95,60 @@ views_of H = record {
   conflicted_chair = view (Some fay) H;
 }
 
+-- these are the views that the readers have of the history, whatever the digests, in each mode and whatever the committee says
+abbrev pub AreViews : (Digests → Mode → Asides → History) → (Digests → Mode → Asides → Views) → Type 0
+AreViews history views = (d : Digests) (mode : Mode) (a : Asides) → views_of (history d mode a) ≡ views d mode a
+
 abbrev pub ViewsBeforeBidding : Type 0
-ViewsBeforeBidding =
-    (d : Digests) (mode : Mode)
-    → views_of (before_bidding d mode) ≡ record {
-      nobody = nobody_before mode;
-      account = erin_before d mode;
-      author = bob_before d mode;
-      coauthor = gus_before d mode;
-      member = hal_before d mode;
-      reviewer = dave_before d mode;
-      conflicted_member = carol_before d mode;
-      chair = alice_before d mode;
-      conflicted_chair = fay_before d mode;
-    }
+ViewsBeforeBidding = AreViews (λ d mode a. before_bidding d mode) (λ d mode a. views_before d mode)
 
 abbrev pub ViewsInBidding : Type 0
-ViewsInBidding =
-    (d : Digests) (mode : Mode)
-    → views_of (in_bidding d mode dave) ≡ record {
-      nobody = nobody_in_bidding mode;
-      account = erin_in_bidding d mode;
-      author = bob_in_bidding d mode;
-      coauthor = gus_in_bidding d mode;
-      member = hal_in_bidding d mode;
-      reviewer = dave_in_bidding d mode;
-      conflicted_member = carol_in_bidding d mode;
-      chair = alice_in_bidding d mode;
-      conflicted_chair = fay_in_bidding d mode;
-    }
+ViewsInBidding = AreViews (λ d mode a. in_bidding d mode a dave) views_in_bidding
+
+abbrev pub ViewsInReviewing : Type 0
+ViewsInReviewing = AreViews (λ d mode a. in_reviewing d mode a dave) views_in_reviewing
 
 abbrev pub ViewsInDiscussion : Type 0
-ViewsInDiscussion =
-    (d : Digests) (mode : Mode)
-    → views_of (in_discussion d mode dave) ≡ record {
-      nobody = nobody_in_discussion mode;
-      account = erin_in_discussion d mode;
-      author = bob_in_discussion d mode;
-      coauthor = gus_in_discussion d mode;
-      member = hal_in_discussion d mode;
-      reviewer = dave_in_discussion d mode;
-      conflicted_member = carol_in_discussion d mode;
-      chair = alice_in_discussion d mode;
-      conflicted_chair = fay_in_discussion d mode;
-    }
+ViewsInDiscussion = AreViews (λ d mode a. in_discussion d mode a dave) views_in_discussion
 
 abbrev pub ViewsAtNotification : Type 0
-ViewsAtNotification =
-    (d : Digests) (mode : Mode)
-    → views_of (at_notification d mode dave) ≡ record {
-      nobody = nobody_at_notification mode;
-      account = erin_at_notification d mode;
-      author = bob_at_notification d mode;
-      coauthor = gus_at_notification d mode;
-      member = hal_at_notification d mode;
-      reviewer = dave_at_notification d mode;
-      conflicted_member = carol_at_notification d mode;
-      chair = alice_at_notification d mode;
-      conflicted_chair = fay_at_notification d mode;
-    }
+ViewsAtNotification = AreViews (λ d mode a. at_notification d mode a dave) views_at_notification
 
--- ---- its twin
+-- ---- its twins
 
--- what the reader sees in each phase from the bidding to the discussion, where this member is assigned to paper 1
-abbrev pub seen_to_discussion : ℕ → Digests → Mode → ℕ → List View
-seen_to_discussion reader d mode member =
-    view (Some reader) (in_bidding d mode member)
-    ∷ view (Some reader) (in_reviewing d mode member)
-    ∷ view (Some reader) (in_discussion d mode member)
+-- what the reader sees in each phase from the bidding to the discussion, where the committee says this, and this member is assigned to
+-- paper 1
+abbrev pub seen_to_discussion : ℕ → Digests → Mode → Asides → ℕ → List View
+seen_to_discussion reader d mode a member =
+    view (Some reader) (in_bidding d mode a member)
+    ∷ view (Some reader) (in_reviewing d mode a member)
+    ∷ view (Some reader) (in_discussion d mode a member)
     ∷ []
 
 -- and to the notification
-abbrev pub seen_throughout : ℕ → Digests → Mode → ℕ → List View
-seen_throughout reader d mode member = seen_to_discussion reader d mode member ++ view (Some reader) (at_notification d mode member) ∷ []
+abbrev pub seen_throughout : ℕ → Digests → Mode → Asides → ℕ → List View
+seen_throughout reader d mode a member = seen_to_discussion reader d mode a member ++ view (Some reader) (at_notification d mode a member) ∷ []
 
--- whether dave or hal is assigned to the paper, its authors see the same up to the discussion, and at the notification but in the open
--- mode; and a member and a chair in conflict with it see the same throughout
-pub record Twins (d : Digests) (mode : Mode) : Type 0 where
-  pub author : seen_to_discussion bob d mode dave ≡ seen_to_discussion bob d mode hal
-  pub author_throughout : IsFalse (is_overt mode) → seen_throughout bob d mode dave ≡ seen_throughout bob d mode hal
-  pub coauthor : seen_to_discussion gus d mode dave ≡ seen_to_discussion gus d mode hal
-  pub coauthor_throughout : IsFalse (is_overt mode) → seen_throughout gus d mode dave ≡ seen_throughout gus d mode hal
-  pub conflicted_member : seen_throughout carol d mode dave ≡ seen_throughout carol d mode hal
-  pub conflicted_chair : seen_throughout fay d mode dave ≡ seen_throughout fay d mode hal
+-- whether dave or hal is assigned to the paper, writes its forms and comments on it under their label, its authors see the same up to
+-- the discussion, and at the notification but in the open mode; and a member and a chair in conflict with it see the same throughout
+pub record Twins (d : Digests) (mode : Mode) (a : Asides) : Type 0 where
+  pub author : seen_to_discussion bob d mode a dave ≡ seen_to_discussion bob d mode a hal
+  pub author_throughout : IsFalse (is_overt mode) → seen_throughout bob d mode a dave ≡ seen_throughout bob d mode a hal
+  pub coauthor : seen_to_discussion gus d mode a dave ≡ seen_to_discussion gus d mode a hal
+  pub coauthor_throughout : IsFalse (is_overt mode) → seen_throughout gus d mode a dave ≡ seen_throughout gus d mode a hal
+  pub conflicted_member : seen_throughout carol d mode a dave ≡ seen_throughout carol d mode a hal
+  pub conflicted_chair : seen_throughout fay d mode a dave ≡ seen_throughout fay d mode a hal
 
 abbrev pub TwinsAlike : Type 0
-TwinsAlike = (d : Digests) (mode : Mode) → Twins d mode
+TwinsAlike = (d : Digests) (mode : Mode) (a : Asides) → Twins d mode a
+
+-- whether the committee says this or that where no author reads it, the paper's authors, and a member and a chair in conflict with
+-- it, see the same throughout
+pub record SameWithout (d : Digests) (mode : Mode) (a b : Asides) : Type 0 where
+  pub author : seen_throughout bob d mode a dave ≡ seen_throughout bob d mode b dave
+  pub coauthor : seen_throughout gus d mode a dave ≡ seen_throughout gus d mode b dave
+  pub conflicted_member : seen_throughout carol d mode a dave ≡ seen_throughout carol d mode b dave
+  pub conflicted_chair : seen_throughout fay d mode a dave ≡ seen_throughout fay d mode b dave
+
+abbrev pub AsidesHidden : Type 0
+AsidesHidden = (d : Digests) (mode : Mode) (a b : Asides) → SameWithout d mode a b

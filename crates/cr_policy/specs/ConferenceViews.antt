@@ -1,7 +1,8 @@
--- What each reader sees of the small conference, before the bidding, in it, in the discussion and at the notification: the whole of
--- her view, a line an entry.
+-- What each reader sees of the small conference, before the bidding, in it, in the reviewing, in the discussion and at the
+-- notification: the whole of her view, a line an entry.
 use Rattle.std.specs.Prelude.{ℕ, Bool, true, false, List, [], ◌∷◌, ◌++◌, Some, None, codes, ◌==◌, if◌then◌else◌}
 use Rattle.cr_base.specs.declared.entry.EntryKind.TheVariants as kinds
+use Rattle.cr_base.specs.declared.form.Form.{Form}
 use Rattle.cr_base.specs.declared.words.Kind.{Kind}
 use Rattle.cr_base.specs.declared.words.Kind.TheVariants.{Primary, Secondary, Pc}
 use Rattle.cr_base.specs.declared.words.Mode.{Mode}
@@ -12,6 +13,7 @@ use Rattle.cr_base.specs.declared.words.Role.{Role}
 use Rattle.cr_base.specs.declared.words.Role.TheVariants.{Member, Chair}
 use Rattle.cr_policy.specs.Conference.{alice, bob, carol, dave, erin, fay, gus, hal, Digests, proofs, we_prove, types, we_type}
 use Rattle.cr_policy.specs.Conference.{drafts, we_draft, fewer_proofs, we_prove_less, more_proofs, we_prove_more, first_version, second_version, only_version}
+use Rattle.cr_policy.specs.Conference.{Asides, hot, own_tag, chairs_tag, first_form, second_form, last_form, alices_form, agreed}
 use Rattle.cr_policy.specs.Sighting.{Sighting, blank}
 use Rattle.cr_policy.specs.View.{View}
 
@@ -96,9 +98,78 @@ to_members mode line = line
 abbrev pub to_authors : Sighting → Sighting
 to_authors line = record line { seat = None }
 
+-- a form, whole; and that there is one under the label, which may be all that is told of it
+abbrev pub form : ℕ → ℕ → ℕ → Form → Sighting
+form paper ordinal version written = record (blank kinds.Reviewed) {
+  paper = Some paper;
+  ordinal = Some ordinal;
+  version = Some version;
+  score = Some written.score;
+  confidence = Some written.confidence;
+  to_authors = Some written.to_authors;
+  to_pc = Some written.to_pc;
+}
+
+abbrev pub as_done : Sighting → Sighting
+as_done line = record line { done = Some true }
+
+abbrev pub form_done : ℕ → ℕ → Sighting
+form_done paper ordinal = as_done (record (blank kinds.Reviewed) { paper = Some paper; ordinal = Some ordinal })
+
+-- what authors are shown of a form: not its number, and not what is for the committee
+abbrev pub form_to_authors : ℕ → ℕ → Form → Sighting
+form_to_authors paper ordinal written = record (form paper ordinal 0 written) { version = None; to_pc = None }
+
+-- a comment, of which it is told who wrote it, or under which label
+abbrev pub comment_by : ℕ → ℕ → ℕ → List ℕ → Sighting
+comment_by user paper n text = record (blank kinds.Commented) { paper = Some paper; n = Some n; text = Some text; by = Some user }
+
+abbrev pub comment_under : ℕ → ℕ → ℕ → List ℕ → Sighting
+comment_under ordinal paper n text = record (blank kinds.Commented) { paper = Some paper; n = Some n; text = Some text; ordinal = Some ordinal }
+
+-- which of the two members are shown who don't oversee the paper, and what whoever wrote it is shown: the label too. The ordinal is 0
+-- where she doesn't review the paper
+abbrev pub comment_to_members : Mode → ℕ → ℕ → ℕ → ℕ → List ℕ → Sighting
+comment_to_members Anonymous user ordinal paper n text = comment_under ordinal paper n text
+comment_to_members mode user ordinal paper n text = comment_by user paper n text
+
+abbrev pub own_comment : Mode → ℕ → ℕ → ℕ → ℕ → List ℕ → Sighting
+own_comment mode user ordinal paper n text = record (comment_to_members mode user ordinal paper n text) { mine = true; ordinal = Some ordinal }
+
+-- that a tag is turned on or off at the paper
+abbrev pub tagging : ℕ → List ℕ → Bool → Sighting
+tagging paper tag on = record (blank kinds.Tagged) { paper = Some paper; tag = Some tag; on = Some on }
+
 -- the line of an entry that the reader made
 abbrev pub mine : Sighting → Sighting
 mine line = record line { mine = true }
+
+-- ---- a view for each kind of reader
+
+pub record Views : Type 0 where
+  pub nobody : View
+  pub account : View
+  pub author : View
+  pub coauthor : View
+  pub member : View
+  pub reviewer : View
+  pub conflicted_member : View
+  pub chair : View
+  pub conflicted_chair : View
+
+-- the same, once alice has opened the phase
+abbrev pub opened_to : Phase → Views → Views
+opened_to phase seen = record {
+  nobody = seen.nobody ++ phase_set phase ∷ [];
+  account = seen.account ++ phase_set phase ∷ [];
+  author = seen.author ++ phase_set phase ∷ [];
+  coauthor = seen.coauthor ++ phase_set phase ∷ [];
+  member = seen.member ++ phase_set phase ∷ [];
+  reviewer = seen.reviewer ++ phase_set phase ∷ [];
+  conflicted_member = seen.conflicted_member ++ phase_set phase ∷ [];
+  chair = seen.chair ++ mine (phase_set phase) ∷ [];
+  conflicted_chair = seen.conflicted_chair ++ phase_set phase ∷ [];
+}
 
 -- ---- registrations, roles, mode and phase: all is public but the digests, and each reader's own lines are marked
 
@@ -154,13 +225,6 @@ opening_to reader d mode =
 abbrev pub bare_papers : View
 bare_papers = bare_paper 1 ∷ bare_paper 2 ∷ bare_paper 3 ∷ []
 
--- nobody in particular, and a user who is only that: no more
-abbrev pub nobody_before : Mode → View
-nobody_before mode = opening_to_nobody mode ++ bare_papers
-
-abbrev pub erin_before : Digests → Mode → View
-erin_before d mode = opening_to erin d mode ++ bare_papers
-
 -- an author: all of her own paper, with what the co-author did, and whom they declared; of the others that they are there
 abbrev pub bob_before : Digests → Mode → View
 bob_before d mode =
@@ -195,39 +259,21 @@ gus_before d mode =
     ∷ mine (conflict 1 fay true)
     ∷ []
 
--- two members: no more than anybody
-abbrev pub dave_before : Digests → Mode → View
-dave_before d mode = opening_to dave d mode ++ bare_papers
-
-abbrev pub hal_before : Digests → Mode → View
-hal_before d mode = opening_to hal d mode ++ bare_papers
-
--- a member who is declared in conflict: that she is
-abbrev pub carol_before : Digests → Mode → View
-carol_before d mode = opening_to carol d mode ++ bare_papers ++ conflict 1 carol true ∷ []
-
--- a chair: no more than anybody; and one who is declared in conflict: that she is
-abbrev pub alice_before : Digests → Mode → View
-alice_before d mode = opening_to alice d mode ++ bare_papers
-
-abbrev pub fay_before : Digests → Mode → View
-fay_before d mode = opening_to fay d mode ++ bare_papers ++ conflict 1 fay true ∷ []
+-- all others that they are there, and who is declared in conflict that she is
+abbrev pub views_before : Digests → Mode → Views
+views_before d mode = record {
+  nobody = opening_to_nobody mode ++ bare_papers;
+  account = opening_to erin d mode ++ bare_papers;
+  author = bob_before d mode;
+  coauthor = gus_before d mode;
+  member = opening_to hal d mode ++ bare_papers;
+  reviewer = opening_to dave d mode ++ bare_papers;
+  conflicted_member = opening_to carol d mode ++ bare_papers ++ conflict 1 carol true ∷ [];
+  chair = opening_to alice d mode ++ bare_papers;
+  conflicted_chair = opening_to fay d mode ++ bare_papers ++ conflict 1 fay true ∷ [];
+}
 
 -- ---- in the bidding
-
--- nobody in particular, and a user who is only that: the phase, and no more of the papers than before
-abbrev pub nobody_in_bidding : Mode → View
-nobody_in_bidding mode = nobody_before mode ++ phase_set Bidding ∷ []
-
-abbrev pub erin_in_bidding : Digests → Mode → View
-erin_in_bidding d mode = erin_before d mode ++ phase_set Bidding ∷ []
-
--- an author and a co-author: as before, and not what the committee declares, bids and assigns
-abbrev pub bob_in_bidding : Digests → Mode → View
-bob_in_bidding d mode = bob_before d mode ++ phase_set Bidding ∷ []
-
-abbrev pub gus_in_bidding : Digests → Mode → View
-gus_in_bidding d mode = gus_before d mode ++ phase_set Bidding ∷ []
 
 -- a member in no conflict: of each paper the last texts, the last version and whether it is withdrawn, and unless the mode
 -- is anonymous all who wrote it
@@ -254,24 +300,28 @@ papers_to_members mode =
     ∷ phase_set Bidding
     ∷ []
 
+-- and of the tags those for all
 abbrev pub hal_in_bidding : Digests → Mode → View
-hal_in_bidding d mode = opening_to hal d mode ++ papers_to_members mode
+hal_in_bidding d mode = opening_to hal d mode ++ papers_to_members mode ++ tagging 1 hot true ∷ mine (tagging 1 hot false) ∷ []
 
--- one who reviews paper 1: of the conflicts his own, of the bids his own, and of the assignments his own
-abbrev pub dave_having_bid : Digests → Mode → View
-dave_having_bid d mode =
+-- one who reviews paper 1: of the conflicts his own, of the bids his own, of the tags his own too, and of the assignments his own
+abbrev pub dave_having_tags : Digests → Mode → Asides → View
+dave_having_tags d mode a =
     opening_to dave d mode
     ++ papers_to_members mode
     ++ mine (conflict 2 dave true)
     ∷ conflict 2 dave false
     ∷ mine (bid 1 25)
     ∷ mine (bid 1 40)
+    ∷ mine (tagging 1 hot true)
+    ∷ mine (tagging 1 (own_tag a) true)
+    ∷ tagging 1 hot false
     ∷ []
 
-abbrev pub dave_in_bidding : Digests → Mode → View
-dave_in_bidding d mode = dave_having_bid d mode ++ assignment 1 dave Primary 1 ∷ []
+abbrev pub dave_in_bidding : Digests → Mode → Asides → View
+dave_in_bidding d mode a = dave_having_tags d mode a ++ assignment 1 dave Primary 1 ∷ []
 
--- a member in conflict with paper 1: its last title alone; of the other papers what any member sees, and her own bid
+-- a member in conflict with paper 1: its last title alone, and no tag; of the other papers what any member sees, and her own bid
 abbrev pub carol_in_bidding : Digests → Mode → View
 carol_in_bidding d Anonymous =
     opening_to carol d Anonymous
@@ -299,7 +349,7 @@ carol_in_bidding d mode =
     ∷ []
 
 -- a chair in no conflict: what a member sees, whatever the mode; every conflict, but not who declared it; every bid, and whose it
--- is; and every assignment
+-- is; the tags for all and those for chairs; and every assignment
 abbrev pub alice_in_bidding : Digests → Mode → View
 alice_in_bidding d mode =
     opening_to alice d mode
@@ -322,12 +372,17 @@ alice_in_bidding d mode =
     ∷ bid_by carol 2 17
     ∷ mine (bid_by alice 1 0)
     ∷ bid_by dave 1 40
+    ∷ tagging 1 hot true
+    ∷ mine (tagging 1 chairs_tag true)
+    ∷ tagging 1 hot false
+    ∷ tagging 2 chairs_tag true
     ∷ mine (assignment 1 dave Primary 1)
     ∷ mine (assignment 1 alice Secondary 2)
     ∷ mine (assignment 2 fay Pc 1)
     ∷ []
 
--- a chair in conflict with paper 1: its last title alone, and of its conflicts her own; of the other papers what any chair sees
+-- a chair in conflict with paper 1: its last title alone, of its conflicts her own, and no tag; of the other papers what any chair
+-- sees
 abbrev pub fay_in_bidding : Digests → Mode → View
 fay_in_bidding d mode =
     opening_to fay d mode
@@ -344,31 +399,57 @@ fay_in_bidding d mode =
     ∷ conflict 2 dave true
     ∷ conflict 2 dave false
     ∷ bid_by carol 2 17
+    ∷ mine (tagging 2 chairs_tag true)
     ∷ assignment 2 fay Pc 1
     ∷ []
 
+-- all others, authors among them: the phase, and not what the committee declares, bids, tags and assigns
+abbrev pub views_in_bidding : Digests → Mode → Asides → Views
+views_in_bidding d mode a = record (opened_to Bidding (views_before d mode)) {
+  member = hal_in_bidding d mode;
+  reviewer = dave_in_bidding d mode a;
+  conflicted_member = carol_in_bidding d mode;
+  chair = alice_in_bidding d mode;
+  conflicted_chair = fay_in_bidding d mode;
+}
+
+-- ---- in the reviewing
+
+-- one who reviews paper 1: his own assignments, and his own forms whole
+abbrev pub dave_in_reviewing : Digests → Mode → Asides → View
+dave_in_reviewing d mode a =
+    dave_in_bidding d mode a
+    ++ phase_set Reviewing
+    ∷ unassignment 1 dave 1
+    ∷ assignment 1 dave Pc 3
+    ∷ mine (form 1 3 1 first_form)
+    ∷ mine (form 1 3 2 second_form)
+    ∷ []
+
+-- a chair in no conflict, who reviews it too: every assignment, her own form whole, and under which labels there is one
+abbrev pub alice_in_reviewing : Digests → Mode → View
+alice_in_reviewing d mode =
+    alice_in_bidding d mode
+    ++ mine (phase_set Reviewing)
+    ∷ mine (unassignment 1 dave 1)
+    ∷ mine (assignment 1 dave Pc 3)
+    ∷ form_done 1 3
+    ∷ mine (as_done (form 1 2 1 alices_form))
+    ∷ []
+
+-- all others: the phase
+abbrev pub views_in_reviewing : Digests → Mode → Asides → Views
+views_in_reviewing d mode a = record (opened_to Reviewing (views_in_bidding d mode a)) {
+  reviewer = dave_in_reviewing d mode a;
+  chair = alice_in_reviewing d mode;
+}
+
 -- ---- in the discussion
 
--- the two phases that were opened
-abbrev pub two_phases : View
-two_phases = phase_set Reviewing ∷ phase_set Discussion ∷ []
-
--- nobody in particular, a user who is only that, an author and a co-author: the phases alone
-abbrev pub nobody_in_discussion : Mode → View
-nobody_in_discussion mode = nobody_in_bidding mode ++ two_phases
-
-abbrev pub erin_in_discussion : Digests → Mode → View
-erin_in_discussion d mode = erin_in_bidding d mode ++ two_phases
-
-abbrev pub bob_in_discussion : Digests → Mode → View
-bob_in_discussion d mode = bob_in_bidding d mode ++ two_phases
-
-abbrev pub gus_in_discussion : Digests → Mode → View
-gus_in_discussion d mode = gus_in_bidding d mode ++ two_phases
-
--- a member in no conflict: every assignment, from the bidding on, but not who it is where the mode is anonymous
-abbrev pub hal_in_discussion : Digests → Mode → View
-hal_in_discussion d mode =
+-- a member in no conflict: every assignment, from the bidding on, but not who it is where the mode is anonymous; of each label the
+-- last form that was written before the discussion, and all later ones, whole; and every comment, with his own label
+abbrev pub hal_in_discussion : Digests → Mode → Asides → View
+hal_in_discussion d mode a =
     hal_in_bidding d mode
     ++ to_members mode (assignment 1 dave Primary 1)
     ∷ to_members mode (assignment 1 alice Secondary 2)
@@ -376,89 +457,104 @@ hal_in_discussion d mode =
     ∷ phase_set Reviewing
     ∷ to_members mode (unassignment 1 dave 1)
     ∷ to_members mode (assignment 1 dave Pc 3)
+    ∷ form 1 2 1 alices_form
+    ∷ form 1 3 2 second_form
     ∷ phase_set Discussion
+    ∷ form 1 3 3 (last_form a)
+    ∷ comment_to_members mode dave 3 1 1 a.comment
+    ∷ own_comment mode hal 0 1 2 agreed
     ∷ []
 
--- one who reviews paper 1: the same, and his own assignments whole
-abbrev pub dave_in_discussion : Digests → Mode → View
-dave_in_discussion d mode =
-    dave_having_bid d mode
+-- one who reviews paper 1: the same, and his own assignments and forms whole
+abbrev pub dave_in_discussion : Digests → Mode → Asides → View
+dave_in_discussion d mode a =
+    dave_having_tags d mode a
     ++ assignment 1 dave Primary 1
     ∷ to_members mode (assignment 1 alice Secondary 2)
     ∷ to_members mode (assignment 2 fay Pc 1)
     ∷ phase_set Reviewing
     ∷ unassignment 1 dave 1
     ∷ assignment 1 dave Pc 3
+    ∷ mine (form 1 3 1 first_form)
+    ∷ form 1 2 1 alices_form
+    ∷ mine (form 1 3 2 second_form)
     ∷ phase_set Discussion
+    ∷ mine (form 1 3 3 (last_form a))
+    ∷ own_comment mode dave 3 1 1 a.comment
+    ∷ comment_to_members mode hal 0 1 2 agreed
     ∷ []
 
 -- a member in conflict with paper 1: of the other papers what any member sees
 abbrev pub carol_in_discussion : Digests → Mode → View
-carol_in_discussion d mode = carol_in_bidding d mode ++ to_members mode (assignment 2 fay Pc 1) ∷ two_phases
+carol_in_discussion d mode =
+    carol_in_bidding d mode ++ to_members mode (assignment 2 fay Pc 1) ∷ phase_set Reviewing ∷ phase_set Discussion ∷ []
 
--- a chair in no conflict: every assignment, as before
-abbrev pub alice_in_discussion : Digests → Mode → View
-alice_in_discussion d mode =
-    alice_in_bidding d mode
-    ++ mine (phase_set Reviewing)
-    ∷ mine (unassignment 1 dave 1)
-    ∷ mine (assignment 1 dave Pc 3)
+-- a chair in no conflict: every assignment and what is done, as before; of the forms what any member sees; and every comment, and
+-- who wrote it
+abbrev pub alice_in_discussion : Digests → Mode → Asides → View
+alice_in_discussion d mode a =
+    alice_in_reviewing d mode
+    ++ form 1 3 2 second_form
     ∷ mine (phase_set Discussion)
+    ∷ form 1 3 3 (last_form a)
+    ∷ comment_by dave 1 1 a.comment
+    ∷ comment_by hal 1 2 agreed
     ∷ []
 
--- a chair in conflict with paper 1: of its assignments none
-abbrev pub fay_in_discussion : Digests → Mode → View
-fay_in_discussion d mode = fay_in_bidding d mode ++ two_phases
+-- all others, authors and a chair in conflict among them: the phase
+abbrev pub views_in_discussion : Digests → Mode → Asides → Views
+views_in_discussion d mode a = record (opened_to Discussion (views_in_reviewing d mode a)) {
+  member = hal_in_discussion d mode a;
+  reviewer = dave_in_discussion d mode a;
+  conflicted_member = carol_in_discussion d mode;
+  chair = alice_in_discussion d mode a;
+}
 
 -- ---- at the notification
 
--- an author, in the open mode: who reviewed her papers, from the bidding on, under which labels, and not as what; in the others the
--- phase alone
-abbrev pub bob_at_notification : Digests → Mode → View
-bob_at_notification d Overt =
-    bob_in_bidding d Overt
-    ++ to_authors (assignment 1 dave Primary 1)
-    ∷ to_authors (assignment 1 alice Secondary 2)
-    ∷ phase_set Reviewing
+-- an author of paper 1, from the reviewing on: of each label the last form, but not its number and what is for the committee; and in
+-- the open mode who was assigned and unassigned, and under which labels, but not as what
+abbrev pub results : Mode → Asides → View
+results Overt a =
+    phase_set Reviewing
     ∷ to_authors (unassignment 1 dave 1)
     ∷ to_authors (assignment 1 dave Pc 3)
+    ∷ form_to_authors 1 2 alices_form
     ∷ phase_set Discussion
+    ∷ form_to_authors 1 3 (last_form a)
     ∷ phase_set Notification
     ∷ []
-bob_at_notification d mode = bob_in_discussion d mode ++ phase_set Notification ∷ []
+results mode a =
+    phase_set Reviewing
+    ∷ form_to_authors 1 2 alices_form
+    ∷ phase_set Discussion
+    ∷ form_to_authors 1 3 (last_form a)
+    ∷ phase_set Notification
+    ∷ []
 
-abbrev pub gus_at_notification : Digests → Mode → View
-gus_at_notification d Overt =
-    gus_in_bidding d Overt
-    ++ to_authors (assignment 1 dave Primary 1)
+-- so of her own paper, and in the open mode who was assigned in the bidding too; and a co-author, who wrote paper 2 as well
+abbrev pub bob_at_notification : Digests → Mode → Asides → View
+bob_at_notification d Overt a =
+    bob_before d Overt
+    ++ phase_set Bidding
+    ∷ to_authors (assignment 1 dave Primary 1)
+    ∷ to_authors (assignment 1 alice Secondary 2)
+    ∷ results Overt a
+bob_at_notification d mode a = bob_before d mode ++ phase_set Bidding ∷ results mode a
+
+abbrev pub gus_at_notification : Digests → Mode → Asides → View
+gus_at_notification d Overt a =
+    gus_before d Overt
+    ++ phase_set Bidding
+    ∷ to_authors (assignment 1 dave Primary 1)
     ∷ to_authors (assignment 1 alice Secondary 2)
     ∷ to_authors (assignment 2 fay Pc 1)
-    ∷ phase_set Reviewing
-    ∷ to_authors (unassignment 1 dave 1)
-    ∷ to_authors (assignment 1 dave Pc 3)
-    ∷ phase_set Discussion
-    ∷ phase_set Notification
-    ∷ []
-gus_at_notification d mode = gus_in_discussion d mode ++ phase_set Notification ∷ []
+    ∷ results Overt a
+gus_at_notification d mode a = gus_before d mode ++ phase_set Bidding ∷ results mode a
 
 -- all others: the phase
-abbrev pub nobody_at_notification : Mode → View
-nobody_at_notification mode = nobody_in_discussion mode ++ phase_set Notification ∷ []
-
-abbrev pub erin_at_notification : Digests → Mode → View
-erin_at_notification d mode = erin_in_discussion d mode ++ phase_set Notification ∷ []
-
-abbrev pub hal_at_notification : Digests → Mode → View
-hal_at_notification d mode = hal_in_discussion d mode ++ phase_set Notification ∷ []
-
-abbrev pub dave_at_notification : Digests → Mode → View
-dave_at_notification d mode = dave_in_discussion d mode ++ phase_set Notification ∷ []
-
-abbrev pub carol_at_notification : Digests → Mode → View
-carol_at_notification d mode = carol_in_discussion d mode ++ phase_set Notification ∷ []
-
-abbrev pub alice_at_notification : Digests → Mode → View
-alice_at_notification d mode = alice_in_discussion d mode ++ mine (phase_set Notification) ∷ []
-
-abbrev pub fay_at_notification : Digests → Mode → View
-fay_at_notification d mode = fay_in_discussion d mode ++ phase_set Notification ∷ []
+abbrev pub views_at_notification : Digests → Mode → Asides → Views
+views_at_notification d mode a = record (opened_to Notification (views_in_discussion d mode a)) {
+  author = bob_at_notification d mode a;
+  coauthor = gus_at_notification d mode a;
+}

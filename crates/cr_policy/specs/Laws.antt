@@ -6,6 +6,7 @@ use Rattle.cr_base.specs.declared.command.Query.{Query}
 use Rattle.cr_base.specs.declared.words.Role.TheVariants.{Chair}
 use Rattle.cr_base.specs.History.{History}
 use Rattle.cr_base.specs.HistoryFacts.{standing_of, role_of, is_author, is_conflicted, declared_by_authors, accounts_of, papers_of, own_papers_of, own_bytes_of, number_of}
+use Rattle.cr_base.specs.HistoryFacts.{own_comments_of}
 use Rattle.cr_base.specs.Tables.{tables_of}
 use Rattle.cr_base.specs.Answering.{answer_by_role}
 use Rattle.cr_base.specs.Judging.{judge_by_role}
@@ -13,7 +14,7 @@ use Rattle.cr_base.specs.Logins.{command_wants_login, query_wants_login}
 use Rattle.cr_history.specs.Invariants.{IsRegistered, Invariants}
 use Rattle.cr_policy.specs.Sighting.{Sighting}
 use Rattle.cr_policy.specs.View.{view}
-use Rattle.cr_policy.specs.ViewFacts.{is_user, standing_in_view, accounts_in_view, papers_in_view, own_papers_in_view, own_bytes_in_view}
+use Rattle.cr_policy.specs.ViewFacts.{is_user, standing_in_view, accounts_in_view, papers_in_view, own_papers_in_view, own_bytes_in_view, own_comments_in_view}
 use Rattle.cr_policy.specs.ViewFacts.{number_in_view, declared_in_view, authors_in_view, title_in_view, abstract_in_view}
 use Rattle.cr_policy.specs.Judge.{judge, answer}
 use Rattle.cr_policy.specs.Legal.{Legal, MayAsk}
@@ -25,12 +26,14 @@ abbrev pub StandingFromView : Type 0
 StandingFromView = (u paper : Option ℕ) (H : History) → standing_in_view u paper (view u H) ≡ standing_of u paper H
 
 -- PublicFacts can be read off what anybody sees, whatever the history: who has registered, in which role, under which
--- name, and the papers; and so can how many of them are the reader's own, and how many bytes she has uploaded
+-- name, and the papers; and so can how many of them are the reader's own, how many bytes she has uploaded, and how many comments
+-- she has written
 pub record PublicFactsFromView (u : Option ℕ) (H : History) : Type 0 where
   pub accounts : accounts_in_view (view u H) ≡ accounts_of H
   pub papers : papers_in_view (view u H) ≡ papers_of H
   pub own_papers : own_papers_in_view (view u H) ≡ own_papers_of u H
   pub own_bytes : own_bytes_in_view (view u H) ≡ own_bytes_of u H
+  pub own_comments : own_comments_in_view (view u H) ≡ own_comments_of u H
   pub number : (name : List ℕ) → number_in_view name (view u H) ≡ number_of name H
 
 -- ViewSuffices: on a legal history, what checks of role on the tables give of a command or a query is what the caller's

@@ -3,7 +3,7 @@ use Rattle.std.specs.Prelude.{ℕ, Bool, true, false, List, ◌==◌, ◌||◌}
 use Rattle.std.specs.List.{list_any}
 
 -- the parts that an entry may have beside its kind and its paper, which are never hidden; `by` is who made it, `value` that of a
--- bid, `seat` what a reviewer is to the paper
+-- bid, `seat` what a reviewer is to the paper, `n` a comment's number; `done` is a mark: under the label is a form
 pub data Part : Type 0 where
   user : Part
   name : Part
@@ -20,6 +20,14 @@ pub data Part : Type 0 where
   value : Part
   seat : Part
   ordinal : Part
+  score : Part
+  confidence : Part
+  to_authors : Part
+  to_pc : Part
+  done : Part
+  n : Part
+  text : Part
+  tag : Part
 
 -- a number of its own for each part
 abbrev pub part_number : Part → ℕ
@@ -38,6 +46,14 @@ part_number on = 11
 part_number value = 12
 part_number seat = 13
 part_number ordinal = 14
+part_number score = 15
+part_number confidence = 16
+part_number to_authors = 17
+part_number to_pc = 18
+part_number done = 19
+part_number n = 20
+part_number text = 21
+part_number tag = 22
 
 -- the part is one of these
 abbrev pub these : List Part → Part → Bool
@@ -60,6 +76,14 @@ whole on = true
 whole value = true
 whole seat = true
 whole ordinal = true
+whole score = true
+whole confidence = true
+whole to_authors = true
+whole to_pc = true
+whole done = false
+whole n = true
+whole text = true
+whole tag = true
 
 -- it does, or is one of these besides
 abbrev pub whole_and : List Part → Part → Bool

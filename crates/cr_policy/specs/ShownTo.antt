@@ -1,15 +1,15 @@
 -- Who is shown which part of an entry: a paragraph for each part, and in it a line for each kind of entry that has it. It
 -- is the trigger table turned round and written anew, from what a committee wants: who sees titles, abstracts, authors,
--- review preferences and reviewers is the HotCRP manual's, from when they do follows CoCon's phases (CAV 2014). It rests on
--- facts of the history (phase, mode, roles, authors, declared conflicts) and on no other word of the trigger table or of a
--- paper's page: who is on the committee, who is in conflict, when the bidding begins and what a mode hides are said again, so
--- that such a word, changed there so that more is shown, is refused here.
-use Rattle.std.specs.Prelude.{ℕ, Bool, true, false, not, List, [], ◌∷◌, ◌++◌, Option, Some, None, ◌&&◌, ◌||◌, ◌==◌, if◌then◌else◌}
+-- review preferences, reviewers, reviews, comments and tags is the HotCRP manual's, from when they do follows CoCon's phases
+-- (CAV 2014). It rests on facts of the history (phase, mode, roles, authors, declared conflicts) and on no other word of the
+-- trigger table or of a paper's page: who is on the committee, who is in conflict, when the bidding begins, what a mode hides and
+-- whom a tag is for are said again, so that such a word, changed there so that more is shown, is refused here.
+use Rattle.std.specs.Prelude.{ℕ, Bool, true, false, not, List, [], ◌∷◌, ◌++◌, Option, Some, None, unwrap_or, ◌&&◌, ◌||◌, ◌==◌, if◌then◌else◌}
 use Rattle.std.specs.List.{list_any}
 use Rattle.cr_base.specs.declared.entry.Entry.{Entry}
 use Rattle.cr_base.specs.declared.entry.Entry.TheVariants.{Registered, Named, PhaseSet, ModeSet, Submitted}
 use Rattle.cr_base.specs.declared.entry.Entry.TheVariants.{Coauthor, Revised, Uploaded, Withdrawn, Conflict}
-use Rattle.cr_base.specs.declared.entry.Entry.TheVariants.{Bid, Assigned, Unassigned}
+use Rattle.cr_base.specs.declared.entry.Entry.TheVariants.{Bid, Assigned, Unassigned, Reviewed, Commented, Tagged}
 use Rattle.cr_base.specs.declared.entry.EntryKind.{EntryKind}
 use Rattle.cr_base.specs.declared.entry.Stamped.{Stamped}
 use Rattle.cr_base.specs.declared.words.Kind.{Kind}
@@ -19,7 +19,7 @@ use Rattle.cr_base.specs.declared.words.Mode.{Mode}
 use Rattle.cr_base.specs.declared.words.Mode.TheVariants.{Overt, Blind, Anonymous}
 use Rattle.cr_base.specs.declared.words.Role.{Role}
 use Rattle.cr_base.specs.declared.words.Role.TheVariants.{Account, Member, Chair}
-use Rattle.cr_base.specs.Lists.{given, is_number}
+use Rattle.cr_base.specs.Lists.{given, is_number, until}
 use Rattle.cr_base.specs.History.{History}
 use Rattle.cr_base.specs.HistoryFacts.{phase_of, mode_of, role_of, is_author, is_conflict_on}
 use Rattle.cr_base.specs.Rows.{kind_of}
@@ -112,6 +112,14 @@ discusses u p H = handles u p H && is_past_reviewing (phase_of H)
 abbrev pub is_answered : Option ℕ → ℕ → History → Bool
 is_answered u p H = is_author u p H && names_reviewers (mode_of H) && is_past_discussion (phase_of H)
 
+-- she wrote the paper, and learns what became of it: from the notification on
+abbrev pub is_notified : Option ℕ → ℕ → History → Bool
+is_notified u p H = is_author u p H && is_past_discussion (phase_of H)
+
+-- who discusses a paper is told who comments on it: a chair always, others unless reviewers are hidden
+abbrev pub knows_writers : Option ℕ → History → Bool
+knows_writers u H = leads_committee (role_of u H) || not (hides_reviewers (mode_of H))
+
 -- ---- which entries she is told of
 
 -- the entry gives the paper its texts; and one of these later ones gives it others
@@ -131,6 +139,62 @@ gives_content p _ = false
 abbrev pub is_superseded : ℕ → History → Bool
 is_superseded p later = list_any (λ (e : Stamped). gives_content p e.entry) later
 
+-- the entry is a form under the paper's label of this ordinal; and one of these is
+abbrev pub gives_form : ℕ → ℕ → Entry → Bool
+gives_form p o (Reviewed paper ordinal version form) = paper == p && ordinal == o
+gives_form p o _ = false
+
+abbrev pub is_reviewed : ℕ → ℕ → History → Bool
+is_reviewed p o H = list_any (λ (e : Stamped). gives_form p o e.entry) H
+
+-- the entry begins the discussion
+abbrev pub is_discussion : Phase → Bool
+is_discussion Setup = false
+is_discussion Submission = false
+is_discussion Bidding = false
+is_discussion Reviewing = false
+is_discussion Discussion = true
+is_discussion Notification = false
+is_discussion Closed = false
+
+abbrev pub begins_discussion : Entry → Bool
+begins_discussion (PhaseSet phase) = is_discussion phase
+begins_discussion _ = false
+
+-- a form that stands there is one of those that the committee discusses: it was written when the discussion had begun, or no later
+-- one of its label was before that
+abbrev pub is_discussed : ℕ → ℕ → History → History → Bool
+is_discussed p o before later =
+    list_any (λ (e : Stamped). begins_discussion e.entry) before || not (is_reviewed p o (until (λ (e : Stamped). begins_discussion e.entry) later))
+
+-- she reads all of the form: she wrote it, or discusses it
+abbrev pub reads_form : Option ℕ → History → History → History → ℕ → ℕ → ℕ → Bool
+reads_form u H before later maker paper ordinal = is_number u maker || (discusses u paper H && is_discussed paper ordinal before later)
+
+-- she reads of the form what is for authors: it is the label's last, and she is notified
+abbrev pub learns_form : Option ℕ → History → History → ℕ → ℕ → Bool
+learns_form u H later paper ordinal = is_notified u paper H && not (is_reviewed paper ordinal later)
+
+-- she is told that there is a form under the label: it is the first, and she leads the paper
+abbrev pub counts_form : Option ℕ → History → History → ℕ → ℕ → Bool
+counts_form u H before paper ordinal = leads u paper H && not (is_reviewed paper ordinal before)
+
+-- a tag is the committee's where no `~` stands first, the chairs' where two do, and else its setter's
+abbrev pub is_committees : List ℕ → Bool
+is_committees [] = true
+is_committees (a ∷ tag) = not (a == 126)
+
+abbrev pub is_chairs : List ℕ → Bool
+is_chairs (a ∷ b ∷ tag) = a == 126 && b == 126
+is_chairs _ = false
+
+abbrev pub is_setters : List ℕ → Bool
+is_setters tag = not (is_committees tag) && not (is_chairs tag)
+
+-- the tag is one that she reads: the committee's, where she handles the paper; the chairs', where she oversees it
+abbrev pub reads_tag : Option ℕ → History → ℕ → List ℕ → Bool
+reads_tag u H paper tag = (is_committees tag && handles u paper H) || (is_chairs tag && oversees u paper H)
+
 -- she made the entry, or is an author of its paper
 abbrev pub owns : Option ℕ → History → ℕ → ℕ → Bool
 owns u H maker paper = is_number u maker || is_author u paper H
@@ -143,32 +207,40 @@ is_party u H maker paper user = is_number u user || is_number u maker || leads u
 -- conflicts that no author made; co-authors where she oversees the paper, and where she handles it unless authors are hidden;
 -- a revision that none has replaced where she serves, an upload that none has superseded where she handles the paper; a
 -- withdrawal where she serves; of conflicts the ones that name her, and all where she oversees the paper; of bids her own, and all
--- where she oversees the paper; and of assignments those that she is a party to, all where she discusses the paper, and those to
--- her own paper where she is named its reviewers
-abbrev pub is_told : Option ℕ → History → History → ℕ → Entry → Bool
-is_told u H later maker (Registered user name digest) = true
-is_told u H later maker (Named user role) = true
-is_told u H later maker (PhaseSet phase) = true
-is_told u H later maker (ModeSet mode) = true
-is_told u H later maker (Submitted paper title abstract) = true
-is_told u H later maker (Coauthor paper user) = owns u H maker paper || oversees u paper H || (handles u paper H && not (hides_authors (mode_of H)))
-is_told u H later maker (Revised paper title abstract) = owns u H maker paper || (not (is_replaced paper later) && serves u H)
-is_told u H later maker (Uploaded paper version content) = owns u H maker paper || (not (is_superseded paper later) && handles u paper H)
-is_told u H later maker (Withdrawn paper) = owns u H maker paper || serves u H
-is_told u H later maker (Conflict paper user on) =
+-- where she oversees the paper; of assignments those that she is a party to, all where she discusses the paper, and those to
+-- her own paper where she is named its reviewers; of forms her own, the first of each label where she leads the paper, those that
+-- are discussed where she discusses it, and of her own paper the last of each label where she is notified; of comments her own, and
+-- all where she discusses the paper; and of tags those that she set, and those that she reads
+abbrev pub is_told : Option ℕ → History → History → History → ℕ → Entry → Bool
+is_told u H before later maker (Registered user name digest) = true
+is_told u H before later maker (Named user role) = true
+is_told u H before later maker (PhaseSet phase) = true
+is_told u H before later maker (ModeSet mode) = true
+is_told u H before later maker (Submitted paper title abstract) = true
+is_told u H before later maker (Coauthor paper user) = owns u H maker paper || oversees u paper H || (handles u paper H && not (hides_authors (mode_of H)))
+is_told u H before later maker (Revised paper title abstract) = owns u H maker paper || (not (is_replaced paper later) && serves u H)
+is_told u H before later maker (Uploaded paper version content) = owns u H maker paper || (not (is_superseded paper later) && handles u paper H)
+is_told u H before later maker (Withdrawn paper) = owns u H maker paper || serves u H
+is_told u H before later maker (Conflict paper user on) =
     is_number u user
     || is_number u maker
     || (is_author u paper H && is_author (Some maker) paper H)
     || oversees u paper H
-is_told u H later maker (Bid paper value) = is_number u maker || oversees u paper H
-is_told u H later maker (Assigned paper user seat ordinal) = is_party u H maker paper user || discusses u paper H || is_answered u paper H
-is_told u H later maker (Unassigned paper user ordinal) = is_party u H maker paper user || discusses u paper H || is_answered u paper H
+is_told u H before later maker (Bid paper value) = is_number u maker || oversees u paper H
+is_told u H before later maker (Assigned paper user seat ordinal) = is_party u H maker paper user || discusses u paper H || is_answered u paper H
+is_told u H before later maker (Unassigned paper user ordinal) = is_party u H maker paper user || discusses u paper H || is_answered u paper H
+is_told u H before later maker (Reviewed paper ordinal version form) =
+    reads_form u H before later maker paper ordinal
+    || counts_form u H before paper ordinal
+    || learns_form u H later paper ordinal
+is_told u H before later maker (Commented paper n ordinal text) = is_number u maker || discusses u paper H
+is_told u H before later maker (Tagged paper tag on) = is_number u maker || reads_tag u H paper tag
 
 -- ---- the parts of an entry that she is told of
 
--- what a part is for a user at the end of a history: of an entry with these later ones behind it, by this maker
+-- what a part is for a user at the end of a history: of an entry that stands behind these and before those, by this maker
 abbrev pub PartFor : Type 0 → Type 0
-PartFor A = Option ℕ → History → History → ℕ → Entry → A
+PartFor A = Option ℕ → History → History → History → ℕ → Entry → A
 
 -- the part, where she may know it
 abbrev pub where_known : {A : Type 0} → Bool → A → Option A
@@ -176,23 +248,26 @@ where_known known x = if known then Some x else None
 
 -- the kind, and whether it is her own: always
 abbrev pub kind_for : PartFor EntryKind
-kind_for u H later maker e = kind_of e
+kind_for u H before later maker e = kind_of e
 
 abbrev pub mark_for : PartFor Bool
-mark_for u H later maker e = is_number u maker
+mark_for u H before later maker e = is_number u maker
 
 -- the paper's number: always
 abbrev pub paper_for : PartFor (Option ℕ)
-paper_for u H later maker (Submitted paper title abstract) = Some paper
-paper_for u H later maker (Coauthor paper user) = Some paper
-paper_for u H later maker (Revised paper title abstract) = Some paper
-paper_for u H later maker (Uploaded paper version content) = Some paper
-paper_for u H later maker (Withdrawn paper) = Some paper
-paper_for u H later maker (Conflict paper user on) = Some paper
-paper_for u H later maker (Bid paper value) = Some paper
-paper_for u H later maker (Assigned paper user seat ordinal) = Some paper
-paper_for u H later maker (Unassigned paper user ordinal) = Some paper
-paper_for u H later maker _ = None
+paper_for u H before later maker (Submitted paper title abstract) = Some paper
+paper_for u H before later maker (Coauthor paper user) = Some paper
+paper_for u H before later maker (Revised paper title abstract) = Some paper
+paper_for u H before later maker (Uploaded paper version content) = Some paper
+paper_for u H before later maker (Withdrawn paper) = Some paper
+paper_for u H before later maker (Conflict paper user on) = Some paper
+paper_for u H before later maker (Bid paper value) = Some paper
+paper_for u H before later maker (Assigned paper user seat ordinal) = Some paper
+paper_for u H before later maker (Unassigned paper user ordinal) = Some paper
+paper_for u H before later maker (Reviewed paper ordinal version form) = Some paper
+paper_for u H before later maker (Commented paper n ordinal text) = Some paper
+paper_for u H before later maker (Tagged paper tag on) = Some paper
+paper_for u H before later maker _ = None
 
 -- who reviews a paper: to the parties of the assignment, to authors who are named the reviewers, and to those who discuss the
 -- paper unless reviewers are hidden
@@ -202,98 +277,149 @@ reviewer_for u H maker paper user =
 
 -- the user registered, named to a role, named as a co-author or in a conflict: always; and one who is assigned or unassigned
 abbrev pub user_for : PartFor (Option ℕ)
-user_for u H later maker (Registered user name digest) = Some user
-user_for u H later maker (Named user role) = Some user
-user_for u H later maker (Coauthor paper user) = Some user
-user_for u H later maker (Conflict paper user on) = Some user
-user_for u H later maker (Assigned paper user seat ordinal) = reviewer_for u H maker paper user
-user_for u H later maker (Unassigned paper user ordinal) = reviewer_for u H maker paper user
-user_for u H later maker _ = None
+user_for u H before later maker (Registered user name digest) = Some user
+user_for u H before later maker (Named user role) = Some user
+user_for u H before later maker (Coauthor paper user) = Some user
+user_for u H before later maker (Conflict paper user on) = Some user
+user_for u H before later maker (Assigned paper user seat ordinal) = reviewer_for u H maker paper user
+user_for u H before later maker (Unassigned paper user ordinal) = reviewer_for u H maker paper user
+user_for u H before later maker _ = None
 
 -- a user's name: always
 abbrev pub name_for : PartFor (Option (List ℕ))
-name_for u H later maker (Registered user name digest) = Some name
-name_for u H later maker _ = None
+name_for u H before later maker (Registered user name digest) = Some name
+name_for u H before later maker _ = None
 
 -- the digest of a secret: to whoever made the registration
 abbrev pub digest_for : PartFor (Option (List ℕ))
-digest_for u H later maker (Registered user name digest) = where_known (is_number u maker) digest
-digest_for u H later maker _ = None
+digest_for u H before later maker (Registered user name digest) = where_known (is_number u maker) digest
+digest_for u H before later maker _ = None
 
 -- a role: always
 abbrev pub role_for : PartFor (Option Role)
-role_for u H later maker (Named user role) = Some role
-role_for u H later maker _ = None
+role_for u H before later maker (Named user role) = Some role
+role_for u H before later maker _ = None
 
 -- a phase: always
 abbrev pub phase_for : PartFor (Option Phase)
-phase_for u H later maker (PhaseSet phase) = Some phase
-phase_for u H later maker _ = None
+phase_for u H before later maker (PhaseSet phase) = Some phase
+phase_for u H before later maker _ = None
 
 -- a mode: always
 abbrev pub mode_for : PartFor (Option Mode)
-mode_for u H later maker (ModeSet mode) = Some mode
-mode_for u H later maker _ = None
+mode_for u H before later maker (ModeSet mode) = Some mode
+mode_for u H before later maker _ = None
 
 -- who submitted a paper: to its authors, to those who oversee it, and to those who handle it unless authors are hidden;
--- who made a bid: to those who oversee the paper; who made any other entry: to nobody
+-- who made a bid: to those who oversee the paper; who made a comment: to those who discuss the paper and are told who comments;
+-- who made any other entry: to nobody
 abbrev pub maker_for : PartFor (Option ℕ)
-maker_for u H later maker (Submitted paper title abstract) =
+maker_for u H before later maker (Submitted paper title abstract) =
     where_known (is_author u paper H || oversees u paper H || (handles u paper H && not (hides_authors (mode_of H)))) maker
-maker_for u H later maker (Bid paper value) = where_known (oversees u paper H) maker
-maker_for u H later maker _ = None
+maker_for u H before later maker (Bid paper value) = where_known (oversees u paper H) maker
+maker_for u H before later maker (Commented paper n ordinal text) = where_known (discusses u paper H && knows_writers u H) maker
+maker_for u H before later maker _ = None
 
 -- a title: to the paper's authors and to whoever made the entry, and the last one to those who serve
 abbrev pub title_for : PartFor (Option (List ℕ))
-title_for u H later maker (Submitted paper title abstract) = where_known (is_author u paper H || (not (is_replaced paper later) && serves u H)) title
-title_for u H later maker (Revised paper title abstract) =
+title_for u H before later maker (Submitted paper title abstract) = where_known (is_author u paper H || (not (is_replaced paper later) && serves u H)) title
+title_for u H before later maker (Revised paper title abstract) =
     where_known (owns u H maker paper || (not (is_replaced paper later) && serves u H)) title
-title_for u H later maker _ = None
+title_for u H before later maker _ = None
 
 -- an abstract: to the paper's authors and to whoever made the entry, and the last one to those who handle the paper
 abbrev pub abstract_for : PartFor (Option (List ℕ))
-abstract_for u H later maker (Submitted paper title abstract) =
+abstract_for u H before later maker (Submitted paper title abstract) =
     where_known (is_author u paper H || (not (is_replaced paper later) && handles u paper H)) abstract
-abstract_for u H later maker (Revised paper title abstract) =
+abstract_for u H before later maker (Revised paper title abstract) =
     where_known (owns u H maker paper || (not (is_replaced paper later) && handles u paper H)) abstract
-abstract_for u H later maker _ = None
+abstract_for u H before later maker _ = None
 
 -- a version's number, and its content: to the paper's authors and to whoever made the entry, and the last one to those who
 -- handle the paper
 abbrev pub version_for : PartFor (Option ℕ)
-version_for u H later maker (Uploaded paper version content) =
+version_for u H before later maker (Uploaded paper version content) =
     where_known (owns u H maker paper || (not (is_superseded paper later) && handles u paper H)) version
-version_for u H later maker _ = None
+version_for u H before later maker (Reviewed paper ordinal version form) = where_known (reads_form u H before later maker paper ordinal) version
+version_for u H before later maker _ = None
 
 abbrev pub content_for : PartFor (Option (List ℕ))
-content_for u H later maker (Uploaded paper version content) =
+content_for u H before later maker (Uploaded paper version content) =
     where_known (owns u H maker paper || (not (is_superseded paper later) && handles u paper H)) content
-content_for u H later maker _ = None
+content_for u H before later maker _ = None
 
--- whether a conflict is on: always
+-- whether a conflict, or a tag, is on: always
 abbrev pub switch_for : PartFor (Option Bool)
-switch_for u H later maker (Conflict paper user on) = Some on
-switch_for u H later maker _ = None
+switch_for u H before later maker (Conflict paper user on) = Some on
+switch_for u H before later maker (Tagged paper tag on) = Some on
+switch_for u H before later maker _ = None
 
 -- a bid: always
 abbrev pub value_for : PartFor (Option ℕ)
-value_for u H later maker (Bid paper value) = Some value
-value_for u H later maker _ = None
+value_for u H before later maker (Bid paper value) = Some value
+value_for u H before later maker _ = None
 
 -- what a reviewer is to the paper: to the parties of the assignment, and to those who discuss the paper
 abbrev pub seat_for : PartFor (Option Kind)
-seat_for u H later maker (Assigned paper user seat ordinal) = where_known (is_party u H maker paper user || discusses u paper H) seat
-seat_for u H later maker _ = None
+seat_for u H before later maker (Assigned paper user seat ordinal) = where_known (is_party u H maker paper user || discusses u paper H) seat
+seat_for u H before later maker _ = None
 
--- the ordinal of her label: always
+-- the ordinal of a label: of an assignment and of a form always; of a comment to its maker, and to those who discuss the paper and
+-- aren't told who comments
 abbrev pub ordinal_for : PartFor (Option ℕ)
-ordinal_for u H later maker (Assigned paper user seat ordinal) = Some ordinal
-ordinal_for u H later maker (Unassigned paper user ordinal) = Some ordinal
-ordinal_for u H later maker _ = None
+ordinal_for u H before later maker (Assigned paper user seat ordinal) = Some ordinal
+ordinal_for u H before later maker (Unassigned paper user ordinal) = Some ordinal
+ordinal_for u H before later maker (Reviewed paper ordinal version form) = Some ordinal
+ordinal_for u H before later maker (Commented paper n ordinal text) =
+    where_known (is_number u maker || (discusses u paper H && not (knows_writers u H))) (unwrap_or ordinal 0)
+ordinal_for u H before later maker _ = None
+
+-- the score, the confidence and the text to the authors of a form: to those who read all of it, and to authors who learn of it
+abbrev pub reads_review : Option ℕ → History → History → History → ℕ → ℕ → ℕ → Bool
+reads_review u H before later maker paper ordinal = reads_form u H before later maker paper ordinal || learns_form u H later paper ordinal
+
+abbrev pub score_for : PartFor (Option ℕ)
+score_for u H before later maker (Reviewed paper ordinal version form) = where_known (reads_review u H before later maker paper ordinal) form.score
+score_for u H before later maker _ = None
+
+abbrev pub confidence_for : PartFor (Option ℕ)
+confidence_for u H before later maker (Reviewed paper ordinal version form) =
+    where_known (reads_review u H before later maker paper ordinal) form.confidence
+confidence_for u H before later maker _ = None
+
+abbrev pub to_authors_for : PartFor (Option (List ℕ))
+to_authors_for u H before later maker (Reviewed paper ordinal version form) =
+    where_known (reads_review u H before later maker paper ordinal) form.to_authors
+to_authors_for u H before later maker _ = None
+
+-- the text to the committee: to those who read all of the form
+abbrev pub to_pc_for : PartFor (Option (List ℕ))
+to_pc_for u H before later maker (Reviewed paper ordinal version form) = where_known (reads_form u H before later maker paper ordinal) form.to_pc
+to_pc_for u H before later maker _ = None
+
+-- the mark that there is a form under the label: to those who lead the paper, of the first
+abbrev pub done_for : PartFor (Option Bool)
+done_for u H before later maker (Reviewed paper ordinal version form) = where_known (counts_form u H before paper ordinal) true
+done_for u H before later maker _ = None
+
+-- a comment's number, and its text: always
+abbrev pub n_for : PartFor (Option ℕ)
+n_for u H before later maker (Commented paper n ordinal text) = Some n
+n_for u H before later maker _ = None
+
+abbrev pub text_for : PartFor (Option (List ℕ))
+text_for u H before later maker (Commented paper n ordinal text) = Some text
+text_for u H before later maker _ = None
+
+-- a tag: always
+abbrev pub tag_for : PartFor (Option (List ℕ))
+tag_for u H before later maker (Tagged paper tag on) = Some tag
+tag_for u H before later maker _ = None
 
 -- ---- all entries
 
--- the part of each entry that she is told of, in order; H is the whole history
-abbrev pub each_told : {A : Type 0} → Option ℕ → History → (History → ℕ → Entry → A) → History → List A
-each_told u H part [] = []
-each_told u H part (e ∷ later) = given (is_told u H later e.maker e.entry) (part later e.maker e.entry) ++ each_told u H part later
+-- the part of each entry that she is told of, in order, where these stand before them; H is the whole history
+abbrev pub each_told : {A : Type 0} → Option ℕ → History → (History → History → ℕ → Entry → A) → History → History → List A
+each_told u H part before [] = []
+each_told u H part before (e ∷ later) =
+    given (is_told u H before later e.maker e.entry) (part before later e.maker e.entry) ++ each_told u H part (before ++ e ∷ []) later

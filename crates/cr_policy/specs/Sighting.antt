@@ -1,11 +1,11 @@
 -- What one entry shows: its kind and its paper, and of its other parts those that are shown.
-use Rattle.std.specs.Prelude.{ℕ, Bool, false, List, Option, Some, None, if◌then◌else◌}
+use Rattle.std.specs.Prelude.{ℕ, Bool, true, false, List, Option, Some, None, unwrap_or, if◌then◌else◌}
 use Rattle.cr_base.specs.declared.entry.EntryKind.{EntryKind}
 use Rattle.cr_base.specs.declared.entry.EntryKind.TheVariants as kinds
 use Rattle.cr_base.specs.declared.entry.Entry.{Entry}
 use Rattle.cr_base.specs.declared.entry.Entry.TheVariants.{Registered, Named, PhaseSet, ModeSet, Submitted}
 use Rattle.cr_base.specs.declared.entry.Entry.TheVariants.{Coauthor, Revised, Uploaded, Withdrawn, Conflict}
-use Rattle.cr_base.specs.declared.entry.Entry.TheVariants.{Bid, Assigned, Unassigned}
+use Rattle.cr_base.specs.declared.entry.Entry.TheVariants.{Bid, Assigned, Unassigned, Reviewed, Commented, Tagged}
 use Rattle.cr_base.specs.declared.entry.Stamped.{Stamped}
 use Rattle.cr_base.specs.declared.words.Kind.{Kind}
 use Rattle.cr_base.specs.declared.words.Phase.{Phase}
@@ -35,6 +35,14 @@ pub record Sighting : Type 0 where
   pub value : Option ℕ
   pub seat : Option Kind
   pub ordinal : Option ℕ
+  pub score : Option ℕ
+  pub confidence : Option ℕ
+  pub to_authors : Option (List ℕ)
+  pub to_pc : Option (List ℕ)
+  pub done : Option Bool
+  pub n : Option ℕ
+  pub text : Option (List ℕ)
+  pub tag : Option (List ℕ)
 
 -- ---- an entry with all its parts
 
@@ -59,6 +67,14 @@ blank kind = record {
   value = None;
   seat = None;
   ordinal = None;
+  score = None;
+  confidence = None;
+  to_authors = None;
+  to_pc = None;
+  done = None;
+  n = None;
+  text = None;
+  tag = None;
 }
 
 -- the parts that each kind of entry has; `by` is its maker
@@ -76,6 +92,19 @@ entire by (Conflict paper user on) = record (blank kinds.Conflict) { paper = Som
 entire by (Bid paper value) = record (blank kinds.Bid) { paper = Some paper; by = Some by; value = Some value }
 entire by (Assigned paper user seat ordinal) = record (blank kinds.Assigned) { paper = Some paper; user = Some user; seat = Some seat; ordinal = Some ordinal }
 entire by (Unassigned paper user ordinal) = record (blank kinds.Unassigned) { paper = Some paper; user = Some user; ordinal = Some ordinal }
+entire by (Reviewed paper ordinal version form) = record (blank kinds.Reviewed) {
+  paper = Some paper;
+  version = Some version;
+  ordinal = Some ordinal;
+  score = Some form.score;
+  confidence = Some form.confidence;
+  to_authors = Some form.to_authors;
+  to_pc = Some form.to_pc;
+  done = Some true;
+}
+entire by (Commented paper n ordinal text) =
+    record (blank kinds.Commented) { paper = Some paper; by = Some by; n = Some n; ordinal = Some (unwrap_or ordinal 0); text = Some text }
+entire by (Tagged paper tag on) = record (blank kinds.Tagged) { paper = Some paper; tag = Some tag; on = Some on }
 
 -- ---- the parts that are shown
 
@@ -105,6 +134,14 @@ masked shows mine s = record {
   value = where_shown (shows part.value) s.value;
   seat = where_shown (shows part.seat) s.seat;
   ordinal = where_shown (shows part.ordinal) s.ordinal;
+  score = where_shown (shows part.score) s.score;
+  confidence = where_shown (shows part.confidence) s.confidence;
+  to_authors = where_shown (shows part.to_authors) s.to_authors;
+  to_pc = where_shown (shows part.to_pc) s.to_pc;
+  done = where_shown (shows part.done) s.done;
+  n = where_shown (shows part.n) s.n;
+  text = where_shown (shows part.text) s.text;
+  tag = where_shown (shows part.tag) s.tag;
 }
 
 -- the entry with those parts alone

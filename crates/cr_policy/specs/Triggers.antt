@@ -1,22 +1,22 @@
 -- The trigger table: which parts of an entry a reader sees, judged at the end of the history (the triggers and
 -- bounds of CoCon, CAV 2014).
-use Rattle.std.specs.Prelude.{ℕ, Bool, true, false, not, List, [], ◌∷◌, Option, Some, ◌&&◌}
+use Rattle.std.specs.Prelude.{ℕ, Bool, true, false, not, List, [], ◌∷◌, Option, Some, ◌&&◌, ◌||◌}
 use Rattle.std.specs.List.{list_any}
 use Rattle.cr_base.specs.declared.entry.Entry.{Entry}
 use Rattle.cr_base.specs.declared.entry.Entry.TheVariants.{Registered, Named, PhaseSet, ModeSet, Submitted}
 use Rattle.cr_base.specs.declared.entry.Entry.TheVariants.{Coauthor, Revised, Uploaded, Withdrawn, Conflict}
-use Rattle.cr_base.specs.declared.entry.Entry.TheVariants.{Bid, Assigned, Unassigned}
+use Rattle.cr_base.specs.declared.entry.Entry.TheVariants.{Bid, Assigned, Unassigned, Reviewed, Commented, Tagged}
 use Rattle.cr_base.specs.declared.words.Phase.{Phase}
-use Rattle.cr_base.specs.declared.entry.Stamped.{Stamped}
 use Rattle.cr_base.specs.declared.standing.Standing.{Standing}
 use Rattle.cr_base.specs.declared.words.Phase.TheVariants.{Bidding, Discussion, Notification}
 use Rattle.cr_base.specs.declared.words.Mode.{Mode}
 use Rattle.cr_base.specs.declared.words.Role.{Role}
 use Rattle.cr_base.specs.Lists.{is_nothing, is_number, until}
-use Rattle.cr_base.specs.History.{History, all_told, opens, title_told, upload_told}
+use Rattle.cr_base.specs.History.{History, all_told, opens_discussion, title_told, upload_told, form_told}
 use Rattle.cr_base.specs.HistoryFacts.{phase_of, mode_of, role_of, is_author, is_conflicted}
 use Rattle.cr_base.specs.Page.{is_clear_member, is_clear_chair}
 use Rattle.cr_base.specs.Phases.{is_from}
+use Rattle.cr_base.specs.TagTexts.{is_for_all, is_for_chairs}
 use Rattle.cr_base.specs.Words.{is_anonymous, is_overt, is_member}
 use Rattle.cr_policy.specs.Part as part
 use Rattle.cr_policy.specs.Part.{Part, these, whole, whole_and}
@@ -84,7 +84,7 @@ in_open_mode r = is_overt r.mode
 abbrev pub none_in : {A : Type 0} → (Entry → List A) → History → Bool
 none_in told H = is_nothing (all_told told H)
 
--- none of these entries is of the same matter as this one: a paper's texts, or its content
+-- none of these entries is of the same matter as this one: a paper's texts, its content, or the review under a label
 abbrev pub none_alike : Entry → History → Bool
 none_alike (Registered user name digest) H = true
 none_alike (Named user role) H = true
@@ -99,6 +99,9 @@ none_alike (Conflict paper user on) H = true
 none_alike (Bid paper value) H = true
 none_alike (Assigned paper user seat ordinal) H = true
 none_alike (Unassigned paper user ordinal) H = true
+none_alike (Reviewed paper ordinal version form) H = none_in (form_told paper ordinal) H
+none_alike (Commented paper n ordinal text) H = true
+none_alike (Tagged paper tag on) H = true
 
 -- what a row may ask of where an entry stands: whether it is the first of its matter; the last; the last of those before the
 -- discussion was opened; and whether it was made when the discussion was opened already
@@ -107,10 +110,6 @@ pub record Position : Type 0 where
   pub last : Bool
   pub last_before_discussion : Bool
   pub from_discussion : Bool
-
--- the entry opens the discussion
-abbrev pub opens_discussion : Stamped → Bool
-opens_discussion e = opens Discussion e.entry
 
 -- the position of an entry that stands there
 abbrev pub position_of : Around → Entry → Position
@@ -145,6 +144,14 @@ seat_rows r paper user =
     ∷ (is_clear_member (standing_to r paper) && unless_anonymous r && is_from Discussion r.now) see these (part.user ∷ [])
     ∷ (authors r paper && in_open_mode r && is_from Notification r.now) see these (part.user ∷ part.ordinal ∷ [])
     ∷ []
+
+-- the reader discusses the paper: from the discussion on she is a member in no conflict with it
+abbrev pub discusses : Reader → ℕ → Bool
+discusses r paper = is_clear_member (standing_to r paper) && is_from Discussion r.now
+
+-- members are told who wrote what they discuss: chairs always
+abbrev pub names_writers : Reader → ℕ → Bool
+names_writers r paper = is_clear_chair (standing_to r paper) || unless_anonymous r
 
 -- the rows for each kind of entry; `by` is its maker
 abbrev pub rows : Reader → Position → ℕ → Entry → List TriggerRow
@@ -196,6 +203,20 @@ rows r at by (Bid paper value) =
     ∷ []
 rows r at by (Assigned paper user seat ordinal) = seat_rows r paper user
 rows r at by (Unassigned paper user ordinal) = seat_rows r paper user
+rows r at by (Reviewed paper ordinal version form) =
+    (at.first && is_clear_chair (standing_to r paper)) see these (part.ordinal ∷ part.done ∷ [])
+    ∷ ((at.last_before_discussion || at.from_discussion) && discusses r paper) see whole
+    ∷ (at.last && authors r paper && is_from Notification r.now) see these (part.ordinal ∷ part.score ∷ part.confidence ∷ part.to_authors ∷ [])
+    ∷ []
+rows r at by (Commented paper n ordinal text) =
+    discusses r paper see these (part.n ∷ part.text ∷ [])
+    ∷ (discusses r paper && names_writers r paper) see these (part.by ∷ [])
+    ∷ (discusses r paper && not (names_writers r paper)) see these (part.ordinal ∷ [])
+    ∷ []
+rows r at by (Tagged paper tag on) =
+    (is_for_all tag && is_clear_member (standing_to r paper) && is_from Bidding r.now) see whole
+    ∷ (is_for_chairs tag && is_clear_chair (standing_to r paper) && is_from Bidding r.now) see whole
+    ∷ []
 
 -- whether a row applies
 abbrev pub applies_any : List TriggerRow → Bool

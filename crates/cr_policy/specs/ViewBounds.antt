@@ -1,9 +1,9 @@
 -- The bounds of a view: of each part of the entries who is shown it, neither more nor less, and what that leaves for those
 -- who should know little. They hold of every history, legal or not, of every user and of nobody.
-use Rattle.std.specs.Prelude.{ℕ, Bool, true, false, ◌≡◌, ◌≤◌, ◌||◌, ◌&&◌, not, List, length, map, Option, None, All, IsTrue, IsFalse, if◌then◌else◌}
+use Rattle.std.specs.Prelude.{ℕ, Bool, true, false, ◌≡◌, ◌≤◌, ◌||◌, ◌&&◌, not, List, [], length, map, Option, Some, None, All, IsTrue, IsFalse, if◌then◌else◌}
 use Rattle.std.specs.List.{flat_map, list_any}
 use Rattle.cr_base.specs.declared.entry.Entry.{Entry}
-use Rattle.cr_base.specs.declared.entry.Entry.TheVariants.{Coauthor, Conflict, Assigned, Unassigned}
+use Rattle.cr_base.specs.declared.entry.Entry.TheVariants.{Coauthor, Conflict, Assigned, Unassigned, Reviewed}
 use Rattle.cr_base.specs.declared.entry.EntryKind.{EntryKind}
 use Rattle.cr_base.specs.declared.entry.EntryKind.TheVariants as kinds
 use Rattle.cr_base.specs.declared.entry.Stamped.{Stamped}
@@ -14,14 +14,16 @@ use Rattle.cr_policy.specs.Sighting.{Sighting, blank}
 use Rattle.cr_policy.specs.View.{view}
 use Rattle.cr_policy.specs.ViewFacts.{only, is_user, is_kind}
 use Rattle.cr_policy.specs.ShownTo.{PartFor, each_told, leads_committee, is_past_reviewing, is_past_discussion, hides_reviewers, names_reviewers}
-use Rattle.cr_policy.specs.ShownTo.{serves, handles, oversees, leads, kind_for, mark_for, paper_for, user_for, name_for}
-use Rattle.cr_policy.specs.ShownTo.{digest_for, role_for, phase_for, mode_for, maker_for, title_for, abstract_for, version_for, content_for, switch_for, value_for, seat_for, ordinal_for}
+use Rattle.cr_policy.specs.ShownTo.{serves, handles, oversees, leads, is_chairs, is_setters, kind_for, mark_for, paper_for, user_for, name_for}
+use Rattle.cr_policy.specs.ShownTo.{digest_for, role_for, phase_for, mode_for, maker_for, title_for, abstract_for, version_for, content_for}
+use Rattle.cr_policy.specs.ShownTo.{switch_for, value_for, seat_for, ordinal_for}
+use Rattle.cr_policy.specs.ShownTo.{score_for, confidence_for, to_authors_for, to_pc_for, done_for, n_for, text_for, tag_for}
 
 -- ---- each part
 
 -- this part of the sightings, in order, is that of the entries that the user is told of
 abbrev pub Shows : {A : Type 0} → (Sighting → A) → PartFor A → Type 0
-Shows seen part = (u : Option ℕ) (H : History) → map seen (view u H) ≡ each_told u H (part u H) H
+Shows seen part = (u : Option ℕ) (H : History) → map seen (view u H) ≡ each_told u H (part u H) [] H
 
 -- there is one sighting of each entry that she is told of, and it tells the kind
 abbrev pub EntriesShown : Type 0
@@ -67,7 +69,7 @@ VersionsShown = Shows (λ (s : Sighting). s.version) version_for
 abbrev pub ContentsShown : Type 0
 ContentsShown = Shows (λ (s : Sighting). s.content) content_for
 
--- whether a conflict is on
+-- whether a conflict, or a tag, is on
 abbrev pub SwitchesShown : Type 0
 SwitchesShown = Shows (λ (s : Sighting). s.on) switch_for
 
@@ -80,6 +82,33 @@ SeatsShown = Shows (λ (s : Sighting). s.seat) seat_for
 
 abbrev pub OrdinalsShown : Type 0
 OrdinalsShown = Shows (λ (s : Sighting). s.ordinal) ordinal_for
+
+-- what a form has
+abbrev pub ScoresShown : Type 0
+ScoresShown = Shows (λ (s : Sighting). s.score) score_for
+
+abbrev pub ConfidencesShown : Type 0
+ConfidencesShown = Shows (λ (s : Sighting). s.confidence) confidence_for
+
+abbrev pub TextsToAuthorsShown : Type 0
+TextsToAuthorsShown = Shows (λ (s : Sighting). s.to_authors) to_authors_for
+
+abbrev pub TextsToPcShown : Type 0
+TextsToPcShown = Shows (λ (s : Sighting). s.to_pc) to_pc_for
+
+-- that there is one
+abbrev pub DoneShown : Type 0
+DoneShown = Shows (λ (s : Sighting). s.done) done_for
+
+-- comments, and tags
+abbrev pub NumbersShown : Type 0
+NumbersShown = Shows (λ (s : Sighting). s.n) n_for
+
+abbrev pub CommentsShown : Type 0
+CommentsShown = Shows (λ (s : Sighting). s.text) text_for
+
+abbrev pub TagsShown : Type 0
+TagsShown = Shows (λ (s : Sighting). s.tag) tag_for
 
 -- ---- bids, and who reviews
 
@@ -111,6 +140,55 @@ ReviewersUnnamed =
     (u : Option ℕ) (p : ℕ) (H : History) → IsFalse (leads u p H) → IsTrue (hides_reviewers (mode_of H))
     → All (λ (s : Sighting). IsTrue (is_of_other u p s) → s.user ≡ None) (view u H)
 
+-- ---- what is written of a paper
+
+-- the sighting is of this kind, on the paper, and isn't the reader's own
+abbrev pub is_others : EntryKind → ℕ → Sighting → Bool
+is_others kind p s = is_kind kind s && is_number s.paper p && not s.mine
+
+-- before the discussion nobody is shown what is in another's form
+abbrev pub FormsEarly : Type 0
+FormsEarly =
+    (u : Option ℕ) (p : ℕ) (H : History) → IsFalse (is_past_reviewing (phase_of H))
+    → All
+    (λ (s : Sighting). IsTrue (is_others kinds.Reviewed p s)
+    → s ≡ record (blank kinds.Reviewed) { paper = s.paper; ordinal = s.ordinal; done = s.done })
+    (view u H)
+
+-- of the forms on a paper its authors are shown nothing before the notification, and what is for the committee never
+abbrev pub FormsFromAuthors : Type 0
+FormsFromAuthors =
+    (u : Option ℕ) (p : ℕ) (H : History) → IsTrue (is_author u p H)
+    → All (λ (s : Sighting). IsTrue (is_others kinds.Reviewed p s) → IsTrue (is_past_discussion (phase_of H)) × (s.to_pc ≡ None)) (view u H)
+
+-- of the comments on a paper, and of its tags, they are shown none
+abbrev pub CommentsFromAuthors : Type 0
+CommentsFromAuthors =
+    (u : Option ℕ) (p : ℕ) (H : History) → IsTrue (is_author u p H)
+    → All (λ (s : Sighting). IsFalse (is_others kinds.Commented p s || is_others kinds.Tagged p s)) (view u H)
+
+-- in the anonymous mode nobody but a chair in no conflict with the paper is shown who comments on it
+abbrev pub WritersUnnamed : Type 0
+WritersUnnamed =
+    (u : Option ℕ) (p : ℕ) (H : History) → IsFalse (leads u p H) → IsTrue (hides_reviewers (mode_of H))
+    → All (λ (s : Sighting). IsTrue (is_kind kinds.Commented s && is_number s.paper p) → s.by ≡ None) (view u H)
+
+-- the tag that is shown is so
+abbrev pub is_tag_so : (List ℕ → Bool) → Option (List ℕ) → Bool
+is_tag_so test None = false
+is_tag_so test (Some tag) = test tag
+
+-- nobody is shown another's private tag, and nobody but a chair in no conflict with the paper another's tag for chairs
+abbrev pub PrivateTagsAreOwn : Type 0
+PrivateTagsAreOwn =
+    (u : Option ℕ) (p : ℕ) (H : History)
+    → All (λ (s : Sighting). IsFalse (is_others kinds.Tagged p s && is_tag_so is_setters s.tag)) (view u H)
+
+abbrev pub ChairsTags : Type 0
+ChairsTags =
+    (u : Option ℕ) (p : ℕ) (H : History) → IsFalse (oversees u p H)
+    → All (λ (s : Sighting). IsFalse (is_others kinds.Tagged p s && is_tag_so is_chairs s.tag)) (view u H)
+
 -- ---- earlier texts and contents
 
 -- the text that a sighting shows of the paper, whatever kind of entry it is of, where another than the reader made it
@@ -132,7 +210,7 @@ OneContent = (u : Option ℕ) (p : ℕ) (H : History) → IsFalse (is_author u p
 
 -- all that a sighting on a paper has for one who neither wrote nor handles it: the number, the title and that it is withdrawn
 -- where she serves, the whole of a conflict or an assignment that names her, the whole of what she made, and where she leads the
--- paper before the bidding the whole of each assignment
+-- paper before the bidding the whole of each assignment, and under which labels there is a form
 abbrev pub IsLeft : Option ℕ → Bool → Bool → EntryKind → Sighting → Type 0
 IsLeft u titled leading kinds.Registered s = ⊥
 IsLeft u titled leading kinds.Named s = ⊥
@@ -155,6 +233,22 @@ IsLeft u titled leading kinds.Assigned s =
 IsLeft u titled leading kinds.Unassigned s =
     IsTrue (s.mine || is_user u s.user || leading)
     × (s ≡ record (blank kinds.Unassigned) { mine = s.mine; paper = s.paper; user = s.user; ordinal = s.ordinal })
+IsLeft u titled leading kinds.Reviewed s =
+    IsTrue (s.mine || leading)
+    × (s ≡ record (blank kinds.Reviewed) {
+      mine = s.mine;
+      paper = s.paper;
+      ordinal = s.ordinal;
+      version = if s.mine then s.version else None;
+      score = if s.mine then s.score else None;
+      confidence = if s.mine then s.confidence else None;
+      to_authors = if s.mine then s.to_authors else None;
+      to_pc = if s.mine then s.to_pc else None;
+      done = if leading then s.done else None;
+    })
+IsLeft u titled leading kinds.Commented s =
+    IsTrue s.mine × (s ≡ record (blank kinds.Commented) { mine = s.mine; paper = s.paper; n = s.n; ordinal = s.ordinal; text = s.text })
+IsLeft u titled leading kinds.Tagged s = IsTrue s.mine × (s ≡ record (blank kinds.Tagged) { mine = s.mine; paper = s.paper; tag = s.tag; on = s.on })
 
 -- so of any other than an author: one in conflict, one who isn't on the committee, and all before the bidding
 abbrev pub OutsidersShown : Type 0
@@ -179,6 +273,9 @@ IsPublic kinds.Conflict s = ⊥
 IsPublic kinds.Bid s = ⊥
 IsPublic kinds.Assigned s = ⊥
 IsPublic kinds.Unassigned s = ⊥
+IsPublic kinds.Reviewed s = ⊥
+IsPublic kinds.Commented s = ⊥
+IsPublic kinds.Tagged s = ⊥
 
 -- the entry is on a paper, and names her
 abbrev pub names_her : Option ℕ → Entry → Bool
@@ -188,18 +285,19 @@ names_her u (Assigned paper user seat ordinal) = is_number u user
 names_her u (Unassigned paper user ordinal) = is_number u user
 names_her u _ = false
 
--- the entry assigns a reviewer, or unassigns one
-abbrev pub is_assignment : Entry → Bool
-is_assignment (Assigned paper user seat ordinal) = true
-is_assignment (Unassigned paper user ordinal) = true
-is_assignment _ = false
+-- the entry is one of those that chairs are told of in every phase: it assigns a reviewer, unassigns one, or is a form
+abbrev pub is_reviewing : Entry → Bool
+is_reviewing (Assigned paper user seat ordinal) = true
+is_reviewing (Unassigned paper user ordinal) = true
+is_reviewing (Reviewed paper ordinal version form) = true
+is_reviewing _ = false
 
--- she wrote nothing, doesn't serve, no entry on a paper names her, and she is no chair where somebody was assigned
+-- she wrote nothing, doesn't serve, no entry on a paper names her, and she is no chair where somebody was assigned or has reviewed
 pub record IsStranger (u : Option ℕ) (H : History) : Type 0 where
   pub author : (p : ℕ) → IsFalse (is_author u p H)
   pub serving : IsFalse (serves u H)
   pub named : IsFalse (list_any (λ (e : Stamped). names_her u e.entry) H)
-  pub leading : IsFalse (leads_committee (role_of u H) && list_any (λ (e : Stamped). is_assignment e.entry) H)
+  pub leading : IsFalse (leads_committee (role_of u H) && list_any (λ (e : Stamped). is_reviewing e.entry) H)
 
 -- strangers are shown what is public, and their own entries
 abbrev pub StrangersShown : Type 0

@@ -5,7 +5,7 @@ use Rattle.std.specs.Str.{bytes_eq}
 use Rattle.cr_base.specs.declared.entry.EntryKind.{EntryKind}
 use Rattle.cr_base.specs.declared.entry.EntryKind.TheVariants as kinds
 use Rattle.cr_base.specs.declared.words.Phase.{Phase}
-use Rattle.cr_base.specs.declared.words.Phase.TheVariants.{Setup, Bidding}
+use Rattle.cr_base.specs.declared.words.Phase.TheVariants.{Setup, Bidding, Discussion}
 use Rattle.cr_base.specs.declared.words.Mode.{Mode}
 use Rattle.cr_base.specs.declared.words.Mode.TheVariants.{Blind}
 use Rattle.cr_base.specs.declared.words.Role.{Role}
@@ -15,9 +15,11 @@ use Rattle.cr_base.specs.declared.standing.Standing.{Standing}
 use Rattle.cr_base.specs.Lists.{listed, last, last_or, total, is_number, at_some, until, since}
 use Rattle.cr_base.specs.Phases.{is_phase}
 use Rattle.cr_base.specs.Rows.{kind_number}
-use Rattle.cr_base.specs.History.{Registration, Upload, BidTold, SeatTold}
-use Rattle.cr_base.specs.HistoryFacts.{seats_left}
+use Rattle.cr_base.specs.History.{Registration, Upload, BidTold, SeatTold, FormTold, CommentTold, TagTold}
+use Rattle.cr_base.specs.HistoryFacts.{seats_left, assigned_under, tags_left}
 use Rattle.cr_base.specs.Sources.{Facts, Shown}
+use Rattle.cr_base.specs.TagTexts.{is_private}
+use Rattle.cr_base.specs.Tags.{tags_for}
 use Rattle.cr_policy.specs.Sighting.{Sighting}
 use Rattle.cr_policy.specs.View.{View}
 
@@ -36,10 +38,10 @@ abbrev pub is_text : List ℕ → Option (List ℕ) → Bool
 is_text text None = false
 is_text text (Some shown) = bytes_eq shown text
 
--- the phase that is shown is the bidding
-abbrev pub opens_bidding : Option Phase → Bool
-opens_bidding None = false
-opens_bidding (Some phase) = is_phase phase Bidding
+-- the phase that is shown is this one
+abbrev pub opens_phase : Phase → Option Phase → Bool
+opens_phase first None = false
+opens_phase first (Some phase) = is_phase phase first
 
 -- the account whose user and name are shown
 abbrev pub registration_shown : Option ℕ → Option (List ℕ) → List Registration
@@ -68,6 +70,29 @@ abbrev pub seat_by_kind : EntryKind → Option ℕ → List (Option ℕ)
 seat_by_kind kinds.Assigned ordinal = map (λ (o : ℕ). Some o) (listed ordinal)
 seat_by_kind kinds.Unassigned ordinal = map (λ (o : ℕ). None) (listed ordinal)
 seat_by_kind _ ordinal = []
+
+-- the form whose grades and whose text to the authors are shown
+abbrev pub form_shown : Option ℕ → Option ℕ → Option ℕ → Option (List ℕ) → Option (List ℕ) → List FormTold
+form_shown version (Some score) (Some confidence) (Some to_authors) to_pc =
+    record { version = version; score = score; confidence = confidence; to_authors = to_authors; to_pc = to_pc } ∷ []
+form_shown version _ _ _ to_pc = []
+
+-- the ordinal that is shown, where it is a label's
+abbrev pub label_shown : Option ℕ → Option ℕ
+label_shown None = None
+label_shown (Some o) = if o == 0 then None else Some o
+
+-- the comment whose number and text are shown
+abbrev pub comment_shown : Option ℕ → Option ℕ → Option ℕ → Option (List ℕ) → List CommentTold
+comment_shown (Some n) writer ordinal (Some text) = record { n = n; writer = writer; ordinal = label_shown ordinal; text = text } ∷ []
+comment_shown _ writer ordinal _ = []
+
+-- the tag that is shown, on or off; a private one where it is the reader's own
+abbrev pub tag_shown : Option ℕ → Bool → Option (List ℕ) → Option Bool → List TagTold
+tag_shown u mine (Some tag) (Some on) =
+    if is_private tag then only mine (record { tag = record { tag = tag; owner = u }; on = on } ∷ [])
+    else record { tag = record { tag = tag; owner = None }; on = on } ∷ []
+tag_shown u mine _ _ = []
 
 -- ---- what one sighting tells: each tells the facts of its kind of entry, and nothing of others
 
@@ -129,9 +154,38 @@ assigned_seen p s =
 abbrev pub unassigned_seen : ℕ → Sighting → List ℕ
 unassigned_seen p s = only (is_number s.paper p) (of_kind kinds.Unassigned s (listed s.ordinal))
 
+-- the form that it gives the label of this ordinal; and the reader's own
+abbrev pub form_seen : ℕ → ℕ → Sighting → List FormTold
+form_seen p o s =
+    only (is_number s.paper p && is_number s.ordinal o)
+    (of_kind kinds.Reviewed s (form_shown s.version s.score s.confidence s.to_authors s.to_pc))
+
+abbrev pub own_form_seen : ℕ → Sighting → List FormTold
+own_form_seen p s =
+    only (is_number s.paper p && s.mine) (of_kind kinds.Reviewed s (form_shown s.version s.score s.confidence s.to_authors s.to_pc))
+
+-- that there is a form under the label of this ordinal
+abbrev pub done_seen : ℕ → ℕ → Sighting → List Bool
+done_seen p o s = only (is_number s.paper p && is_number s.ordinal o) (of_kind kinds.Reviewed s (listed s.done))
+
+-- the comment on the paper; and the number of the reader's own, whatever the paper
+abbrev pub comment_seen : ℕ → Sighting → List CommentTold
+comment_seen p s = only (is_number s.paper p) (of_kind kinds.Commented s (comment_shown s.n s.by s.ordinal s.text))
+
+abbrev pub own_comment_seen : Sighting → List ℕ
+own_comment_seen s = only s.mine (of_kind kinds.Commented s (listed s.n))
+
+-- the tag that it turns on or off at the paper, which this reader reads
+abbrev pub tag_seen : Option ℕ → ℕ → Sighting → List TagTold
+tag_seen u p s = only (is_number s.paper p) (of_kind kinds.Tagged s (tag_shown u s.mine s.tag s.on))
+
 -- whether it opens the bidding
 abbrev pub bidding_seen : Sighting → Bool
-bidding_seen s = is_kind kinds.PhaseSet s && opens_bidding s.phase
+bidding_seen s = is_kind kinds.PhaseSet s && opens_phase Bidding s.phase
+
+-- and whether it opens the discussion
+abbrev pub discussion_seen : Sighting → Bool
+discussion_seen s = is_kind kinds.PhaseSet s && opens_phase Discussion s.phase
 
 -- the title, the abstract that it gives the paper
 abbrev pub title_seen : ℕ → Sighting → List (List ℕ)
@@ -247,6 +301,33 @@ seats_in_view p V = flat_map (assigned_seen p) V
 abbrev pub reviewers_in_view : ℕ → View → List SeatTold
 reviewers_in_view p V = seats_left (flat_map (unassigned_seen p) V) (seats_in_view p V)
 
+-- ---- reviews, comments and tags
+
+-- FormsOf: of each label's forms that are shown the last, which the paper's authors read; the last before the discussion and all
+-- later ones, which the committee discusses; the reader's own, which she reads while reviews are written; and whether there is one
+abbrev pub forms_in_view : ℕ → ℕ → View → List FormTold
+forms_in_view p o V = flat_map (form_seen p o) V
+
+abbrev pub last_form_in_view : ℕ → ℕ → View → Option FormTold
+last_form_in_view p o V = last (forms_in_view p o V)
+
+abbrev pub forms_discussed_in_view : ℕ → ℕ → View → List FormTold
+forms_discussed_in_view p o V = listed (last (forms_in_view p o (until discussion_seen V))) ++ forms_in_view p o (since discussion_seen V)
+
+abbrev pub own_forms_in_view : ℕ → View → List FormTold
+own_forms_in_view p V = flat_map (own_form_seen p) V
+
+abbrev pub is_written_in_view : ℕ → ℕ → View → Bool
+is_written_in_view p o V = last_or false (flat_map (done_seen p o) V)
+
+-- CommentsOf: the comments on the paper that are shown, by number
+abbrev pub comments_in_view : ℕ → View → List CommentTold
+comments_in_view p V = flat_map (comment_seen p) V
+
+-- TagsOf: the paper's tags that are on, each by the last entry shown, a private one by the reader's own
+abbrev pub tags_in_view : Option ℕ → Bool → ℕ → View → List (List ℕ)
+tags_in_view u chair p V = tags_for u chair (tags_left (flat_map (tag_seen u p) V))
+
 -- ---- papers
 
 -- TitleOf, AbstractOf: the last one shown on the paper
@@ -275,6 +356,10 @@ own_papers_in_view V = length (flat_map own_paper_seen V)
 abbrev pub own_bytes_in_view : View → ℕ
 own_bytes_in_view V = total (flat_map own_bytes_seen V)
 
+-- how many comments the reader has written
+abbrev pub own_comments_in_view : View → ℕ
+own_comments_in_view V = length (flat_map own_comment_seen V)
+
 -- ---- what the rules and the answers read
 
 abbrev pub facts_in_view : Option ℕ → View → Facts
@@ -286,6 +371,8 @@ facts_in_view u V = record {
   own_bytes = own_bytes_in_view V;
   own_bid = λ p. own_bid_in_view p V;
   own_seat = λ p. seat_in_view u p V;
+  own_forms = λ p. own_forms_in_view p V;
+  own_comments = own_comments_in_view V;
 }
 
 -- of the users who have registered, those of whom this holds, by number
@@ -305,4 +392,10 @@ shown_in_view u V = record {
   reviewers = λ p. reviewers_in_view p V;
   seat = λ v p. seat_in_view v p V;
   labels = λ p. length (seats_in_view p V);
+  assigned = λ p o. assigned_under o (seats_in_view p V);
+  last_form = λ p o. last_form_in_view p o V;
+  forms_discussed = λ p o. forms_discussed_in_view p o V;
+  written = λ p o. is_written_in_view p o V;
+  comments = λ p. comments_in_view p V;
+  tags = λ v chair p. tags_in_view v chair p V;
 }

@@ -8,13 +8,16 @@
 
 ghost use Rattle.std.specs.Prelude.{ℕ, Option};
 ghost use Rattle.cr_base.specs.History.{History};
-ghost use Rattle.cr_policy.specs.ConferenceLaws.{ConferenceLegal, ViewsBeforeBidding, ViewsInBidding, ViewsInDiscussion};
-ghost use Rattle.cr_policy.specs.ConferenceLaws.{ViewsAtNotification, TwinsAlike};
+ghost use Rattle.cr_policy.specs.ConferenceLaws.{ConferenceLegal, ViewsBeforeBidding, ViewsInBidding, ViewsInReviewing};
+ghost use Rattle.cr_policy.specs.ConferenceLaws.{ViewsInDiscussion, ViewsAtNotification, TwinsAlike, AsidesHidden};
 ghost use Rattle.cr_policy.specs.Laws.{StandingFromView, PublicFactsFromView, ViewSuffices, DeclaredFromView, LegalKeeps};
 ghost use Rattle.cr_policy.specs.Laws.{DigestsAreOwn, TwoRegistrations, DigestsHidden, OneSubmission, OneConflict};
 ghost use Rattle.cr_policy.specs.ViewBounds.{EntriesShown, MarksShown, PapersShown, UsersShown, NamesShown, DigestsShown};
 ghost use Rattle.cr_policy.specs.ViewBounds.{RolesShown, PhasesShown, ModesShown, MakersShown, TitlesShown, AbstractsShown};
 ghost use Rattle.cr_policy.specs.ViewBounds.{VersionsShown, ContentsShown, SwitchesShown, ValuesShown, SeatsShown, OrdinalsShown};
+ghost use Rattle.cr_policy.specs.ViewBounds.{ScoresShown, ConfidencesShown, TextsToAuthorsShown, TextsToPcShown, DoneShown};
+ghost use Rattle.cr_policy.specs.ViewBounds.{NumbersShown, CommentsShown, TagsShown, FormsEarly, FormsFromAuthors};
+ghost use Rattle.cr_policy.specs.ViewBounds.{CommentsFromAuthors, WritersUnnamed, PrivateTagsAreOwn, ChairsTags};
 ghost use Rattle.cr_policy.specs.ViewBounds.{BidsAreOwn, ReviewersFromAuthors, ReviewersEarly, ReviewersUnnamed};
 ghost use Rattle.cr_policy.specs.ViewBounds.{OneTitle, OneAbstract, OneContent, OutsidersShown, StrangersShown, NobodyShown};
 
@@ -22,8 +25,8 @@ ghost use Rattle.cr_policy.specs.ViewBounds.{OneTitle, OneAbstract, OneContent, 
 /// every history and for every user, nobody among them. An author sees all authors of her paper, and
 /// whoever is none is told so by what she sees; each entry on a conflict of hers is shown her, and each by
 /// which she is assigned or unassigned, so she is told whether she is in conflict and whether she reviews. What is public can be read off any view, the accounts,
-/// their names and roles, and the papers; and so can how many of the papers are the reader's own, and how many
-/// bytes she has uploaded.
+/// their names and roles, and the papers; and so can how many of the papers are the reader's own, how many
+/// bytes she has uploaded, and how many comments she has written.
 pub fn law_standing()
     ensures standing { StandingFromView }
     ensures public { (u : Option ℕ) (H : History) → PublicFactsFromView u H }
@@ -31,10 +34,11 @@ pub fn law_standing()
 
 /// What checks of role on the tables of a legal history give is what the caller's view alone gives:
 /// of every command its broken rule or the entries that it adds and its receipt, of every query its
-/// answer, for every registered user, and for nobody where no login is wanted. A paper's page and its content are
-/// among the answers: what the caller's standing lets her have, its texts, its authors, its versions, whether it is
-/// withdrawn, who is declared in conflict with it and whom its authors declared, her own bid and label, all bids and who
-/// reviews it, is in her view, and no more is needed.
+/// answer, for every registered user, and for nobody where no login is wanted. A paper's page, its content, its reviews and
+/// the comments on it are among the answers: what the caller's standing lets her have, its texts, its authors, its versions,
+/// whether it is withdrawn, who is declared in conflict with it and whom its authors declared, her own bid, label and forms,
+/// all bids, who reviews it and has written of it, the forms that are hers to read, the comments with their writers or their
+/// labels, and the tags that are for her, is in her view, and no more is needed.
 pub fn law_view_suffices()
     ensures { ViewSuffices }
 {}
@@ -72,27 +76,33 @@ pub fn law_witness()
 
 /// What each kind of reader sees of a small conference, entry by entry and all of it: nobody, an
 /// account, an author, a co-author, a member in no conflict, one who reviews, a chair who does, and a member and a
-/// chair in conflict, of three papers with every kind of entry, in each mode, before the bidding, in it, in the discussion
-/// and at the notification. It has a twin, in which another member reviews a paper in the first one's place: what the
-/// paper's authors see of the two is the same, up to the discussion, and at the notification but in the open mode; and so is
-/// what a member and a chair in conflict with the paper see, in all phases.
+/// chair in conflict, of three papers with every kind of entry, in each mode, before the bidding, in it, in the reviewing, in
+/// the discussion and at the notification. It has a twin, in which another member reviews a paper and writes its forms in the
+/// first one's place: what the paper's authors see of the two is the same, up to the discussion, and at the notification but in
+/// the open mode; and so is what a member and a chair in conflict with the paper see, in all phases. Whatever a private tag,
+/// what a form tells the committee alone and a comment are, all four see the same in all phases.
 pub fn law_views()
     ensures legal { ConferenceLegal }
     ensures before { ViewsBeforeBidding }
     ensures bidding { ViewsInBidding }
+    ensures reviewing { ViewsInReviewing }
     ensures discussion { ViewsInDiscussion }
     ensures notification { ViewsAtNotification }
     ensures twins { TwinsAlike }
+    ensures asides { AsidesHidden }
 {}
 
 /// What a view shows, neither more nor less, of every history, legal or not, for every user and for
 /// nobody. The first clauses go part by part: a view has one sighting of each entry that the user is
 /// told of, and of each part exactly what she may know, by who wrote the paper, who is on the
 /// committee, who is declared in conflict, phase and mode. The last say what that leaves: of bids and of who
-/// reviews a paper little, for all but the chairs in no conflict with it; of a paper's titles, abstracts and
-/// contents the last one, for all but its authors; little of a paper for outsiders, who neither wrote nor handle it,
-/// so in conflict, or on no committee, or before the bidding; for strangers what is public and their own entries;
-/// and for nobody what is public.
+/// reviews a paper little, for all but the chairs in no conflict with it; nothing that stands in another's review
+/// before the discussion, and for authors none before the notification and never what is for the committee; no
+/// comments and tags of others for authors; who comments, in the anonymous mode, for such chairs alone; private tags
+/// for whoever sets them, and tags for chairs for such chairs; of a paper's titles, abstracts and contents the last
+/// one, for all but its authors; little of a paper for outsiders, who neither wrote nor handle it, so in conflict, or
+/// on no committee, or before the bidding; for strangers what is public and their own entries; and for nobody what is
+/// public.
 pub fn law_bounds()
     ensures entries { EntriesShown }
     ensures marks { MarksShown }
@@ -112,10 +122,24 @@ pub fn law_bounds()
     ensures values { ValuesShown }
     ensures seats { SeatsShown }
     ensures ordinals { OrdinalsShown }
+    ensures scores { ScoresShown }
+    ensures confidences { ConfidencesShown }
+    ensures texts_to_authors { TextsToAuthorsShown }
+    ensures texts_to_pc { TextsToPcShown }
+    ensures done { DoneShown }
+    ensures numbers { NumbersShown }
+    ensures comments { CommentsShown }
+    ensures tags { TagsShown }
     ensures own_bids { BidsAreOwn }
     ensures reviewers_from_authors { ReviewersFromAuthors }
     ensures reviewers_early { ReviewersEarly }
     ensures reviewers_unnamed { ReviewersUnnamed }
+    ensures forms_early { FormsEarly }
+    ensures forms_from_authors { FormsFromAuthors }
+    ensures comments_from_authors { CommentsFromAuthors }
+    ensures writers_unnamed { WritersUnnamed }
+    ensures private_tags { PrivateTagsAreOwn }
+    ensures chairs_tags { ChairsTags }
     ensures one_title { OneTitle }
     ensures one_abstract { OneAbstract }
     ensures one_content { OneContent }

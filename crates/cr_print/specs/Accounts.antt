@@ -1,9 +1,9 @@
--- The content of the list of accounts.
-use Rattle.std.specs.Prelude.{ℕ, List, ◌++◌, Some, codes, decimal, map}
+-- An account, as the list of accounts tells it.
+use Rattle.std.specs.Prelude.{ℕ, List, ◌++◌, Some, codes, decimal}
 use Rattle.json.specs.Print.{quoted}
 use Rattle.cr_base.specs.Words.{role_name}
 use Rattle.cr_base.specs.declared.reply.AccountLine.{AccountLine}
-use Rattle.cr_print.specs.Json.{Member, member_of, array_text, object_text}
+use Rattle.cr_print.specs.Json.{Member, member_of, object_text}
 
 -- the keys of an account in the order of their bytes
 unfoldable pub account_members : AccountLine → List Member
@@ -14,6 +14,3 @@ account_members account =
 
 abbrev pub account_text : AccountLine → List ℕ
 account_text account = object_text (account_members account)
-
-unfoldable pub accounts_content : List AccountLine → List ℕ
-accounts_content accounts = object_text (member_of (codes "accounts") (Some (array_text (map account_text accounts))))

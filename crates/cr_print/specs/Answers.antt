@@ -1,5 +1,6 @@
 -- The bytes of whole answers, each in the form that its request wants.
-use Rattle.std.specs.Prelude.{ℕ, List, [], ◌++◌, Bool, true, if◌then◌else◌, length}
+use Rattle.std.specs.Prelude.{ℕ, List, [], ◌++◌, Bool, true, if◌then◌else◌, codes, length, map}
+use Rattle.cr_base.specs.declared.comment.CommentLine.{CommentLine}
 use Rattle.cr_base.specs.declared.me.Me.{Me}
 use Rattle.cr_base.specs.declared.page.Page.{Page}
 use Rattle.cr_base.specs.declared.reply.AccountLine.{AccountLine}
@@ -7,6 +8,7 @@ use Rattle.cr_base.specs.declared.reply.Conference.{Conference}
 use Rattle.cr_base.specs.declared.reply.Receipt.{Receipt}
 use Rattle.cr_base.specs.declared.reply.Reply.{Reply}
 use Rattle.cr_base.specs.declared.reply.Reply.TheVariants as replies
+use Rattle.cr_base.specs.declared.review.ReviewLine.{ReviewLine}
 use Rattle.cr_http.specs.declared.refusal.Refusal.{Refusal}
 use Rattle.cr_print.specs.declared.head.Extra.{Extra}
 use Rattle.cr_print.specs.declared.head.Extra.TheVariants.{Nothing}
@@ -21,7 +23,10 @@ use Rattle.cr_print.specs.Head.{head_text}
 use Rattle.cr_print.specs.Refused.{refused_status, extra_of, refusal_content}
 use Rattle.cr_print.specs.Receipt.{receipt_status, receipt_content}
 use Rattle.cr_print.specs.Conference.{conference_content}
-use Rattle.cr_print.specs.Accounts.{accounts_content}
+use Rattle.cr_print.specs.Json.{list_alone}
+use Rattle.cr_print.specs.Accounts.{account_text}
+use Rattle.cr_print.specs.Reviews.{review_text}
+use Rattle.cr_print.specs.Comments.{comment_text}
 use Rattle.cr_print.specs.Page.{page_content}
 use Rattle.cr_print.specs.Me.{me_content}
 
@@ -57,9 +62,19 @@ receipt_text receipt form = answer_text (json_head (receipt_status receipt) Noth
 unfoldable pub conference_text : Conference → Form → List ℕ
 conference_text conference form = served_text (conference_content conference) form
 
--- the list of accounts
+-- a list of any values, by their texts
+unfoldable pub list_text : List ℕ → List (List ℕ) → Form → List ℕ
+list_text key texts form = served_text (list_alone key texts) form
+
+-- the list of accounts, the reviews of a paper and the comments on it
 unfoldable pub accounts_text : List AccountLine → Form → List ℕ
-accounts_text accounts form = served_text (accounts_content accounts) form
+accounts_text accounts form = list_text (codes "accounts") (map account_text accounts) form
+
+unfoldable pub reviews_text : List ReviewLine → Form → List ℕ
+reviews_text reviews form = list_text (codes "reviews") (map review_text reviews) form
+
+unfoldable pub comments_text : List CommentLine → Form → List ℕ
+comments_text comments form = list_text (codes "comments") (map comment_text comments) form
 
 -- a paper's page
 unfoldable pub page_text : Page → Form → List ℕ
@@ -82,6 +97,8 @@ abbrev pub front_text : Form → Reply → List ℕ
 front_text form (replies.Accepted receipt) = receipt_text receipt form
 front_text form (replies.Refused rule) = refusal_text (Rule rule) form
 front_text form (replies.Accounts accounts) = accounts_text accounts form
+front_text form (replies.Reviews reviews) = reviews_text reviews form
+front_text form (replies.Comments comments) = comments_text comments form
 front_text form (replies.Conference conference) = conference_text conference form
 front_text form (replies.Page page) = page_text page form
 front_text form (replies.Me me) = me_text me form
@@ -105,6 +122,8 @@ abbrev pub IsBrief : Reply → Type 0
 IsBrief (replies.Accepted receipt) = Unit {0}
 IsBrief (replies.Refused rule) = Unit {0}
 IsBrief (replies.Accounts accounts) = ⊥
+IsBrief (replies.Reviews reviews) = ⊥
+IsBrief (replies.Comments comments) = ⊥
 IsBrief (replies.Conference conference) = Unit {0}
 IsBrief (replies.Page page) = ⊥
 IsBrief (replies.Me me) = ⊥

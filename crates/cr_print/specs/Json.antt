@@ -41,7 +41,7 @@ separated is_first (text ∷ rest) = comma is_first ++ text ++ separated false r
 unfoldable pub array_text : List (List ℕ) → List ℕ
 array_text texts = codes "[" ++ separated true texts ++ codes "]"
 
--- names
+-- names, or tags
 abbrev pub names_text : List (List ℕ) → List ℕ
 names_text names = array_text (map quoted names)
 
@@ -69,6 +69,10 @@ object_text members = codes "{" ++ separated true (map member_text members) ++ c
 abbrev pub member_of : List ℕ → Option (List ℕ) → List Member
 member_of key None = []
 member_of key (Some value) = record { key = key; value = value } ∷ []
+
+-- an object that has a list alone
+unfoldable pub list_alone : List ℕ → List (List ℕ) → List ℕ
+list_alone key texts = object_text (member_of key (Some (array_text texts)))
 
 -- ---- an object that is being written
 

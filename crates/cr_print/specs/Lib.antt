@@ -7,6 +7,8 @@ pub mod Conference
 pub mod Json
 pub mod Accounts
 pub mod Reviewers
+pub mod Reviews
+pub mod Comments
 pub mod Page
 pub mod Me
 pub mod Answers

@@ -10,7 +10,7 @@ unfoldable pub me_members : Me → List Member
 me_members me =
     member_of (codes "assigned") (Some (numbers_text me.assigned))
     ++ member_of (codes "bytes") (Some (decimal me.bytes))
-    ++ member_of (codes "comments") (Some (codes "0"))
+    ++ member_of (codes "comments") (Some (decimal me.comments))
     ++ member_of (codes "conflicts") (Some (numbers_text me.conflicts))
     ++ member_of (codes "name") (Some (quoted me.name))
     ++ member_of (codes "papers") (Some (numbers_text me.papers))

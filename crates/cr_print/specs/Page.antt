@@ -21,7 +21,7 @@ page_members page =
     ++ member_of (codes "label") (option_map label_text page.label)
     ++ member_of (codes "paper") (Some (decimal page.paper))
     ++ member_of (codes "reviewers") (option_map reviewers_text page.reviewers)
-    ++ member_of (codes "tags") (where_told page.bare.tags (Some (codes "[]")))
+    ++ member_of (codes "tags") (option_map names_text page.tags)
     ++ member_of (codes "title") (option_map quoted page.title)
     ++ member_of (codes "versions") (option_map numbers_text page.versions)
     ++ member_of (codes "withdrawn") (option_map truth_text page.withdrawn)

@@ -5,6 +5,7 @@ use Rattle.cr_base.specs.declared.reply.Rule.{Rule as BaseRule}
 use Rattle.cr_base.specs.declared.reply.Rule.TheVariants.{NameTaken, FullAccounts, NotChair, WrongPhase, FullPapers, QuotaPapers, NoPaper}
 use Rattle.cr_base.specs.declared.reply.Rule.TheVariants.{NotMember, NoUser, AlreadyNamed, NotAuthor, NotAMember, Conflict, Withdrawn, QuotaBytes}
 use Rattle.cr_base.specs.declared.reply.Rule.TheVariants.{NoContent, AuthorConflict, TargetConflict, AlreadyAssigned, LabelsSpent, NotAssigned}
+use Rattle.cr_base.specs.declared.reply.Rule.TheVariants.{HasReview, NotReviewer, QuotaComments}
 use Rattle.cr_http.specs.declared.refusal.Refusal.{Refusal}
 use Rattle.cr_http.specs.declared.refusal.Refusal.TheVariants.{HeadTooLarge, BadHttp, NoHost, LengthRequired, BadLength, TooLarge}
 use Rattle.cr_print.specs.declared.refused.Refused.{Refused}
@@ -45,6 +46,9 @@ rule_name TargetConflict = codes "target_conflict"
 rule_name AlreadyAssigned = codes "already_assigned"
 rule_name LabelsSpent = codes "labels_spent"
 rule_name NotAssigned = codes "not_assigned"
+rule_name HasReview = codes "has_review"
+rule_name NotReviewer = codes "not_reviewer"
+rule_name QuotaComments = codes "quota_comments"
 
 unfoldable pub refused_name : Refused → List ℕ
 refused_name (Closing refusal) = closing_name refusal
@@ -86,6 +90,9 @@ rule_status TargetConflict = statuses.Conflict
 rule_status AlreadyAssigned = statuses.Conflict
 rule_status LabelsSpent = statuses.Conflict
 rule_status NotAssigned = statuses.Conflict
+rule_status HasReview = statuses.Conflict
+rule_status NotReviewer = statuses.Forbidden
+rule_status QuotaComments = statuses.Conflict
 
 unfoldable pub refused_status : Refused → Status
 refused_status (Closing refusal) = closing_status refusal

@@ -1,6 +1,4 @@
-//! The list of accounts.
-ghost use Rattle.cr_print.specs.Put.{Appends};
-ghost use Rattle.cr_print.specs.Accounts.{accounts_content};
+//! Accounts.
 
 use crate::object::Object;
 use crate::value::Value;
@@ -20,16 +18,4 @@ impl Value for AccountLine {
         object.number(into, "user", self.user.number())?;
         object.close(into)
     }
-}
-
-/// Appends the content of the list of accounts.
-pub(crate) fn append_accounts(
-    into: &mut Vec<u8>,
-    accounts: &[AccountLine],
-) -> Result<(), AllocError>
-    ensures { Appends result into.old into.new (accounts_content accounts.now) }
-{
-    let mut object = Object::open(into)?;
-    object.list(into, "accounts", accounts)?;
-    object.close(into)
 }

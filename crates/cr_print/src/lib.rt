@@ -10,6 +10,7 @@
 
 mod accounts;
 mod brief;
+mod comments;
 mod conference;
 mod form;
 mod head;
@@ -24,6 +25,7 @@ mod receipt;
 mod refused;
 mod reply;
 mod reviewers;
+mod reviews;
 mod runs;
 mod status;
 mod value;

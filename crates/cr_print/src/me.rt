@@ -13,7 +13,7 @@ pub(crate) fn append_me(into: &mut Vec<u8>, me: &Me) -> Result<(), AllocError>
     let mut object = Object::open(into)?;
     object.list(into, "assigned", me.assigned.as_slice())?;
     object.number(into, "bytes", me.bytes)?;
-    object.fixed(into, "comments", true, "0")?;
+    object.number(into, "comments", me.comments)?;
     object.list(into, "conflicts", me.conflicts.as_slice())?;
     object.string(into, "name", me.name.as_slice())?;
     object.list(into, "papers", me.papers.as_slice())?;

@@ -3,7 +3,7 @@ ghost use Rattle.std.specs.Prelude.{◌≡◌, ◌+◌, ◌*◌, ◌++◌, true,
 ghost use Rattle.json.specs.Print.{quoted};
 ghost use Rattle.cr_base.specs.Page.{where_told};
 ghost use Rattle.cr_print.specs.Put.{Appends, Takes};
-ghost use Rattle.cr_print.specs.Json.{AddsMembers, array_text, bid_text, comma, key_text, label_text, member_of, truth_text};
+ghost use Rattle.cr_print.specs.Json.{AddsMembers, array_text, bid_text, comma, key_text, label_text, list_alone, member_of, truth_text};
 
 use crate::list::{append_comma, append_list};
 use crate::put::{append, append_number};
@@ -164,4 +164,17 @@ impl Object {
     {
         append(into, b"}")
     }
+}
+
+/// Appends an object that has a list alone.
+pub(crate) fn append_list_alone<T: Value>(
+    into: &mut Vec<u8>,
+    key: &str,
+    items: &[T],
+) -> Result<(), AllocError>
+    ensures { Appends result into.old into.new (list_alone key.now (map T.text items.now)) }
+{
+    let mut object = Object::open(into)?;
+    object.list(into, key, items)?;
+    object.close(into)
 }

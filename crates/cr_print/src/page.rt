@@ -36,7 +36,7 @@ pub(crate) fn append_page(into: &mut Vec<u8>, page: &Page) -> Result<(), AllocEr
     object.told(into, "label", &page.label)?;
     object.number(into, "paper", page.paper.number())?;
     object.told(into, "reviewers", &page.reviewers)?;
-    object.fixed(into, "tags", bare.tags, "[]")?;
+    object.told(into, "tags", &page.tags)?;
     object.told(into, "title", &page.title)?;
     object.told(into, "versions", &page.versions)?;
     object.truth(into, "withdrawn", page.withdrawn)?;

@@ -19,7 +19,10 @@ fn receipt_status(receipt: &Receipt) -> Status
     ensures { result ≡ receipt_status receipt.now }
 {
     match receipt {
-        Receipt::User { .. } | Receipt::Paper { .. } | Receipt::Label { .. } => Status::Created,
+        Receipt::User { .. }
+        | Receipt::Paper { .. }
+        | Receipt::Label { .. }
+        | Receipt::Comment { .. } => Status::Created,
         Receipt::Phase { .. }
         | Receipt::Named { .. }
         | Receipt::Mode { .. }
@@ -60,6 +63,7 @@ fn add_receipt(object: &mut Object, into: &mut Vec<u8>, receipt: &Receipt) -> Re
         Receipt::Version { version } => object.number(into, "version", *version),
         Receipt::Bid { bid } => object.bid(into, "bid", *bid),
         Receipt::Label { ordinal } => object.label(into, "label", *ordinal),
+        Receipt::Comment { n } => object.number(into, "comment", *n),
     }
 }
 

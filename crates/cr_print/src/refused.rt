@@ -63,6 +63,9 @@ fn rule_name(rule: Rule) -> &'static str
         Rule::AlreadyAssigned => "already_assigned",
         Rule::LabelsSpent => "labels_spent",
         Rule::NotAssigned => "not_assigned",
+        Rule::HasReview => "has_review",
+        Rule::NotReviewer => "not_reviewer",
+        Rule::QuotaComments => "quota_comments",
     }
 }
 
@@ -103,7 +106,8 @@ fn rule_status(rule: Rule) -> Status
     ensures { result ≡ rule_status rule }
 {
     match rule {
-        Rule::NotChair | Rule::NotMember | Rule::NotAuthor | Rule::Conflict => { Status::Forbidden }
+        Rule::NotChair | Rule::NotMember | Rule::NotAuthor | Rule::NotReviewer | Rule::Conflict =>
+            Status::Forbidden,
         Rule::NoPaper | Rule::NoUser | Rule::NoContent => Status::NotFound,
         Rule::NameTaken
         | Rule::FullAccounts
@@ -115,9 +119,12 @@ fn rule_status(rule: Rule) -> Status
         | Rule::Withdrawn
         | Rule::QuotaBytes
         | Rule::AuthorConflict => Status::Conflict,
-        Rule::TargetConflict | Rule::AlreadyAssigned | Rule::LabelsSpent | Rule::NotAssigned => {
-            Status::Conflict
-        }
+        Rule::TargetConflict
+        | Rule::AlreadyAssigned
+        | Rule::LabelsSpent
+        | Rule::NotAssigned
+        | Rule::HasReview
+        | Rule::QuotaComments => Status::Conflict,
     }
 }
 

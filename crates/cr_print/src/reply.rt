@@ -1,20 +1,21 @@
 //! Replies.
-ghost use Rattle.std.specs.Prelude.{◌≡◌, OnErr};
+ghost use Rattle.std.specs.Prelude.{◌≡◌, OnErr, map};
 ghost use Rattle.cr_print.specs.Put.{HasRoom, Prints, Puts};
-ghost use Rattle.cr_print.specs.Answers.{bytes_head, content_front, served_text, accounts_text, page_text, me_text, front_text, block_text, IsBrief};
+ghost use Rattle.cr_print.specs.Answers.{bytes_head, content_front, served_text, list_text, page_text, me_text, front_text, block_text, IsBrief};
 
-use crate::accounts::append_accounts;
 use crate::brief::ANSWER_ROOM;
 use crate::conference::print_conference;
 use crate::form::Form;
 use crate::head::{Extra, HEAD_ROOM, Head, MediaType, json, print_head};
 use crate::me::append_me;
+use crate::object::append_list_alone;
 use crate::page::{append_page, page_room};
 use crate::put::put;
 use crate::receipt::print_receipt;
 use crate::refused::{Refused, print_refusal};
 use crate::status::Status;
-use cr_base::{AccountLine, Me, Page, Reply};
+use crate::value::Value;
+use cr_base::{Me, Page, Reply};
 use std::alloc::AllocError;
 
 /// Appends the answer that has this content, whatever its length.
@@ -37,16 +38,17 @@ fn print_content(into: &mut Vec<u8>, content: &[u8], form: Form) -> Result<(), A
     Ok(())
 }
 
-#[tactic(auto, unfolding(crate::specs::Answers::accounts_text))]
-fn print_accounts(
+#[tactic(auto, unfolding(crate::specs::Answers::list_text))]
+fn print_list<T: Value>(
     into: &mut Vec<u8>,
-    accounts: &[AccountLine],
+    key: &str,
+    items: &[T],
     form: Form,
 ) -> Result<(), AllocError>
-    ensures { Prints result into.old into.new (accounts_text accounts.now form) }
+    ensures { Prints result into.old into.new (list_text key.now (map T.text items.now) form) }
 {
     let mut content = Vec::new(*into.allocator());
-    append_accounts(&mut content, accounts)?;
+    append_list_alone(&mut content, key, items)?;
     print_content(into, content.as_slice(), form)
 }
 
@@ -95,6 +97,7 @@ fn print_front(into: &mut Vec<u8>, length: usize, form: Form)
 /// have grown. It never comes for a receipt, a refusal, the conference or a content where room for 512 bytes is
 /// there. The content of a list, a page or what one is told of oneself is made in a vector of its
 /// own, to HEAD too, and copied once.
+#[tactic(auto, unfolding(crate::specs::Answers::accounts_text, crate::specs::Answers::reviews_text, crate::specs::Answers::comments_text))]
 pub fn print_reply(into: &mut Vec<u8>, reply: &Reply, form: Form) -> Result<(), AllocError>
     ensures prints { Prints result into.old into.new (front_text form reply.now) }
     ensures sure { OnErr result (IsBrief reply.now → HasRoom into.old 512 → ⊥) }
@@ -110,7 +113,9 @@ pub fn print_reply(into: &mut Vec<u8>, reply: &Reply, form: Form) -> Result<(), 
             print_refusal(into, Refused::Rule(*rule), form);
             Ok(())
         }
-        Reply::Accounts(accounts) => print_accounts(into, accounts.as_slice(), form),
+        Reply::Accounts(accounts) => print_list(into, "accounts", accounts.as_slice(), form),
+        Reply::Reviews(reviews) => print_list(into, "reviews", reviews.as_slice(), form),
+        Reply::Comments(comments) => print_list(into, "comments", comments.as_slice(), form),
         Reply::Page(page) => print_page(into, page, form),
         Reply::Me(me) => print_me(into, me, form),
         Reply::Conference(conference) => {

@@ -8,7 +8,7 @@ use crate::list::append_list;
 use crate::put::{append, append_number};
 use crate::quoted::append_quoted;
 use cr_anonymity::letter;
-use cr_base::{Bid, Items, Kind, Ordinal, PaperNo, Short, Text};
+use cr_base::{Bid, Items, Kind, Ordinal, PaperNo, Short, Tag, Text};
 use std::alloc::AllocError;
 
 /// What a list has, or an object under a key.
@@ -30,7 +30,16 @@ impl Value for Short {
     }
 }
 
-/// A title or an abstract.
+/// A tag.
+impl Value for Tag {
+    ghost text = { quoted };
+
+    fn append_to(&self, into: &mut Vec<u8>) -> Result<(), AllocError> {
+        append_quoted(into, self.as_slice())
+    }
+}
+
+/// A title, an abstract, or what a review or a comment says.
 impl Value for Text {
     ghost text = { quoted };
 

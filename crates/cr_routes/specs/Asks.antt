@@ -27,6 +27,12 @@ route_at at.Conflicts Post = Some asks.SetConflict
 route_at at.Bid Put = Some asks.Bid
 route_at at.Reviewers Post = Some asks.Assign
 route_at at.Reviewer Delete = Some asks.Unassign
+route_at at.Review Put = Some asks.Review
+route_at at.Reviews Get = Some asks.Reviews
+route_at at.Comments Get = Some asks.Comments
+route_at at.Comments Post = Some asks.Comment
+route_at at.Tag Put = Some asks.Tag
+route_at at.Tag Delete = Some asks.Untag
 route_at at.Me Get = Some asks.Me
 route_at _ _ = None
 

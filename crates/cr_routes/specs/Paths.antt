@@ -2,7 +2,7 @@
 use Rattle.std.specs.Prelude.{ℕ, List, [], ◌∷◌, codes}
 use Rattle.cr_routes.specs.declared.place.Place.{Place}
 use Rattle.cr_routes.specs.declared.place.Place.TheVariants.{Register, Accounts, Members, Mode, Phase, Me}
-use Rattle.cr_routes.specs.declared.place.Place.TheVariants.{Papers, Paper, Content, Version, Conflicts, Bid, Reviewers, Reviewer}
+use Rattle.cr_routes.specs.declared.place.Place.TheVariants.{Papers, Paper, Content, Version, Conflicts, Bid, Reviewers, Reviewer, Review, Reviews, Comments, Tag}
 
 -- each path, with its place; a parameter is written in braces. They stand in the order in which the router keeps them:
 -- by their bytes, a path behind those that it is the start of
@@ -13,11 +13,15 @@ paths =
     (codes "/me", Me) ∷
     (codes "/mode", Mode) ∷
     (codes "/papers/{p}/bid", Bid) ∷
+    (codes "/papers/{p}/comments", Comments) ∷
     (codes "/papers/{p}/conflicts", Conflicts) ∷
     (codes "/papers/{p}/content/{v}", Version) ∷
     (codes "/papers/{p}/content", Content) ∷
     (codes "/papers/{p}/reviewers/{u}", Reviewer) ∷
     (codes "/papers/{p}/reviewers", Reviewers) ∷
+    (codes "/papers/{p}/reviews", Reviews) ∷
+    (codes "/papers/{p}/review", Review) ∷
+    (codes "/papers/{p}/tags/{t}", Tag) ∷
     (codes "/papers/{p}", Paper) ∷
     (codes "/papers", Papers) ∷
     (codes "/phase", Phase) ∷

@@ -33,6 +33,14 @@ pub enum Place {
     Reviewers,
     /// `/papers/{p}/reviewers/{u}`: one such part stands between the slashes, and one at the end.
     Reviewer,
+    /// `/papers/{p}/review`: one such part stands between the slashes.
+    Review,
+    /// `/papers/{p}/reviews`: one such part stands between the slashes.
+    Reviews,
+    /// `/papers/{p}/comments`: one such part stands between the slashes.
+    Comments,
+    /// `/papers/{p}/tags/{t}`: one such part stands between the slashes, and one at the end.
+    Tag,
     /// `/me`
     Me,
 }
@@ -62,6 +70,12 @@ impl Place {
             (Place::Bid, Method::Put) => Some(Ask::Bid),
             (Place::Reviewers, Method::Post) => Some(Ask::Assign),
             (Place::Reviewer, Method::Delete) => Some(Ask::Unassign),
+            (Place::Review, Method::Put) => Some(Ask::Review),
+            (Place::Reviews, Method::Get | Method::Head) => Some(Ask::Reviews),
+            (Place::Comments, Method::Get | Method::Head) => Some(Ask::Comments),
+            (Place::Comments, Method::Post) => Some(Ask::Comment),
+            (Place::Tag, Method::Put) => Some(Ask::Tag),
+            (Place::Tag, Method::Delete) => Some(Ask::Untag),
             (Place::Me, Method::Get | Method::Head) => Some(Ask::Me),
             _ => None,
         }
@@ -76,12 +90,13 @@ impl Place {
         match self {
             Place::Register | Place::Members | Place::Mode | Place::Papers => "POST",
             Place::Conflicts | Place::Reviewers => "POST",
-            Place::Bid => "PUT",
+            Place::Bid | Place::Review => "PUT",
             Place::Reviewer => "DELETE",
-            Place::Accounts | Place::Version | Place::Me => "GET, HEAD",
+            Place::Tag => "DELETE, PUT",
+            Place::Accounts | Place::Version | Place::Reviews | Place::Me => "GET, HEAD",
             Place::Paper => "DELETE, GET, HEAD, PUT",
             Place::Content => "GET, HEAD, PUT",
-            Place::Phase => "GET, HEAD, POST",
+            Place::Phase | Place::Comments => "GET, HEAD, POST",
         }
     }
 }

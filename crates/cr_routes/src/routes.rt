@@ -9,17 +9,21 @@ use matchit::{InsertError, Router};
 use std::alloc::{AllocError, Global};
 
 /// As `paths` lists them.
-static PATHS: [(&str, Place); 14] = [
+static PATHS: [(&str, Place); 18] = [
     ("/accounts", Place::Accounts),
     ("/members", Place::Members),
     ("/me", Place::Me),
     ("/mode", Place::Mode),
     ("/papers/{p}/bid", Place::Bid),
+    ("/papers/{p}/comments", Place::Comments),
     ("/papers/{p}/conflicts", Place::Conflicts),
     ("/papers/{p}/content/{v}", Place::Version),
     ("/papers/{p}/content", Place::Content),
     ("/papers/{p}/reviewers/{u}", Place::Reviewer),
     ("/papers/{p}/reviewers", Place::Reviewers),
+    ("/papers/{p}/reviews", Place::Reviews),
+    ("/papers/{p}/review", Place::Review),
+    ("/papers/{p}/tags/{t}", Place::Tag),
     ("/papers/{p}", Place::Paper),
     ("/papers", Place::Papers),
     ("/phase", Place::Phase),

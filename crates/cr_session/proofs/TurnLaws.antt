@@ -1,6 +1,7 @@
 -- What one turn does is what Told and Step say.
-use Rattle.std.proofs.Common.{◌≡◌, ◌∙◌, ℕ, Bool, true, false, cond, Option, Some, None, Result, Ok, Err, refl, sym, ap, subst, append-nil, IsSome, IsOk}
-use Rattle.cr_base.specs.declared.command.Command.TheVariants.{Register}
+use Rattle.std.proofs.Common.{◌≡◌, ◌∙◌, ℕ, Bool, true, false, cond, Option, Some, None, Result, Ok, Err, refl, sym, ap, subst, append-nil, IsSome, IsOk, [], ◌≤◌, arith}
+use mathlib.Core.List.{IsPrefix}
+use Rattle.cr_base.specs.declared.command.Command.TheVariants.{Register, Tag}
 use Rattle.cr_base.specs.declared.ask.Ask.{Ask}
 use Rattle.cr_routes.specs.declared.place.Place.{Place}
 use Rattle.cr_policy.specs.Legal.{IsCaller, IsUser, MayAsk}
@@ -194,4 +195,31 @@ is-user H (Some v) h = h
 pub caller-command : (H : History) (w : Wish) (u : Option ℕ) (command : Command) → w.what ≡ whats.Command command → u ≡ caller H w
     → is_unauthorized u (whats.Command command) ≡ false → IsCaller H u command
 caller-command H w u (Register name digest) is by may = by ∙ ap (λ (x : What). cond (reads_credentials x) (user_told w.credentials H) None) is
+caller-command H w u (Tag paper tag true) is by may = is-user H u (may-ask H w u (whats.Command (Tag paper tag true)) by may)
+caller-command H w u (Tag paper tag false) is by may = is-user H u (may-ask H w u (whats.Command (Tag paper tag false)) by may)
 caller-command H w u command is by may = is-user H u (may-ask H w u (whats.Command command) by may)
+
+-- ---- what a turn leaves
+
+drawn-behind : (H : History) (o : Option Drawn) → IsPrefix H (and_drawn H o)
+drawn-behind H None = ([], append-nil H)
+drawn-behind H (Some d) = (d.group, refl)
+
+-- it only adds to the history, and the count of faults never falls
+abbrev pub Grows : Ledger → Ledger → Type 0
+Grows b b' = IsPrefix b.history b'.history × (b.faults ≤ b'.faults)
+
+answered-grows : (turn : TurnResult) (w : Wish) (b b' : Ledger) → AnswersWish turn w b b' → Grows b b'
+answered-grows turn w b b' a =
+    let steady : b'.faults ≡ b.faults = a.steady in
+    (subst (λ (H : History). IsPrefix b.history H) (sym a.stepped) (drawn-behind b.history (drawn b.history w)), omega (arith, steady))
+
+same-grows : (b b' : Ledger) → b' ≡ b → Grows b b'
+same-grows b b' is = subst (λ (l : Ledger). Grows b l) (sym is) (([], append-nil b.history), omega arith)
+
+pub turns_grow : (turn : TurnResult) (w : Wish) (b b' : Ledger) → Turns turn w b b' → Grows b b'
+turns_grow (turns.Refused r) w b b' t = answered-grows (turns.Refused r) w b b' t
+turns_grow (turns.Accepted receipt) w b b' t = answered-grows (turns.Accepted receipt) w b b' t
+turns_grow (turns.Answered reply) w b b' t = answered-grows (turns.Answered reply) w b b' t.0
+turns_grow turns.Lost w b b' t = (subst (λ (H : History). IsPrefix b.history H) (sym t.1) ([], append-nil b.history), t.2.0)
+turns_grow turns.OutOfMemory w b b' t = same-grows b b' t.0

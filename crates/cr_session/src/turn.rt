@@ -36,6 +36,7 @@ pub(crate) enum TurnResult {
 }
 
 /// Judges or answers a wish in one turn of the lock, on a history that begins with what the pass had seen.
+#[tactic(auto, using(crate::proofs::TurnLaws::turns_grow))]
 pub(crate) fn in_turn<R: Wait, K: Keeper>(
     rt: &R,
     lock: &HistoryLock<Book<K>>,

@@ -1,3 +1,5 @@
-pub mod Places
-pub mod LastLaws
+pub mod Around
+pub mod MatterLaws
+pub mod PlaceLaws
+pub mod PositionLaws
 pub mod WalkLaws

@@ -1,5 +1,5 @@
 -- A user's view, entry by entry over the history.
-use Rattle.std.proofs.Common.{◌≡◌, ◌∙◌, ℕ, ◌+◌, ◌<◌, ◌≤◌, Bool, List, [], ◌∷◌, ◌++◌, length, take, drop, get_or, refl, sym, ap, subst, arith, append_assoc, append-nil, length-append, Option, Some, None}
+use Rattle.std.proofs.Common.{◌≡◌, ◌∙◌, ℕ, ◌+◌, ◌<◌, ◌≤◌, List, [], ◌∷◌, ◌++◌, length, take, drop, get_or, refl, sym, ap, subst, arith, append_assoc, append-nil, length-append, Option, Some, None}
 use Rattle.std.specs.Prelude.{IfSome}
 use Rattle.std.proofs.lemmas.Grind.{flat_map-append}
 use Rattle.std.proofs.lemmas.List.{drop_all}
@@ -11,12 +11,12 @@ use Rattle.cr_ports.specs.Count.{Rises}
 use Rattle.cr_ports.specs.Stream.{taken_and}
 use Rattle.cr_ports.specs.Writing.{Outlet, Writes, BreaksOff}
 use Rattle.cr_ports.proofs.WritingLaws.{taken_and-append, writes-nil, writes-append}
-use Rattle.cr_policy.specs.Triggers.{Reader, Around, none_alike}
+use Rattle.cr_policy.specs.Triggers.{Reader, Around, Position, position_of}
 use Rattle.cr_policy.specs.View.{View, sight, sights}
-use Rattle.cr_sights.specs.Last.{IsLastIn}
 use Rattle.cr_sights.specs.Lines.{line_text, lines_text}
+use Rattle.cr_sights.specs.Positions.{IsPositionIn}
 use Rattle.cr_sights.specs.Walks.{StopsShort}
-use Rattle.cr_sights.proofs.Places.{one_more, and_behind}
+use Rattle.cr_sights.proofs.Around.{one_more, and_behind}
 
 -- what the entries from a place on show
 abbrev pub sights_from : Reader → History → ℕ → View
@@ -34,11 +34,13 @@ module _ (r : Reader) (H : History) (at : ℕ) (d : Stamped) (within : at < leng
       ∙ ap (λ (before : History). sights_at r H at (get_or H at d) ++ sights r before (drop (at + 1) H)) (sym (one_more H at d within))
 
   -- what one entry shows, by what is known of it
-  pub seen_here : d ≡ get_or H at d → (seen : View) (last : Bool) → IsLastIn H at last → ((place : Around) → none_alike d.entry place.after ≡ last → seen ≡ sight r place d) → seen ≡ sights_at r H at (get_or H at d)
-  seen_here here seen last known is =
-      is (record { before = take at H; after = drop (at + 1) H })
-      (ap (λ (e : Stamped). none_alike e.entry (drop (at + 1) H)) here
-      ∙ subst (λ o. IfSome o (λ (e : Stamped). none_alike e.entry (drop (at + 1) H) ≡ last)) (slice_get-get_or H at d within) known)
+  pub seen_here : d ≡ get_or H at d → (seen : View) (position : Position) → IsPositionIn H at position
+      → ((place : Around) → position_of place d.entry ≡ position → seen ≡ sight r place d) → seen ≡ sights_at r H at (get_or H at d)
+  seen_here here seen position known is =
+      let place : Around = record { before = take at H; after = drop (at + 1) H } in
+      is place
+      (ap (λ (e : Stamped). position_of place e.entry) here
+      ∙ subst (λ o. IfSome o (λ (e : Stamped). position_of place e.entry ≡ position)) (slice_get-get_or H at d within) known)
       ∙ ap (λ (e : Stamped). sights_at r H at e) here
 
   -- ---- lengths

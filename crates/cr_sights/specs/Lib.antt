@@ -1,5 +1,7 @@
 pub mod Readers
 pub mod SeatRows
+pub mod FormRows
 pub mod Lines
-pub mod Last
+pub mod Matters
+pub mod Positions
 pub mod Walks

@@ -43,9 +43,15 @@ abbrev pub user_told : EntryKind → Option ℕ → Option ℕ → Option ℕ
 user_told kinds.Bid by user = by
 user_told kind by user = user
 
--- who made an entry, beside the user whom it is about
+-- who wrote a comment
+abbrev pub writer_told : EntryKind → Option ℕ → Option ℕ
+writer_told kinds.Commented by = by
+writer_told kind by = None
+
+-- who made an entry, beside both of these
 abbrev pub by_told : EntryKind → Option ℕ → Option ℕ
 by_told kinds.Bid by = None
+by_told kinds.Commented by = None
 by_told kind by = by
 
 -- ---- a line
@@ -56,30 +62,42 @@ first_members s =
     member_of (codes "abstract") (option_map quoted s.abstract)
     ++ member_of (codes "by") (option_map decimal (by_told s.kind s.by))
     ++ member_of (codes "bytes") (option_map content_text s.content)
+    ++ member_of (codes "confidence") (option_map decimal s.confidence)
     ++ member_of (codes "digest") (option_map digest_text s.digest)
+    ++ member_of (codes "done") (option_map truth_text s.done)
     ++ member_of (codes "kind") (Some (quoted (kind_name s.kind)))
 
-unfoldable pub middle_members : Sighting → List Member
-middle_members s =
+unfoldable pub second_members : Sighting → List Member
+second_members s =
     member_of (codes "mine") (where_told s.mine (Some (codes "true")))
     ++ member_of (codes "mode") (option_map mode_text s.mode)
+    ++ member_of (codes "n") (option_map decimal s.n)
     ++ member_of (codes "name") (option_map quoted s.name)
     ++ member_of (codes "on") (option_map truth_text s.on)
     ++ member_of (codes "ordinal") (option_map decimal s.ordinal)
     ++ member_of (codes "paper") (option_map decimal s.paper)
 
-unfoldable pub last_members : Sighting → List Member
-last_members s =
+unfoldable pub third_members : Sighting → List Member
+third_members s =
     member_of (codes "phase") (option_map phase_text s.phase)
     ++ member_of (codes "role") (option_map role_text s.role)
+    ++ member_of (codes "score") (option_map decimal s.score)
     ++ member_of (codes "seat") (option_map seat_text s.seat)
+    ++ member_of (codes "tag") (option_map quoted s.tag)
+    ++ member_of (codes "text") (option_map quoted s.text)
     ++ member_of (codes "title") (option_map quoted s.title)
+
+unfoldable pub last_members : Sighting → List Member
+last_members s =
+    member_of (codes "to_authors") (option_map quoted s.to_authors)
+    ++ member_of (codes "to_pc") (option_map quoted s.to_pc)
     ++ member_of (codes "user") (option_map decimal (user_told s.kind s.by s.user))
     ++ member_of (codes "value") (option_map bid_text s.value)
     ++ member_of (codes "version") (option_map decimal s.version)
+    ++ member_of (codes "writer") (option_map decimal (writer_told s.kind s.by))
 
 abbrev pub sighting_members : Sighting → List Member
-sighting_members s = first_members s ++ middle_members s ++ last_members s
+sighting_members s = first_members s ++ second_members s ++ third_members s ++ last_members s
 
 unfoldable pub line_text : Sighting → List ℕ
 line_text s = object_text (sighting_members s) ++ codes "\n"

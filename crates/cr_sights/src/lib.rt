@@ -1,14 +1,27 @@
 //! What a user sees of a history, entry by entry, found in the tables: no view is made in memory.
 //!
-//! `sight` gives what one entry shows, `write_view` writes it line by line, `view_len` counts the lines.
+//! `sight` gives what one entry shows, by the tables and by where it stands among those of its matter; `write_view` writes
+//! it line by line, `view_len` counts the lines.
 #![tactic(auto)]
 
-mod last;
+mod asked;
+mod by_kind;
 mod line;
+mod matter;
 mod members;
+mod papers;
+mod places;
+mod position;
+mod positions;
+mod reviews;
 mod seats;
 mod sighting;
+mod tags;
+mod talk;
+mod ties;
 mod walk;
 
-pub use sighting::{Sighting, sight};
+pub use by_kind::sight;
+pub use position::Position;
+pub use sighting::Sighting;
 pub use walk::{ViewError, view_len, write_view};

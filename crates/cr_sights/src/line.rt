@@ -4,7 +4,7 @@ ghost use Rattle.std.specs.Option.{option_copied};
 ghost use Rattle.cr_base.specs.Lists.{listed};
 ghost use Rattle.cr_print.specs.Json.{AddsMembers};
 ghost use Rattle.cr_print.specs.Put.{Appends};
-ghost use Rattle.cr_sights.specs.Lines.{by_told, first_members, last_members, line_text, lines_text, middle_members, user_told};
+ghost use Rattle.cr_sights.specs.Lines.{by_told, first_members, last_members, line_text, lines_text, second_members, third_members, user_told, writer_told};
 
 use crate::members::add;
 use crate::sighting::Sighting;
@@ -22,12 +22,22 @@ fn user_told<'a>(sighting: &'a Sighting) -> Option<&'a UserNo>
     }
 }
 
-/// Who made an entry, beside the user whom it is about.
+/// Who wrote a comment.
+fn writer_told<'a>(sighting: &'a Sighting) -> Option<&'a UserNo>
+    ensures { let s = sighting.now in option_copied result ≡ writer_told s.kind s.by }
+{
+    match sighting.kind {
+        EntryKind::Commented => sighting.by.as_ref(),
+        _ => None,
+    }
+}
+
+/// Who made an entry, beside both of these.
 fn by_told<'a>(sighting: &'a Sighting) -> Option<&'a UserNo>
     ensures { let s = sighting.now in option_copied result ≡ by_told s.kind s.by }
 {
     match sighting.kind {
-        EntryKind::Bid => None,
+        EntryKind::Bid | EntryKind::Commented => None,
         _ => sighting.by.as_ref(),
     }
 }
@@ -39,21 +49,24 @@ fn add_first(object: &mut Object, into: &mut Vec<u8>, sighting: &Sighting) -> Re
     add(object, into, "abstract", sighting.abstract_)?;
     add(object, into, "by", by_told(sighting))?;
     add(object, into, "bytes", sighting.content)?;
+    add(object, into, "confidence", sighting.confidence.as_ref())?;
     add(object, into, "digest", sighting.digest)?;
+    object.truth(into, "done", sighting.done)?;
     object.string(into, "kind", sighting.kind.name().as_bytes())?;
     Ok(())
 }
 
 /// Writes the members from `mine` to `paper`.
-fn add_middle(
+fn add_second(
     object: &mut Object,
     into: &mut Vec<u8>,
     sighting: &Sighting,
 ) -> Result<(), AllocError>
-    ensures { AddsMembers result into.old into.new object.old.is_first object.new.is_first (middle_members sighting.now) }
+    ensures { AddsMembers result into.old into.new object.old.is_first object.new.is_first (second_members sighting.now) }
 {
     object.fixed(into, "mine", sighting.mine, "true")?;
     add(object, into, "mode", sighting.mode.as_ref())?;
+    add(object, into, "n", sighting.n.as_ref())?;
     add(object, into, "name", sighting.name)?;
     object.truth(into, "on", sighting.on)?;
     add(object, into, "ordinal", sighting.ordinal.as_ref())?;
@@ -61,17 +74,30 @@ fn add_middle(
     Ok(())
 }
 
-/// Writes the members from `phase` on.
-fn add_last(object: &mut Object, into: &mut Vec<u8>, sighting: &Sighting) -> Result<(), AllocError>
-    ensures { AddsMembers result into.old into.new object.old.is_first object.new.is_first (last_members sighting.now) }
+/// Writes the members from `phase` to `title`.
+fn add_third(object: &mut Object, into: &mut Vec<u8>, sighting: &Sighting) -> Result<(), AllocError>
+    ensures { AddsMembers result into.old into.new object.old.is_first object.new.is_first (third_members sighting.now) }
 {
     add(object, into, "phase", sighting.phase.as_ref())?;
     add(object, into, "role", sighting.role.as_ref())?;
+    add(object, into, "score", sighting.score.as_ref())?;
     add(object, into, "seat", sighting.seat.as_ref())?;
+    add(object, into, "tag", sighting.tag)?;
+    add(object, into, "text", sighting.text)?;
     add(object, into, "title", sighting.title)?;
+    Ok(())
+}
+
+/// Writes the members from `to_authors` on.
+fn add_last(object: &mut Object, into: &mut Vec<u8>, sighting: &Sighting) -> Result<(), AllocError>
+    ensures { AddsMembers result into.old into.new object.old.is_first object.new.is_first (last_members sighting.now) }
+{
+    add(object, into, "to_authors", sighting.to_authors)?;
+    add(object, into, "to_pc", sighting.to_pc)?;
     add(object, into, "user", user_told(sighting))?;
     add(object, into, "value", sighting.value.as_ref())?;
     add(object, into, "version", sighting.version.as_ref())?;
+    add(object, into, "writer", writer_told(sighting))?;
     Ok(())
 }
 
@@ -81,7 +107,8 @@ fn append_line(into: &mut Vec<u8>, sighting: &Sighting) -> Result<(), AllocError
 {
     let mut object = Object::open(into)?;
     add_first(&mut object, into, sighting)?;
-    add_middle(&mut object, into, sighting)?;
+    add_second(&mut object, into, sighting)?;
+    add_third(&mut object, into, sighting)?;
     add_last(&mut object, into, sighting)?;
     object.close(into)?;
     into.push(b'\n')?;

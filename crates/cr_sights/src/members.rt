@@ -6,7 +6,9 @@ ghost use Rattle.json.specs.Print.{quoted};
 ghost use Rattle.cr_print.specs.Json.{AddsMembers, bid_text, member_of, seat_text};
 ghost use Rattle.cr_sights.specs.Lines.{content_text, digest_text, mode_text, phase_text, role_text};
 
-use cr_base::{Bid, Blob, Digest, Kind, Mode, Ordinal, PaperNo, Phase, Role, Short, Text, UserNo};
+use cr_base::{
+    Bid, Blob, Digest, Grade, Kind, Mode, PaperNo, Phase, Role, Short, Tag, Text, UserNo,
+};
 use cr_print::Object;
 use std::alloc::AllocError;
 
@@ -63,8 +65,8 @@ impl Part for PaperNo {
     }
 }
 
-/// A label by its ordinal.
-impl Part for Ordinal {
+/// A grade of a form.
+impl Part for Grade {
     ghost text = { decimal };
 
     fn write(&self, object: &mut Object, into: &mut Vec<u8>, key: &str) -> Result<(), AllocError> {
@@ -72,7 +74,7 @@ impl Part for Ordinal {
     }
 }
 
-/// A version by its number.
+/// Any other number: that of a version or of a comment, or the ordinal of a label.
 impl Part for u64 {
     ghost text = { decimal };
 
@@ -108,7 +110,16 @@ impl Part for Short {
     }
 }
 
-/// A title or an abstract.
+/// A tag.
+impl Part for Tag {
+    ghost text = { quoted };
+
+    fn write(&self, object: &mut Object, into: &mut Vec<u8>, key: &str) -> Result<(), AllocError> {
+        object.string(into, key, self.as_slice())
+    }
+}
+
+/// A title, an abstract, a text of a form or a comment.
 impl Part for Text {
     ghost text = { quoted };
 

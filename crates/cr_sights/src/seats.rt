@@ -1,18 +1,20 @@
 //! What assignments and their ends show a reader.
 ghost use Rattle.std.specs.Prelude.{◌≡◌, ◌||◌, ◌&&◌, IfSome, Some, is_some, not};
-ghost use Rattle.cr_base.specs.declared.entry.Entry.TheVariants.{Assigned, Unassigned};
+ghost use Rattle.cr_base.specs.declared.entry.EntryKind.TheVariants as kinds;
 ghost use Rattle.cr_base.specs.declared.words.Phase.TheVariants as phases;
 ghost use Rattle.cr_base.specs.Lists.{listed};
 ghost use Rattle.cr_base.specs.Page.{is_clear_chair, is_clear_member};
 ghost use Rattle.cr_base.specs.Phases.{is_from};
 ghost use Rattle.cr_base.specs.Words.{is_anonymous, is_overt};
+ghost use Rattle.cr_base.specs.Rows.{kind_of};
 ghost use Rattle.cr_policy.specs.Triggers.{Around, applies_any};
 ghost use Rattle.cr_policy.specs.View.{sight as sight_at};
 ghost use Rattle.cr_sights.specs.Readers.{reader_in};
 ghost use Rattle.cr_sights.specs.SeatRows.{AreShown, rows_with};
 
+use crate::asked::discusses;
 use crate::sighting::{Sighting, blank};
-use cr_base::{EntryKind, Kind, Ordinal, PaperNo, Phase, Stamped, Standing, UserNo};
+use cr_base::{Entry, EntryKind, Kind, Ordinal, PaperNo, Phase, Stamped, Standing, UserNo};
 use cr_view::Live;
 
 /// Which parts beside the paper she is shown who is told of an assignment, or of its end.
@@ -24,13 +26,6 @@ struct SeatParts {
     kind: bool,
     /// The ordinal of her label.
     ordinal: bool,
-}
-
-/// Whether she is a clear member in the discussion, or later.
-fn discusses(by: &Standing) -> bool
-    ensures { result ≡ (is_clear_member by.now && is_from phases.Discussion by.now.phase) }
-{
-    by.is_clear_member() && by.phase.is_from(Phase::Discussion)
 }
 
 /// Whether she is an author who is shown her reviewers.
@@ -93,46 +88,56 @@ fn seat_parts(
     })
 }
 
-/// What an assignment with these parts shows her: what she may know of it, or nothing where she isn't told of it.
+/// What an assignment shows her: what she may know of it, or nothing where she isn't told of it.
 pub(crate) fn assignment<'a>(
     live: &Live,
     reader: UserNo,
     stamped: &'a Stamped,
-    paper: PaperNo,
-    user: UserNo,
-    kind: Kind,
-    ordinal: Ordinal,
 ) -> Option<Sighting<'a>>
-    requires { stamped.now.entry ≡ Assigned paper user kind ordinal }
+    requires { kind_of stamped.now.entry ≡ kinds.Assigned }
     ensures { (at : Around) → listed result ≡ sight_at (reader_in live.now.tables (Some reader)) at stamped.now }
 {
-    let parts = seat_parts(live, reader, stamped.maker, paper, user)?;
+    let Entry::Assigned {
+        paper,
+        user,
+        kind,
+        ordinal,
+    } = &stamped.entry
+    else {
+        return None;
+    };
+    let parts = seat_parts(live, reader, stamped.maker, *paper, *user)?;
     Some(Sighting {
-        paper: Some(paper),
-        user: parts.user.then_some(user),
-        seat: parts.kind.then_some(kind),
-        ordinal: parts.ordinal.then_some(ordinal),
+        paper: Some(*paper),
+        user: parts.user.then_some(*user),
+        seat: parts.kind.then_some(*kind),
+        ordinal: parts.ordinal.then_some(ordinal.number()),
         ..blank(EntryKind::Assigned, reader == stamped.maker)
     })
 }
 
-/// What the end of an assignment with these parts shows her, the same way.
+/// What the end of an assignment shows her, the same way.
 pub(crate) fn unassignment<'a>(
     live: &Live,
     reader: UserNo,
     stamped: &'a Stamped,
-    paper: PaperNo,
-    user: UserNo,
-    ordinal: Ordinal,
 ) -> Option<Sighting<'a>>
-    requires { stamped.now.entry ≡ Unassigned paper user ordinal }
+    requires { kind_of stamped.now.entry ≡ kinds.Unassigned }
     ensures { (at : Around) → listed result ≡ sight_at (reader_in live.now.tables (Some reader)) at stamped.now }
 {
-    let parts = seat_parts(live, reader, stamped.maker, paper, user)?;
+    let Entry::Unassigned {
+        paper,
+        user,
+        ordinal,
+    } = &stamped.entry
+    else {
+        return None;
+    };
+    let parts = seat_parts(live, reader, stamped.maker, *paper, *user)?;
     Some(Sighting {
-        paper: Some(paper),
-        user: parts.user.then_some(user),
-        ordinal: parts.ordinal.then_some(ordinal),
+        paper: Some(*paper),
+        user: parts.user.then_some(*user),
+        ordinal: parts.ordinal.then_some(ordinal.number()),
         ..blank(EntryKind::Unassigned, reader == stamped.maker)
     })
 }

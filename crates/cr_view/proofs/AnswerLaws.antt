@@ -1,9 +1,12 @@
 -- What a query is answered by reads of the tables.
-use Rattle.std.proofs.Common.{ℕ, ◌≡◌, ◌<◌, ◌+◌, List, [], ◌∷◌, ◌++◌, length, drop, get_or, append_assoc, refl, sym, ap, ◌∙◌, Option, Result, Ok, Err}
+use Rattle.std.proofs.Common.{ℕ, Bool, true, ◌≡◌, ◌<◌, ◌+◌, List, [], ◌∷◌, ◌++◌, length, drop, get_or}
+use Rattle.std.proofs.Common.{append_assoc, refl, sym, ap, subst, ◌∙◌, Option, Some, Result, Ok, Err}
 use Rattle.std.specs.Option.{option_map}
-use Rattle.std.specs.Prelude.{map, unwrap_or, IsOk}
+use Rattle.std.specs.Prelude.{map, unwrap_or, IsOk, IsErrAnd}
+use Rattle.std.specs.Result.{result_and}
 use Rattle.std.proofs.lemmas.List.{at_drop_more}
 use Rattle.cr_base.specs.declared.entry.Account.{Account}
+use Rattle.cr_base.specs.declared.comment.CommentLine.{CommentLine}
 use Rattle.cr_base.specs.declared.page.Page.{Page}
 use Rattle.cr_base.specs.declared.pairs.Tie.{Tie}
 use Rattle.cr_base.specs.declared.command.Query.{Query}
@@ -12,11 +15,14 @@ use Rattle.cr_base.specs.declared.reply.Conference.{Conference}
 use Rattle.cr_base.specs.declared.reply.Reply.{Reply}
 use Rattle.cr_base.specs.declared.reply.Reply.TheVariants as replies
 use Rattle.cr_base.specs.declared.reply.Rule.{Rule}
+use Rattle.cr_base.specs.declared.review.ReviewLine.{ReviewLine}
+use Rattle.cr_base.specs.declared.standing.Standing.{Standing}
 use Rattle.cr_base.specs.Accounts.{account_at, lines_of}
 use Rattle.cr_base.specs.Checks.{Check, judged}
-use Rattle.cr_base.specs.Answering.{query_checks, page_by, content_by, content_asked, reply_or_rule, answer_by_role}
-use Rattle.cr_base.specs.Sources.{Facts, names_in, facts_of_tables, shown_in_tables}
+use Rattle.cr_base.specs.Answering.{query_checks, page_by, content_by, content_asked, reviews_by, comments_by, reply_or_rule, answer_by_role}
+use Rattle.cr_base.specs.Sources.{Facts, Shown, names_in, name_in, standing_at, facts_of_tables, shown_in_tables}
 use Rattle.cr_base.specs.Lists.{listed}
+use Rattle.cr_base.specs.Page.{where_told}
 use Rattle.cr_base.specs.Papers.{paper_count}
 use Rattle.cr_base.specs.Tables.{Tables}
 use Rattle.cr_base.specs.Ties.{BareTies}
@@ -24,7 +30,9 @@ use Rattle.cr_base.proofs.CheckLaws.{judged-Ok}
 use Rattle.cr_base.proofs.ListLaws.{length-numbers_from, name_in-lines_of}
 use Rattle.cr_view.specs.declared.queries.AnswerError.{AnswerError}
 use Rattle.cr_view.specs.declared.queries.AnswerError.TheVariants as errors
-use Rattle.cr_view.specs.Replies.{IsServed, AnswersAsDue, ShowsAsDue, page_due, content_due, content_reply_at}
+use Rattle.cr_view.specs.Comments.{comments_due}
+use Rattle.cr_view.specs.Replies.{IsServed, AnswersAsDue, ShowsAsDue, reader_at, due_at, facts_at, page_due, content_due, content_reply_at}
+use Rattle.cr_view.specs.Reviews.{reviews_due}
 use Rattle.cr_view.proofs.JudgeLaws.{refused, passed}
 
 -- ---- walks
@@ -44,6 +52,12 @@ walk-step {A} {B} made piece xs i other before after wanted within begins pushed
 
 -- ---- names
 
+-- the name found, where it is told
+pub name-told : (accounts : List Account) (user : ℕ) (told : Bool) (found : Option (List ℕ)) → told ≡ true
+    → found ≡ option_map (λ (a : Account). a.name) (account_at accounts user) → found ≡ where_told told (name_in (lines_of accounts) user)
+name-told accounts user told found shows is =
+    is ∙ sym (name_in-lines_of accounts user) ∙ sym (ap (λ (b : Bool). where_told b (name_in (lines_of accounts) user)) shows)
+
 -- the name found comes first
 name_first : (accounts : List Account) (user : ℕ) (found : Option (List ℕ)) (rest : List ℕ) → found ≡ option_map (λ (a : Account). a.name) (account_at accounts user) → names_in (lines_of accounts) (user ∷ rest) ≡ listed found ++ names_in (lines_of accounts) rest
 name_first accounts user found rest is = ap (λ (o : Option (List ℕ)). listed o ++ names_in (lines_of accounts) rest) (name_in-lines_of accounts user ∙ sym is)
@@ -57,7 +71,7 @@ names-step accounts ties i other before after wanted found within is pushed told
     walk-step (λ (ts : BareTies). names_in (lines_of accounts) (map (λ (t : Tie (Unit {0})). t.pair.user) ts)) (listed found) ties i other before after wanted within
     (λ rest. name_first accounts (get_or ties i other).pair.user found (map (λ (t : Tie (Unit {0})). t.pair.user) rest) is) pushed told
 
--- ---- pages
+-- ---- what is told of a paper
 
 -- where none is broken, the reader stands as she does
 pub reader-is : {A : Type 0} (checks : List Check) (x given : A) → ◌≡◌ {A = Result A Rule} (Ok given) (judged checks x) → given ≡ x
@@ -67,6 +81,46 @@ reader-is checks x given h = sym (judged-Ok checks x given (sym h)).1
 abbrev pub as_reply : {A : Type 0} → (A → Reply) → Result A AnswerError → Result Reply AnswerError
 as_reply made (Ok shown) = Ok (made shown)
 as_reply made (Err error) = Err error
+
+-- whoever may read may ask
+pub allowed : {A : Type 0} (checks : List Check) (x : A) (r : Result A Rule) → r ≡ judged checks x
+    → ◌≡◌ {A = Result (Unit {0}) Rule} (result_and r (Ok tt)) (judged checks tt)
+allowed checks x (Ok given) h = passed checks (λ y. tt) x given h
+allowed checks x (Err rule) h = refused checks x tt rule h
+
+-- what is told of a paper to one who stands so to it is what is due
+module _ {A : Type 0} (asked : Option ℕ → Query) (told : Facts → Shown → ℕ → A) (t : Tables) (user paper : Option ℕ) where
+  abbrev wanted : A
+  wanted = told (facts_of_tables t user) (shown_in_tables t) (unwrap_or paper 0)
+
+  abbrev checks : List Check
+  checks = query_checks (facts_of_tables t user) (shown_in_tables t) (asked paper)
+
+  pub due-refused : (rule : Rule) → ◌≡◌ {A = Result Standing Rule} (Err rule) (reader_at asked t user paper) → due_at asked told t user paper ≡ Err rule
+  due-refused rule h = sym (refused checks (standing_at t user paper) wanted rule h)
+
+  pub due-told : ((n : ℕ) → told (facts_at t user (standing_at t user (Some n))) (shown_in_tables t) n ≡ told (facts_of_tables t user) (shown_in_tables t) n)
+      → (by : Standing) → ◌≡◌ {A = Result Standing Rule} (Ok by) (reader_at asked t user paper) → (number : ℕ) → paper ≡ Some number
+      → (given : A) → given ≡ told (facts_at t user by) (shown_in_tables t) number → due_at asked told t user paper ≡ Ok given
+  due-told same by reads number is given h =
+      let here : Option ℕ → Standing = standing_at t user in
+      sym
+      (ap (λ (a : A). Ok a)
+      (h
+      ∙ ap (λ (s : Standing). told (facts_at t user s) (shown_in_tables t) number) (reader-is checks (here paper) by reads)
+      ∙ ap (λ (p : Option ℕ). told (facts_at t user (here p)) (shown_in_tables t) number) is
+      ∙ same number
+      ∙ sym (ap (λ (p : Option ℕ). told (facts_of_tables t user) (shown_in_tables t) (unwrap_or p 0)) is))
+      ∙ passed checks (λ (s : Standing). wanted) (here paper) by reads)
+
+  -- and where memory runs out, no rule is broken
+  pub due-unserved : (by : Standing) → ◌≡◌ {A = Result Standing Rule} (Ok by) (reader_at asked t user paper) → (r : Result A AnswerError)
+      → IsErrAnd r (λ (e : AnswerError). e ≡ errors.OutOfMemory) → ShowsAsDue r (due_at asked told t user paper)
+  due-unserved by reads (Ok given) out = absurd out
+  due-unserved by reads (Err error) out =
+      let due : Result A Rule = due_at asked told t user paper in
+      subst (λ (e : AnswerError). ShowsAsDue {A = A} (Err e) due) (sym out)
+      (subst (λ (r : Result A Rule). IsOk r) (passed checks (λ (s : Standing). wanted) (standing_at t user paper) by reads) refl)
 
 module _ {A : Type 0} (checks : List Check) (x : A) (made : A → Reply) (serves : (a : A) → IsServed (made a)) where
   abbrev due : Reply
@@ -85,16 +139,38 @@ module _ {A : Type 0} (checks : List Check) (x : A) (made : A → Reply) (serves
   shown-answered (Err (errors.Rule rule)) h = ap reply_or_rule (sym (refused checks x (made x) rule (sym h)))
   shown-answered (Err errors.OutOfMemory) h = shown-served (judged checks x) refl h
 
--- a page, and a content
-pub page-answered : (t : Tables) (caller paper : Option ℕ) (r : Result Page AnswerError) → ShowsAsDue r (page_due t caller paper) → AnswersAsDue (as_reply (λ (p : Page). replies.Page p) r) (answer_by_role t caller (queries.Page paper))
+-- a page, a content, reviews and comments
+pub page-answered : (t : Tables) (caller paper : Option ℕ) (r : Result Page AnswerError) → ShowsAsDue r (page_due t caller paper)
+    → AnswersAsDue (as_reply (λ (p : Page). replies.Page p) r) (answer_by_role t caller (queries.Page paper))
 page-answered t caller paper r h =
     let facts : Facts = facts_of_tables t caller in
-    shown-answered (query_checks facts (shown_in_tables t) (queries.Page paper)) (page_by facts (shown_in_tables t) (unwrap_or paper 0)) (λ (p : Page). replies.Page p) (λ p rule e. cc) r h
+    shown-answered
+    (query_checks facts (shown_in_tables t) (queries.Page paper)) (page_by facts (shown_in_tables t) caller (unwrap_or paper 0))
+    (λ (p : Page). replies.Page p) (λ p rule e. cc) r h
 
-pub content-answered : (t : Tables) (caller paper version : Option ℕ) (r : Result (List ℕ) AnswerError) → ShowsAsDue r (content_due t caller paper version) → AnswersAsDue (as_reply (λ (c : List ℕ). replies.Content c) r) (content_reply_at t caller paper version)
+pub content-answered : (t : Tables) (caller paper version : Option ℕ) (r : Result (List ℕ) AnswerError) → ShowsAsDue r (content_due t caller paper version)
+    → AnswersAsDue (as_reply (λ (c : List ℕ). replies.Content c) r) (content_reply_at t caller paper version)
 content-answered t caller paper version r h =
     let facts : Facts = facts_of_tables t caller in
-    shown-answered (content_asked facts (shown_in_tables t) paper version) (unwrap_or (content_by facts (shown_in_tables t) paper version) []) (λ (c : List ℕ). replies.Content c) (λ c rule e. cc) r h
+    shown-answered
+    (content_asked facts (shown_in_tables t) paper version) (unwrap_or (content_by facts (shown_in_tables t) paper version) [])
+    (λ (c : List ℕ). replies.Content c) (λ c rule e. cc) r h
+
+pub reviews-answered : (t : Tables) (caller paper : Option ℕ) (r : Result (List ReviewLine) AnswerError) → ShowsAsDue r (reviews_due t caller paper)
+    → AnswersAsDue (as_reply (λ (l : List ReviewLine). replies.Reviews l) r) (answer_by_role t caller (queries.Reviews paper))
+reviews-answered t caller paper r h =
+    let facts : Facts = facts_of_tables t caller in
+    shown-answered
+    (query_checks facts (shown_in_tables t) (queries.Reviews paper)) (reviews_by facts (shown_in_tables t) (unwrap_or paper 0))
+    (λ (l : List ReviewLine). replies.Reviews l) (λ l rule e. cc) r h
+
+pub comments-answered : (t : Tables) (caller paper : Option ℕ) (r : Result (List CommentLine) AnswerError) → ShowsAsDue r (comments_due t caller paper)
+    → AnswersAsDue (as_reply (λ (l : List CommentLine). replies.Comments l) r) (answer_by_role t caller (queries.Comments paper))
+comments-answered t caller paper r h =
+    let facts : Facts = facts_of_tables t caller in
+    shown-answered
+    (query_checks facts (shown_in_tables t) (queries.Comments paper)) (comments_by facts (shown_in_tables t) (unwrap_or paper 0))
+    (λ (l : List CommentLine). replies.Comments l) (λ l rule e. cc) r h
 
 pub conference-told : (t : Tables) (caller : Option ℕ) (query : Query) (conference : Conference) → conference ≡ record { mode = t.stage.mode; papers = paper_count t.papers; phase = t.stage.phase } → query ≡ queries.Phase → replies.Conference conference ≡ answer_by_role t caller query
 conference-told t caller query conference is asked =

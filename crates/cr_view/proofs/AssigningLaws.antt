@@ -1,11 +1,10 @@
 -- What a command draws that names a paper and a user, by reads of the tables.
-use Rattle.std.proofs.Common.{ℕ, Bool, true, false, ◌≡◌, ◌+◌, List, [], ◌∷◌, refl, sym, ap, ◌∙◌, ◌||◌, Option, Some, None, Result, Ok}
+use Rattle.std.proofs.Common.{ℕ, Bool, true, false, ◌≡◌, ◌+◌, List, ◌∷◌, refl, sym, ap, ◌∙◌, ◌||◌, Option, Some, None, Result, Ok}
 use Rattle.std.specs.Prelude.{is_some, not, unwrap_or}
 use Rattle.std.specs.List.{list_any}
 use Rattle.std.specs.Option.{option_map, option_and_then}
 use Rattle.std.specs.Result.{result_and}
-use Rattle.std.proofs.lemmas.Bool.{true≢false}
-use Rattle.cr_base.specs.declared.command.Command.TheVariants.{Bid, SetConflict, Assign, Unassign}
+use Rattle.cr_base.specs.declared.command.Command.TheVariants.{SetConflict, Assign, Unassign}
 use Rattle.cr_base.specs.declared.pairs.Order.TheVariants.{ByPaper}
 use Rattle.cr_base.specs.declared.reply.Rule.{Rule}
 use Rattle.cr_base.specs.declared.reply.Rule.TheVariants as rules
@@ -14,19 +13,18 @@ use Rattle.cr_base.specs.declared.target.Target.{Target}
 use Rattle.cr_base.specs.declared.words.Kind.{Kind}
 use Rattle.cr_base.specs.declared.words.Role.{Role}
 use Rattle.cr_base.specs.Accounts.{role_at}
-use Rattle.cr_base.specs.Checks.{Check, NamedPaper, ◌breaks◌, judged, bid_checks, conflict_case, conflict_checks, assign_checks, unassign_checks}
-use Rattle.cr_base.specs.Drawn.{Drawn, bid_drawn, conflict_drawn, assignment_drawn, unassignment_drawn}
+use Rattle.cr_base.specs.Checks.{Check, NamedPaper, ◌breaks◌, judged, conflict_case, conflict_checks, assign_checks, unassign_checks}
+use Rattle.cr_base.specs.Drawn.{Drawn, conflict_drawn, assignment_drawn, unassignment_drawn}
 use Rattle.cr_base.specs.Judging.{conflict_judged, assignment_judged, unassignment_judged, judge_by_role}
 use Rattle.cr_base.specs.Lists.{at_some, is_number}
 use Rattle.cr_base.specs.Pairs.{users_tied_to}
-use Rattle.cr_base.specs.Papers.{is_withdrawn_at}
 use Rattle.cr_base.specs.Phases.{is_from}
 use Rattle.cr_base.specs.declared.words.Phase.TheVariants.{Bidding, Notification}
+use Rattle.cr_base.specs.Reviews.{is_written_in}
 use Rattle.cr_base.specs.Seats.{labels_in, seat_in}
-use Rattle.cr_base.specs.Sources.{has_paper, target_named, standing_at, facts_of_tables, shown_in_tables}
+use Rattle.cr_base.specs.Sources.{target_named, standing_at, facts_of_tables, shown_in_tables}
 use Rattle.cr_base.specs.Tables.{Tables}
 use Rattle.cr_base.specs.Ties.{is_author_in, is_conflicted_in}
-use Rattle.cr_base.proofs.CheckLaws.{judged-Ok}
 use Rattle.cr_base.proofs.ListLaws.{role_among-lines_of}
 use Rattle.cr_base.proofs.PairLaws.{list_any-others_of}
 use Rattle.cr_assign.specs.Targets as seats
@@ -38,6 +36,7 @@ use Rattle.cr_view.specs.ByTables.{named_at, asked_of, asked_at, conflict_at, as
 use Rattle.cr_view.specs.Draws.{drawn_by, drawn_or_rule}
 use Rattle.cr_view.specs.Targets.{target_at}
 use Rattle.cr_view.proofs.JudgeLaws.{made_of, judged-made}
+use Rattle.cr_view.proofs.NamedLaws.{same-paper, judged-there}
 use Rattle.cr_view.proofs.TargetLaws.{target-among, drawn-and}
 
 -- whoever was found for a name has a number, and a role
@@ -111,64 +110,31 @@ module _ (t : Tables) (maker : ℕ) where
 
     pub judge-unassign : judge_by_role t (Some maker) (Unassign paper name) ≡ unassignment_at t maker paper name
     judge-unassign =
-        let draw : Drawn = unassignment_drawn maker (unwrap_or paper 0) (unwrap_or due 0) (unwrap_or (seat_in t.seats due (unwrap_or paper 0)) 0) in
+        let p : ℕ = unwrap_or paper 0 in
+        let seat : Option ℕ = seat_in t.seats due p in
+        let checks : Option Target → List Check =
+        λ asked. unassign_checks (standing_at t (Some maker) paper) (asked_of t paper) asked (at_some (is_written_in t.reviews p) seat) in
         ap (λ (v : Option ℕ). unassignment_judged (facts_of_tables t (Some maker)) (shown_in_tables t) (Some maker) paper v) (target-among t.accounts name)
-        ∙ ap (λ (asked : Option Target). judged (unassign_checks (standing_at t (Some maker) paper) (asked_of t paper) asked) draw) (target-asked paper due)
+        ∙ ap (λ (asked : Option Target). judged (checks asked) (unassignment_drawn maker p (unwrap_or due 0) (unwrap_or seat 0))) (target-asked paper due)
 
-  -- ---- the paper named
+  -- ---- what is drawn, where there is a user of the name
 
   module _ (paper : Option ℕ) (named : Named) (given : ◌≡◌ {A = Result Named Rule} (Ok named) (named_at t maker paper)) where
     abbrev here : Standing
     here = standing_at t (Some maker) paper
 
-    abbrev is_there : Bool
-    is_there = has_paper (facts_of_tables t None) paper
-
-    -- as the tables are asked of it
+    -- as the tables are asked of the paper
     abbrev told : NamedPaper
     told = record { there = true; withdrawn = named.withdrawn }
 
-    found-there : not is_there ≡ false
-    found-there = (judged-Ok (not is_there breaks rules.NoPaper ∷ []) _ named (sym given)).0.0
-
-    same-named : record { by = here; paper = unwrap_or paper 0; withdrawn = at_some (is_withdrawn_at t.papers) paper } ≡ named
-    same-named = (judged-Ok (not is_there breaks rules.NoPaper ∷ []) _ named (sym given)).1
-
-    -- it is the one that was told
-    same-paper : Some named.paper ≡ paper
-    same-paper = ap (λ (n : Named). Some n.paper) (sym same-named) ∙ by paper found-there
-      where
-        by : (o : Option ℕ) → not (has_paper (facts_of_tables t None) o) ≡ false → Some (unwrap_or o 0) ≡ o
-        by None h = absurd (true≢false h)
-        by (Some p) h = refl
-
-    asked-there : told ≡ asked_of t paper
-    asked-there =
-        ap (λ (b : Bool). record { there = b; withdrawn = named.withdrawn }) (is-true is_there found-there)
-        ∙ ap (λ (n : Named). record { there = is_there; withdrawn = n.withdrawn }) (sym same-named)
-      where
-        is-true : (b : Bool) → not b ≡ false → true ≡ b
-        is-true true h = refl
-        is-true false h = absurd (true≢false h)
-
-    -- what is asked by its standing and of it is what the facts ask
-    judged-there : {A : Type 0} (checks : Standing → NamedPaper → List Check) (x : A)
+    judged-here : {A : Type 0} (checks : Standing → NamedPaper → List Check) (x : A)
         → judged (checks named.by told) x ≡ judged (checks here (asked_of t paper)) x
-    judged-there checks x =
-        ap (λ (n : Named). judged (checks n.by told) x) (sym same-named) ∙ ap (λ (p : NamedPaper). judged (checks here p) x) asked-there
+    judged-here checks x = judged-there t maker paper named given checks x
 
-    -- ---- what is drawn
+    is-paper : Some named.paper ≡ paper
+    is-paper = same-paper t maker paper named given
 
-    -- a bid
-    pub bid-drawn : (value : ℕ) (kept : Result (Unit {0}) Rule) (r : Result Draw Rule)
-        → kept ≡ judged (bid_checks named.by told) tt → r ≡ result_and kept (Ok (draws.Bid maker named.paper value))
-        → drawn_or_rule r ≡ judge_by_role t (Some maker) (Bid paper value)
-    bid-drawn value kept r judges drawn =
-        drawn-and (bid_checks named.by told) (draws.Bid maker named.paper value) kept r judges drawn
-        ∙ judged-there bid_checks (bid_drawn maker named.paper value)
-        ∙ ap (λ (p : Option ℕ). judged (bid_checks here (asked_of t paper)) (bid_drawn maker (unwrap_or p 0) value)) same-paper
-
-    -- where there is a user of the name; and what tables are asked that are these
+    -- the user; and what tables are asked that are these
     module _ (name : Option (List ℕ)) (target : Option (ℕ × Role)) (user : ℕ) (known : number_found target ≡ Some user)
         (found : number_found target ≡ target_at t.accounts name) (has : role_found target ≡ option_and_then (role_at t.accounts) (target_at t.accounts name))
         (seen : Tables) (same : seen ≡ t) where
@@ -191,14 +157,14 @@ module _ (t : Tables) (maker : ℕ) where
           let checks : Option Target → Standing → NamedPaper → List Check = λ asked s p. conflict_checks s p asked on in
           let asked : Tables → Option ℕ → Option Target = λ x p. ties.target_of x.ties maker p target in
           drawn-and (checks (asked seen (Some named.paper)) named.by told) draw kept r judges drawn
-          ∙ judged-there (checks (asked seen (Some named.paper))) (drawn_by draw)
+          ∙ judged-here (checks (asked seen (Some named.paper))) (drawn_by draw)
           ∙ ap (λ (x : Tables). judged (checks (asked x (Some named.paper)) here (asked_of t paper)) (drawn_by draw)) same
-          ∙ ap (λ (p : Option ℕ). judged (checks (asked t p) here (asked_of t paper)) (drawn_by draw)) same-paper
+          ∙ ap (λ (p : Option ℕ). judged (checks (asked t p) here (asked_of t paper)) (drawn_by draw)) is-paper
           ∙ unread target (drawn_by draw)
           ∙ ap (λ (a : Option Target). judged (checks a here (asked_of t paper)) (drawn_by draw)) (asked-found paper)
           ∙ ap (λ (v : Option ℕ). judged (checks (hers paper) here (asked_of t paper)) (conflict_drawn maker named.paper (unwrap_or v 0) on)) same-user
           ∙ ap (λ (p : Option ℕ). judged (checks (hers paper) here (asked_of t paper)) (conflict_drawn maker (unwrap_or p 0) (unwrap_or (target_at t.accounts name) 0) on))
-          same-paper
+          is-paper
         where
           -- no rule reads whether she reviews the paper
           alike : (v : ℕ) (role : Role) (reviews on bidding late : Bool)
@@ -222,9 +188,11 @@ module _ (t : Tables) (maker : ℕ) where
           let labels = labels_in x.seats named.paper in
           judged (assign_checks named.by told (seats.target_of x.seats conflicted (Some named.paper) target) labels) (labels + 1)
 
-      abbrev asked_seat : Tables → Result ℕ Rule
-      asked_seat x =
-          judged (unassign_checks named.by told (seats.target_of x.seats false (Some named.paper) target)) (seats.held_at x.seats (Some named.paper) target)
+      abbrev asked_seat : Tables → Bool → Result ℕ Rule
+      asked_seat x written =
+          judged
+          (unassign_checks named.by told (seats.target_of x.seats false (Some named.paper) target) written)
+          (seats.held_at x.seats (Some named.paper) target)
 
       -- an assignment
       pub assignment-drawn : (kind : Kind) (conflicted : Bool) (r : Result ℕ Rule)
@@ -238,12 +206,12 @@ module _ (t : Tables) (maker : ℕ) where
           let asked : Option Target = seats.target_of t.seats conflicted (Some named.paper) target in
           judged-made (checks (Some named.paper) asked named.by told) (assignment_drawn maker named.paper user kind) (labels named.paper + 1) r
           (judges ∙ ap (λ (x : Tables). asked_seats x conflicted) same)
-          ∙ judged-there (checks (Some named.paper) asked) (draw (Some named.paper) (Some user))
+          ∙ judged-here (checks (Some named.paper) asked) (draw (Some named.paper) (Some user))
           ∙ unread target known (clear ∙ ap (λ (x : Tables). is_conflicted_in x.ties (Some user) named.paper) same) (draw (Some named.paper) (Some user))
           ∙ ap (λ (a : Option Target). judged (checks (Some named.paper) a here (asked_of t paper)) (draw (Some named.paper) (Some user)))
           (asked-found (Some named.paper))
           ∙ ap (λ (v : Option ℕ). judged (checks (Some named.paper) (hers (Some named.paper)) here (asked_of t paper)) (draw (Some named.paper) v)) same-user
-          ∙ ap (λ (p : Option ℕ). judged (checks p (hers p) here (asked_of t paper)) (draw p (target_at t.accounts name))) same-paper
+          ∙ ap (λ (p : Option ℕ). judged (checks p (hers p) here (asked_of t paper)) (draw p (target_at t.accounts name))) is-paper
         where
           unread : (target : Option (ℕ × Role)) → number_found target ≡ Some user → conflicted ≡ is_conflicted_in t.ties (Some user) named.paper → (x : Drawn)
               → judged (assign_checks here (asked_of t paper) (seats.target_of t.seats conflicted (Some named.paper) target) (labels_in t.seats named.paper)) x
@@ -256,28 +224,32 @@ module _ (t : Tables) (maker : ℕ) where
               (clear ∙ ap (λ (v : ℕ). is_conflicted_in t.ties (Some v) named.paper) her)
 
       -- and its end
-      pub unassignment-drawn : (r : Result ℕ Rule)
-          → r ≡ asked_seat seen
+      pub unassignment-drawn : (written : Bool) (r : Result ℕ Rule)
+          → written ≡ at_some (is_written_in t.reviews named.paper) (seat_in t.seats (Some user) named.paper)
+          → r ≡ asked_seat seen written
           → made_of (unassignment_drawn maker named.paper user) r ≡ unassignment_at t maker paper name
-      unassignment-drawn r judges =
-          let held : Option ℕ → Option ℕ → ℕ = λ p v. unwrap_or (seat_in t.seats v (unwrap_or p 0)) 0 in
+      unassignment-drawn written r is judges =
+          let seat : Option ℕ → Option ℕ → Option ℕ = λ p v. seat_in t.seats v (unwrap_or p 0) in
+          let has_form : Option ℕ → Option ℕ → Bool = λ p v. at_some (is_written_in t.reviews (unwrap_or p 0)) (seat p v) in
           let draw : Option ℕ → Option ℕ → ℕ → Drawn = λ p v ordinal. unassignment_drawn maker (unwrap_or p 0) (unwrap_or v 0) ordinal in
-          let checks : Option Target → Standing → NamedPaper → List Check = λ asked s n. unassign_checks s n asked in
+          let checks : Bool → Option Target → Standing → NamedPaper → List Check = λ w asked s n. unassign_checks s n asked w in
           let asked : Option Target = seats.target_of t.seats false (Some named.paper) target in
-          let ordinal : ℕ = held (Some named.paper) (number_found target) in
+          let ordinal : ℕ = unwrap_or (seat (Some named.paper) (number_found target)) 0 in
           let first : Drawn = draw (Some named.paper) (Some user) ordinal in
-          let there : Drawn → Result Drawn Rule = λ d. judged (checks (hers (Some named.paper)) here (asked_of t paper)) d in
-          judged-made (checks asked named.by told) (unassignment_drawn maker named.paper user) ordinal r (judges ∙ ap asked_seat same)
-          ∙ judged-there (checks asked) first
+          let there : Bool → Drawn → Result Drawn Rule = λ w d. judged (checks w (hers (Some named.paper)) here (asked_of t paper)) d in
+          let due : Option ℕ = target_at t.accounts name in
+          judged-made (checks written asked named.by told) (unassignment_drawn maker named.paper user) ordinal r
+          (judges ∙ ap (λ (x : Tables). asked_seat x written) same)
+          ∙ judged-here (checks written asked) first
           ∙ unread target first
-          ∙ ap (λ (a : Option Target). judged (checks a here (asked_of t paper)) first) (asked-found (Some named.paper))
-          ∙ ap (λ (v : Option ℕ). there (draw (Some named.paper) v ordinal)) same-user
-          ∙ ap (λ (v : Option ℕ). there (draw (Some named.paper) (target_at t.accounts name) (held (Some named.paper) v))) found
-          ∙ ap (λ (p : Option ℕ). judged (checks (hers p) here (asked_of t paper)) (draw p (target_at t.accounts name) (held p (target_at t.accounts name))))
-          same-paper
+          ∙ ap (λ (a : Option Target). judged (checks written a here (asked_of t paper)) first) (asked-found (Some named.paper))
+          ∙ ap (λ (w : Bool). there w first) is
+          ∙ ap (λ (v : Option ℕ). there (has_form (Some named.paper) v) (draw (Some named.paper) v ordinal)) same-user
+          ∙ ap (λ (v : Option ℕ). there (has_form (Some named.paper) due) (draw (Some named.paper) due (unwrap_or (seat (Some named.paper) v) 0))) found
+          ∙ ap (λ (p : Option ℕ). judged (checks (has_form p due) (hers p) here (asked_of t paper)) (draw p due (unwrap_or (seat p due) 0))) is-paper
         where
           unread : (target : Option (ℕ × Role)) (x : Drawn)
-              → judged (unassign_checks here (asked_of t paper) (seats.target_of t.seats false (Some named.paper) target)) x
-              ≡ judged (unassign_checks here (asked_of t paper) (asked_found (Some named.paper) target)) x
+              → judged (unassign_checks here (asked_of t paper) (seats.target_of t.seats false (Some named.paper) target) written) x
+              ≡ judged (unassign_checks here (asked_of t paper) (asked_found (Some named.paper) target) written) x
           unread None x = refl
           unread (Some q) x = refl

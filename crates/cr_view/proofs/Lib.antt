@@ -1,9 +1,13 @@
 pub mod AnswerLaws
 pub mod AssigningLaws
+pub mod CommentLaws
 pub mod ContentLaws
 pub mod FitLaws
 pub mod GroupLaws
 pub mod JudgeLaws
 pub mod MeLaws
+pub mod NamedLaws
+pub mod ReviewLaws
 pub mod ReviewingLaws
 pub mod TargetLaws
+pub mod WritingLaws

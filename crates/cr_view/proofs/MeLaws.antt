@@ -20,6 +20,7 @@ use Rattle.cr_base.specs.Pairs.{has_pair, ties_of, papers_tied_to}
 use Rattle.cr_base.specs.Papers.{paper_count, paper_numbers, own_bytes}
 use Rattle.cr_base.specs.Seats.{SeatsState, seat_in}
 use Rattle.cr_base.specs.Tables.{Tables}
+use Rattle.cr_base.specs.Talk.{own_comments_in}
 use Rattle.cr_base.specs.Ties.{BareTies, pair_of, bare_tie, is_author_in, is_conflict_on_in, is_conflicted_in, are_within, AreWithin}
 use Rattle.cr_base.proofs.PairLaws.{list_any-others_of}
 use Rattle.cr_base.proofs.RisingLists.{has_number, numbers-others_of}
@@ -114,26 +115,36 @@ module _ (t : Tables) (user : ℕ) (within : AreWithin (paper_count t.papers) t.
 -- ---- the answer
 
 -- what is read piece by piece is what she is told
-pub me-told : (t : Tables) (user bytes : ℕ) (assigned papers conflicts name : List ℕ) (role : Role)
+pub me-told : (t : Tables) (user bytes comments : ℕ) (assigned papers conflicts name : List ℕ) (role : Role)
     → assigned ≡ filter (λ p. is_some (seat_in t.seats (Some user) p)) (paper_numbers t.papers)
-    → bytes ≡ own_bytes t.papers (Some user)
+    → bytes ≡ own_bytes t.papers (Some user) → comments ≡ own_comments_in t.talk (Some user)
     → papers ≡ filter (λ p. is_author_in t.ties (Some user) p) (paper_numbers t.papers)
     → conflicts ≡ filter (λ p. is_conflicted_in t.ties (Some user) p && not (is_author_in t.ties (Some user) p)) (paper_numbers t.papers)
     → name ≡ unwrap_or (option_map (λ (a : Account). a.name) (account_at t.accounts user)) []
     → role ≡ role_in t.accounts (Some user)
-    → ◌≡◌ {A = Me} (record { assigned = assigned; bytes = bytes; conflicts = conflicts; name = name; papers = papers; role = role; user = user })
+    → ◌≡◌ {A = Me} (record {
+      assigned = assigned;
+      bytes = bytes;
+      comments = comments;
+      conflicts = conflicts;
+      name = name;
+      papers = papers;
+      role = role;
+      user = user;
+    })
     (me_by (facts_of_tables t (Some user)) user)
-me-told t user bytes assigned papers conflicts name role reviewed uploaded hers others named has =
+me-told t user bytes comments assigned papers conflicts name role reviewed uploaded wrote hers others named has =
     let wanted : Me = me_by (facts_of_tables t (Some user)) user in
     let known : name ≡ wanted.name = named ∙ sym (ap (λ (o : Option (List ℕ)). unwrap_or o []) (name_in-lines_of t.accounts user)) in
-    let told : List ℕ → ℕ → List ℕ → List ℕ → List ℕ → Role → Me =
-    λ a b c n p r. record { assigned = a; bytes = b; conflicts = c; name = n; papers = p; role = r; user = user } in
-    ap (λ (a : List ℕ). told a bytes conflicts name papers role) reviewed
-    ∙ ap (λ (b : ℕ). told wanted.assigned b conflicts name papers role) uploaded
-    ∙ ap (λ (c : List ℕ). told wanted.assigned wanted.bytes c name papers role) others
-    ∙ ap (λ (n : List ℕ). told wanted.assigned wanted.bytes wanted.conflicts n papers role) known
-    ∙ ap (λ (p : List ℕ). told wanted.assigned wanted.bytes wanted.conflicts wanted.name p role) hers
-    ∙ ap (λ (r : Role). told wanted.assigned wanted.bytes wanted.conflicts wanted.name wanted.papers r) has
+    let told : List ℕ → ℕ → ℕ → List ℕ → List ℕ → List ℕ → Role → Me =
+    λ a b k c n p r. record { assigned = a; bytes = b; comments = k; conflicts = c; name = n; papers = p; role = r; user = user } in
+    ap (λ (a : List ℕ). told a bytes comments conflicts name papers role) reviewed
+    ∙ ap (λ (b : ℕ). told wanted.assigned b comments conflicts name papers role) uploaded
+    ∙ ap (λ (k : ℕ). told wanted.assigned wanted.bytes k conflicts name papers role) wrote
+    ∙ ap (λ (c : List ℕ). told wanted.assigned wanted.bytes wanted.comments c name papers role) others
+    ∙ ap (λ (n : List ℕ). told wanted.assigned wanted.bytes wanted.comments wanted.conflicts n papers role) known
+    ∙ ap (λ (p : List ℕ). told wanted.assigned wanted.bytes wanted.comments wanted.conflicts wanted.name p role) hers
+    ∙ ap (λ (r : Role). told wanted.assigned wanted.bytes wanted.comments wanted.conflicts wanted.name wanted.papers r) has
 
 -- ---- walks
 

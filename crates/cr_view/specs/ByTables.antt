@@ -9,13 +9,16 @@ use Rattle.cr_base.specs.declared.words.Kind.{Kind}
 use Rattle.cr_base.specs.declared.words.Role.{Role}
 use Rattle.cr_base.specs.Accounts.{number_at, role_at}
 use Rattle.cr_base.specs.Checks.{NamedPaper, ◌breaks◌, judged, of_role, register_checks}
-use Rattle.cr_base.specs.Checks.{submit_checks, name_checks, conflict_checks, assign_checks, unassign_checks}
+use Rattle.cr_base.specs.Checks.{submit_checks, name_checks, conflict_checks, assign_checks, unassign_checks, comment_checks}
 use Rattle.cr_base.specs.Drawn.{Drawn, registration_drawn, submission_drawn, naming_drawn, conflict_drawn, assignment_drawn, unassignment_drawn}
+use Rattle.cr_base.specs.Drawn.{comment_drawn}
 use Rattle.cr_base.specs.Lists.{listed, is_number, at_some}
 use Rattle.cr_base.specs.Papers.{paper_count, own_count, is_withdrawn_at}
+use Rattle.cr_base.specs.Reviews.{is_written_in}
 use Rattle.cr_base.specs.Seats.{labels_in, seat_in}
 use Rattle.cr_base.specs.Sources.{standing_at, facts_of_tables, shown_in_tables, has_paper, paper_named}
 use Rattle.cr_base.specs.Tables.{Tables}
+use Rattle.cr_base.specs.Talk.{comments_in, own_comments_in}
 use Rattle.cr_base.specs.Ties.{is_author_in, is_conflicted_in}
 use Rattle.cr_view.specs.declared.assigning.Named.{Named}
 use Rattle.cr_view.specs.Targets.{target_at, users_at}
@@ -90,10 +93,19 @@ assignment_at t maker paper name kind = assignment_of t maker paper (target_at t
 -- taking this user, if there is one, off the paper; and the user of a name
 abbrev pub unassignment_of : Tables → ℕ → Option ℕ → Option ℕ → Result Drawn Rule
 unassignment_of t maker paper target =
-    let ordinal = unwrap_or (seat_in t.seats target (unwrap_or paper 0)) 0 in
+    let p = unwrap_or paper 0 in
+    let seat = seat_in t.seats target p in
     judged
-    (unassign_checks (standing_at t (Some maker) paper) (asked_of t paper) (asked_at t maker paper target))
-    (unassignment_drawn maker (unwrap_or paper 0) (unwrap_or target 0) ordinal)
+    (unassign_checks (standing_at t (Some maker) paper) (asked_of t paper) (asked_at t maker paper target) (at_some (is_written_in t.reviews p) seat))
+    (unassignment_drawn maker p (unwrap_or target 0) (unwrap_or seat 0))
 
 abbrev pub unassignment_at : Tables → ℕ → Option ℕ → Option (List ℕ) → Result Drawn Rule
 unassignment_at t maker paper name = unassignment_of t maker paper (target_at t.accounts name)
+
+-- commenting on the paper: its next comment, under the label of the maker, where she has one
+abbrev pub comment_at : Tables → ℕ → Option ℕ → List ℕ → Result Drawn Rule
+comment_at t maker paper text =
+    let p = unwrap_or paper 0 in
+    judged
+    (comment_checks (standing_at t (Some maker) paper) (asked_of t paper) (own_comments_in t.talk (Some maker)))
+    (comment_drawn maker p (length (comments_in t.talk p) + 1) (seat_in t.seats (Some maker) p) text)

@@ -1,8 +1,9 @@
 -- What a caller is told of a query.
-use Rattle.std.specs.Prelude.{ℕ, Bool, true, false, not, ◌&&◌, ◌≡◌, ◌≢◌, List, []}
+use Rattle.std.specs.Prelude.{ℕ, Bool, true, not, ◌&&◌, ◌≡◌, ◌≢◌, List, []}
 use Rattle.std.specs.Prelude.{map, filter, Option, Some, None, unwrap_or, Result, Ok, Err, IsOk, if◌then◌else◌}
 use Rattle.std.specs.List.{flat_map}
 use Rattle.std.specs.Option.{option_map}
+use Rattle.cr_base.specs.declared.command.Query.{Query}
 use Rattle.cr_base.specs.declared.command.Query.TheVariants as queries
 use Rattle.cr_base.specs.declared.page.Bidder.{Bidder}
 use Rattle.cr_base.specs.declared.page.Page.{Page}
@@ -22,7 +23,7 @@ use Rattle.cr_base.specs.Lists.{listed}
 use Rattle.cr_base.specs.Page.{is_clear_chair, is_clear_member, shows_reviewer, where_told}
 use Rattle.cr_base.specs.Papers.{paper_count, uploads_at}
 use Rattle.cr_base.specs.Seats.{told_of, seat_in}
-use Rattle.cr_base.specs.Sources.{Facts, standing_at, facts_of_tables, shown_in_tables, has_paper, names_in, name_in}
+use Rattle.cr_base.specs.Sources.{Facts, Shown, own_forms_in, standing_at, facts_of_tables, shown_in_tables, has_paper, names_in, name_in}
 use Rattle.cr_base.specs.Tables.{Tables}
 use Rattle.cr_base.specs.Ties.{BareTies, bid_in}
 use Rattle.cr_view.specs.declared.queries.AnswerError.{AnswerError}
@@ -51,29 +52,36 @@ ShowsAsDue (Err errors.OutOfMemory) due = IsOk due
 abbrev pub conference_at : Tables → Conference
 conference_at t = record { mode = t.stage.mode; papers = paper_count t.papers; phase = t.stage.phase }
 
--- how a user stands to the paper whose page she may see, or the first broken rule
-abbrev pub reader_at : Tables → Option ℕ → Option ℕ → Result Standing Rule
-reader_at t user paper = judged (query_checks (facts_of_tables t user) (shown_in_tables t) (queries.Page paper)) (standing_at t user paper)
+-- how a user stands to the paper of which she asks this, or the first broken rule
+abbrev pub reader_at : (Option ℕ → Query) → Tables → Option ℕ → Option ℕ → Result Standing Rule
+reader_at asked t user paper = judged (query_checks (facts_of_tables t user) (shown_in_tables t) (asked paper)) (standing_at t user paper)
 
--- the page of a paper, for a user who stands so to it
-abbrev pub page_at : Tables → Option ℕ → Standing → ℕ → Page
-page_at t user by p =
-    let facts : Facts = record {
-      standing = λ (paper : Option ℕ). by;
-      accounts = lines_of t.accounts;
-      papers = [];
-      own_papers = 0;
-      own_bytes = 0;
-      own_bid = bid_in t.ties user;
-      own_seat = seat_in t.seats user;
-    } in
-    page_by facts (shown_in_tables t) p
-
--- the page that is due to a user, or the first broken rule
-abbrev pub page_due : Tables → Option ℕ → Option ℕ → Result Page Rule
-page_due t user paper =
+-- what she is told of it is due to her, or the first broken rule
+abbrev pub due_at : {A : Type 0} → (Option ℕ → Query) → (Facts → Shown → ℕ → A) → Tables → Option ℕ → Option ℕ → Result A Rule
+due_at asked told t user paper =
     let facts = facts_of_tables t user in
-    judged (query_checks facts (shown_in_tables t) (queries.Page paper)) (page_by facts (shown_in_tables t) (unwrap_or paper 0))
+    judged (query_checks facts (shown_in_tables t) (asked paper)) (told facts (shown_in_tables t) (unwrap_or paper 0))
+
+-- the facts that what is told of a paper reads, for a user who stands so to it
+abbrev pub facts_at : Tables → Option ℕ → Standing → Facts
+facts_at t user by = record {
+  standing = λ (paper : Option ℕ). by;
+  accounts = lines_of t.accounts;
+  papers = [];
+  own_papers = 0;
+  own_bytes = 0;
+  own_bid = bid_in t.ties user;
+  own_seat = seat_in t.seats user;
+  own_forms = λ p. own_forms_in t user p;
+  own_comments = 0;
+}
+
+-- the page of a paper, for such a user; and the page that is due to a user, or the first broken rule
+abbrev pub page_at : Tables → Option ℕ → Standing → ℕ → Page
+page_at t user by p = page_by (facts_at t user by) (shown_in_tables t) user p
+
+abbrev pub page_due : Tables → Option ℕ → Option ℕ → Result Page Rule
+page_due t user paper = due_at queries.Page (λ (facts : Facts) (shown : Shown). page_by facts shown user) t user paper
 
 -- the versions that authors or others are told of a paper, and the content of the one that is asked for
 abbrev pub versions_at : Tables → Bool → ℕ → List ℕ
@@ -115,17 +123,17 @@ bidders_of t bids = flat_map (λ (bid : BidTold). listed (bidder_told (lines_of 
 abbrev pub seated : List (Tie Seat) → List SeatTold
 seated seats = map told_of (filter (λ (seat : Tie Seat). not seat.value.vacated) seats)
 
--- reviewers, as one who stands so to their paper is told of them
-abbrev pub reviewers_of : Tables → Standing → List SeatTold → List Reviewer
-reviewers_of t by seats = map (reviewer_told by (lines_of t.accounts)) seats
+-- reviewers, as one who stands so to their paper is told of them; forms are written under some of their labels
+abbrev pub reviewers_of : Tables → Standing → (ℕ → Bool) → List SeatTold → List Reviewer
+reviewers_of t by written seats = map (reviewer_told by (lines_of t.accounts) written) seats
 
--- the name of whoever has this seat, where it is shown and she has not left it; and a reviewer of this name
+-- the name of whoever has this seat, where it is shown and she has not left it; and a reviewer of this name, who has written or hasn't
 abbrev pub seat_name : Tables → Standing → Tie Seat → Option (List ℕ)
 seat_name t by seat = where_told (not seat.value.vacated && shows_reviewer by) (name_in (lines_of t.accounts) seat.pair.user)
 
-abbrev pub reviewer_of : Standing → Tie Seat → Option (List ℕ) → Option Reviewer
-reviewer_of by seat name = if seat.value.vacated then None else Some (record {
-  done = where_told (is_clear_chair by) (Some false);
+abbrev pub reviewer_of : Standing → Tie Seat → Bool → Option (List ℕ) → Option Reviewer
+reviewer_of by seat written name = if seat.value.vacated then None else Some (record {
+  done = where_told (is_clear_chair by) (Some written);
   kind = where_told (is_clear_member by) (Some seat.value.kind);
   label = seat.value.ordinal;
   user = name;

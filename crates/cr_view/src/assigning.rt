@@ -3,6 +3,9 @@ ghost use Rattle.std.specs.Prelude.{◌≡◌, Some};
 ghost use Rattle.std.specs.Option.{option_map, option_and_then};
 ghost use Rattle.cr_base.specs.Accounts.{role_at};
 ghost use Rattle.cr_base.specs.Judging.{judge_by_role};
+ghost use Rattle.cr_base.specs.Lists.{at_some};
+ghost use Rattle.cr_base.specs.Reviews.{is_written_in};
+ghost use Rattle.cr_base.specs.Seats.{seat_in};
 ghost use Rattle.cr_base.specs.declared.command.Command.TheVariants as commands;
 ghost use Rattle.cr_view.specs.ByTables.{named_at, conflict_at, assignment_at, unassignment_at};
 ghost use Rattle.cr_view.specs.Draws.{drawn_or_rule};
@@ -26,7 +29,7 @@ pub(crate) struct Named {
 /// Whom and what a command names.
 impl Live {
     /// The paper, as the rules ask of it, and how the maker stands to it; else that there is none.
-    fn named(&self, maker: UserNo, paper: &Option<PaperNo>) -> Result<Named, Rule>
+    pub(crate) fn named(&self, maker: UserNo, paper: &Option<PaperNo>) -> Result<Named, Rule>
         ensures { result ≡ named_at self.now.tables maker paper.now }
     {
         let Some(number) = paper else {
@@ -53,6 +56,20 @@ impl Live {
         let user = self.number_of(name)?;
         let role = self.accounts.role_given(user)?;
         Some((user, role))
+    }
+}
+
+/// What she has written.
+impl Live {
+    /// Whether a form is written under the label under which the user reviews the paper; false where she
+    /// doesn't. One binary search, and where she does a walk over the paper's forms.
+    fn has_written(&self, user: UserNo, paper: PaperNo) -> bool
+        ensures { result ≡ at_some (is_written_in self.now.tables.reviews paper) (seat_in self.now.tables.seats (Some user) paper) }
+    {
+        match self.seats.ordinal_of(user, paper) {
+            Some(ordinal) => self.reviews.has_form(paper, ordinal),
+            None => false,
+        }
     }
 }
 
@@ -160,6 +177,7 @@ impl Live {
             &Some(named.paper),
             &target,
             named.withdrawn,
+            self.has_written(*user, named.paper),
             &[],
         ) {
             Ok(ordinal) => Ok(Draw::Unassignment {

@@ -37,14 +37,16 @@ impl Live {
     /// else `NoUser`, else `NotChair`, else `Conflict`, else `WrongPhase` before the bidding and from the
     /// notification on, else `Withdrawn`; then an assignment breaks `NotAMember`, else `TargetConflict`
     /// where the user named is in conflict with the paper, else `AlreadyAssigned`, else `LabelsSpent`, and
-    /// the end of one `NotAssigned`. Of all else the rules and their order stand at the tables' own
-    /// `register_check`, `judge_phase`, `judge_name`, `judge_mode` and `judge_conflict`.
+    /// the end of one `NotAssigned`, else `HasReview` where a form is written under her label. Of all else the
+    /// rules and their order stand at the tables' own `register_check`, `judge_phase`, `judge_name`,
+    /// `judge_mode`, `judge_conflict`, `judge_review`, `judge_comment` and `judge_tag`.
     ///
     /// Takes no memory: the command's texts and its content are moved. A registration, a naming, a
     /// conflict, an assignment and the end of one take one look-up by name, a submission one for each
     /// co-author told. Where a paper is named, how the caller stands to it takes four binary searches of
-    /// ties and seats; a conflict takes three more at most, an assignment five, and its end one. All else
-    /// is a few reads by number.
+    /// ties and seats; a conflict takes three more at most, an assignment five, its end four and a walk over
+    /// the paper's forms, a review three and such a walk, and a comment three. All else is a few reads by
+    /// number.
     pub fn judge(&self, caller: &Option<UserNo>, command: Command) -> Result<Draw, Rule>
         requires caller { HasCaller caller.now command }
         requires few { HasFewAuthors command }
@@ -81,6 +83,9 @@ impl Live {
             Command::Unassign { paper, user } => {
                 self.judge_unassignment(maker(caller), &paper, &user)
             }
+            Command::Review { paper, form } => self.judge_review(maker(caller), &paper, form),
+            Command::Comment { paper, text } => self.judge_comment(maker(caller), &paper, text),
+            Command::Tag { paper, tag, on } => self.judge_tag(maker(caller), &paper, tag, on),
         }
     }
 

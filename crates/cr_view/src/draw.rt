@@ -1,11 +1,11 @@
 //! What an accepted command draws.
 ghost use Rattle.std.specs.Prelude.{◌≡◌, IfOk};
-ghost use Rattle.cr_view.specs.Draws.{drawn_by, IsOfPaper, IsOfReviewing};
+ghost use Rattle.cr_view.specs.Draws.{drawn_by, IsOfPaper, IsOfReviewing, IsOfWriting};
 
 use crate::group::{registration, single, submission};
 use cr_base::{
-    Bid, Blob, Coauthors, Digest, Entry, Kind, Mode, Ordinal, PaperNo, Phase, Receipt, Role, Short,
-    Stamped, Text, UserNo,
+    Bid, Blob, Coauthors, Digest, Entry, Form, Kind, Mode, Ordinal, PaperNo, Phase, Receipt, Role,
+    Short, Stamped, Tag, Text, UserNo,
 };
 use std::alloc::{AllocError, Global};
 
@@ -134,6 +134,43 @@ pub enum Draw {
         /// The ordinal of the label under which she reviewed it.
         ordinal: Ordinal,
     },
+    /// A form of a review.
+    Review {
+        /// Who writes it.
+        maker: UserNo,
+        /// The paper.
+        paper: PaperNo,
+        /// The ordinal of the label under which she reviews it.
+        ordinal: Ordinal,
+        /// The form's number: the count of the label's forms plus 1.
+        version: u64,
+        /// What she writes.
+        form: Form,
+    },
+    /// A comment on a paper.
+    Comment {
+        /// Who writes it.
+        maker: UserNo,
+        /// The paper.
+        paper: PaperNo,
+        /// The comment's number: the count of comments on the paper plus 1.
+        n: u64,
+        /// The ordinal of the label under which she reviews it; none where she doesn't.
+        ordinal: Option<Ordinal>,
+        /// What she writes.
+        text: Text,
+    },
+    /// A tag, turned on or off.
+    Tag {
+        /// Who turns it.
+        maker: UserNo,
+        /// The paper.
+        paper: PaperNo,
+        /// The tag.
+        tag: Tag,
+        /// Whether it is on.
+        on: bool,
+    },
 }
 
 impl Draw {
@@ -157,6 +194,9 @@ impl Draw {
             Draw::Bid { value, .. } => Receipt::Bid { bid: *value },
             Draw::Assignment { ordinal, .. } => Receipt::Label { ordinal: *ordinal },
             Draw::Unassignment { paper, .. } => Receipt::Changed { paper: *paper },
+            Draw::Review { version, .. } => Receipt::Version { version: *version },
+            Draw::Comment { n, .. } => Receipt::Comment { n: *n },
+            Draw::Tag { paper, .. } => Receipt::Changed { paper: *paper },
         }
     }
 
@@ -231,7 +271,8 @@ fn of_paper(alloc: Global, draw: Draw) -> Result<Vec<Stamped>, AllocError>
     }
 }
 
-/// The entry of a draw that is of who may review a paper; an error only for lack of memory.
+/// The entry of a draw that is of who may review a paper, or of what is written on it; an error only for lack of
+/// memory.
 fn of_reviewing(alloc: Global, draw: Draw) -> Result<Vec<Stamped>, AllocError>
     requires { IsOfReviewing draw }
     ensures { IfOk result (λ group. group.items ≡ (drawn_by draw).group) }
@@ -270,6 +311,52 @@ fn of_reviewing(alloc: Global, draw: Draw) -> Result<Vec<Stamped>, AllocError>
             };
             single(alloc, maker, entry)
         }
+        other => of_writing(alloc, other),
+    }
+}
+
+/// The entry of a draw that is of what members write on a paper; an error only for lack of memory.
+fn of_writing(alloc: Global, draw: Draw) -> Result<Vec<Stamped>, AllocError>
+    requires { IsOfWriting draw }
+    ensures { IfOk result (λ group. group.items ≡ (drawn_by draw).group) }
+{
+    match draw {
+        Draw::Review {
+            maker,
+            paper,
+            ordinal,
+            version,
+            form,
+        } => {
+            let entry = Entry::Reviewed {
+                paper,
+                ordinal,
+                version,
+                form,
+            };
+            single(alloc, maker, entry)
+        }
+        Draw::Comment {
+            maker,
+            paper,
+            n,
+            ordinal,
+            text,
+        } => {
+            let entry = Entry::Commented {
+                paper,
+                n,
+                ordinal,
+                text,
+            };
+            single(alloc, maker, entry)
+        }
+        Draw::Tag {
+            maker,
+            paper,
+            tag,
+            on,
+        } => single(alloc, maker, Entry::Tagged { paper, tag, on }),
         _ => unreachable!(),
     }
 }

@@ -5,6 +5,7 @@
 mod assigning;
 mod coauthors;
 mod commands;
+mod comments;
 mod content;
 mod draw;
 mod group;
@@ -14,6 +15,8 @@ mod me;
 mod page;
 mod queries;
 mod reviewing;
+mod reviews;
+mod writing;
 
 pub use draw::Draw;
 pub use live::Live;

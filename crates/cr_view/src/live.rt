@@ -11,23 +11,44 @@ ghost use Rattle.cr_base.specs.Ties.{is_author_in, is_conflicted_in, are_within,
 
 use cr_accounts::Accounts;
 use cr_assign::Seats;
-use cr_base::{Digest, PaperNo, Short, Stamped, Standing, UserNo};
+use cr_base::{Digest, Entry, PaperNo, Short, Stamped, Standing, UserNo};
 use cr_conflicts::Ties;
 use cr_papers::Papers;
 use cr_phases::Stage;
+use cr_reviews::Reviews;
+use cr_tags::Tags;
+use cr_talk::Talk;
 use std::alloc::{AllocError, Global};
 use std::marker::Model;
 
 /// All tables of a history.
 ///
 /// Contracts see the tables, and for how many more entries there is room in each.
-#[derive(Drop)]
 pub struct Live {
     pub(crate) stage: Stage,
     pub(crate) accounts: Accounts,
     pub(crate) papers: Papers,
     pub(crate) ties: Ties,
     pub(crate) seats: Seats,
+    pub(crate) reviews: Reviews,
+    pub(crate) talk: Talk,
+    pub(crate) tags: Tags,
+}
+
+// Written out, so that a caller doesn't prove again how each table is dropped.
+impl Drop for Live {
+    fn drop(self) {
+        let Live {
+            stage: _,
+            accounts: _,
+            papers: _,
+            ties: _,
+            seats: _,
+            reviews: _,
+            talk: _,
+            tags: _,
+        } = self;
+    }
 }
 
 impl Model for Live {
@@ -39,8 +60,17 @@ impl Model for Live {
     ghost Value = { SeenTables };
 
     ghost view = { λ t. record {
-      tables = record { stage = t.stage; accounts = t.accounts.accounts; papers = t.papers.papers; ties = t.ties.ties; seats = t.seats.seats };
-      room = min t.accounts.room (min t.papers.room (min t.ties.room t.seats.room));
+      tables = record {
+        stage = t.stage;
+        accounts = t.accounts.accounts;
+        papers = t.papers.papers;
+        ties = t.ties.ties;
+        seats = t.seats.seats;
+        reviews = t.reviews.reviews;
+        talk = t.talk.talk;
+        tags = t.tags.tags;
+      };
+      room = min t.accounts.room (min t.papers.room (min t.ties.room (min t.seats.room (min t.reviews.room (min t.talk.room t.tags.room)))));
     } };
 
     // The papers that have ties are there, and so are those that have seats.
@@ -59,6 +89,9 @@ impl Live {
             papers: Papers::new(alloc),
             ties: Ties::new(alloc),
             seats: Seats::new(alloc),
+            reviews: Reviews::new(alloc),
+            talk: Talk::new(alloc),
+            tags: Tags::new(alloc),
         }
     }
 
@@ -72,11 +105,14 @@ impl Live {
         self.accounts.room(group)?;
         self.papers.room(group)?;
         self.ties.room(group)?;
-        self.seats.room(group)
+        self.seats.room(group)?;
+        self.reviews.room(group)?;
+        self.talk.room(group)?;
+        self.tags.room(group)
     }
 
-    /// One more entry, for which there is room. It is taken whole, since the papers keep its texts and
-    /// its content; takes no memory.
+    /// One more entry, for which there is room. It is taken whole, since one table keeps its texts or its
+    /// content: that of papers, of reviews or of comments. Takes no memory.
     pub fn apply(&mut self, stamped: Stamped)
         requires room { 0 < self.old.room }
         requires fits { Fits self.old.tables stamped }
@@ -87,7 +123,12 @@ impl Live {
         self.accounts.apply(&stamped);
         self.ties.apply(&stamped);
         self.seats.apply(&stamped);
-        self.papers.apply(stamped);
+        self.tags.apply(&stamped);
+        match &stamped.entry {
+            Entry::PhaseSet { .. } | Entry::Reviewed { .. } => self.reviews.apply(stamped),
+            Entry::Commented { .. } => self.talk.apply(stamped),
+            _ => self.papers.apply(stamped),
+        }
     }
 
     /// The entries of one command, for which there is room; takes no memory.

@@ -25,6 +25,7 @@ impl Live {
         Ok(Me {
             assigned,
             bytes: self.papers.bytes_of_user(user),
+            comments: self.talk.count_of_user(user),
             conflicts,
             name: self.own_name(user),
             papers,

@@ -1,9 +1,9 @@
 //! Which keys of a paper's page a caller is told, by her standing at the paper.
-ghost use Rattle.std.specs.Prelude.{◌≡◌, IfOk, Some, false};
+ghost use Rattle.std.specs.Prelude.{◌≡◌, IfOk, Some};
 ghost use Rattle.std.specs.Option.{option_copied};
 ghost use Rattle.cr_base.specs.Lists.{listed};
 ghost use Rattle.cr_base.specs.Page.{gets_title, gets_abstract, gets_conflict, gets_conflicts, gets_declared, gets_versions, gets_withdrawn};
-ghost use Rattle.cr_base.specs.Page.{is_clear_chair, is_clear_member, gets_bid, gets_bids, gets_label, gets_reviewers, bare_keys, where_told};
+ghost use Rattle.cr_base.specs.Page.{is_clear_chair, is_clear_member, gets_bid, gets_bids, gets_label, gets_reviewers, gets_tags, bare_keys, where_told};
 
 use cr_anonymity::shows_reviewer;
 use cr_base::{BareKeys, Kind, Phase, Standing, Text, Versions};
@@ -110,13 +110,19 @@ pub(crate) fn gets_reviewers(by: &Standing) -> bool
     shows_reviewer(by) || (by.is_clear_member() && by.phase.is_from(Phase::Discussion))
 }
 
+/// Whether she is told the tags: from bidding on members who aren't in conflict.
+pub(crate) fn gets_tags(by: &Standing) -> bool
+    ensures { result ≡ gets_tags by.now }
+{
+    by.is_clear_member() && by.phase.is_from(Phase::Bidding)
+}
+
 /// Whether a reviewer has written a review, where she is told that: chairs who aren't in conflict.
-/// Nobody has yet.
-pub(crate) fn done_told(by: &Standing) -> Option<bool>
-    ensures { result ≡ where_told (is_clear_chair by.now) (Some false) }
+pub(crate) fn done_told(by: &Standing, written: bool) -> Option<bool>
+    ensures { result ≡ where_told (is_clear_chair by.now) (Some written) }
 {
     if by.is_clear_chair() {
-        Some(false)
+        Some(written)
     } else {
         None
     }
@@ -142,7 +148,6 @@ pub(crate) fn bare_keys(by: &Standing) -> BareKeys
     let clear_member = by.is_clear_member();
     BareKeys {
         decision: (clear_member && discussion) || (by.author && notification),
-        tags: clear_member && by.phase.is_from(Phase::Bidding),
     }
 }
 

@@ -1,10 +1,12 @@
 //! What queries are answered by the tables.
-ghost use Rattle.std.specs.Prelude.{◌≡◌, ◌≢◌, IfOk, OnErr, Some};
+ghost use Rattle.std.specs.Prelude.{◌≡◌, ◌≢◌, IfOk, IsSome, IsTrue, OnErr, Some};
 ghost use Rattle.cr_base.specs.Accounts.{lines_of};
 ghost use Rattle.cr_base.specs.Answering.{query_checks, answer_by_role};
 ghost use Rattle.cr_base.specs.Checks.{judged};
-ghost use Rattle.cr_base.specs.Page.{gets_versions, where_told};
+ghost use Rattle.cr_base.specs.Page.{gets_tags, gets_versions, where_told};
 ghost use Rattle.cr_base.specs.Sources.{facts_of_tables, shown_in_tables, has_paper};
+ghost use Rattle.cr_base.specs.Tags.{tags_in};
+ghost use Rattle.cr_base.specs.Words.{is_chair, is_member};
 ghost use Rattle.cr_base.specs.declared.command.Query.TheVariants as queries;
 ghost use Rattle.cr_view.specs.Callers.{HasAsker};
 ghost use Rattle.cr_view.specs.Replies.{AnswersAsDue, ShowsAsDue, conference_at, names_of, page_at, page_due, reader_at, versions_at};
@@ -13,13 +15,13 @@ use crate::commands::maker;
 use crate::lists::push_some;
 use crate::live::Live;
 use crate::page::{
-    bare_keys, conflict_told, gets_abstract, gets_conflicts, gets_declared, gets_title,
+    bare_keys, conflict_told, gets_abstract, gets_conflicts, gets_declared, gets_tags, gets_title,
     gets_versions, last_alone, shared_where, withdrawn_told,
 };
 use cr_anonymity::shows_author;
 use cr_base::{
-    AccountLines, Conference, Names, Page, PaperNo, Query, Reply, Rule, Standing, Tie, UserNo,
-    Versions,
+    AccountLines, Conference, Names, Page, PaperNo, Query, Reply, Rule, Standing, TagList, Tie,
+    UserNo, Versions,
 };
 use std::alloc::{AllocError, Global};
 
@@ -27,25 +29,25 @@ use std::alloc::{AllocError, Global};
 impl Live {
     /// Whether a user, or nobody, may ask this, or the first broken rule of its kind: of a page
     /// `NoPaper` where there is no such paper, else `NotMember` where she is neither a member of the
-    /// committee nor an author of the paper; of a content as `content_for` tells it. Takes no memory; a
-    /// few reads by number, of a content one look-up besides.
+    /// committee nor an author of the paper; of a content, of reviews and of comments as `content_for`,
+    /// `reviews_for` and `comments_for` tell it. Takes no memory; a few reads by number, of a content one
+    /// look-up besides.
     pub fn may(&self, user: &Option<UserNo>, query: &Query) -> Result<(), Rule>
         ensures { result ≡ judged (query_checks (facts_of_tables self.now.tables user.now) (shown_in_tables self.now.tables) query.now) tt }
     {
         match query {
             Query::Me | Query::Accounts | Query::Phase => Ok(()),
-            Query::Page { paper } => match self.reader(user, paper) {
-                Ok(_) => Ok(()),
-                Err(rule) => Err(rule),
-            },
+            Query::Page { paper } => self.reader(user, paper).and(Ok(())),
             Query::Content { paper } => self.may_read(user, paper, None),
             Query::Version { paper, version } => self.may_read(user, paper, Some(*version)),
+            Query::Reviews { paper } => self.reviews_reader(user, paper).and(Ok(())),
+            Query::Comments { paper } => self.comments_reader(user, paper).and(Ok(())),
         }
     }
 
     /// How she stands to the paper whose page she may see, or the first broken rule.
     fn reader(&self, user: &Option<UserNo>, paper: &Option<PaperNo>) -> Result<Standing, Rule>
-        ensures { result ≡ reader_at self.now.tables user.now paper.now }
+        ensures { result ≡ reader_at queries.Page self.now.tables user.now paper.now }
     {
         if !self.has_paper(paper) {
             return Err(Rule::NoPaper);
@@ -94,9 +96,10 @@ impl Live {
     /// memory only where no rule is broken, and never where the state of the conference is asked for.
     /// There is a caller where the query is about herself. All accounts cost a walk over them; a page a few
     /// look-ups and one more for each name that is told, whatever the length of the texts, a step for each
-    /// version that is told, and, where reviewers are told, one for each who was ever assigned, at most 26;
-    /// what she is told of herself a walk over her own papers, over those with which she is in conflict and
-    /// over those that she reviews; a content one look-up, whatever its length.
+    /// version and each tag that is told, and, where reviewers are told, one for each who was ever assigned, at
+    /// most 26, and a walk over the paper's forms; what she is told of herself a walk over her own papers, over
+    /// those with which she is in conflict and over those that she reviews; a content one look-up, whatever its
+    /// length; reviews and comments as `reviews_for` and `comments_for` tell it.
     pub fn answer(
         &self,
         alloc: Global,
@@ -117,6 +120,8 @@ impl Live {
             },
             Query::Content { paper } => self.content_reply(caller, paper, None),
             Query::Version { paper, version } => self.content_reply(caller, paper, Some(*version)),
+            Query::Reviews { paper } => self.reviews_reply(alloc, caller, paper),
+            Query::Comments { paper } => self.comments_reply(alloc, caller, paper),
         }
     }
 
@@ -160,7 +165,7 @@ impl Live {
         }
     }
 
-    /// What a user who stands so to a paper is told of it.
+    /// What a user, or nobody, who stands so to a paper is told of it; members of the committee are users.
     fn page(
         &self,
         alloc: Global,
@@ -168,6 +173,7 @@ impl Live {
         by: &Standing,
         paper: PaperNo,
     ) -> Result<Page, AllocError>
+        requires { IsTrue (is_member by.now.role) → IsSome user.now }
         ensures { IfOk result (λ page. page ≡ page_at self.now.tables user.now by.now paper) }
     {
         let title = shared_where(gets_title(by), self.papers.last_title(paper))?;
@@ -178,6 +184,7 @@ impl Live {
         let conflicts = self.names_where(alloc, gets_conflicts(by), self.ties.conflicts(paper))?;
         let declared = self.names_where(alloc, gets_declared(by), self.ties.declared(paper))?;
         let versions = self.versions_told(alloc, by, paper)?;
+        let tags = self.tags_told(alloc, user, by, paper)?;
         Ok(Page {
             paper,
             abstract_,
@@ -189,6 +196,7 @@ impl Live {
             declared,
             label: self.label_told(user, by, paper),
             reviewers,
+            tags,
             title,
             versions,
             withdrawn: withdrawn_told(by, self.papers.is_withdrawn(paper)),
@@ -212,6 +220,24 @@ impl Live {
             return Ok(Some(self.papers.versions(alloc, paper)?));
         }
         Ok(Some(last_alone(alloc, self.papers.last_version(paper))?))
+    }
+
+    /// The tags that are on and for her, where she is told them.
+    fn tags_told(
+        &self,
+        alloc: Global,
+        user: &Option<UserNo>,
+        by: &Standing,
+        paper: PaperNo,
+    ) -> Result<Option<TagList>, AllocError>
+        requires { IsTrue (is_member by.now.role) → IsSome user.now }
+        ensures { IfOk result (λ tags. tags ≡ where_told (gets_tags by.now) (Some (tags_in self.now.tables.tags user.now (is_chair by.now.role) paper))) }
+    {
+        if !gets_tags(by) {
+            return Ok(None);
+        }
+        let chair = by.role.is_chair();
+        Ok(Some(self.tags.tags_for(alloc, maker(user), paper, chair)?))
     }
 }
 

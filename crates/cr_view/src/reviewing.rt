@@ -3,9 +3,11 @@ ghost use Rattle.std.specs.Prelude.{◌≡◌, IfOk, Some, map, unwrap_or};
 ghost use Rattle.cr_base.specs.Accounts.{lines_of};
 ghost use Rattle.cr_base.specs.Answering.{bidder_told};
 ghost use Rattle.cr_base.specs.Page.{gets_bid, gets_bids, gets_label, gets_reviewers, where_told};
+ghost use Rattle.cr_base.specs.Reviews.{is_written_in};
 ghost use Rattle.cr_base.specs.Seats.{seat_in, reviewers_in};
 ghost use Rattle.cr_base.specs.Ties.{bid_in, bids_in};
 ghost use Rattle.cr_base.specs.Words.{no_bid};
+ghost use Rattle.cr_reviews.specs.Labels.{has_label};
 ghost use Rattle.cr_view.specs.Replies.{bid_of, bidders_of, reviewer_of, reviewers_of, seat_name, seated};
 
 use crate::lists::push_some;
@@ -15,10 +17,21 @@ use cr_anonymity::shows_reviewer;
 use cr_base::{
     Bid, Bidder, Bids, Ordinal, PaperNo, Reviewer, Reviewers, Seat, Short, Standing, Tie, UserNo,
 };
+use cr_reviews::Labels;
 use std::alloc::{AllocError, Global};
 
 /// Her own bid and her own label.
 impl Live {
+    /// The ordinal of the label under which the user reviews the paper; none for nobody.
+    pub(crate) fn seat_of(&self, user: &Option<UserNo>, paper: PaperNo) -> Option<Ordinal>
+        ensures { result ≡ seat_in self.now.tables.seats user.now paper }
+    {
+        match user {
+            Some(user) => self.seats.ordinal_of(*user, paper),
+            None => None,
+        }
+    }
+
     /// Her last bid, and 0 where she has told none, where she is told it.
     pub(crate) fn bid_told(
         &self,
@@ -52,10 +65,7 @@ impl Live {
         if !gets_label(by) {
             return None;
         }
-        match user {
-            Some(user) => self.seats.ordinal_of(*user, paper),
-            None => None,
-        }
+        self.seat_of(user, paper)
     }
 }
 
@@ -111,27 +121,31 @@ impl Live {
         paper: PaperNo,
     ) -> Result<Option<Reviewers>, AllocError>
         ensures { IfOk result (λ reviewers. reviewers
-            ≡ where_told (gets_reviewers by.now) (Some (reviewers_of self.now.tables by.now (reviewers_in self.now.tables.seats paper)))) }
+            ≡ where_told (gets_reviewers by.now)
+            (Some (reviewers_of self.now.tables by.now (is_written_in self.now.tables.reviews paper) (reviewers_in self.now.tables.seats paper)))) }
     {
         if !gets_reviewers(by) {
             return Ok(None);
         }
-        Ok(Some(self.reviewers(alloc, by, self.seats.seats(paper))?))
+        let written = self.reviews.labels(paper);
+        Ok(Some(self.reviewers(alloc, by, self.seats.seats(paper), &written)?))
     }
 
-    /// Those of these seats that nobody has left.
+    /// Those of these seats that nobody has left; a form is written under each of these labels.
     fn reviewers(
         &self,
         alloc: Global,
         by: &Standing,
         seats: &[Tie<Seat>],
+        written: &Labels,
     ) -> Result<Reviewers, AllocError>
-        ensures { IfOk result (λ reviewers. reviewers ≡ reviewers_of self.now.tables by.now (seated seats.now)) }
+        ensures { IfOk result (λ reviewers. reviewers ≡ reviewers_of self.now.tables by.now (has_label written.now) (seated seats.now)) }
     {
         let mut reviewers = Vec::with_capacity(alloc, seats.len())?;
         for seat in seats {
             let name = self.reviewer_name(by, seat);
-            push_some(&mut reviewers, reviewer(by, seat, name))?;
+            let done = written.has(seat.value.ordinal);
+            push_some(&mut reviewers, reviewer(by, seat, done, name))?;
         }
         Ok(Reviewers::from_vec(reviewers))
     }
@@ -149,15 +163,15 @@ impl Live {
 }
 
 /// Who has this seat, under this name where it is shown, as who stands so to the seat's paper is told of
-/// her; none where she has left it.
-fn reviewer(by: &Standing, seat: &Tie<Seat>, name: Option<Short>) -> Option<Reviewer>
-    ensures { result ≡ reviewer_of by.now seat.now name }
+/// her, who has written a review or hasn't; none where she has left it.
+fn reviewer(by: &Standing, seat: &Tie<Seat>, written: bool, name: Option<Short>) -> Option<Reviewer>
+    ensures { result ≡ reviewer_of by.now seat.now written name }
 {
     if seat.value.vacated {
         return None;
     }
     Some(Reviewer {
-        done: done_told(by),
+        done: done_told(by, written),
         kind: kind_told(by, seat.value.kind),
         label: seat.value.ordinal,
         user: name,

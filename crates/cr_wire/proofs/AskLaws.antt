@@ -1,18 +1,19 @@
 -- What a wish asks for is what its request does, whatever the body tells.
-use Rattle.std.proofs.Common.{◌≡◌, ℕ, List, Option, Some, None, IsTrue, refl, ap}
+use Rattle.std.proofs.Common.{◌≡◌, ℕ, List, Bool, true, false, Option, Some, None, option_map, IsTrue, refl, ap}
 use Rattle.std.specs.Prelude.{codes}
 use Rattle.cr_base.specs.Logins.{command_ask}
 use Rattle.cr_base.specs.declared.ask.Ask.{Ask}
 use Rattle.cr_base.specs.declared.ask.Ask.TheVariants as asks
 use Rattle.cr_base.specs.declared.command.Command.{Command}
+use Rattle.cr_base.specs.declared.command.Command.TheVariants as commands
 use Rattle.cr_bodies.specs.Bodies.{command_in, command_read}
-use Rattle.cr_bodies.specs.Field.{◌>>=◌, abstract_under, bid_under, digest_under, flag_under, kind_under, mode_under}
-use Rattle.cr_bodies.specs.Field.{name_under, names_under, phase_under, role_under, title_under, user_under}
+use Rattle.cr_bodies.specs.Field.{◌>>=◌, abstract_under, bid_under, comment_under, digest_under, flag_under, grade_under, kind_under, mode_under}
+use Rattle.cr_bodies.specs.Field.{name_under, names_under, phase_under, review_text_under, role_under, title_under, user_under}
 use Rattle.cr_bodies.specs.Json.{json_of}
 use Rattle.cr_routes.specs.Parts.{FoundPath}
-use Rattle.cr_wire.specs.Asked.{LooksAtBody, ask_has_body, asked, command_of, commanded}
+use Rattle.cr_wire.specs.Asked.{LooksAtBody, ask_has_body, asked, command_of, commanded, tagged}
 use Rattle.cr_wire.specs.Caller.{ask_of}
-use Rattle.cr_wire.specs.Paper.{paper_of}
+use Rattle.cr_wire.specs.Paper.{paper_of, tag_of}
 
 -- what a body tells, if it tells anything, is given by this request
 abbrev GivenBy : Ask → Option Command → Type 0
@@ -59,6 +60,15 @@ given asks.Assign paper body =
     of_each asks.Assign (json_of body) (command_in asks.Assign paper) (λ d.
     of_each asks.Assign (kind_under (codes "kind") d) _ (λ kind.
     of_each asks.Assign (user_under (codes "user") d) _ (λ user. refl)))
+given asks.Review paper body =
+    of_each asks.Review (json_of body) (command_in asks.Review paper) (λ d.
+    of_each asks.Review (grade_under (codes "score") d) _ (λ score.
+    of_each asks.Review (grade_under (codes "confidence") d) _ (λ confidence.
+    of_each asks.Review (review_text_under (codes "to_authors") d) _ (λ to_authors.
+    of_each asks.Review (review_text_under (codes "to_pc") d) _ (λ to_pc. refl)))))
+given asks.Comment paper body =
+    of_each asks.Comment (json_of body) (command_in asks.Comment paper) (λ d.
+    of_each asks.Comment (comment_under (codes "text") d) _ (λ text. refl))
 given ask paper body = of_each ask (json_of body) (command_in ask paper) (λ d. tt)
 
 asks_for : (ask : Ask) (told : Option Command) → GivenBy ask told → ask_of (command_of ask told) ≡ Some ask
@@ -67,6 +77,15 @@ asks_for ask (Some command) given = ap (λ (a : Ask). Some a) given
 
 by_body : (ask : Ask) (found : FoundPath) (body : List ℕ) → ask_of (commanded ask found body) ≡ Some ask
 by_body ask found body = asks_for ask _ (given ask (paper_of found) body)
+
+-- what a path tells of a tag is given by this request, also where it tells none
+by_tag : (ask : Ask) (found : FoundPath) (on : Bool) → ((tag : List ℕ) → command_ask (commands.Tag (paper_of found) tag on) ≡ ask)
+    → ask_of (tagged ask found on) ≡ Some ask
+by_tag ask found on each = by (tag_of found)
+  where
+    by : (told : Option (List ℕ)) → ask_of (command_of ask (option_map (λ tag. commands.Tag (paper_of found) tag on) told)) ≡ Some ask
+    by None = refl
+    by (Some tag) = ap (λ (a : Ask). Some a) (each tag)
 
 pub ask_by_ask : (ask : Ask) (found : FoundPath) (body : List ℕ) → ask_of (asked ask found body) ≡ Some ask
 ask_by_ask asks.Register found body = by_body asks.Register found body
@@ -78,6 +97,10 @@ ask_by_ask asks.Revise found body = by_body asks.Revise found body
 ask_by_ask asks.SetConflict found body = by_body asks.SetConflict found body
 ask_by_ask asks.Bid found body = by_body asks.Bid found body
 ask_by_ask asks.Assign found body = by_body asks.Assign found body
+ask_by_ask asks.Review found body = by_body asks.Review found body
+ask_by_ask asks.Comment found body = by_body asks.Comment found body
+ask_by_ask asks.Tag found body = by_tag asks.Tag found true (λ tag. refl)
+ask_by_ask asks.Untag found body = by_tag asks.Untag found false (λ tag. refl)
 ask_by_ask ask found body = refl
 
 -- what is told by a body looks at it, whatever it tells

@@ -1,5 +1,5 @@
 -- What a request wishes, by its method, its target and its body.
-use Rattle.std.specs.Prelude.{ℕ, List, Bool, true, false, IsTrue, ◌==◌, Option, Some, None, option_and_then, if◌then◌else◌}
+use Rattle.std.specs.Prelude.{ℕ, List, Bool, true, false, IsTrue, ◌==◌, Option, Some, None, option_and_then, option_map, if◌then◌else◌}
 use Rattle.std.specs.Option.{option_map_or}
 use Rattle.std.specs.List.{before_first}
 use Rattle.std.specs.Str.{is_utf8}
@@ -13,7 +13,7 @@ use Rattle.cr_routes.specs.Methods.{method_of}
 use Rattle.cr_base.specs.declared.ask.Ask.{Ask}
 use Rattle.cr_base.specs.declared.ask.Ask.TheVariants as asks
 use Rattle.cr_wire.specs.Caller.{ask_of}
-use Rattle.cr_wire.specs.Paper.{paper_of, user_of, version_of}
+use Rattle.cr_wire.specs.Paper.{paper_of, tag_of, user_of, version_of}
 use Rattle.cr_wire.specs.declared.what.What.{What}
 use Rattle.cr_wire.specs.declared.what.What.TheVariants.{NoRoute, WrongMethod, BadBody, Command as Commands, Query as Queries}
 
@@ -34,6 +34,10 @@ command_of ask (Some command) = Commands command
 abbrev pub commanded : Ask → FoundPath → List ℕ → What
 commanded ask found body = command_of ask (command_read ask (paper_of found) body)
 
+-- that a tag is on or off, which the path alone tells; a text there that is no tag counts as a bad body
+abbrev pub tagged : Ask → FoundPath → Bool → What
+tagged ask found on = command_of ask (option_map (λ tag. commands.Tag (paper_of found) tag on) (tag_of found))
+
 -- one line for each thing that can be asked for; an upload's body is the content
 abbrev pub asked : Ask → FoundPath → List ℕ → What
 asked asks.Register found body = commanded asks.Register found body
@@ -53,6 +57,12 @@ asked asks.SetConflict found body = commanded asks.SetConflict found body
 asked asks.Bid found body = commanded asks.Bid found body
 asked asks.Assign found body = commanded asks.Assign found body
 asked asks.Unassign found body = Commands (commands.Unassign (paper_of found) (user_of found))
+asked asks.Review found body = commanded asks.Review found body
+asked asks.Reviews found body = Queries (queries.Reviews (paper_of found))
+asked asks.Comment found body = commanded asks.Comment found body
+asked asks.Comments found body = Queries (queries.Comments (paper_of found))
+asked asks.Tag found body = tagged asks.Tag found true
+asked asks.Untag found body = tagged asks.Untag found false
 asked asks.Me found body = Queries queries.Me
 
 abbrev pub with_ask : FoundPath → Option Ask → List ℕ → What
@@ -66,7 +76,7 @@ with_found (Some found) method body = with_ask found (option_and_then (ask_at fo
 abbrev pub what_of : List ℕ → List ℕ → List ℕ → What
 what_of method target body = with_found (find_at (path_of target)) method body
 
--- whether what is asked for is told by a body: all commands are but those by which something is taken away
+-- whether what is asked for is told by a body: all commands are but tags and those by which something is taken away
 abbrev pub ask_has_body : Ask → Bool
 ask_has_body asks.Register = true
 ask_has_body asks.Accounts = false
@@ -85,6 +95,12 @@ ask_has_body asks.SetConflict = true
 ask_has_body asks.Bid = true
 ask_has_body asks.Assign = true
 ask_has_body asks.Unassign = false
+ask_has_body asks.Review = true
+ask_has_body asks.Reviews = false
+ask_has_body asks.Comment = true
+ask_has_body asks.Comments = false
+ask_has_body asks.Tag = false
+ask_has_body asks.Untag = false
 ask_has_body asks.Me = false
 
 -- a body was looked at, which alone takes memory: this goes by what is asked for

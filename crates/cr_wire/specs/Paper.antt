@@ -1,9 +1,10 @@
--- The paper, the version and the user that a path's parameters name.
+-- The paper, the version, the user and the tag that a path's parameters name.
 use Rattle.std.specs.Prelude.{ℕ, ◌^◌, List, length, Bool, ◌&&◌, ◌==◌, not, nat_le, nat_lt, Option, Some, None, option_and_then, if◌then◌else◌, slice_index}
 use Rattle.std.specs.Char.{is_ascii_digit}
 use Rattle.std.specs.List.{list_all}
 use Rattle.std.specs.Option.{option_map_or}
 use Rattle.std.specs.Str.Parse.{digits_value}
+use Rattle.cr_base.specs.TagTexts.{is_tag}
 use Rattle.cr_bodies.specs.Field.{name_told}
 use Rattle.cr_routes.specs.Parts.{FoundPath}
 
@@ -38,3 +39,11 @@ version_of found = option_map_or version_spelt found.second 0
 -- the user that a path is about: her name is its second parameter, None where that is no name
 abbrev pub user_of : FoundPath → Option (List ℕ)
 user_of found = option_and_then name_told found.second
+
+-- the tag of a text
+abbrev pub tag_spelt : List ℕ → Option (List ℕ)
+tag_spelt text = if is_tag text then Some text else None
+
+-- the tag that a path is about: its second parameter, None where that is no tag
+abbrev pub tag_of : FoundPath → Option (List ℕ)
+tag_of found = option_and_then tag_spelt found.second

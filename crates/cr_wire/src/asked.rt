@@ -7,7 +7,7 @@ ghost use Rattle.cr_wire.specs.Asked as spec;
 ghost use Rattle.cr_wire.specs.Bounds.{IsBoundedWhat};
 ghost use Rattle.cr_wire.specs.Outcome.{Gives};
 
-use crate::paper::{paper_of, user_of, version_of};
+use crate::paper::{paper_of, tag_of, user_of, version_of};
 use crate::what::What;
 use cr_base::{Ask, Command, PaperNo, Query};
 use cr_bodies::{BodyError, before_first, read_command};
@@ -56,34 +56,48 @@ fn upload(alloc: Global, paper: Option<PaperNo>, body: &Body<'_>) -> Result<What
     Ok(What::Command(Command::Upload { paper, content }))
 }
 
+/// That a tag is on or off, which the path alone tells.
+fn tagged(ask: Ask, found: Matched<'_>, on: bool) -> What
+    ensures told { result ≡ spec.tagged ask (seen found.entry) on }
+    ensures bounded { IsBoundedWhat result }
+{
+    match tag_of(found) {
+        Some(tag) => What::Command(Command::Tag {
+            paper: paper_of(found),
+            tag,
+            on,
+        }),
+        None => What::BadBody(ask),
+    }
+}
+
 /// What is asked for, by its path and its body too.
 fn asked(alloc: Global, ask: Ask, found: Matched<'_>, body: &Body<'_>) -> Result<What, AllocError>
     ensures told { Gives result (spec.asked ask (seen found.entry) body.now) }
     ensures bounded { IfOk result IsBoundedWhat }
     ensures sure { OnErr result (spec.LooksAtBody (spec.asked ask (seen found.entry) body.now)) }
 {
+    let paper = paper_of(found);
     match ask {
         Ask::Accounts => Ok(What::Query(Query::Accounts)),
         Ask::Phase => Ok(What::Query(Query::Phase)),
-        Ask::Page => Ok(What::Query(Query::Page {
-            paper: paper_of(found),
-        })),
-        Ask::Content => Ok(What::Query(Query::Content {
-            paper: paper_of(found),
-        })),
+        Ask::Page => Ok(What::Query(Query::Page { paper })),
+        Ask::Content => Ok(What::Query(Query::Content { paper })),
         Ask::Version => Ok(What::Query(Query::Version {
-            paper: paper_of(found),
+            paper,
             version: version_of(found),
         })),
         Ask::Me => Ok(What::Query(Query::Me)),
-        Ask::Withdraw => Ok(What::Command(Command::Withdraw {
-            paper: paper_of(found),
-        })),
+        Ask::Withdraw => Ok(What::Command(Command::Withdraw { paper })),
         Ask::Unassign => Ok(What::Command(Command::Unassign {
-            paper: paper_of(found),
+            paper,
             user: user_of(found),
         })),
-        Ask::Upload => upload(alloc, paper_of(found), body),
+        Ask::Reviews => Ok(What::Query(Query::Reviews { paper })),
+        Ask::Comments => Ok(What::Query(Query::Comments { paper })),
+        Ask::Tag => Ok(tagged(ask, found, true)),
+        Ask::Untag => Ok(tagged(ask, found, false)),
+        Ask::Upload => upload(alloc, paper, body),
         Ask::Register
         | Ask::Name
         | Ask::SetMode
@@ -92,7 +106,9 @@ fn asked(alloc: Global, ask: Ask, found: Matched<'_>, body: &Body<'_>) -> Result
         | Ask::Revise
         | Ask::SetConflict
         | Ask::Bid
-        | Ask::Assign => command(alloc, ask, found, body.as_slice()),
+        | Ask::Assign
+        | Ask::Review
+        | Ask::Comment => command(alloc, ask, found, body.as_slice()),
     }
 }
 

@@ -1,9 +1,10 @@
-//! The paper, the version and the user that a path's parameters name.
-ghost use Rattle.std.specs.Prelude.{◌≡◌};
+//! The paper, the version, the user and the tag that a path's parameters name.
+ghost use Rattle.std.specs.Prelude.{◌≡◌, IfSome, IsTrue};
+ghost use Rattle.cr_base.specs.TagTexts.{is_tag};
 ghost use Rattle.cr_routes.specs.Parts.{seen};
 ghost use Rattle.cr_wire.specs.Paper as spec;
 
-use cr_base::{PaperNo, Short};
+use cr_base::{PaperNo, Short, Tag};
 use cr_bodies::name_in;
 use cr_http::{all_digits, decimal_value};
 use cr_routes::Matched;
@@ -78,4 +79,21 @@ pub(crate) fn user_of(found: Matched<'_>) -> Option<Short>
     ensures { result ≡ spec.user_of (seen found.entry) }
 {
     name_in(found.second?)
+}
+
+/// The tag of a text.
+fn tag_spelt(text: &[u8]) -> Option<Tag>
+    ensures value { result ≡ spec.tag_spelt text.now }
+    ensures valid { IfSome result (λ tag. IsTrue (is_tag tag)) }
+{
+    Tag::read(text)
+}
+
+/// The tag that a path is about: its second parameter, where that is a tag, 1 to 32 of `a-z0-9-` behind at most two `~`. Looks
+/// at each of at most 34 bytes once and costs no allocation.
+pub(crate) fn tag_of(found: Matched<'_>) -> Option<Tag>
+    ensures value { result ≡ spec.tag_of (seen found.entry) }
+    ensures valid { IfSome result (λ tag. IsTrue (is_tag tag)) }
+{
+    tag_spelt(found.second?.as_bytes())
 }

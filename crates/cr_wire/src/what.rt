@@ -12,7 +12,7 @@ pub enum What {
     NoRoute,
     /// The path doesn't answer this method: answered `wrong_method`, with the methods that it answers.
     WrongMethod(Place),
-    /// The body isn't what the request needs: answered `bad_body`.
+    /// The body, or the tag in the path, isn't what the request needs: answered `bad_body`.
     BadBody(Ask),
     /// To change something.
     Command(Command),
@@ -50,9 +50,9 @@ impl What {
     }
 
     /// Whether a login is wanted, so that nobody is answered `unauthorized`: by each command but a registration, also
-    /// where its body is a bad one, by a paper's page and its content, and by what the caller is told of herself.
-    /// Registration, the list of accounts and the state of the conference want none, and what is no request of these is
-    /// refused alike to everybody.
+    /// where its body is a bad one, by a paper's page, content, reviews and comments, and by what the caller is told of
+    /// herself. Registration, the list of accounts and the state of the conference want none, and what is no request of
+    /// these is refused alike to everybody.
     pub fn wants_login(&self) -> bool
         ensures { result ≡ wants_login self.now }
     {

@@ -1,5 +1,10 @@
-use Rattle.cr_policy.proofs.BoundsWalk.{entries-shown, marks-shown, papers-shown, users-shown, names-shown, digests-shown, roles-shown, phases-shown, modes-shown, makers-shown, titles-shown, abstracts-shown, versions-shown, contents-shown, switches-shown, values-shown, seats-shown, ordinals-shown}
+use Rattle.cr_policy.proofs.BoundsWalk.{entries-shown, marks-shown, papers-shown, users-shown, names-shown, digests-shown, roles-shown}
+use Rattle.cr_policy.proofs.BoundsWalk.{phases-shown, modes-shown, makers-shown, titles-shown, abstracts-shown, versions-shown}
+use Rattle.cr_policy.proofs.BoundsWalk.{contents-shown, switches-shown, values-shown, seats-shown, ordinals-shown}
+use Rattle.cr_policy.proofs.BoundsWalk.{scores-shown, confidences-shown, texts-to-authors-shown, texts-to-pc-shown, done-shown, numbers-shown}
+use Rattle.cr_policy.proofs.BoundsWalk.{comments-shown, tags-shown}
 use Rattle.cr_policy.proofs.BoundsSeats.{own-bids, reviewers-from-authors, reviewers-early, reviewers-unnamed}
+use Rattle.cr_policy.proofs.BoundsWritten.{forms-early, forms-from-authors, comments-from-authors, writers-unnamed, private-tags, chairs-tags}
 use Rattle.cr_policy.proofs.BoundsTexts.{one-title, one-abstract, one-content}
 use Rattle.cr_policy.proofs.BoundsLeft.{outsiders-shown, strangers-shown, nobody-shown}
 use Rattle.cr_policy.proofs.law_bounds.Goals as goal
@@ -24,10 +29,24 @@ returns c = record {
   values = values-shown;
   seats = seats-shown;
   ordinals = ordinals-shown;
+  scores = scores-shown;
+  confidences = confidences-shown;
+  texts_to_authors = texts-to-authors-shown;
+  texts_to_pc = texts-to-pc-shown;
+  done = done-shown;
+  numbers = numbers-shown;
+  comments = comments-shown;
+  tags = tags-shown;
   own_bids = own-bids;
   reviewers_from_authors = reviewers-from-authors;
   reviewers_early = reviewers-early;
   reviewers_unnamed = reviewers-unnamed;
+  forms_early = forms-early;
+  forms_from_authors = forms-from-authors;
+  comments_from_authors = comments-from-authors;
+  writers_unnamed = writers-unnamed;
+  private_tags = private-tags;
+  chairs_tags = chairs-tags;
   one_title = one-title;
   one_abstract = one-abstract;
   one_content = one-content;

@@ -5,15 +5,6 @@ use Rattle.cr_sights.proofs.line.add_last.Goals as goal
 pub returns : goal.returns
 unfolding last_members
 returns c =
-    let first = c.in_ok-add.ensures then c.in_ok-add-2.ensures then c.in_ok-add-3.ensures then c.in_ok-add-4.ensures in
-    let all = first then c.in_ok-add-5.ensures then c.in_ok-add-6.ensures then c.in_ok-add-7.ensures in
-    rw (
-      ← c.user_told.ensures,
-      ← c.sighting.view_is,
-      ← c.as_ref.ensures.value,
-      ← c.as_ref-2.ensures.value,
-      ← c.as_ref-3.ensures.value,
-      ← c.as_ref-4.ensures.value,
-      ← c.as_ref-5.ensures.value,
-    )
-    all
+    let first = c.in_ok-add.ensures then c.in_ok-add-2.ensures then c.in_ok-add-3.ensures in
+    let all = first then c.in_ok-add-4.ensures then c.in_ok-add-5.ensures then c.in_ok-add-6.ensures in
+    rw (← c.user_told.ensures, ← c.writer_told.ensures, ← c.sighting.view_is, ← c.as_ref.ensures.value, ← c.as_ref-2.ensures.value) all

@@ -1,13 +1,13 @@
 use Rattle.std.proofs.Common.{◌≡◌, ◌≤◌, ◌+◌, [], length, Some, ◌-◌}
 use Rattle.cr_policy.specs.View.{sights}
-use Rattle.cr_sights.specs.Last.{IsLastOf}
+use Rattle.cr_sights.specs.Positions.{AreNoted}
 use Rattle.cr_sights.specs.Readers.{reader_in}
 use Rattle.cr_sights.proofs.WalkLaws.{sights_from}
 use Rattle.cr_sights.proofs.walk.view_len.Given as goal
 
 abbrev pub invariant-sightings : goal.invariant-sightings
 invariant-sightings l = record {
-  last : IsLastOf l.last.texts.items l.last.contents.items l.log;
+  noted : AreNoted l.positions l.log l.at;
   count : l.count + length (sights_from (reader_in l.live.tables (Some l.reader)) l.log l.at) ≡ length (sights (reader_in l.live.tables (Some l.reader)) [] l.log);
   low : l.count ≤ l.at;
 }

@@ -1,5 +1,5 @@
 use Rattle.std.proofs.Common.{length, Some, ◌-◌}
-use Rattle.cr_sights.specs.Last.{IsLastOf}
+use Rattle.cr_sights.specs.Positions.{AreNoted}
 use Rattle.cr_sights.specs.Readers.{reader_in}
 use Rattle.cr_ports.specs.Writing.{outlet_of}
 use Rattle.cr_sights.proofs.WalkLaws.{Reached}
@@ -7,7 +7,7 @@ use Rattle.cr_sights.proofs.walk.write_view.Given as goal
 
 abbrev pub invariant-lines : goal.invariant-lines
 invariant-lines g l = record {
-  last : IsLastOf l.last.texts.items l.last.contents.items l.log;
+  noted : AreNoted l.positions l.log l.at;
   reached : Reached (reader_in l.live.tables (Some l.reader)) l.log l.at (outlet_of g.O.Sink.taken g.O.Sink.faults l.initial.sink) (outlet_of g.O.Sink.taken g.O.Sink.faults l.sink);
 }
 

@@ -1,4 +1,4 @@
-use Rattle.cr_papers.proofs.SumLaws.{has-numbered}
+use Rattle.cr_papers.proofs.NumberLaws.{has-numbered}
 use Rattle.cr_papers.proofs.papers.Papers.has.Goals as goal
 
 pub returns : goal.returns

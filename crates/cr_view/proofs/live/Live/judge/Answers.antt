@@ -7,6 +7,7 @@ use Rattle.cr_view.proofs.AssigningLaws.{judge-conflict, judge-assign, judge-una
 use Rattle.cr_view.proofs.FitLaws.{draw-fits}
 use Rattle.cr_view.proofs.JudgeLaws.{along}
 use Rattle.cr_view.proofs.TargetLaws.{judge-submit, judge-name}
+use Rattle.cr_view.proofs.WritingLaws.{judge-comment}
 use Rattle.cr_view.proofs.live.Live.judge.Goals as goal
 
 pub returns-in-Register-clause-drawn : goal.returns-in-Register-clause-drawn
@@ -96,3 +97,37 @@ returns-in-Unassign-clause-drawn c = along c.args.self.now.tables c.args.caller.
 
 pub returns-in-Unassign-clause-fits : goal.returns-in-Unassign-clause-fits
 returns-in-Unassign-clause-fits c = draw-fits c.args.self.now.tables c.law_within.ensures.ties c.maker-in-Unassign.result (commands.Unassign c.in-Unassign.paper c.in-Unassign.user) c.judge_unassignment.result (c.judge_unassignment.ensures ∙ sym (judge-unassign c.args.self.now.tables c.maker-in-Unassign.result c.in-Unassign.paper c.in-Unassign.user))
+
+pub returns-in-Review-clause-drawn : goal.returns-in-Review-clause-drawn
+returns-in-Review-clause-drawn c =
+    along c.args.self.now.tables c.args.caller.now (Some c.maker-in-Review.result) c.args.command
+    (commands.Review c.in-Review.paper c.in-Review.form) _ c.maker-in-Review.ensures c.in-Review.is c.judge_review.ensures
+
+pub returns-in-Review-clause-fits : goal.returns-in-Review-clause-fits
+returns-in-Review-clause-fits c =
+    draw-fits c.args.self.now.tables c.law_within.ensures.ties c.maker-in-Review.result
+    (commands.Review c.in-Review.paper c.in-Review.form) c.judge_review.result c.judge_review.ensures
+
+pub returns-in-Comment-clause-drawn : goal.returns-in-Comment-clause-drawn
+returns-in-Comment-clause-drawn c =
+    let t = c.args.self.now.tables in
+    along t c.args.caller.now (Some c.maker-in-Comment.result) c.args.command
+    (commands.Comment c.in-Comment.paper c.in-Comment.text) _ c.maker-in-Comment.ensures c.in-Comment.is
+    (c.judge_comment.ensures ∙ sym (judge-comment t c.maker-in-Comment.result c.in-Comment.paper c.in-Comment.text))
+
+pub returns-in-Comment-clause-fits : goal.returns-in-Comment-clause-fits
+returns-in-Comment-clause-fits c =
+    let t = c.args.self.now.tables in
+    draw-fits t c.law_within.ensures.ties c.maker-in-Comment.result
+    (commands.Comment c.in-Comment.paper c.in-Comment.text) c.judge_comment.result
+    (c.judge_comment.ensures ∙ sym (judge-comment t c.maker-in-Comment.result c.in-Comment.paper c.in-Comment.text))
+
+pub returns-in-Tag-clause-drawn : goal.returns-in-Tag-clause-drawn
+returns-in-Tag-clause-drawn c =
+    along c.args.self.now.tables c.args.caller.now (Some c.maker-in-Tag.result) c.args.command
+    (commands.Tag c.in-Tag.paper c.in-Tag.tag c.in-Tag.on) _ c.maker-in-Tag.ensures c.in-Tag.is c.judge_tag.ensures
+
+pub returns-in-Tag-clause-fits : goal.returns-in-Tag-clause-fits
+returns-in-Tag-clause-fits c =
+    draw-fits c.args.self.now.tables c.law_within.ensures.ties c.maker-in-Tag.result
+    (commands.Tag c.in-Tag.paper c.in-Tag.tag c.in-Tag.on) c.judge_tag.result c.judge_tag.ensures

@@ -6,6 +6,7 @@ use Rattle.cr_base.specs.Lists.{IsRising}
 use Rattle.cr_base.specs.Pairs.{papers_tied_to}
 use Rattle.cr_base.specs.Papers.{own_bytes}
 use Rattle.cr_base.specs.Seats.{seat_in}
+use Rattle.cr_base.specs.Talk.{own_comments_in}
 use Rattle.cr_base.specs.Ties.{is_author_in}
 use Rattle.cr_view.specs.Seen.{SeenTables}
 use Rattle.cr_view.proofs.MeLaws.{own-papers, own-conflicts, own-seats, me-told}
@@ -26,4 +27,7 @@ returns c =
     (λ p. c.reviewed.ensures.papers p ∙ ap (λ (v : SeenTables). is_some (seat_in v.tables.seats (Some user) p)) c.self.view_is) in
     let role = c.standing_for.ensures ∙ ap (λ (v : SeenTables). role_in v.tables.accounts (Some user)) c.self.view_is in
     let bytes = c.bytes_of_user.ensures ∙ ap (λ (v : SeenTables). own_bytes v.tables.papers (Some user)) c.self.view_is in
-    me-told t user c.bytes_of_user.result c.in_ok-assigned.assigned c.in_ok-papers.papers c.in_ok-conflicts.conflicts c.own_name.result c.standing_for.result reviewed bytes hers others c.own_name.ensures role
+    let wrote = c.count_of_user.ensures ∙ ap (λ (v : SeenTables). own_comments_in v.tables.talk (Some user)) c.self.view_is in
+    me-told t user c.bytes_of_user.result c.count_of_user.result
+    c.in_ok-assigned.assigned c.in_ok-papers.papers c.in_ok-conflicts.conflicts c.own_name.result c.standing_for.result
+    reviewed bytes wrote hers others c.own_name.ensures role

@@ -1,0 +1,34 @@
+//! Comments: what is kept of one, and how it is told.
+
+use crate::items::Items;
+use crate::numbers::{Ordinal, UserNo};
+use crate::texts::{Short, Text};
+
+/// What is kept of a comment on a paper.
+#[derive(Drop, Debug)]
+pub struct Comment {
+    /// Its number among those on the paper, from 1.
+    pub n: u64,
+    /// Who wrote it.
+    pub writer: UserNo,
+    /// The ordinal of the label under which she reviewed the paper then; none where she didn't.
+    pub ordinal: Option<Ordinal>,
+    /// What she wrote: UTF-8, 1 to 10,000 bytes.
+    pub text: Text,
+}
+
+/// A comment as it is told: its writer by name, or by label where the caller may not be told the name.
+#[derive(Drop, Debug)]
+pub struct CommentLine {
+    /// The ordinal of the label under which the writer reviewed the paper, where the caller isn't told her name and she did.
+    pub label: Option<Ordinal>,
+    /// Its number among those on the paper, from 1.
+    pub n: u64,
+    /// What was written.
+    pub text: Text,
+    /// The writer's name.
+    pub user: Option<Short>,
+}
+
+/// Comments on a paper, by number.
+pub type CommentLines = Items<CommentLine>;

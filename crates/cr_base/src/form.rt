@@ -1,0 +1,33 @@
+//! The form of a review.
+ghost use Rattle.std.specs.Prelude.{◌≡◌, IfOk};
+
+use crate::numbers::Grade;
+use crate::texts::Text;
+use std::alloc::AllocError;
+
+/// What a reviewer writes of a paper (the HotCRP manual's review form, with two texts).
+#[derive(Drop, Debug)]
+pub struct Form {
+    /// How good the paper is: 1 to 5.
+    pub score: Grade,
+    /// How sure the reviewer is: 1 to 5.
+    pub confidence: Grade,
+    /// What the paper's authors may read of it: UTF-8, at most 20,000 bytes.
+    pub to_authors: Text,
+    /// What the committee alone reads: UTF-8, at most 20,000 bytes.
+    pub to_pc: Text,
+}
+
+impl Form {
+    /// An equal one, which shares its texts; an error only for lack of memory.
+    pub fn copy(&self) -> Result<Form, AllocError>
+        ensures { IfOk result (λ form. form ≡ self.now) }
+    {
+        Ok(Form {
+            score: self.score,
+            confidence: self.confidence,
+            to_authors: self.to_authors.copy()?,
+            to_pc: self.to_pc.copy()?,
+        })
+    }
+}

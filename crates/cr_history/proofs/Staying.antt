@@ -1,0 +1,134 @@
+-- Whoever has written a form stays a reviewer of the paper, under the label under which she wrote it.
+use Rattle.std.proofs.Common.{ℕ, Bool, true, false, ◌≡◌, List, [], ◌∷◌, ◌++◌, eqb, refl, sym, ap, subst, ◌∙◌, ◌&&◌, Option, Some, None}
+use Rattle.std.specs.Prelude.{not}
+use Rattle.std.specs.List.{AllByRecursion}
+use Rattle.std.proofs.lemmas.Bool.{eqb-true, eq-eqb, true≢false}
+use Rattle.std.proofs.lemmas.List.Concat.{flat_map-append}
+use Rattle.std.proofs.lemmas.List.Elements.{All-from_recursion, recursion_from_All}
+use Rattle.cr_base.specs.declared.entry.Entry.{Entry}
+use Rattle.cr_base.specs.declared.entry.Entry.TheVariants.{Assigned, Unassigned, Reviewed}
+use Rattle.cr_base.specs.declared.entry.Stamped.{Stamped}
+use Rattle.cr_base.specs.Drawn.{grouped, submission}
+use Rattle.cr_base.specs.History.{History, all_told, seat_told, form_told, whole_form}
+use Rattle.cr_base.specs.HistoryFacts.{seat_of, forms_of, is_written}
+use Rattle.cr_base.specs.Lists.{given, is_nothing, last_or}
+use Rattle.cr_history.specs.Groups.{IsRuled, Adds, single, submitted, first_user}
+use Rattle.cr_history.specs.Invariants.{IsHeld, ReviewersStay}
+use Rattle.cr_history.proofs.Folds.{last_or-append}
+use Rattle.cr_history.proofs.Grouped.{grouped-each, submission-each, all-silent}
+use Rattle.cr_history.proofs.ListCuts.{AllByRecursion-append, AllByRecursion-map, AllByRecursion-both}
+
+-- ---- labels with forms
+
+-- of a form: its label has one
+abbrev HasForm : History → Entry → Type 0
+HasForm H (Reviewed paper ordinal version form) = is_written paper ordinal H ≡ true
+HasForm H e = Unit {0}
+
+some-more : {A : Type 0} (xs ys : List A) → not (is_nothing ys) ≡ true → not (is_nothing (xs ++ ys)) ≡ true
+some-more [] ys h = h
+some-more (x ∷ xs) ys h = refl
+
+has_form-more : (s : Stamped) (H : History) (e : Entry) → HasForm H e → HasForm (s ∷ H) e
+has_form-more s H (Reviewed paper ordinal version form) h = some-more (form_told paper ordinal s.entry) (forms_of paper ordinal H) h
+has_form-more s H e h = tt
+
+has_form-first : (maker : ℕ) (more : Bool) (e : Entry) (H : History) → HasForm (record { maker = maker; more = more; entry = e } ∷ H) e
+has_form-first maker more (Reviewed paper ordinal version form) H =
+    by (eqb paper paper) (eqb ordinal ordinal) (eq-eqb paper paper refl) (eq-eqb ordinal ordinal refl)
+  where
+    by : (b c : Bool) → b ≡ true → c ≡ true → not (is_nothing (given (b && c) (whole_form version form) ++ forms_of paper ordinal H)) ≡ true
+    by true true hb hc = refl
+    by true false hb hc = absurd (true≢false (sym hc))
+    by false c hb hc = absurd (true≢false (sym hb))
+has_form-first maker more e H = tt
+
+-- each form of a history is one
+has_forms : (H : History) → AllByRecursion (λ (s : Stamped). HasForm H s.entry) H
+has_forms [] = tt
+has_forms (s ∷ H) = (
+  has_form-first s.maker s.more s.entry H,
+  AllByRecursion-map (λ (e : Stamped). HasForm H e.entry) (λ (e : Stamped). HasForm (s ∷ H) e.entry) (λ e h. has_form-more s H e.entry h) H (has_forms H),
+)
+
+-- ---- one group
+
+-- it takes no seat under which a form is written, and gives whoever has one no other
+abbrev LeavesSeats : History → History → Type 0
+LeavesSeats H g = (user paper ordinal : ℕ) → seat_of (Some user) paper H ≡ Some ordinal → is_written paper ordinal H ≡ true
+    → all_told (seat_told (Some user) paper) g ≡ []
+
+ruled-leaves : (H : History) (maker : ℕ) (e : Entry) → IsRuled H maker e → LeavesSeats H (grouped maker (e ∷ []))
+ruled-leaves H maker (Assigned paper' user' kind ordinal') ruled user paper ordinal held written = by (eqb paper' paper) (eqb user user') refl refl
+  where
+    by : (b c : Bool) → eqb paper' paper ≡ b → eqb user user' ≡ c → given (b && c) (Some ordinal') ++ [] ≡ []
+    by true true same is =
+        let none : seat_of (Some user) paper H ≡ None = subst (λ n. seat_of (Some n) paper H ≡ None) (sym (eqb-true user user' is))
+        (subst (λ n. seat_of (Some user') n H ≡ None) (eqb-true paper' paper same) ruled.seat.1) in
+        absurd (filled (sym none ∙ held))
+      where
+        filled : None ≡ Some ordinal → ⊥
+        filled h = cc
+    by true false same is = refl
+    by false c same is = refl
+ruled-leaves H maker (Unassigned paper' user' ordinal') ruled user paper ordinal held written = by (eqb paper' paper) (eqb user user') refl refl
+  where
+    by : (b c : Bool) → eqb paper' paper ≡ b → eqb user user' ≡ c → given {A = Option ℕ} (b && c) None ++ [] ≡ []
+    by true true same is =
+        let seat : seat_of (Some user) paper H ≡ Some ordinal' = subst (λ n. seat_of (Some n) paper H ≡ Some ordinal') (sym (eqb-true user user' is))
+        (subst (λ n. seat_of (Some user') n H ≡ Some ordinal') (eqb-true paper' paper same) ruled.seat.0) in
+        let e : ordinal' ≡ ordinal = same_some (sym seat ∙ held) in
+        let none : is_written paper ordinal H ≡ false = subst (λ o. is_written paper o H ≡ false) e
+        (subst (λ n. is_written n ordinal' H ≡ false) (eqb-true paper' paper same) ruled.seat.1) in
+        absurd (true≢false (sym written ∙ none))
+      where
+        same_some : Some ordinal' ≡ Some ordinal → ordinal' ≡ ordinal
+        same_some h = cc
+    by true false same is = refl
+    by false c same is = refl
+ruled-leaves H maker e ruled user paper ordinal held written = refl
+
+added-leaves : (H g : History) → Adds H g → LeavesSeats H g
+added-leaves H g (single maker e made alone ruled) user paper ordinal held written = ruled-leaves H maker e ruled user paper ordinal held written
+added-leaves H g (submitted maker p title abstract users made ruled registered) user paper ordinal held written =
+    all-silent (λ (e : Stamped). seat_told (Some user) paper e.entry) _
+    (grouped-each maker (λ (e : Stamped). seat_told (Some user) paper e.entry ≡ []) (submission maker p title abstract users)
+    (submission-each (λ (e : Entry). (more : Bool) → seat_told (Some user) paper e ≡ []) maker p title abstract users (λ more. refl) (λ user more. refl)))
+added-leaves H g (first_user n name digest is texts) user paper ordinal held written = refl
+
+-- a group that tells of no seat of hers leaves it
+seat-stays : (u : Option ℕ) (p : ℕ) (H g : History) → all_told (seat_told u p) g ≡ [] → seat_of u p (H ++ g) ≡ seat_of u p H
+seat-stays u p H g none =
+    ap (last_or None) (flat_map-append (λ (e : Stamped). seat_told u p e.entry) H g)
+    ∙ last_or-append None (all_told (seat_told u p) H) (all_told (seat_told u p) g)
+    ∙ ap (last_or (seat_of u p H)) none
+
+-- a form in it is under its maker's own label
+ruled-held : (H : History) (maker : ℕ) (e : Entry) → IsRuled H maker e → IsHeld (H ++ grouped maker (e ∷ [])) maker e
+ruled-held H maker (Reviewed paper ordinal version form) ruled =
+    seat-stays (Some maker) paper H (grouped maker (Reviewed paper ordinal version form ∷ [])) refl ∙ ruled.seat
+ruled-held H maker e ruled = tt
+
+added-held : (H g : History) → Adds H g → AllByRecursion (λ (e : Stamped). IsHeld (H ++ g) e.maker e.entry) g
+added-held H g (single maker e made alone ruled) = (ruled-held H maker e ruled, tt)
+added-held H g (submitted maker p title abstract users made ruled registered) =
+    grouped-each maker (λ (e : Stamped). IsHeld (H ++ g) e.maker e.entry) (submission maker p title abstract users)
+    (submission-each (λ (e : Entry). (more : Bool) → IsHeld (H ++ g) maker e) maker p title abstract users (λ more. tt) (λ user more. tt))
+added-held H g (first_user n name digest is texts) = (tt, (tt, tt))
+
+-- ---- the step
+
+held-more : (H g : History) → LeavesSeats H g → (maker : ℕ) (e : Entry) → HasForm H e → IsHeld H maker e → IsHeld (H ++ g) maker e
+held-more H g leaves maker (Reviewed paper ordinal version form) written held =
+    seat-stays (Some maker) paper H g (leaves maker paper ordinal held written) ∙ held
+held-more H g leaves maker e written held = tt
+
+pub stay-append : (H g : History) → Adds H g → ReviewersStay H → ReviewersStay (H ++ g)
+stay-append H g adds kept =
+    let Held : History → Stamped → Type 0 = λ G e. IsHeld G e.maker e.entry in
+    All-from_recursion (Held (H ++ g)) (H ++ g)
+    (AllByRecursion-append (Held (H ++ g)) H g
+    (AllByRecursion-map (λ (e : Stamped). HasForm H e.entry × Held H e) (Held (H ++ g))
+    (λ e h. held-more H g (added-leaves H g adds) e.maker e.entry h.0 h.1) H
+    (AllByRecursion-both (λ (e : Stamped). HasForm H e.entry) (Held H) H (has_forms H) (recursion_from_All (Held H) H kept)))
+    (added-held H g adds))

@@ -1,0 +1,5 @@
+use Rattle.cr_history.proofs.FormTies.{forms_tell}
+use Rattle.cr_history.proofs.law_forms.Goals as goal
+
+pub returns : goal.returns
+returns c = forms_tell

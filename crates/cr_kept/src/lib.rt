@@ -1,0 +1,10 @@
+//! What several tables keep alike: values of papers, paper by paper, and a sum for each user.
+#![tactic(auto)]
+
+mod files;
+mod places;
+mod sums;
+
+pub use files::Files;
+pub use places::run_of;
+pub use sums::Sums;

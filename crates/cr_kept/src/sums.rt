@@ -1,0 +1,86 @@
+//! A sum for each user.
+ghost use Rattle.std.specs.Prelude.{◌≡◌, ℕ, ◌≤◌, ◌<◌, ◌+◌, ◌-◌, ◌++◌, [], OnOk, length, replicate, slice_index, vec_len, vec_capacity};
+ghost use Rattle.cr_base.specs.Papers.{with_more};
+
+use cr_base::{LAST_NUMBER, UserNo};
+use std::alloc::{AllocError, Global};
+use std::marker::Model;
+
+/// How many sums there are at most: one for each user number, and one for 0, which no user has.
+const MOST_SUMS: usize = LAST_NUMBER as usize + 1;
+
+/// A sum for each user, below 4,294,967,296 and 0 at first: her number is the index, and the sums past
+/// the end are 0. Contracts see the sums, and how many fit without taking memory.
+#[derive(Drop)]
+pub struct Sums {
+    sums: Vec<u32>,
+}
+
+impl Model for Sums {
+    ghost use Rattle.std.specs.Prelude.{vec_capacity};
+    ghost use Rattle.cr_kept.specs.Seen.{SeenSums};
+
+    ghost Value = { SeenSums };
+
+    ghost view = { λ s. record { sums = s.sums.items; capacity = vec_capacity s.sums } };
+}
+
+impl Sums {
+    /// Every sum is 0; takes no memory.
+    pub fn new(alloc: Global) -> Sums
+        ensures { result.sums ≡ [] }
+    {
+        Sums {
+            sums: Vec::new(alloc),
+        }
+    }
+
+    /// The sum of a user. One read by number.
+    pub fn of(&self, user: UserNo) -> u64
+        ensures value { result ≡ slice_index self.now.sums user }
+        ensures few { result < 4294967296 }
+    {
+        match self.sums.get(user.number() as usize) {
+            Some(total) => u64::from(*total),
+            None => 0,
+        }
+    }
+
+    /// Takes the memory for the sums of all users, 40,000 bytes; an error only for lack of memory,
+    /// and the sums are the same either way.
+    pub fn make_room(&mut self) -> Result<(), AllocError>
+        ensures ok { OnOk result (10000 ≤ self.new.capacity) }
+        ensures same { self.new.sums ≡ self.old.sums }
+        ensures keeps { self.old.capacity ≤ self.new.capacity }
+    {
+        self.sums.reserve(MOST_SUMS.saturating_sub(self.sums.len()))
+    }
+
+    /// This much more for a user, where there is room for all; takes no memory.
+    pub fn add(&mut self, user: UserNo, more: u64)
+        requires room { 10000 ≤ self.old.capacity }
+        requires few { slice_index self.old.sums user + more < 4294967296 }
+        ensures sums { self.new.sums ≡ with_more user more self.old.sums }
+        ensures capacity { self.old.capacity ≤ self.new.capacity }
+    {
+        let place = user.number() as usize;
+        fill(&mut self.sums, place);
+        self.sums[place] += more as u32;
+    }
+}
+
+/// Fills the sums up with zeros, so that one stands at this place, for which there is room.
+fn fill(sums: &mut Vec<u32>, place: usize)
+    requires { place < vec_capacity sums.old }
+    ensures items { sums.new.items ≡ sums.old.items ++ replicate (place + 1 - length sums.old.items) 0 }
+    ensures within { place < vec_len sums.new }
+    ensures capacity { vec_capacity sums.old ≤ vec_capacity sums.new }
+{
+    if place < sums.len() {
+        return;
+    }
+    match sums.resize(place + 1, 0) {
+        Ok(()) => {}
+        Err(_) => unreachable!(),
+    }
+}

@@ -1,0 +1,187 @@
+-- Of what is written of a paper, its forms, comments and tags, little is shown to its authors, little before the discussion, and
+-- little of who wrote it.
+use Rattle.std.proofs.Common.{◌≡◌, ℕ, Bool, true, false, List, [], ◌∷◌, eqb, refl, sym, ap, ◌∙◌, arith, ◌||◌, ◌&&◌, Option, None}
+use Rattle.std.specs.Prelude.{not, All}
+use Rattle.std.proofs.lemmas.Bool.{eqb-true, false≢true, and_parts, and_right, or_from}
+use Rattle.std.proofs.Math.Bool.{or-false}
+use Rattle.cr_base.specs.declared.entry.Entry.{Entry}
+use Rattle.cr_base.specs.declared.entry.Entry.TheVariants.{Reviewed, Commented, Tagged}
+use Rattle.cr_base.specs.declared.entry.EntryKind.TheVariants as kinds
+use Rattle.cr_base.specs.Lists.{is_number}
+use Rattle.cr_base.specs.History.{History}
+use Rattle.cr_base.specs.HistoryFacts.{phase_of, mode_of, role_of, is_author}
+use Rattle.cr_policy.specs.Sighting.{Sighting, blank}
+use Rattle.cr_policy.specs.View.{view}
+use Rattle.cr_policy.specs.ViewFacts.{is_kind}
+use Rattle.cr_policy.specs.ShownTo.{leads_committee, is_past_reviewing, is_past_discussion, hides_reviewers, has_conflict, serves, handles, oversees, leads}
+use Rattle.cr_policy.specs.ShownTo.{is_discussed, is_reviewed, is_committees, is_chairs, is_setters, is_told}
+use Rattle.cr_policy.specs.ViewBounds.{is_others, is_tag_so, FormsEarly, FormsFromAuthors, CommentsFromAuthors, WritersUnnamed, PrivateTagsAreOwn, ChairsTags}
+use Rattle.cr_policy.proofs.BoundsParts.{phase-words}
+use Rattle.cr_policy.proofs.BoundsWalk.{shown_to, each-view}
+use Rattle.cr_policy.proofs.BoundsLeft.{known-not, form-unread, comment-own, tag-own}
+use Rattle.cr_policy.proofs.BoundsSeats.{author-apart}
+
+-- ---- forms
+
+-- a form that isn't her own: `o` is that it is, `h` and `l` that she handles or leads the paper, `past` and `d` that it is the
+-- discussion or the notification, `k` that the form is discussed, `n` and `r` that it is the first and the last of its label, `a` that
+-- she is an author of the paper
+form-hidden : (o h past k : Bool) → o ≡ false → past ≡ false → (o || ((h && past) && k)) ≡ false
+form-hidden o h past k ho hp = grind (arith, ho, hp)
+
+review-hidden : (o h past k a d r : Bool) → o ≡ false → past ≡ false → d ≡ false → ((o || ((h && past) && k)) || ((a && d) && r)) ≡ false
+review-hidden o h past k a d r ho hp hd = grind (arith, ho, hp, hd)
+
+author-form : (o h past k l n a d r : Bool) → o ≡ false → h ≡ false → l ≡ false
+    → ((o || ((h && past) && k)) || (l && n) || ((a && d) && r)) ≡ true → d ≡ true
+author-form o h past k l n a d r ho hh hl told = grind (arith, ho, hh, hl, told)
+
+-- what is said of another's sighting on the paper
+other-parts : (same own : Bool) → (same && not own) ≡ true → (same ≡ true) × (own ≡ false)
+other-parts true true h = absurd (false≢true h)
+other-parts true false h = (refl, refl)
+other-parts false own h = absurd (false≢true h)
+
+pub forms-early : FormsEarly
+forms-early u p H early = each-view u H IsUnread each
+  where
+    IsUnread : Sighting → Type 0
+    IsUnread s = is_others kinds.Reviewed p s ≡ true → s ≡ record (blank kinds.Reviewed) { paper = s.paper; ordinal = s.ordinal; done = s.done }
+
+    silent : is_past_discussion (phase_of H) ≡ false
+    silent = sym (phase-words (phase_of H)).notification_later ∙ ap (λ b. b && is_past_discussion (phase_of H)) early
+
+    each : (before later : History) (maker : ℕ) (e : Entry) → is_told u H before later maker e ≡ true → IsUnread (shown_to u H before later maker e)
+    each before later maker (Reviewed paper ordinal version form) told = λ other.
+        let own : is_number u maker ≡ false = (other-parts (eqb paper p) (is_number u maker) other).1 in
+        let discussed : Bool = is_discussed paper ordinal before later in
+        let unread = form-hidden (is_number u maker) (handles u paper H) (is_past_reviewing (phase_of H)) discussed own early in
+        let unlearnt = review-hidden (is_number u maker) (handles u paper H) (is_past_reviewing (phase_of H)) discussed (is_author u paper H)
+        (is_past_discussion (phase_of H)) (not (is_reviewed paper ordinal later)) own early silent in
+        λ i. record (shown_to u H before later maker (Reviewed paper ordinal version form)) {
+          mine = own i;
+          version = known-not _ version unread i;
+          score = known-not _ form.score unlearnt i;
+          confidence = known-not _ form.confidence unlearnt i;
+          to_authors = known-not _ form.to_authors unlearnt i;
+          to_pc = known-not _ form.to_pc unread i;
+        }
+    each before later maker e told = λ other. absurd (false≢true other)
+
+-- who neither leads the paper nor handles it
+module _ (u : Option ℕ) (p : ℕ) (H : History) (apart : leads u p H ≡ false) (unhandled : handles u p H ≡ false) where
+  handled-at : (paper : ℕ) → eqb paper p ≡ true → handles u paper H ≡ false
+  handled-at paper same = ap (λ n. handles u n H) (eqb-true paper p same) ∙ unhandled
+
+  led-at : (paper : ℕ) → eqb paper p ≡ true → leads u paper H ≡ false
+  led-at paper same = ap (λ n. leads u n H) (eqb-true paper p same) ∙ apart
+
+  abbrev IsForAuthors : Sighting → Type 0
+  IsForAuthors s = is_others kinds.Reviewed p s ≡ true → (is_past_discussion (phase_of H) ≡ true) × (s.to_pc ≡ None)
+
+  forms-for-authors : All IsForAuthors (view u H)
+  forms-for-authors = each-view u H IsForAuthors each
+    where
+      each : (before later : History) (maker : ℕ) (e : Entry) → is_told u H before later maker e ≡ true → IsForAuthors (shown_to u H before later maker e)
+      each before later maker (Reviewed paper ordinal version form) told = λ other.
+          let parts = other-parts (eqb paper p) (is_number u maker) other in
+          let discussed : Bool = is_discussed paper ordinal before later in (
+            author-form (is_number u maker) (handles u paper H) (is_past_reviewing (phase_of H)) discussed (leads u paper H)
+                (not (is_reviewed paper ordinal before)) (is_author u paper H) (is_past_discussion (phase_of H)) (not (is_reviewed paper ordinal later))
+                parts.1 (handled-at paper parts.0) (led-at paper parts.0) told,
+            known-not _ form.to_pc
+                (or_from (is_number u maker) _ parts.1
+                (form-unread (handles u paper H) (is_past_reviewing (phase_of H)) discussed (handled-at paper parts.0))),
+          )
+      each before later maker e told = λ other. absurd (false≢true other)
+
+  -- ---- comments and tags
+
+  abbrev is_of_others : Sighting → Bool
+  is_of_others s = is_others kinds.Commented p s || is_others kinds.Tagged p s
+
+  none-of-others : All (λ (s : Sighting). is_of_others s ≡ false) (view u H)
+  none-of-others = each-view u H (λ (s : Sighting). is_of_others s ≡ false) each
+    where
+      none : (same own : Bool) → (same ≡ true → own ≡ true) → (same && not own) ≡ false
+      none true own h = ap not (h refl)
+      none false own h = refl
+
+      each : (before later : History) (maker : ℕ) (e : Entry) → is_told u H before later maker e ≡ true
+          → is_of_others (shown_to u H before later maker e) ≡ false
+      each before later maker (Commented paper n ordinal text) told =
+          or-false _
+          ∙ none (eqb paper p) (is_number u maker)
+          (λ same. comment-own (is_number u maker) (handles u paper H) (is_past_reviewing (phase_of H)) (handled-at paper same) told)
+      each before later maker (Tagged paper tag on) told =
+          none (eqb paper p) (is_number u maker)
+          (λ same. tag-own (is_number u maker) (is_committees tag) (is_chairs tag) (handles u paper H) (leads_committee (role_of u H))
+          (handled-at paper same) told)
+      each before later maker e told = refl
+
+pub forms-from-authors : FormsFromAuthors
+forms-from-authors u p H wrote =
+    let apart = author-apart u p H wrote in
+    forms-for-authors u p H apart.0 apart.1
+
+pub comments-from-authors : CommentsFromAuthors
+comments-from-authors u p H wrote =
+    let apart = author-apart u p H wrote in
+    none-of-others u p H apart.0 apart.1
+
+pub writers-unnamed : WritersUnnamed
+writers-unnamed u p H apart hides =
+    each-view u H (λ (s : Sighting). (is_kind kinds.Commented s && is_number s.paper p) ≡ true → s.by ≡ None) each
+  where
+    unnamed : (s c past lead hide : Bool) → (lead && c) ≡ false → hide ≡ true → (((s && c) && past) && (lead || not hide)) ≡ false
+    unnamed s c past lead hide hl hh = grind (arith, hl, hh)
+
+    each : (before later : History) (maker : ℕ) (e : Entry) → is_told u H before later maker e ≡ true
+        → (is_kind kinds.Commented (shown_to u H before later maker e) && is_number (shown_to u H before later maker e).paper p) ≡ true
+        → (shown_to u H before later maker e).by ≡ None
+    each before later maker (Commented paper n ordinal text) told on_it =
+        known-not _ maker
+        (unnamed (serves u H) (not (has_conflict u paper H)) (is_past_reviewing (phase_of H)) (leads_committee (role_of u H)) (hides_reviewers (mode_of H))
+        (ap (λ n. leads u n H) (eqb-true paper p on_it) ∙ apart) hides)
+    each before later maker e told on_it = absurd (false≢true on_it)
+
+-- a tag that she is told of: `m` and `c` are that it is the committee's or the chairs', `h` and `o` that she handles or oversees the
+-- paper
+pub private-tags : PrivateTagsAreOwn
+private-tags u p H =
+    each-view u H (λ (s : Sighting). (is_others kinds.Tagged p s && is_tag_so is_setters s.tag) ≡ false) each
+  where
+    none : (same own m c h o : Bool) → (own || ((m && h) || (c && o))) ≡ true → ((same && not own) && (not m && not c)) ≡ false
+    none same own m c h o told = grind (arith, told)
+
+    each : (before later : History) (maker : ℕ) (e : Entry) → is_told u H before later maker e ≡ true
+        → (is_others kinds.Tagged p (shown_to u H before later maker e) && is_tag_so is_setters (shown_to u H before later maker e).tag) ≡ false
+    each before later maker (Tagged paper tag on) told =
+        none (eqb paper p) (is_number u maker) (is_committees tag) (is_chairs tag) (handles u paper H) (oversees u paper H) told
+    each before later maker e told = refl
+
+pub chairs-tags : ChairsTags
+chairs-tags u p H apart =
+    each-view u H (λ (s : Sighting). (is_others kinds.Tagged p s && is_tag_so is_chairs s.tag) ≡ false) each
+  where
+    -- such a tag isn't the committee's besides
+    none : (same own m c h o : Bool) → (c ≡ true → m ≡ false) → (same ≡ true → o ≡ false) → (own || ((m && h) || (c && o))) ≡ true
+        → ((same && not own) && c) ≡ false
+    none true own m true h o apart out told = by (apart refl) (out refl)
+      where
+        by : m ≡ false → o ≡ false → ((true && not own) && true) ≡ false
+        by hm ho = grind (arith, hm, ho, told)
+    none true own m false h o apart out told = and_right (not own) false refl
+    none false own m c h o apart out told = refl
+
+    chairs-apart : (tag : List ℕ) → is_chairs tag ≡ true → is_committees tag ≡ false
+    chairs-apart [] h = absurd (false≢true h)
+    chairs-apart (a ∷ []) h = absurd (false≢true h)
+    chairs-apart (a ∷ b ∷ tag) h = ap not (and_parts (eqb a 126) (eqb b 126) h).0
+
+    each : (before later : History) (maker : ℕ) (e : Entry) → is_told u H before later maker e ≡ true
+        → (is_others kinds.Tagged p (shown_to u H before later maker e) && is_tag_so is_chairs (shown_to u H before later maker e).tag) ≡ false
+    each before later maker (Tagged paper tag on) told =
+        none (eqb paper p) (is_number u maker) (is_committees tag) (is_chairs tag) (handles u paper H) (oversees u paper H)
+        (chairs-apart tag) (λ same. ap (λ n. oversees u n H) (eqb-true paper p same) ∙ apart) told
+    each before later maker e told = refl

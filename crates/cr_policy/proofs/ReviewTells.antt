@@ -1,0 +1,170 @@
+-- What a view says of a paper's reviews is what the history says, where the reader's standing tells them.
+use Rattle.std.proofs.Common.{◌≡◌, ℕ, Bool, true, false, List, [], ◌∷◌, ◌++◌, refl, sym, ap, ◌∙◌, ◌||◌, ◌&&◌, Option, Some, None, arith}
+use Rattle.std.specs.Prelude.{map, not, unwrap_or}
+use Rattle.std.specs.List.{flat_map, list_any}
+use Rattle.std.proofs.lemmas.Bool.{or_right}
+use Rattle.std.proofs.lemmas.List.{map-append}
+use Rattle.cr_base.specs.declared.entry.Entry.TheVariants.{Reviewed}
+use Rattle.cr_base.specs.declared.entry.Stamped.{Stamped}
+use Rattle.cr_base.specs.declared.form.Form.{Form}
+use Rattle.cr_base.specs.declared.reply.AccountLine.{AccountLine}
+use Rattle.cr_base.specs.declared.review.ReviewLine.{ReviewLine}
+use Rattle.cr_base.specs.declared.standing.Standing.{Standing}
+use Rattle.cr_base.specs.declared.words.Phase.TheVariants.{Discussion, Notification}
+use Rattle.cr_base.specs.Answering.{review_told}
+use Rattle.cr_base.specs.Lists.{is_nothing, last, last_from, last_or, listed, since, until}
+use Rattle.cr_base.specs.History.{History, FormTold, form_told, own_form_told, opens_discussion, whole_form}
+use Rattle.cr_base.specs.HistoryFacts.{standing_of, forms_of, last_form_of, forms_discussed_of, own_forms_of, is_written}
+use Rattle.cr_base.specs.Page.{is_clear_member, is_clear_chair, where_told}
+use Rattle.cr_base.specs.Phases.{is_from}
+use Rattle.cr_history.proofs.LineTies.{stamp}
+use Rattle.cr_policy.specs.Part as part
+use Rattle.cr_policy.specs.Triggers.{Reader, reader, Around, user_named, standing_to}
+use Rattle.cr_policy.specs.View.{view}
+use Rattle.cr_policy.specs.ViewFacts.{only, form_seen, own_form_seen, done_seen, discussion_seen, last_form_in_view, forms_discussed_in_view}
+use Rattle.cr_policy.specs.ViewFacts.{own_forms_in_view, is_written_in_view}
+use Rattle.cr_policy.proofs.Cuts.{opening_cuts, kept_until, sights_until-as, sights_since-as, last_from-kept_until, kept_since-all}
+use Rattle.cr_policy.proofs.FormTells.{masked_form, ShowsForm, form_tells, form_kept, own_form_tells, done_tells}
+use Rattle.cr_policy.proofs.Tells.{passes}
+use Rattle.cr_policy.proofs.Walk.{kept, kept-map, sights-all, sights-kept, is_nothing-kept, last-same, last_as}
+
+-- ---- the reader's own
+
+pub own_forms-seen : (u : Option ℕ) (p : ℕ) (H : History) → own_forms_in_view p (view u H) ≡ own_forms_of u p H
+own_forms-seen u p H = sights-all (reader u H) (own_form_seen p) (λ (e : Stamped). own_form_told u p e.maker e.entry) (own_form_tells (reader u H) p) [] H
+
+-- ---- whether there is a form
+
+-- some marks are a mark
+marked : {A : Type 0} (xs : List A) → last_or false (map (λ _. true) xs) ≡ not (is_nothing xs)
+marked [] = refl
+marked {A} (x ∷ xs) = from xs
+  where
+    from : (xs : List A) → unwrap_or (last_from (Some true) (map (λ _. true) xs)) false ≡ true
+    from [] = refl
+    from (x ∷ xs) = from xs
+
+-- a clear chair sees of each label whether it has one
+pub written-seen : (u : Option ℕ) (p o : ℕ) (H : History) → is_clear_chair (standing_of u (Some p) H) ≡ true
+    → is_written_in_view p o (view u H) ≡ is_written p o H
+written-seen u p o H told =
+    ap (last_or false)
+    (sights-kept r (done_seen p o) (λ (e : Stamped). map (λ _. true) (forms e)) (passes part.done r) (done_tells r p o) [] H
+    ∙ kept-map (λ _. true) (passes part.done r) forms [] H)
+    ∙ marked (kept (passes part.done r) forms [] H)
+    ∙ ap not
+    (is_nothing-kept (passes part.done r) forms
+    (λ at e none. form_kept part.done r at p o
+    (λ maker more version form. shown (is_nothing (flat_map forms at.before)) (is_clear_chair (standing_to r p)) none told) e) [] H refl)
+  where
+    r : Reader
+    r = reader u H
+
+    forms : Stamped → List FormTold
+    forms e = form_told p o e.entry
+
+    shown : (first chair : Bool) → first ≡ true → chair ≡ true → ((first && chair) || false) ≡ true
+    shown first chair hf hc = grind arith
+
+-- ---- the forms, as some are told them
+
+-- a form is told alike where its version and its text for the committee are alike, for one who is told these
+told_alike : (by : Standing) (accounts : List AccountLine) (named : Bool) (user : Option ℕ) (label : ℕ) (whole : Bool) (version : ℕ) (form : Form)
+    → (not by.author ≡ true → whole ≡ true)
+    → review_told by accounts named user label (masked_form whole version form) ≡ review_told by accounts named user label (whole_form version form)
+told_alike by accounts named user label whole version form same = from (not by.author) whole same
+  where
+    line : Bool → Bool → ReviewLine
+    line member whole = record {
+      confidence = form.confidence;
+      label = label;
+      score = form.score;
+      to_authors = form.to_authors;
+      to_pc = where_told member (masked_form whole version form).to_pc;
+      user = (review_told by accounts named user label (whole_form version form)).user;
+      version = where_told member (masked_form whole version form).version;
+    }
+
+    from : (member whole : Bool) → (member ≡ true → whole ≡ true) → line member whole ≡ line member true
+    from true whole h = ap (line true) (h refl)
+    from false true h = refl
+    from false false h = refl
+
+module _ (u : Option ℕ) (p : ℕ) (H : History) (accounts : List AccountLine) (named : Bool) (user : Option ℕ) (o : ℕ) where
+  abbrev by : Standing
+  by = standing_of u (Some p) H
+
+  abbrev r : Reader
+  r = reader u H
+
+  abbrev tell : FormTold → ReviewLine
+  tell = review_told by accounts named user o
+
+  abbrev told : Stamped → List FormTold
+  told e = form_told p o e.entry
+
+  -- whoever isn't an author is shown all of a form or no grade of it
+  shows-form : (at : Around) → ShowsForm tell r at p
+  shows-form at maker more ordinal version form graded =
+      told_alike by accounts named user o (passes part.version r at (stamp maker more (Reviewed p ordinal version form))) version form
+      (λ member. whole _ _ by.author _ (user_named r maker) member graded)
+    where
+      whole : (d n a f own : Bool) → not a ≡ true → (d || ((n && a && f) || (own || false))) ≡ true → (d || (own || false)) ≡ true
+      whole d n a f own hn h = grind arith
+
+  -- an author sees the last form of each label from the notification on
+  pub last_form-seen : by.author ≡ true → is_from Notification by.phase ≡ true
+      → map tell (listed (last_form_in_view p o (view u H))) ≡ map tell (listed (last_form_of p o H))
+  last_form-seen author notified =
+      last_as tell r (form_seen p o) told (passes part.score r) (form_tells tell r p o shows-form)
+      (λ at e last. form_kept part.score r at p o
+      (λ maker more version form. shown _ (is_nothing (flat_map told at.after)) by.author (is_from Notification by.phase) (user_named r maker)
+      last author notified) e) [] H
+    where
+      shown : (d n a f own : Bool) → n ≡ true → a ≡ true → f ≡ true → (d || ((n && a && f) || (own || false))) ≡ true
+      shown d n a f own hn ha hf = grind arith
+
+  -- who discusses the paper sees of each label's forms the last before the discussion, and all later ones
+  module _ (clear : is_clear_member by ≡ true) (discussed : is_from Discussion by.phase ≡ true) where
+    -- an entry that stands so is shown
+    kept_at : (at : Around) (e : Stamped) (none : Bool) → none ≡ is_nothing (flat_map told (until opens_discussion at.after))
+        → ((not (list_any opens_discussion at.before) && none) || list_any opens_discussion at.before) ≡ true
+        → only (passes part.score r at e) (told e) ≡ told e
+    kept_at at e none is placed =
+        form_kept part.score r at p o (λ maker more version form.
+        shown (list_any opens_discussion at.before) none _ (is_clear_member by) (is_from Discussion by.phase) _ is placed clear discussed) e
+      where
+        shown : (opened none n c d rest : Bool) → none ≡ n → ((not opened && none) || opened) ≡ true → c ≡ true → d ≡ true
+            → ((((not opened && n) || opened) && (c && d)) || rest) ≡ true
+        shown opened none n c d rest hn hp hc hd = grind arith
+
+    earlier : map tell (listed (last (flat_map (form_seen p o) (until discussion_seen (view u H)))))
+        ≡ map tell (listed (last (forms_of p o (until opens_discussion H))))
+    earlier =
+        last-same tell (flat_map (form_seen p o) (until discussion_seen (view u H))) (kept_until opens_discussion (passes part.score r) told [] H)
+        (forms_of p o (until opens_discussion H))
+        (sights_until-as tell opens_discussion (passes part.score r) told r discussion_seen (opening_cuts r Discussion) (form_seen p o)
+        (form_tells tell r p o shows-form) [] H)
+        (last_from-kept_until opens_discussion (passes part.score r) told
+        (λ at e opened none. kept_at at e true (sym none) (before (list_any opens_discussion at.before) opened)) None [] H refl)
+      where
+        before : (opened : Bool) → opened ≡ false → ((not opened && true) || opened) ≡ true
+        before opened h = grind arith
+
+    later : map tell (flat_map (form_seen p o) (since discussion_seen (view u H))) ≡ map tell (forms_of p o (since opens_discussion H))
+    later =
+        sights_since-as tell opens_discussion (passes part.score r) told r discussion_seen (opening_cuts r Discussion) (form_seen p o)
+        (form_tells tell r p o shows-form) [] H
+        ∙ ap (map tell)
+        (kept_since-all opens_discussion (passes part.score r) told
+        (λ at e opened. kept_at at e (is_nothing (flat_map told (until opens_discussion at.after))) refl
+        (or_right _ (list_any opens_discussion at.before) opened)) [] H)
+
+    pub discussed-seen : map tell (forms_discussed_in_view p o (view u H)) ≡ map tell (forms_discussed_of p o H)
+    discussed-seen =
+        let before : List FormTold = listed (last (forms_of p o (until opens_discussion H))) in
+        let seen : List FormTold = flat_map (form_seen p o) (since discussion_seen (view u H)) in
+        map-append tell (listed (last (flat_map (form_seen p o) (until discussion_seen (view u H))))) seen
+        ∙ ap (λ lines. lines ++ map tell seen) earlier
+        ∙ ap (λ lines. map tell before ++ lines) later
+        ∙ sym (map-append tell before (forms_of p o (since opens_discussion H)))

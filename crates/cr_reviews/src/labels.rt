@@ -1,0 +1,50 @@
+//! Which labels of a paper have something said of them.
+ghost use Rattle.std.specs.Prelude.{◌≡◌, ℕ, ◌||◌, ◌==◌, false};
+ghost use Rattle.cr_reviews.specs.Labels.{has_label};
+
+use cr_base::{MOST_LABELS, Ordinal};
+use std::marker::Model;
+
+/// A flag for each ordinal, and one for 0, which no label has.
+const FLAGS: usize = MOST_LABELS as usize + 1;
+
+/// Some of the labels of a paper. Contracts see a flag for each ordinal.
+#[derive(Clone, Copy, Debug)]
+pub struct Labels {
+    flags: [bool; FLAGS],
+}
+
+impl Model for Labels {
+    ghost use Rattle.std.specs.Prelude.{Bool, List};
+
+    ghost Value = { List Bool };
+
+    ghost view = { λ l. l.flags };
+
+    ghost inverse = { λ flags. record { flags = flags } };
+}
+
+impl Labels {
+    /// None of them.
+    pub(crate) fn none() -> Labels
+        ensures { (o : ℕ) → has_label result o ≡ false }
+    {
+        Labels {
+            flags: [false; FLAGS],
+        }
+    }
+
+    /// Whether the label of this ordinal is among them. One read.
+    pub fn has(&self, ordinal: Ordinal) -> bool
+        ensures { result ≡ has_label self.now ordinal }
+    {
+        self.flags[ordinal.number() as usize]
+    }
+
+    /// The label of this ordinal is among them from now on.
+    pub(crate) fn add(&mut self, ordinal: Ordinal)
+        ensures { (o : ℕ) → has_label self.new o ≡ (ordinal == o || has_label self.old o) }
+    {
+        self.flags[ordinal.number() as usize] = true;
+    }
+}

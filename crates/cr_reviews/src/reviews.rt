@@ -1,0 +1,187 @@
+//! The forms that reviewers have written of papers.
+ghost use Rattle.std.specs.Prelude.{◌≡◌, ℕ, ◌≤◌, ◌<◌, ◌+◌, ◌^◌, OnOk, length, map, is_some, unwrap_or};
+ghost use Rattle.std.specs.Option.{option_copied};
+ghost use Rattle.cr_base.specs.Checks.{judged, review_checks};
+ghost use Rattle.cr_base.specs.Filed.{filed_of};
+ghost use Rattle.cr_base.specs.Reviews.{no_reviews, reviews_after, last_form_in, last_form_before, is_written_in};
+ghost use Rattle.cr_reviews.specs.Labels.{has_label};
+ghost use Rattle.cr_reviews.specs.Under.{forms_by};
+
+use crate::forms::{count_under, has_under, labels_of, last_before, last_under};
+use crate::labels::Labels;
+use cr_base::{Entry, Filed, Ordinal, PaperNo, Phase, Rule, Stamped, Standing, WrittenForm};
+use cr_kept::Files;
+use std::alloc::{AllocError, Global};
+use std::marker::Model;
+
+/// The forms of each paper in the order in which they were written, all of them; and the phase, which each
+/// form takes over when it is written.
+///
+/// Contracts see the phase and the forms paper by paper, and for how many more entries there is room.
+#[derive(Drop)]
+pub struct Reviews {
+    phase: Phase,
+    forms: Files<WrittenForm>,
+}
+
+impl Model for Reviews {
+    ghost use Rattle.cr_reviews.specs.Seen.{SeenReviews};
+
+    ghost Value = { SeenReviews };
+
+    ghost view = { λ t. record {
+      reviews = record { phase = t.phase; forms = t.forms.files };
+      room = t.forms.room;
+    } };
+}
+
+/// What is read.
+impl Reviews {
+    /// No forms, in the first phase; takes no memory.
+    pub fn new(alloc: Global) -> Reviews
+        ensures { result.reviews ≡ no_reviews }
+    {
+        Reviews {
+            phase: Phase::Setup,
+            forms: Files::new(alloc),
+        }
+    }
+
+    /// The forms of the paper, under all labels, in the order in which they were written; none where there
+    /// is no such paper. Two binary searches; takes no memory.
+    pub fn forms(&self, paper: PaperNo) -> &[Filed<WrittenForm>]
+        ensures { map (λ filed. filed.value) result.now ≡ filed_of paper self.now.reviews.forms }
+    {
+        self.forms.of_paper(paper)
+    }
+
+    /// The last form under the paper's label of this ordinal, and none where there is none. Two binary
+    /// searches, and a walk over the paper's forms back to it.
+    pub fn last(&self, paper: PaperNo, ordinal: Ordinal) -> Option<&WrittenForm>
+        ensures { option_copied result ≡ last_form_in self.now.reviews paper ordinal }
+    {
+        last_under(self.forms(paper), ordinal)
+    }
+
+    /// The last of them that was written before the phase began, and none where there is none. It costs the
+    /// same.
+    pub fn last_before(
+        &self,
+        paper: PaperNo,
+        ordinal: Ordinal,
+        phase: Phase,
+    ) -> Option<&WrittenForm>
+        ensures { option_copied result ≡ last_form_before self.now.reviews paper ordinal phase }
+    {
+        last_before(self.forms(paper), ordinal, phase)
+    }
+
+    /// Whether there is a form under the paper's label of this ordinal. Two binary searches, and a walk over
+    /// the paper's forms up to the first.
+    pub fn has_form(&self, paper: PaperNo, ordinal: Ordinal) -> bool
+        ensures { result ≡ is_written_in self.now.reviews paper ordinal }
+    {
+        has_under(self.forms(paper), ordinal)
+    }
+
+    /// The labels of the paper under which there is a form. Two binary searches, and one walk over the
+    /// paper's forms.
+    pub fn labels(&self, paper: PaperNo) -> Labels
+        ensures { (o : ℕ) → has_label result o ≡ is_written_in self.now.reviews paper o }
+    {
+        labels_of(self.forms(paper))
+    }
+
+    /// The version that a form under this label of this paper would be now, the count of forms under the
+    /// label plus 1, or the first broken rule. `by` is the caller's standing at the paper, `ordinal` that of
+    /// the label under which she reviews it, if she does; `paper` is none where there is no such paper.
+    /// Whether it is withdrawn stands in none of the forms. Two binary searches, and a walk over the paper's
+    /// forms; takes no memory.
+    ///
+    /// In this order: `NoPaper`, `NotMember`, `Conflict`, `NotReviewer` where she doesn't review the paper,
+    /// `WrongPhase` where it is neither the reviewing nor the discussion, `Withdrawn`.
+    pub fn judge_review(
+        &self,
+        by: &Standing,
+        paper: &Option<PaperNo>,
+        ordinal: &Option<Ordinal>,
+        withdrawn: bool,
+    ) -> Result<u64, Rule>
+        ensures { result ≡ judged
+            (review_checks by.now (record { there = is_some paper.now; withdrawn = withdrawn }))
+            (length (forms_by self.now.reviews (unwrap_or paper.now 0) ordinal.now) + 1) }
+    {
+        let Some(paper) = paper else {
+            return Err(Rule::NoPaper);
+        };
+        match by.may_handle() {
+            Ok(()) => {}
+            Err(rule) => return Err(rule),
+        }
+        if !by.reviewer {
+            return Err(Rule::NotReviewer);
+        }
+        if !by.phase.is(Phase::Reviewing) && !by.phase.is(Phase::Discussion) {
+            return Err(Rule::WrongPhase);
+        }
+        if withdrawn {
+            return Err(Rule::Withdrawn);
+        }
+        Ok(self.count_by(*paper, ordinal) + 1)
+    }
+
+    /// How many forms there are under the paper's label of this ordinal, and 0 where none is told.
+    fn count_by(&self, paper: PaperNo, ordinal: &Option<Ordinal>) -> u64
+        ensures value { result ≡ length (forms_by self.now.reviews paper ordinal.now) }
+        ensures few { result < 2 ^ 63 }
+    {
+        match ordinal {
+            Some(ordinal) => count_under(self.forms(paper), *ordinal) as u64,
+            None => 0,
+        }
+    }
+}
+
+/// What entries make of it.
+impl Reviews {
+    /// Takes the memory that the entries of one command need; an error only for lack of memory, and the
+    /// forms are the same either way.
+    pub fn room(&mut self, group: &[Stamped]) -> Result<(), AllocError>
+        ensures ok { OnOk result (length group.now ≤ self.new.room) }
+        ensures same { self.new.reviews ≡ self.old.reviews }
+        ensures keeps { self.old.room ≤ self.new.room }
+    {
+        self.forms.room(group.len())
+    }
+
+    /// One more entry, for which there is room. It is taken whole, since a form's texts are kept; takes no
+    /// memory. A form costs one binary search, and a move of the forms of papers with higher numbers.
+    pub fn apply(&mut self, stamped: Stamped)
+        requires { 0 < self.old.room }
+        ensures after { self.new.reviews ≡ reviews_after self.old.reviews stamped.entry }
+        ensures room { self.old.room ≤ self.new.room + 1 }
+    {
+        let Stamped { entry, .. } = stamped;
+        match entry {
+            Entry::PhaseSet { phase } => self.phase = phase,
+            Entry::Reviewed {
+                paper,
+                ordinal,
+                version,
+                form,
+            } => {
+                let phase = self.phase;
+                self.forms.file(
+                    paper,
+                    WrittenForm {
+                        ordinal,
+                        version,
+                        phase,
+                        form,
+                    },
+                );
+            }
+            _ => {}
+        }
+    }
+}

@@ -1,0 +1,87 @@
+-- An entry is of a matter where it tells something of it.
+use Rattle.std.proofs.Common.{◌≡◌, ◌∙◌, ℕ, ◌+◌, ◌*◌, ◌<◌, ◌≤◌, ◌/◌, ◌%◌, Bool, true, false, List, [], ◌∷◌, ◌++◌, eqb, refl, ap, arith}
+use Rattle.std.specs.Prelude.{not, ◌&&◌, ◌||◌, Some}
+use Rattle.std.specs.List.{list_any}
+use Rattle.std.proofs.lemmas.Bool.Decides.{nat_tests}
+use Rattle.std.proofs.lemmas.Nat.{div-mul-add, mod-mul-add}
+use Rattle.cr_base.specs.declared.entry.Entry.{Entry}
+use Rattle.cr_base.specs.declared.entry.Entry.TheVariants.{Submitted, Revised, Uploaded, Reviewed}
+use Rattle.cr_base.specs.declared.entry.Stamped.{Stamped}
+use Rattle.cr_base.specs.Lists.{given, is_nothing}
+use Rattle.cr_base.specs.History.{History, all_told, form_told, title_told, upload_told}
+use Rattle.cr_policy.specs.Triggers.{none_in}
+use Rattle.cr_sights.specs.Matters.{is_label, is_of, none_of}
+
+-- ---- what tells of a matter
+
+module _ {A : Type 0} (told : Entry → List A) (test : Entry → Bool) (tells : (e : Entry) → is_nothing (told e) ≡ not (test e)) where
+  none-step : (xs : List A) (b : Bool) (rest : List A) (more : Bool) → is_nothing xs ≡ not b → is_nothing rest ≡ not more
+      → is_nothing (xs ++ rest) ≡ not (b || more)
+  none-step [] true rest more here behind = cc
+  none-step [] false rest more here behind = behind
+  none-step (x ∷ xs) true rest more here behind = refl
+  none-step (x ∷ xs) false rest more here behind = cc
+
+  none-any : (H : History) → none_in told H ≡ not (list_any (λ (e : Stamped). test e.entry) H)
+  none-any [] = refl
+  none-any (e ∷ H) = none-step (told e.entry) (test e.entry) (all_told told H) (list_any (λ (e : Stamped). test e.entry) H) (tells e.entry) (none-any H)
+
+-- ---- the matters of a paper
+
+given-nothing : {A : Type 0} (b : Bool) (x : A) → is_nothing (given b x) ≡ not b
+given-nothing true x = refl
+given-nothing false x = refl
+
+label-other : (place o : ℕ) (b : Bool) → is_label place ≡ false → false ≡ is_label o && ((eqb o place) && b)
+label-other place o b none = grind (arith, nat_tests)
+
+label-same : (place o : ℕ) (b : Bool) → is_label place ≡ true → b && eqb o place ≡ is_label o && (eqb o place && b)
+label-same place o b some = grind (arith, nat_tests)
+
+first-other : (place : ℕ) (b : Bool) → is_label place ≡ true → false ≡ eqb 0 place && b
+first-other place b some = grind (arith, nat_tests)
+
+last-other : (place : ℕ) (b : Bool) → is_label place ≡ true → false ≡ eqb 27 place && b
+last-other place b some = grind (arith, nat_tests)
+
+module _ (paper place k : ℕ) (at : k % 28 ≡ place) (of : k / 28 ≡ paper) where
+  texts-tell : place ≡ 0 → (e : Entry) → is_nothing (title_told paper e) ≡ not (is_of k e)
+  texts-tell first (Submitted q title abstract) = rw (at, of, first) (given-nothing (eqb q paper) title)
+  texts-tell first (Revised q title abstract) = rw (at, of, first) (given-nothing (eqb q paper) title)
+  texts-tell first (Uploaded q version content) = rw (at, first) refl
+  texts-tell first (Reviewed q o version form) = rw (at, first) (ap not (label-other 0 o (eqb q (k / 28)) refl))
+  texts-tell first _ = refl
+
+  content-tells : place ≡ 27 → (e : Entry) → is_nothing (upload_told paper e) ≡ not (is_of k e)
+  content-tells last (Submitted q title abstract) = rw (at, last) refl
+  content-tells last (Revised q title abstract) = rw (at, last) refl
+  content-tells last (Uploaded q version content) = rw (at, of, last) (given-nothing (eqb q paper) (record { version = version; content = content }))
+  content-tells last (Reviewed q o version form) = rw (at, last) (ap not (label-other 27 o (eqb q (k / 28)) refl))
+  content-tells last _ = refl
+
+  form-tells : is_label place ≡ true → (e : Entry) → is_nothing (form_told paper place e) ≡ not (is_of k e)
+  form-tells label (Reviewed q o version form) = rw (at, of) (given-nothing (eqb q paper && eqb o place) _ ∙ ap not (label-same place o (eqb q paper) label))
+  form-tells label (Submitted q title abstract) = rw at (ap not (first-other place (eqb q (k / 28)) label))
+  form-tells label (Revised q title abstract) = rw at (ap not (first-other place (eqb q (k / 28)) label))
+  form-tells label (Uploaded q version content) = rw at (ap not (last-other place (eqb q (k / 28)) label))
+  form-tells label _ = refl
+
+-- ---- by the number of a matter
+
+module _ (paper place k : ℕ) (low : place < 28) (number : k ≡ paper * 28 + place) where
+  place-of : k % 28 ≡ place
+  place-of = ap (λ n. n % 28) number ∙ mod-mul-add paper 28 place low
+
+  paper-of : k / 28 ≡ paper
+  paper-of = ap (λ n. n / 28) number ∙ div-mul-add paper 28 place low
+
+  pub texts-alike : place ≡ 0 → (H : History) → none_in (title_told paper) H ≡ none_of (Some k) H
+  texts-alike first H = none-any (title_told paper) (is_of k) (texts-tell paper place k place-of paper-of first) H
+
+  pub content-alike : place ≡ 27 → (H : History) → none_in (upload_told paper) H ≡ none_of (Some k) H
+  content-alike last H = none-any (upload_told paper) (is_of k) (content-tells paper place k place-of paper-of last) H
+
+  pub form-alike : 1 ≤ place → place ≤ 26 → (H : History) → none_in (form_told paper place) H ≡ none_of (Some k) H
+  form-alike above below H =
+      let label : is_label place ≡ true = grind (arith, nat_tests) in
+      none-any (form_told paper place) (is_of k) (form-tells paper place k place-of paper-of label) H

@@ -1,0 +1,64 @@
+//! What one entry shows a reader, kind by kind.
+ghost use Rattle.std.specs.Prelude.{◌≡◌, Some};
+ghost use Rattle.cr_base.specs.Lists.{listed};
+ghost use Rattle.cr_policy.specs.Triggers.{Around, position_of};
+ghost use Rattle.cr_policy.specs.View.{sight as sight_at};
+ghost use Rattle.cr_sights.specs.Readers.{reader_in};
+
+use crate::papers::{coauthor, revision, submission, upload, withdrawal};
+use crate::position::Position;
+use crate::reviews::review;
+use crate::seats::{assignment, unassignment};
+use crate::sighting::{Sighting, blank};
+use crate::tags::tagging;
+use crate::talk::comment;
+use crate::ties::{bid, conflict};
+use cr_base::{Entry, EntryKind, Stamped, UserNo};
+use cr_view::Live;
+
+/// What an entry shows a user by the tables of the whole history, and none where it shows her nothing. `position`
+/// tells where it stands among the entries of its matter. A few look-ups; takes no memory.
+pub fn sight<'a>(
+    live: &Live,
+    reader: UserNo,
+    stamped: &'a Stamped,
+    position: Position,
+) -> Option<Sighting<'a>>
+    ensures { (at : Around) → position_of at stamped.now.entry ≡ position
+        → listed result ≡ sight_at (reader_in live.now.tables (Some reader)) at stamped.now }
+{
+    let mine = reader == stamped.maker;
+    match &stamped.entry {
+        Entry::Registered { user, name, digest } => Some(Sighting {
+            user: Some(*user),
+            name: Some(name),
+            digest: mine.then_some(digest),
+            ..blank(EntryKind::Registered, mine)
+        }),
+        Entry::Named { user, role } => Some(Sighting {
+            user: Some(*user),
+            role: Some(*role),
+            ..blank(EntryKind::Named, mine)
+        }),
+        Entry::PhaseSet { phase } => Some(Sighting {
+            phase: Some(*phase),
+            ..blank(EntryKind::PhaseSet, mine)
+        }),
+        Entry::ModeSet { mode } => Some(Sighting {
+            mode: Some(*mode),
+            ..blank(EntryKind::ModeSet, mine)
+        }),
+        Entry::Submitted { .. } => submission(live, reader, stamped, position.last),
+        Entry::Coauthor { .. } => coauthor(live, reader, stamped),
+        Entry::Revised { .. } => revision(live, reader, stamped, position.last),
+        Entry::Uploaded { .. } => upload(live, reader, stamped, position.last),
+        Entry::Withdrawn { .. } => withdrawal(live, reader, stamped),
+        Entry::Conflict { .. } => conflict(live, reader, stamped),
+        Entry::Bid { .. } => bid(live, reader, stamped),
+        Entry::Assigned { .. } => assignment(live, reader, stamped),
+        Entry::Unassigned { .. } => unassignment(live, reader, stamped),
+        Entry::Reviewed { .. } => review(live, reader, stamped, position),
+        Entry::Commented { .. } => comment(live, reader, stamped),
+        Entry::Tagged { .. } => tagging(live, reader, stamped),
+    }
+}

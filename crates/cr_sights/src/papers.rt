@@ -1,0 +1,218 @@
+//! What entries that make a paper and its texts, tell its authors and its content, and withdraw it show a reader.
+ghost use Rattle.std.specs.Prelude.{◌≡◌, ◌||◌, ◌&&◌, ◌∷◌, [], Bool, not, Some};
+ghost use Rattle.cr_base.specs.Lists.{listed};
+ghost use Rattle.cr_base.specs.Page.{is_clear_member, is_clear_chair};
+ghost use Rattle.cr_base.specs.Phases.{is_from};
+ghost use Rattle.cr_base.specs.Words.{is_anonymous, is_member};
+ghost use Rattle.cr_base.specs.declared.words.Phase.TheVariants as phases;
+ghost use Rattle.cr_base.specs.declared.entry.EntryKind.TheVariants as kinds;
+ghost use Rattle.cr_base.specs.Rows.{kind_of};
+ghost use Rattle.cr_policy.specs.Triggers.{Around, authors, members, none_alike, standing_to, unless_anonymous, user_named};
+ghost use Rattle.cr_policy.specs.View.{sight as sight_at};
+ghost use Rattle.cr_sights.specs.Readers.{reader_in};
+
+use crate::asked::is_bidding;
+use crate::sighting::{Sighting, blank};
+use cr_base::{Blob, Entry, EntryKind, PaperNo, Stamped, Standing, Text, UserNo};
+use cr_view::Live;
+
+/// Whether she is shown who made a submission.
+fn shows_maker(by: &Standing) -> bool
+    ensures { result ≡ (by.now.author
+        || (is_from phases.Bidding by.now.phase && (is_clear_chair by.now || (is_clear_member by.now && not (is_anonymous by.now.mode))))) }
+{
+    let handles = by.is_clear_chair() || by.is_clear_member() && !by.mode.is_anonymous();
+    by.author || is_bidding(by) && handles
+}
+
+/// Whether she is shown the title of a submission or a revision.
+fn shows_title(by: &Standing, mine: bool, is_last: bool) -> bool
+    ensures { result ≡ (by.now.author || ((is_last && is_member by.now.role && is_from phases.Bidding by.now.phase) || mine)) }
+{
+    by.author || is_last && by.role.is_member() && is_bidding(by) || mine
+}
+
+/// Whether she is shown the abstract of a submission or a revision.
+fn shows_abstract(by: &Standing, mine: bool, is_last: bool) -> bool
+    ensures { result ≡ (by.now.author || ((is_last && is_clear_member by.now && is_from phases.Bidding by.now.phase) || mine)) }
+{
+    by.author || is_last && by.is_clear_member() && is_bidding(by) || mine
+}
+
+/// Whether she is told that a user is an author of a paper: its authors are, who made the entry, clear chairs from
+/// the bidding, and clear members too where the mode isn't anonymous.
+fn tells_coauthor(live: &Live, reader: UserNo, maker: UserNo, paper: PaperNo) -> bool
+    ensures { let r = reader_in live.now.tables (Some reader) in
+        result ≡ (authors r paper || ((is_clear_chair (standing_to r paper) && is_from phases.Bidding r.now)
+        || ((is_clear_member (standing_to r paper) && unless_anonymous r && is_from phases.Bidding r.now) || user_named r maker))) }
+{
+    let by = live.standing(&Some(reader), &Some(paper));
+    shows_maker(&by) || maker == reader
+}
+
+/// Whether she is told of a revision of a paper: its authors are, who made it, and of the last that gives the paper
+/// texts members from the bidding.
+fn tells_revision(live: &Live, reader: UserNo, maker: UserNo, is_last: bool, paper: PaperNo) -> bool
+    ensures { let r = reader_in live.now.tables (Some reader) in
+        result ≡ (authors r paper || ((is_last && members r && is_from phases.Bidding r.now)
+        || ((is_last && is_clear_member (standing_to r paper) && is_from phases.Bidding r.now) || user_named r maker))) }
+{
+    let by = live.standing(&Some(reader), &Some(paper));
+    shows_title(&by, maker == reader, is_last)
+}
+
+/// Whether she is told of an upload to a paper: its authors are, who made it, and of the last one clear members from
+/// the bidding.
+fn tells_upload(live: &Live, reader: UserNo, maker: UserNo, is_last: bool, paper: PaperNo) -> bool
+    ensures { let r = reader_in live.now.tables (Some reader) in
+        result ≡ (authors r paper || ((is_last && is_clear_member (standing_to r paper) && is_from phases.Bidding r.now) || user_named r maker)) }
+{
+    let by = live.standing(&Some(reader), &Some(paper));
+    by.author || is_last && by.is_clear_member() && is_bidding(&by) || maker == reader
+}
+
+/// Whether she is told that a paper is withdrawn: its authors are, who made the entry, and members from the bidding.
+fn tells_withdrawal(live: &Live, reader: UserNo, maker: UserNo, paper: PaperNo) -> bool
+    ensures { let r = reader_in live.now.tables (Some reader) in
+        result ≡ (authors r paper || ((members r && is_from phases.Bidding r.now) || user_named r maker)) }
+{
+    let by = live.standing(&Some(reader), &Some(paper));
+    by.author || by.role.is_member() && is_bidding(&by) || maker == reader
+}
+
+/// What a submission shows her: its paper, and who made it, its title and its abstract where she may
+/// know them.
+pub(crate) fn submission<'a>(
+    live: &Live,
+    reader: UserNo,
+    stamped: &'a Stamped,
+    is_last: bool,
+) -> Option<Sighting<'a>>
+    requires { kind_of stamped.now.entry ≡ kinds.Submitted }
+    ensures { (at : Around) → none_alike stamped.now.entry at.after ≡ is_last
+        → listed result ≡ sight_at (reader_in live.now.tables (Some reader)) at stamped.now }
+{
+    let Entry::Submitted {
+        paper,
+        title,
+        abstract_,
+    } = &stamped.entry
+    else {
+        return None;
+    };
+    let mine = reader == stamped.maker;
+    let by = live.standing(&Some(reader), &Some(*paper));
+    Some(Sighting {
+        paper: Some(*paper),
+        by: shows_maker(&by).then_some(stamped.maker),
+        title: shows_title(&by, mine, is_last).then_some(title),
+        abstract_: shows_abstract(&by, mine, is_last).then_some(abstract_),
+        ..blank(EntryKind::Submitted, mine)
+    })
+}
+
+/// What a co-author shows her: all of it, or nothing where she isn't told of it.
+pub(crate) fn coauthor<'a>(
+    live: &Live,
+    reader: UserNo,
+    stamped: &'a Stamped,
+) -> Option<Sighting<'a>>
+    requires { kind_of stamped.now.entry ≡ kinds.Coauthor }
+    ensures { (at : Around) → listed result ≡ sight_at (reader_in live.now.tables (Some reader)) at stamped.now }
+{
+    let Entry::Coauthor { paper, user } = &stamped.entry else {
+        return None;
+    };
+    if !tells_coauthor(live, reader, stamped.maker, *paper) {
+        return None;
+    }
+    Some(Sighting {
+        paper: Some(*paper),
+        user: Some(*user),
+        ..blank(EntryKind::Coauthor, reader == stamped.maker)
+    })
+}
+
+/// What a revision shows her: its paper, its title and its abstract where she may know them, or
+/// nothing where she isn't told of it.
+pub(crate) fn revision<'a>(
+    live: &Live,
+    reader: UserNo,
+    stamped: &'a Stamped,
+    is_last: bool,
+) -> Option<Sighting<'a>>
+    requires { kind_of stamped.now.entry ≡ kinds.Revised }
+    ensures { (at : Around) → none_alike stamped.now.entry at.after ≡ is_last
+        → listed result ≡ sight_at (reader_in live.now.tables (Some reader)) at stamped.now }
+{
+    let Entry::Revised {
+        paper,
+        title,
+        abstract_,
+    } = &stamped.entry
+    else {
+        return None;
+    };
+    if !tells_revision(live, reader, stamped.maker, is_last, *paper) {
+        return None;
+    }
+    let mine = reader == stamped.maker;
+    let by = live.standing(&Some(reader), &Some(*paper));
+    Some(Sighting {
+        paper: Some(*paper),
+        title: shows_title(&by, mine, is_last).then_some(title),
+        abstract_: shows_abstract(&by, mine, is_last).then_some(abstract_),
+        ..blank(EntryKind::Revised, mine)
+    })
+}
+
+/// What an upload shows her: all of it, or nothing where she isn't told of it.
+pub(crate) fn upload<'a>(
+    live: &Live,
+    reader: UserNo,
+    stamped: &'a Stamped,
+    is_last: bool,
+) -> Option<Sighting<'a>>
+    requires { kind_of stamped.now.entry ≡ kinds.Uploaded }
+    ensures { (at : Around) → none_alike stamped.now.entry at.after ≡ is_last
+        → listed result ≡ sight_at (reader_in live.now.tables (Some reader)) at stamped.now }
+{
+    let Entry::Uploaded {
+        paper,
+        version,
+        content,
+    } = &stamped.entry
+    else {
+        return None;
+    };
+    if !tells_upload(live, reader, stamped.maker, is_last, *paper) {
+        return None;
+    }
+    Some(Sighting {
+        paper: Some(*paper),
+        version: Some(*version),
+        content: Some(content),
+        ..blank(EntryKind::Uploaded, reader == stamped.maker)
+    })
+}
+
+/// What the withdrawal of this paper shows her: the paper, or nothing where she isn't told of it.
+pub(crate) fn withdrawal<'a>(
+    live: &Live,
+    reader: UserNo,
+    stamped: &'a Stamped,
+) -> Option<Sighting<'a>>
+    requires { kind_of stamped.now.entry ≡ kinds.Withdrawn }
+    ensures { (at : Around) → listed result ≡ sight_at (reader_in live.now.tables (Some reader)) at stamped.now }
+{
+    let Entry::Withdrawn { paper } = &stamped.entry else {
+        return None;
+    };
+    if !tells_withdrawal(live, reader, stamped.maker, *paper) {
+        return None;
+    }
+    Some(Sighting {
+        paper: Some(*paper),
+        ..blank(EntryKind::Withdrawn, reader == stamped.maker)
+    })
+}

@@ -1,0 +1,87 @@
+//! At which place the last entry of each matter stands.
+ghost use Rattle.std.specs.Prelude.{◌≡◌, ℕ, ◌<◌, [], length, if◌then◌else◌, slice_index, IfOk, OnOk};
+ghost use Rattle.cr_base.specs.Lists.{is_number};
+ghost use Rattle.cr_sights.specs.Matters.{AreLast, is_last_at};
+
+use crate::matter::matter;
+use cr_base::Stamped;
+use std::alloc::{AllocError, Global};
+
+/// At which place the last entry of each matter stands among some entries, counted from 1, by the number of the matter;
+/// 0 where no entry is of it, as past the end. It takes 224 bytes for each number of a paper up to the greatest one, so
+/// 2.2 MB for 9,999 papers, and up to twice that as it grows.
+#[derive(Drop)]
+pub(crate) struct Places {
+    places: Vec<usize>,
+}
+
+impl Places {
+    /// Of no entries; takes no memory.
+    pub(crate) fn new(alloc: Global) -> Places
+        ensures { AreLast result.places.items [] }
+    {
+        Places {
+            places: Vec::new(alloc),
+        }
+    }
+
+    /// Of these entries, by one walk over them; an error only for lack of memory.
+    pub(crate) fn of(alloc: Global, log: &[Stamped]) -> Result<Places, AllocError>
+        ensures { IfOk result (λ places. AreLast places.places.items log.now) }
+    {
+        let mut places = Places::new(alloc);
+        let mut at = 0;
+        'places: while at < log.len() {
+            places.note(&matter(&log[at].entry), at + 1)?;
+            at += 1;
+        }
+        Ok(places)
+    }
+
+    /// Notes the place of an entry of a matter, where it is of one; an error only for lack of memory.
+    pub(crate) fn note(&mut self, matter: &Option<u32>, place: usize) -> Result<(), AllocError>
+        ensures { OnOk result ((k : ℕ) → slice_index self.new.places.items k
+            ≡ (if is_number matter.now k then place else slice_index self.old.places.items k)) }
+    {
+        let Some(matter) = matter else {
+            return Ok(());
+        };
+        let number = *matter as usize;
+        fill(&mut self.places, number)?;
+        self.places[number] = place;
+        Ok(())
+    }
+
+    /// Whether the last entry of a matter stands at this place, or for 0 whether there is none; true where the matter is
+    /// none.
+    pub(crate) fn is_last_at(&self, matter: &Option<u32>, place: usize) -> bool
+        ensures { result ≡ is_last_at self.now.places.items matter.now place }
+    {
+        match matter {
+            Some(matter) => self.last_of(*matter) == place,
+            None => true,
+        }
+    }
+
+    /// The place of the last entry of a matter, 0 where there is none.
+    fn last_of(&self, matter: u32) -> usize
+        ensures { result ≡ slice_index self.now.places.items matter }
+    {
+        match self.places.get(matter as usize) {
+            Some(place) => *place,
+            None => 0,
+        }
+    }
+}
+
+/// Fills the places up with zeros, so that one stands at this number; an error only for lack of memory.
+fn fill(places: &mut Vec<usize>, number: usize) -> Result<(), AllocError>
+    requires { number < 4294967296 }
+    ensures same { OnOk result ((k : ℕ) → slice_index places.new.items k ≡ slice_index places.old.items k) }
+    ensures within { OnOk result (number < length places.new.items) }
+{
+    if number < places.len() {
+        return Ok(());
+    }
+    places.resize(number + 1, 0)
+}

@@ -1,0 +1,38 @@
+//! Where an entry stands among those of its matter.
+use std::marker::Model;
+
+/// Where an entry stands among those of its matter: a paper's texts, its content, or the forms under one of its labels.
+/// An entry of any other kind is the first and the last of its own.
+///
+/// Contracts see it as the trigger table asks for it.
+#[derive(Clone, Copy, Debug)]
+pub struct Position {
+    /// Whether no earlier entry is of its matter.
+    pub first: bool,
+    /// Whether no later one is.
+    pub last: bool,
+    /// Whether the discussion wasn't opened before it, and no later entry of its matter was made before that.
+    pub last_before_discussion: bool,
+    /// Whether the discussion was opened before it.
+    pub from_discussion: bool,
+}
+
+impl Model for Position {
+    ghost use Rattle.cr_policy.specs.Triggers.{Position as SeenPosition};
+
+    ghost Value = { SeenPosition };
+
+    ghost view = { λ p. record {
+      first = p.first;
+      last = p.last;
+      last_before_discussion = p.last_before_discussion;
+      from_discussion = p.from_discussion;
+    } };
+
+    ghost inverse = { λ p. record {
+      first = p.first;
+      last = p.last;
+      last_before_discussion = p.last_before_discussion;
+      from_discussion = p.from_discussion;
+    } };
+}

@@ -1,0 +1,100 @@
+//! What forms of reviews show a reader.
+ghost use Rattle.std.specs.Prelude.{◌≡◌, ◌||◌, Some};
+ghost use Rattle.cr_base.specs.declared.entry.EntryKind.TheVariants as kinds;
+ghost use Rattle.cr_base.specs.Lists.{listed};
+ghost use Rattle.cr_base.specs.Rows.{kind_of};
+ghost use Rattle.cr_policy.specs.Triggers.{Around, position_of};
+ghost use Rattle.cr_policy.specs.View.{sight as sight_at};
+ghost use Rattle.cr_sights.specs.FormRows.{is_discussed_by, is_done_for, is_for_author};
+ghost use Rattle.cr_sights.specs.Readers.{reader_in};
+
+use crate::asked::discusses;
+use crate::position::Position;
+use crate::sighting::{Sighting, blank};
+use cr_base::{Entry, EntryKind, Phase, Stamped, Standing, UserNo};
+use cr_view::Live;
+
+/// Whether she is told that there is a form: of the first under a label clear chairs are.
+fn is_done_for(by: &Standing, position: Position) -> bool
+    ensures { result ≡ is_done_for position by.now }
+{
+    position.first && by.is_clear_chair()
+}
+
+/// Whether she discusses a form: from the discussion clear members do, the last under a label before it and all later
+/// ones.
+fn is_discussed_by(by: &Standing, position: Position) -> bool
+    ensures { result ≡ is_discussed_by position by.now }
+{
+    (position.last_before_discussion || position.from_discussion) && discusses(by)
+}
+
+/// Whether a form is for her as an author: from the notification the last under a label is.
+fn is_for_author(by: &Standing, position: Position) -> bool
+    ensures { result ≡ is_for_author position by.now }
+{
+    position.last && by.author && by.phase.is_from(Phase::Notification)
+}
+
+/// Whether she is shown all of a form: who discusses it is, and who wrote it.
+fn shows_all(by: &Standing, position: Position, mine: bool) -> bool
+    ensures { result ≡ (is_discussed_by position by.now || mine) }
+{
+    is_discussed_by(by, position) || mine
+}
+
+/// Whether she is shown the grades of a form and its text to the authors: who discusses it is, the paper's authors where
+/// it is for them, and who wrote it.
+fn shows_grades(by: &Standing, position: Position, mine: bool) -> bool
+    ensures { result ≡ (is_discussed_by position by.now || (is_for_author position by.now || mine)) }
+{
+    is_discussed_by(by, position) || is_for_author(by, position) || mine
+}
+
+/// Whether she is told of a form: who is told that there is one, or shown its grades.
+fn tells_review(by: &Standing, position: Position, mine: bool) -> bool
+    ensures { result ≡ (is_done_for position by.now || (is_discussed_by position by.now || (is_for_author position by.now || mine))) }
+{
+    is_done_for(by, position) || shows_grades(by, position, mine)
+}
+
+/// What a form shows her: its paper and its label, and of the other parts those that she may know; or nothing where she
+/// isn't told of it.
+pub(crate) fn review<'a>(
+    live: &Live,
+    reader: UserNo,
+    stamped: &'a Stamped,
+    position: Position,
+) -> Option<Sighting<'a>>
+    requires { kind_of stamped.now.entry ≡ kinds.Reviewed }
+    ensures { (at : Around) → position_of at stamped.now.entry ≡ position
+        → listed result ≡ sight_at (reader_in live.now.tables (Some reader)) at stamped.now }
+{
+    let Entry::Reviewed {
+        paper,
+        ordinal,
+        version,
+        form,
+    } = &stamped.entry
+    else {
+        return None;
+    };
+    let mine = reader == stamped.maker;
+    let by = live.standing(&Some(reader), &Some(*paper));
+    if !tells_review(&by, position, mine) {
+        return None;
+    }
+    let all = shows_all(&by, position, mine);
+    let grades = shows_grades(&by, position, mine);
+    Some(Sighting {
+        paper: Some(*paper),
+        version: all.then_some(*version),
+        ordinal: Some(ordinal.number()),
+        score: grades.then_some(form.score),
+        confidence: grades.then_some(form.confidence),
+        to_authors: grades.then_some(&form.to_authors),
+        to_pc: all.then_some(&form.to_pc),
+        done: is_done_for(&by, position).then_some(true),
+        ..blank(EntryKind::Reviewed, mine)
+    })
+}

@@ -1,0 +1,88 @@
+//! What comments show a reader.
+ghost use Rattle.std.specs.Prelude.{◌≡◌, ◌||◌, ◌&&◌, Some, not, unwrap_or};
+ghost use Rattle.cr_base.specs.declared.entry.EntryKind.TheVariants as kinds;
+ghost use Rattle.cr_base.specs.Lists.{listed};
+ghost use Rattle.cr_base.specs.Page.{is_clear_chair};
+ghost use Rattle.cr_base.specs.Words.{is_anonymous};
+ghost use Rattle.cr_base.specs.Rows.{kind_of};
+ghost use Rattle.cr_policy.specs.Triggers.{Around, discusses as she_discusses, names_writers, user_named};
+ghost use Rattle.cr_policy.specs.View.{sight as sight_at};
+ghost use Rattle.cr_sights.specs.Readers.{reader_in};
+
+use crate::asked::discusses;
+use crate::sighting::{Sighting, blank};
+use cr_base::{Entry, EntryKind, Ordinal, PaperNo, Stamped, Standing, Text, UserNo};
+use cr_view::Live;
+
+/// Whether she is named who wrote what she discusses: clear chairs are, and others unless the mode is anonymous.
+fn names_writers(by: &Standing) -> bool
+    ensures { result ≡ (is_clear_chair by.now || not (is_anonymous by.now.mode)) }
+{
+    by.is_clear_chair() || !by.mode.is_anonymous()
+}
+
+/// Whether she is told of a comment: who discusses the paper is, and who wrote it.
+fn tells_comment(live: &Live, reader: UserNo, maker: UserNo, paper: PaperNo) -> bool
+    ensures { let r = reader_in live.now.tables (Some reader) in
+        result ≡ (she_discusses r paper || ((she_discusses r paper && names_writers r paper)
+        || ((she_discusses r paper && not (names_writers r paper)) || user_named r maker))) }
+{
+    let by = live.standing(&Some(reader), &Some(paper));
+    discusses(&by) || maker == reader
+}
+
+/// Whether she is shown who wrote a comment.
+fn shows_writer(live: &Live, reader: UserNo, paper: PaperNo) -> bool
+    ensures { let r = reader_in live.now.tables (Some reader) in result ≡ (she_discusses r paper && names_writers r paper) }
+{
+    let by = live.standing(&Some(reader), &Some(paper));
+    discusses(&by) && names_writers(&by)
+}
+
+/// Whether she is shown its writer's label: who discusses the paper and isn't shown who wrote it is, and the writer.
+fn shows_label(live: &Live, reader: UserNo, maker: UserNo, paper: PaperNo) -> bool
+    ensures { let r = reader_in live.now.tables (Some reader) in
+        result ≡ ((she_discusses r paper && not (names_writers r paper)) || user_named r maker) }
+{
+    let by = live.standing(&Some(reader), &Some(paper));
+    discusses(&by) && !names_writers(&by) || maker == reader
+}
+
+/// The number of a label's ordinal, and 0 where there is none.
+fn label_number(ordinal: &Option<Ordinal>) -> u64
+    ensures { result ≡ unwrap_or ordinal.now 0 }
+{
+    match ordinal {
+        Some(ordinal) => ordinal.number(),
+        None => 0,
+    }
+}
+
+/// What a comment shows her: its paper, its number and its text, and who wrote it, or under which label, where she may
+/// know that; or nothing where she isn't told of it.
+pub(crate) fn comment<'a>(live: &Live, reader: UserNo, stamped: &'a Stamped) -> Option<Sighting<'a>>
+    requires { kind_of stamped.now.entry ≡ kinds.Commented }
+    ensures { (at : Around) → listed result ≡ sight_at (reader_in live.now.tables (Some reader)) at stamped.now }
+{
+    let Entry::Commented {
+        paper,
+        n,
+        ordinal,
+        text,
+    } = &stamped.entry
+    else {
+        return None;
+    };
+    if !tells_comment(live, reader, stamped.maker, *paper) {
+        return None;
+    }
+    let label = shows_label(live, reader, stamped.maker, *paper);
+    Some(Sighting {
+        paper: Some(*paper),
+        by: shows_writer(live, reader, *paper).then_some(stamped.maker),
+        n: Some(*n),
+        ordinal: label.then_some(label_number(ordinal)),
+        text: Some(text),
+        ..blank(EntryKind::Commented, reader == stamped.maker)
+    })
+}

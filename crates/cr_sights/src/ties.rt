@@ -1,0 +1,81 @@
+//! What conflicts and bids show a reader.
+ghost use Rattle.std.specs.Prelude.{◌≡◌, ◌||◌, ◌&&◌, Bool, Some};
+ghost use Rattle.cr_base.specs.Lists.{listed};
+ghost use Rattle.cr_base.specs.Page.{is_clear_chair};
+ghost use Rattle.cr_base.specs.Phases.{is_from};
+ghost use Rattle.cr_base.specs.declared.words.Phase.TheVariants as phases;
+ghost use Rattle.cr_base.specs.declared.entry.EntryKind.TheVariants as kinds;
+ghost use Rattle.cr_base.specs.Rows.{kind_of};
+ghost use Rattle.cr_policy.specs.Triggers.{Around, authors, standing_to, user_named};
+ghost use Rattle.cr_policy.specs.View.{sight as sight_at};
+ghost use Rattle.cr_sights.specs.Readers.{reader_in};
+
+use crate::asked::oversees;
+use crate::sighting::{Sighting, blank};
+use cr_base::{Bid, Entry, EntryKind, PaperNo, Stamped, UserNo};
+use cr_view::Live;
+
+/// Whether she is told that a user is in conflict with a paper, or no longer: who made the entry is, the user
+/// herself, an author where an author made it, and whoever is shown all of the paper's conflicts.
+fn tells_conflict(live: &Live, reader: UserNo, maker: UserNo, user: UserNo, paper: PaperNo) -> bool
+    ensures { let r = reader_in live.now.tables (Some reader) in
+        result ≡ (user_named r user || ((r.wrote maker paper && authors r paper)
+        || ((is_clear_chair (standing_to r paper) && is_from phases.Bidding r.now) || user_named r maker))) }
+{
+    let by = live.standing(&Some(reader), &Some(paper));
+    let wrote = live.standing(&Some(maker), &Some(paper)).author;
+    user == reader || wrote && by.author || oversees(&by) || maker == reader
+}
+
+/// Whether she is told of a bid on a paper: who made it is, and whoever oversees the paper.
+fn tells_bid(live: &Live, reader: UserNo, maker: UserNo, paper: PaperNo) -> bool
+    ensures { let r = reader_in live.now.tables (Some reader) in
+        result ≡ ((is_clear_chair (standing_to r paper) && is_from phases.Bidding r.now) || user_named r maker) }
+{
+    let by = live.standing(&Some(reader), &Some(paper));
+    oversees(&by) || maker == reader
+}
+
+/// What a conflict shows her: all of it, or nothing where she isn't told of it.
+pub(crate) fn conflict<'a>(
+    live: &Live,
+    reader: UserNo,
+    stamped: &'a Stamped,
+) -> Option<Sighting<'a>>
+    requires { kind_of stamped.now.entry ≡ kinds.Conflict }
+    ensures { (at : Around) → listed result ≡ sight_at (reader_in live.now.tables (Some reader)) at stamped.now }
+{
+    let Entry::Conflict { paper, user, on } = &stamped.entry else {
+        return None;
+    };
+    if !tells_conflict(live, reader, stamped.maker, *user, *paper) {
+        return None;
+    }
+    Some(Sighting {
+        paper: Some(*paper),
+        user: Some(*user),
+        on: Some(*on),
+        ..blank(EntryKind::Conflict, reader == stamped.maker)
+    })
+}
+
+/// What a bid shows her: how much is wanted, and by whom where she oversees the paper; or nothing where
+/// she isn't told of it.
+pub(crate) fn bid<'a>(live: &Live, reader: UserNo, stamped: &'a Stamped) -> Option<Sighting<'a>>
+    requires { kind_of stamped.now.entry ≡ kinds.Bid }
+    ensures { (at : Around) → listed result ≡ sight_at (reader_in live.now.tables (Some reader)) at stamped.now }
+{
+    let Entry::Bid { paper, value } = &stamped.entry else {
+        return None;
+    };
+    if !tells_bid(live, reader, stamped.maker, *paper) {
+        return None;
+    }
+    let by = live.standing(&Some(reader), &Some(*paper));
+    Some(Sighting {
+        paper: Some(*paper),
+        by: oversees(&by).then_some(stamped.maker),
+        value: Some(*value),
+        ..blank(EntryKind::Bid, reader == stamped.maker)
+    })
+}

@@ -1,0 +1,20 @@
+use Rattle.std.proofs.Common.{List, Some, ◌∙◌, sym, ap, subst}
+use Rattle.cr_base.specs.declared.tag.SetTag.{SetTag}
+use Rattle.cr_base.specs.Filed.{filed_of}
+use Rattle.cr_base.specs.Tags.{TagsState, IsSortedState, tags_for, tags_in}
+use Rattle.cr_base.proofs.TagLaws.{papers_rise}
+use Rattle.cr_tags.specs.Seen.{SeenTags}
+use Rattle.cr_tags.proofs.tags.Tags.tags_for.Goals as goal
+
+pub run_of-requires : goal.run_of-requires
+run_of-requires c = papers_rise c.deref.result.now (subst (λ (tags : TagsState). IsSortedState tags) (sym c.deref.ensures.value) c.self.invariant)
+
+pub returns : goal.returns
+returns c =
+    let user = Some c.args.user in
+    let chair = c.args.chair in
+    let paper = c.args.paper in
+    c.from_vec.ensures
+    ∙ c.in_ok-tags.ensures
+    ∙ ap (λ (ts : List SetTag). tags_for user chair ts) (c.run_of.ensures ∙ ap (λ (tags : TagsState). filed_of paper tags) c.deref.ensures.value)
+    ∙ ap (λ (s : SeenTags). tags_in s.tags user chair paper) c.self.view_is

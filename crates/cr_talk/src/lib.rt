@@ -1,0 +1,7 @@
+//! The table of comments: what was written on papers, found by the paper's number, and how many comments
+//! each user has written.
+#![tactic(auto)]
+
+mod talk;
+
+pub use talk::{MOST_OWN_COMMENTS, Talk};

@@ -1,0 +1,145 @@
+//! The comments on papers.
+ghost use Rattle.std.specs.Prelude.{◌≡◌, ◌≤◌, ◌<◌, ◌+◌, OnOk, Some, length, map, is_some, unwrap_or};
+ghost use Rattle.cr_base.specs.Checks.{judged, comment_checks};
+ghost use Rattle.cr_base.specs.Talk.{no_talk, talk_after, comments_in, own_comments_in, TalkFit};
+
+use cr_base::{Comment, Entry, Filed, PaperNo, Phase, Rule, Stamped, Standing, UserNo};
+use cr_kept::{Files, Sums};
+use std::alloc::{AllocError, Global};
+use std::marker::Model;
+
+/// The most comments that one user may write, on all papers.
+pub const MOST_OWN_COMMENTS: u64 = 1_000;
+
+/// What was written on papers: the comments on each in the order in which they came, which are numbered
+/// from 1, and how many each user has written, at most 1,000.
+///
+/// Contracts see the comments paper by paper and the sums, and for how many more entries there is room.
+#[derive(Drop)]
+pub struct Talk {
+    comments: Files<Comment>,
+    // How many each user has written.
+    written: Sums,
+}
+
+impl Model for Talk {
+    ghost use Rattle.std.specs.Prelude.{nat_le, if◌then◌else◌};
+    ghost use Rattle.cr_talk.specs.Seen.{SeenTalk};
+
+    ghost Value = { SeenTalk };
+
+    ghost view = { λ t. record {
+      talk = record { comments = t.comments.files; written = t.written.sums };
+      room = if nat_le 10000 t.written.capacity then t.comments.room else 0;
+    } };
+}
+
+/// What is read.
+impl Talk {
+    /// No comments; takes no memory.
+    pub fn new(alloc: Global) -> Talk
+        ensures { result.talk ≡ no_talk }
+    {
+        Talk {
+            comments: Files::new(alloc),
+            written: Sums::new(alloc),
+        }
+    }
+
+    /// The comments on the paper, by number; none where there is no such paper. Two binary searches; takes
+    /// no memory.
+    pub fn comments(&self, paper: PaperNo) -> &[Filed<Comment>]
+        ensures { map (λ filed. filed.value) result.now ≡ comments_in self.now.talk paper }
+    {
+        self.comments.of_paper(paper)
+    }
+
+    /// How many comments the user has written, 0 to 1,000. One read by number.
+    pub fn count_of_user(&self, user: UserNo) -> u64
+        ensures { result ≡ own_comments_in self.now.talk (Some user) }
+    {
+        self.written.of(user)
+    }
+
+    /// The number that a comment by this maker on this paper would have now, the count of those on it plus
+    /// 1, or the first broken rule. `by` is the maker's standing at the paper; `paper` is none where there
+    /// is no such paper. Whether it is withdrawn stands in none of the comments. One read by number and two
+    /// binary searches at most; takes no memory.
+    ///
+    /// In this order: `NoPaper`, `NotMember`, `Conflict`, `WrongPhase` where it isn't the discussion,
+    /// `Withdrawn`, `QuotaComments` where she has written 1,000 comments.
+    pub fn judge_comment(
+        &self,
+        by: &Standing,
+        maker: UserNo,
+        paper: &Option<PaperNo>,
+        withdrawn: bool,
+    ) -> Result<u64, Rule>
+        ensures { result ≡ judged
+            (comment_checks by.now (record { there = is_some paper.now; withdrawn = withdrawn }) (own_comments_in self.now.talk (Some maker)))
+            (length (comments_in self.now.talk (unwrap_or paper.now 0)) + 1) }
+    {
+        let Some(paper) = paper else {
+            return Err(Rule::NoPaper);
+        };
+        match by.may_handle() {
+            Ok(()) => {}
+            Err(rule) => return Err(rule),
+        }
+        if !by.phase.is(Phase::Discussion) {
+            return Err(Rule::WrongPhase);
+        }
+        if withdrawn {
+            return Err(Rule::Withdrawn);
+        }
+        if self.count_of_user(maker) >= MOST_OWN_COMMENTS {
+            return Err(Rule::QuotaComments);
+        }
+        Ok(self.comments(*paper).len() as u64 + 1)
+    }
+}
+
+/// What entries make of it.
+impl Talk {
+    /// Takes the memory that the entries of one command need, and the first time 40,000 bytes for the
+    /// sums; an error only for lack of memory, and the comments are the same either way.
+    pub fn room(&mut self, group: &[Stamped]) -> Result<(), AllocError>
+        ensures ok { OnOk result (length group.now ≤ self.new.room) }
+        ensures same { self.new.talk ≡ self.old.talk }
+        ensures keeps { self.old.room ≤ self.new.room }
+    {
+        self.written.make_room()?;
+        self.comments.room(group.len())
+    }
+
+    /// One more entry, for which there is room. It is taken whole, since a comment's text is kept; takes no
+    /// memory. A comment costs one binary search, and a move of the comments on papers with higher numbers.
+    pub fn apply(&mut self, stamped: Stamped)
+        requires room { 0 < self.old.room }
+        requires fits { TalkFit self.old.talk stamped.maker stamped.entry }
+        ensures after { self.new.talk ≡ talk_after self.old.talk stamped.maker stamped.entry }
+        ensures room { self.old.room ≤ self.new.room + 1 }
+    {
+        let Stamped { maker, entry, .. } = stamped;
+        match entry {
+            Entry::Commented {
+                paper,
+                n,
+                ordinal,
+                text,
+            } => {
+                self.written.add(maker, 1);
+                self.comments.file(
+                    paper,
+                    Comment {
+                        n,
+                        writer: maker,
+                        ordinal,
+                        text,
+                    },
+                );
+            }
+            _ => {}
+        }
+    }
+}

@@ -1,0 +1,7 @@
+use Rattle.std.proofs.Common.{◌≡◌}
+use Rattle.cr_base.specs.Answering.{by_labels}
+use Rattle.cr_view.specs.Reviews.{label_reviews}
+use Rattle.cr_view.proofs.live.Live.all_reviews.Given as goal
+
+abbrev pub invariant-loop-before : goal.invariant-loop-before
+invariant-loop-before l = l.lines.items ≡ by_labels (label_reviews l.self.tables l.by l.paper) l.before

@@ -1,0 +1,27 @@
+use Rattle.std.proofs.Common.{◌≡◌, List, ◌++◌, ◌∙◌, Option, ℕ, ap, map, subst}
+use Rattle.std.specs.Prelude.{OnOk}
+use Rattle.cr_base.specs.declared.review.ReviewLine.{ReviewLine}
+use Rattle.cr_base.specs.declared.words.Phase.TheVariants.{Discussion}
+use Rattle.cr_base.specs.Filed.{filed_of}
+use Rattle.cr_base.specs.Reviews.{last_form_before}
+use Rattle.cr_view.specs.declared.reviews.Heading.{Heading}
+use Rattle.cr_view.specs.Reviews.{review_line, forms_shown}
+use Rattle.cr_view.specs.Seen.{SeenTables}
+use Rattle.cr_view.proofs.ReviewLaws.{label-discussed}
+use Rattle.cr_view.proofs.live.Live.push_label.Goals as goal
+
+pub returns : goal.returns
+returns c =
+    let t = c.args.self.now.tables in
+    let by = c.args.by.now in
+    let p : ℕ = c.args.paper in
+    let o : ℕ = c.args.label in
+    let told : List ReviewLine = c.args.lines.now.items in
+    let heading : Option (List ℕ) → Heading = λ name. record { to_author = by.author; label = o; user = name } in
+    let forms = c.forms.ensures ∙ ap (λ (v : SeenTables). filed_of p v.tables.reviews.forms) c.self.view_is in
+    let last = c.last_before-before.ensures ∙ ap (λ (v : SeenTables). last_form_before v.tables.reviews p o Discussion) c.self.view_is in
+    subst (λ (l : List ReviewLine). OnOk c.push_forms.result (c.push_forms.new.lines.items ≡ l))
+    (label-discussed t by p o (heading c.label_name.result) _ c.forms.result.now told c.push_form-2.new.lines.items
+    c.if-by.false last forms c.in_ok-push_form.ensures
+    ∙ ap (λ (name : Option (List ℕ)). told ++ map (review_line (heading name)) (forms_shown t by p o)) c.label_name.ensures)
+    c.push_forms.ensures

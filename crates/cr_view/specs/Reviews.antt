@@ -1,0 +1,74 @@
+-- What a caller is told of a paper's reviews, by the tables.
+use Rattle.std.specs.Prelude.{ℕ, Bool, not, ◌&&◌, ◌==◌, List, map, Option, Some, None, unwrap_or, Result, if◌then◌else◌}
+use Rattle.std.specs.List.{flat_map}
+use Rattle.std.specs.Option.{option_map, option_and_then}
+use Rattle.cr_base.specs.declared.command.Query.TheVariants as queries
+use Rattle.cr_base.specs.declared.filed.Filed.{Filed}
+use Rattle.cr_base.specs.declared.reply.Rule.{Rule}
+use Rattle.cr_base.specs.declared.review.ReviewLine.{ReviewLine}
+use Rattle.cr_base.specs.declared.review.WrittenForm.{WrittenForm}
+use Rattle.cr_base.specs.declared.standing.Standing.{Standing}
+use Rattle.cr_base.specs.declared.words.Phase.{Phase}
+use Rattle.cr_base.specs.Accounts.{lines_of}
+use Rattle.cr_base.specs.Answering.{reviews_by}
+use Rattle.cr_base.specs.History.{FormTold}
+use Rattle.cr_base.specs.HistoryFacts.{assigned_under}
+use Rattle.cr_base.specs.Lists.{listed}
+use Rattle.cr_base.specs.Page.{shows_reviewer, where_told}
+use Rattle.cr_base.specs.Phases.{is_from}
+use Rattle.cr_base.specs.Reviews.{last_form_in, forms_discussed_in, written_told}
+use Rattle.cr_base.specs.Seats.{seat_in, seats_in}
+use Rattle.cr_base.specs.Sources.{own_forms_in, shown_in_tables, name_in}
+use Rattle.cr_base.specs.Tables.{Tables}
+use Rattle.cr_view.specs.declared.reviews.Heading.{Heading}
+use Rattle.cr_view.specs.Replies.{facts_at, due_at}
+
+-- ---- under one label
+
+-- a form, as it is told under this label
+abbrev pub review_line : Heading → FormTold → ReviewLine
+review_line heading form = record {
+  confidence = form.confidence;
+  label = heading.label;
+  score = form.score;
+  to_authors = form.to_authors;
+  to_pc = where_told (not heading.to_author) form.to_pc;
+  user = heading.user;
+  version = where_told (not heading.to_author) form.version;
+}
+
+-- the form, where it stands under the label and was written in the phase or later; and those of these forms that do
+abbrev pub form_under : ℕ → Phase → Filed WrittenForm → Option WrittenForm
+form_under label phase filed = if filed.value.ordinal == label && is_from phase filed.value.phase then Some filed.value else None
+
+abbrev pub forms_under : ℕ → Phase → List (Filed WrittenForm) → List WrittenForm
+forms_under label phase forms = flat_map (λ (filed : Filed WrittenForm). listed (form_under label phase filed)) forms
+
+-- the name of whoever was assigned to the paper under the label, where it is told
+abbrev pub label_name : Tables → Bool → ℕ → ℕ → Option (List ℕ)
+label_name t named p o = where_told named (option_and_then (name_in (lines_of t.accounts)) (assigned_under o (seats_in t.seats p)))
+
+-- the label, for one who stands so to the paper
+abbrev pub heading_at : Tables → Standing → ℕ → ℕ → Heading
+heading_at t by p o = record { to_author = by.author; label = o; user = label_name t (shows_reviewer by) p o }
+
+-- the forms under it that she is told
+abbrev pub forms_shown : Tables → Standing → ℕ → ℕ → List FormTold
+forms_shown t by p o = if by.author then listed (option_map written_told (last_form_in t.reviews p o)) else forms_discussed_in t.reviews p o
+
+abbrev pub label_reviews : Tables → Standing → ℕ → ℕ → List ReviewLine
+label_reviews t by p o = map (review_line (heading_at t by p o)) (forms_shown t by p o)
+
+-- ---- all of them
+
+-- a reviewer's own forms, without her name
+abbrev pub own_reviews : Tables → Option ℕ → Standing → ℕ → List ReviewLine
+own_reviews t user by p =
+    map (review_line (record { to_author = by.author; label = unwrap_or (seat_in t.seats user p) 0; user = None })) (own_forms_in t user p)
+
+-- the reviews that a user is told who stands so to the paper; and those that are due to her, or the first broken rule
+abbrev pub reviews_at : Tables → Option ℕ → Standing → ℕ → List ReviewLine
+reviews_at t user by p = reviews_by (facts_at t user by) (shown_in_tables t) p
+
+abbrev pub reviews_due : Tables → Option ℕ → Option ℕ → Result (List ReviewLine) Rule
+reviews_due t user paper = due_at queries.Reviews reviews_by t user paper

@@ -1,0 +1,131 @@
+//! What is answered of the comments on a paper.
+ghost use Rattle.std.specs.Prelude.{◌≡◌, IfOk, map};
+ghost use Rattle.cr_base.specs.declared.command.Query.TheVariants as queries;
+ghost use Rattle.cr_base.specs.Accounts.{lines_of};
+ghost use Rattle.cr_base.specs.Answering.{answer_by_role, comment_line};
+ghost use Rattle.cr_base.specs.Talk.{comment_as_told};
+ghost use Rattle.cr_view.specs.Replies.{AnswersAsDue, ShowsAsDue, reader_at};
+ghost use Rattle.cr_view.specs.Comments.{comments_at, comments_due, lines_told, writer_label, writer_name};
+
+use crate::live::Live;
+use crate::queries::AnswerError;
+use cr_anonymity::shows_writer;
+use cr_base::{
+    Comment, CommentLine, CommentLines, Filed, Ordinal, PaperNo, Phase, Reply, Rule, Short,
+    Standing, UserNo,
+};
+use std::alloc::{AllocError, Global};
+
+/// Who is answered.
+impl Live {
+    /// The comments on a paper as a user, or nobody, is told them, by number, or the first broken rule:
+    /// `NoPaper` where there is no such paper, else `NotMember`, else `Conflict` where she is in conflict with
+    /// it, else `WrongPhase` before the discussion. An error for lack of memory only where no rule is broken.
+    /// Shares the texts. A walk over the comments on the paper, with one read by number each.
+    pub fn comments_for(
+        &self,
+        alloc: Global,
+        user: &Option<UserNo>,
+        paper: &Option<PaperNo>,
+    ) -> Result<CommentLines, AnswerError>
+        ensures { ShowsAsDue result (comments_due self.now.tables user.now paper.now) }
+    {
+        let by = match self.comments_reader(user, paper) {
+            Ok(by) => by,
+            Err(rule) => return Err(AnswerError::Rule(rule)),
+        };
+        match paper {
+            Some(paper) => { Ok(self.comment_lines(alloc, &by, self.talk.comments(*paper))?) }
+            None => unreachable!(),
+        }
+    }
+
+    /// The same as a reply.
+    pub(crate) fn comments_reply(
+        &self,
+        alloc: Global,
+        user: &Option<UserNo>,
+        paper: &Option<PaperNo>,
+    ) -> Result<Reply, AnswerError>
+        ensures { AnswersAsDue result (answer_by_role self.now.tables user.now (queries.Comments paper.now)) }
+    {
+        match self.comments_for(alloc, user, paper) {
+            Ok(lines) => Ok(Reply::Comments(lines)),
+            Err(error) => Err(error),
+        }
+    }
+
+    /// How she stands to the paper whose comments she may ask for, or the first broken rule.
+    pub(crate) fn comments_reader(
+        &self,
+        user: &Option<UserNo>,
+        paper: &Option<PaperNo>,
+    ) -> Result<Standing, Rule>
+        ensures { result ≡ reader_at queries.Comments self.now.tables user.now paper.now }
+    {
+        if !self.has_paper(paper) {
+            return Err(Rule::NoPaper);
+        }
+        let by = self.standing(user, paper);
+        match by.may_handle() {
+            Ok(()) => {}
+            Err(rule) => return Err(rule),
+        }
+        if !by.phase.is_from(Phase::Discussion) {
+            return Err(Rule::WrongPhase);
+        }
+        Ok(by)
+    }
+}
+
+/// What is told.
+impl Live {
+    /// These comments as one who stands so to their paper is told of them.
+    fn comment_lines(
+        &self,
+        alloc: Global,
+        by: &Standing,
+        comments: &[Filed<Comment>],
+    ) -> Result<CommentLines, AllocError>
+        ensures { IfOk result (λ lines. lines ≡ lines_told self.now.tables by.now (map (λ filed. filed.value) comments.now)) }
+    {
+        let mut lines = Vec::with_capacity(alloc, comments.len())?;
+        for filed in comments {
+            lines.push(self.comment_line(by, &filed.value)?)?;
+        }
+        Ok(CommentLines::from_vec(lines))
+    }
+
+    /// A comment as one who stands so to its paper is told of it.
+    fn comment_line(&self, by: &Standing, comment: &Comment) -> Result<CommentLine, AllocError>
+        ensures { IfOk result (λ line. line ≡ comment_line by.now (lines_of self.now.tables.accounts) (comment_as_told comment.now)) }
+    {
+        let text = comment.text.copy()?;
+        Ok(CommentLine {
+            label: writer_label(by, comment.ordinal),
+            n: comment.n,
+            text,
+            user: self.writer_name(by, comment.writer),
+        })
+    }
+
+    /// The name of who wrote a comment, where it is told. One read by number, where it is.
+    fn writer_name(&self, by: &Standing, writer: UserNo) -> Option<Short>
+        ensures { result ≡ writer_name self.now.tables by.now writer }
+    {
+        if !shows_writer(by) {
+            return None;
+        }
+        self.accounts.name_of(writer)
+    }
+}
+
+/// The label under which a comment was written, where its writer's name isn't told and she had one.
+fn writer_label(by: &Standing, ordinal: Option<Ordinal>) -> Option<Ordinal>
+    ensures { result ≡ writer_label by.now ordinal }
+{
+    if shows_writer(by) {
+        return None;
+    }
+    ordinal
+}

@@ -1,0 +1,293 @@
+//! What is answered of a paper's reviews.
+ghost use Rattle.std.specs.Prelude.{◌≡◌, ◌++◌, ◌==◌, IfOk, OnOk, map, find};
+ghost use Rattle.std.specs.Option.{option_map, option_copied};
+ghost use Rattle.cr_base.specs.declared.command.Query.TheVariants as queries;
+ghost use Rattle.cr_base.specs.Answering.{answer_by_role, by_labels, most_labels};
+ghost use Rattle.cr_base.specs.Lists.{listed};
+ghost use Rattle.cr_base.specs.Page.{shows_reviewer};
+ghost use Rattle.cr_base.specs.Reviews.{written_told};
+ghost use Rattle.cr_view.specs.Replies.{AnswersAsDue, ShowsAsDue, reader_at};
+ghost use Rattle.cr_view.specs.Reviews.{review_line, forms_under, form_under, label_name, label_reviews, own_reviews, reviews_at, reviews_due};
+
+use crate::live::Live;
+use crate::page::shared_where;
+use crate::queries::AnswerError;
+use cr_anonymity::shows_reviewer;
+use cr_base::{
+    Filed, MOST_LABELS, Ordinal, PaperNo, Phase, Reply, ReviewLine, ReviewLines, Rule, Seat, Short,
+    Standing, Tie, UserNo, WrittenForm,
+};
+use std::alloc::{AllocError, Global};
+
+/// A label under which reviews are told.
+#[derive(Clone, Copy, Debug)]
+pub(crate) struct Heading {
+    /// Whether they are told to an author of the paper.
+    pub(crate) to_author: bool,
+    /// The label's ordinal.
+    pub(crate) label: Ordinal,
+    /// The reviewer's name, where it is told.
+    pub(crate) user: Option<Short>,
+}
+
+/// What is told of a form under a label; an error only for lack of memory. Shares the texts.
+fn review_line(heading: &Heading, written: &WrittenForm) -> Result<ReviewLine, AllocError>
+    ensures { IfOk result (λ line. line ≡ review_line heading.now (written_told written.now)) }
+{
+    let form = &written.form;
+    let to_authors = form.to_authors.copy()?;
+    let to_pc = shared_where(!heading.to_author, Some(&form.to_pc))?;
+    Ok(ReviewLine {
+        confidence: form.confidence,
+        label: heading.label,
+        score: form.score,
+        to_authors,
+        to_pc,
+        user: heading.user,
+        version: version_told(heading, written),
+    })
+}
+
+/// The number of a form, where it is told.
+fn version_told(heading: &Heading, written: &WrittenForm) -> Option<u64>
+    ensures { result ≡ (review_line heading.now (written_told written.now)).version }
+{
+    if heading.to_author {
+        return None;
+    }
+    Some(written.version)
+}
+
+/// Adds what is told of a form, where there is one; an error only for lack of memory.
+fn push_form(
+    lines: &mut Vec<ReviewLine>,
+    heading: &Heading,
+    written: Option<&WrittenForm>,
+) -> Result<(), AllocError>
+    ensures { OnOk result (lines.new.items
+        ≡ lines.old.items ++ map (review_line heading.now) (map written_told (listed (option_copied written.entry)))) }
+{
+    if let Some(written) = written {
+        lines.push(review_line(heading, written)?)?;
+    }
+    Ok(())
+}
+
+/// The form, where it stands under the label and was written in the phase or later.
+fn form_under(filed: &Filed<WrittenForm>, label: Ordinal, phase: Phase) -> Option<&WrittenForm>
+    ensures { option_copied result ≡ form_under label phase filed.now }
+{
+    let written = &filed.value;
+    if written.is_under(label) && written.phase.is_from(phase) {
+        Some(written)
+    } else {
+        None
+    }
+}
+
+/// Adds what is told of those of the forms that stand under the label and were written in the phase or
+/// later; an error only for lack of memory. A walk over the forms.
+fn push_forms(
+    lines: &mut Vec<ReviewLine>,
+    heading: &Heading,
+    forms: &[Filed<WrittenForm>],
+    phase: Phase,
+) -> Result<(), AllocError>
+    ensures { OnOk result (lines.new.items
+        ≡ lines.old.items ++ map (review_line heading.now) (map written_told (forms_under heading.now.label phase forms.now))) }
+{
+    for filed in forms {
+        push_form(lines, heading, form_under(filed, heading.label, phase))?;
+    }
+    Ok(())
+}
+
+/// Who was assigned under the label, whether she has left since or not. A walk over the seats.
+fn user_under(seats: &[Tie<Seat>], label: Ordinal) -> Option<UserNo>
+    ensures { result ≡ option_map (λ seat. seat.pair.user) (find (λ seat. seat.value.ordinal == label) seats.now) }
+{
+    let seat = seats.iter().find(|seat| seat.value.ordinal == label)?;
+    Some(seat.pair.user)
+}
+
+/// Who is answered.
+impl Live {
+    /// The reviews of a paper as a user, or nobody, is told them, or the first broken rule: `NoPaper` where
+    /// there is no such paper; of its authors `WrongPhase` before the notification; of others `NotMember`, else
+    /// `Conflict` where she is in conflict with it, else `WrongPhase` before the discussion, unless it is the
+    /// reviewing and she reviews it. An error for lack of memory only where no rule is broken. Shares the texts
+    /// that are told, and no others. Authors, and members from the discussion on, cost a walk over the paper's
+    /// forms, and two more at most for each label under which there is one; a reviewer before it costs one.
+    pub fn reviews_for(
+        &self,
+        alloc: Global,
+        user: &Option<UserNo>,
+        paper: &Option<PaperNo>,
+    ) -> Result<ReviewLines, AnswerError>
+        ensures { ShowsAsDue result (reviews_due self.now.tables user.now paper.now) }
+    {
+        let by = match self.reviews_reader(user, paper) {
+            Ok(by) => by,
+            Err(rule) => return Err(AnswerError::Rule(rule)),
+        };
+        match paper {
+            Some(paper) => Ok(self.reviews(alloc, user, &by, *paper)?),
+            None => unreachable!(),
+        }
+    }
+
+    /// The same as a reply.
+    pub(crate) fn reviews_reply(
+        &self,
+        alloc: Global,
+        user: &Option<UserNo>,
+        paper: &Option<PaperNo>,
+    ) -> Result<Reply, AnswerError>
+        ensures { AnswersAsDue result (answer_by_role self.now.tables user.now (queries.Reviews paper.now)) }
+    {
+        match self.reviews_for(alloc, user, paper) {
+            Ok(lines) => Ok(Reply::Reviews(lines)),
+            Err(error) => Err(error),
+        }
+    }
+
+    /// How she stands to the paper whose reviews she may ask for, or the first broken rule.
+    pub(crate) fn reviews_reader(
+        &self,
+        user: &Option<UserNo>,
+        paper: &Option<PaperNo>,
+    ) -> Result<Standing, Rule>
+        ensures { result ≡ reader_at queries.Reviews self.now.tables user.now paper.now }
+    {
+        if !self.has_paper(paper) {
+            return Err(Rule::NoPaper);
+        }
+        let by = self.standing(user, paper);
+        if by.author {
+            if !by.phase.is_from(Phase::Notification) {
+                return Err(Rule::WrongPhase);
+            }
+            return Ok(by);
+        }
+        if !by.role.is_member() {
+            return Err(Rule::NotMember);
+        }
+        if by.conflicted {
+            return Err(Rule::Conflict);
+        }
+        if by.phase.is_from(Phase::Discussion) {
+            return Ok(by);
+        }
+        if !(by.reviewer && by.phase.is(Phase::Reviewing)) {
+            return Err(Rule::WrongPhase);
+        }
+        Ok(by)
+    }
+}
+
+/// What is told.
+impl Live {
+    /// The reviews that one who stands so to the paper is told.
+    fn reviews(
+        &self,
+        alloc: Global,
+        user: &Option<UserNo>,
+        by: &Standing,
+        paper: PaperNo,
+    ) -> Result<ReviewLines, AllocError>
+        ensures { IfOk result (λ lines. lines ≡ reviews_at self.now.tables user.now by.now paper) }
+    {
+        if by.author || by.phase.is_from(Phase::Discussion) {
+            return self.all_reviews(alloc, by, paper);
+        }
+        self.own_reviews(alloc, user, by, paper)
+    }
+
+    /// The forms of every label that are told, by label, those of a label by version.
+    fn all_reviews(
+        &self,
+        alloc: Global,
+        by: &Standing,
+        paper: PaperNo,
+    ) -> Result<ReviewLines, AllocError>
+        ensures { IfOk result (λ lines. lines ≡ by_labels (label_reviews self.now.tables by.now paper) most_labels) }
+    {
+        let written = self.reviews.labels(paper);
+        let mut lines = Vec::new(alloc);
+        for before in 0..MOST_LABELS {
+            let label = Ordinal::new(before + 1);
+            if written.has(label) {
+                self.push_label(&mut lines, by, paper, label)?;
+            }
+        }
+        Ok(ReviewLines::from_vec(lines))
+    }
+
+    /// Adds the forms of a label that are told: to authors the last one; to others the last that was written
+    /// before the discussion, and all later ones.
+    fn push_label(
+        &self,
+        lines: &mut Vec<ReviewLine>,
+        by: &Standing,
+        paper: PaperNo,
+        label: Ordinal,
+    ) -> Result<(), AllocError>
+        ensures { OnOk result (lines.new.items ≡ lines.old.items ++ label_reviews self.now.tables by.now paper label) }
+    {
+        let heading = Heading {
+            to_author: by.author,
+            label,
+            user: self.label_name(by, paper, label),
+        };
+        if by.author {
+            return push_form(lines, &heading, self.reviews.last(paper, label));
+        }
+        let before = self.reviews.last_before(paper, label, Phase::Discussion);
+        push_form(lines, &heading, before)?;
+        push_forms(
+            lines,
+            &heading,
+            self.reviews.forms(paper),
+            Phase::Discussion,
+        )
+    }
+
+    /// The name of whoever was assigned under the label, where it is told. One read by number, where it is.
+    fn label_name(&self, by: &Standing, paper: PaperNo, label: Ordinal) -> Option<Short>
+        ensures { result ≡ label_name self.now.tables (shows_reviewer by.now) paper label }
+    {
+        if !shows_reviewer(by) {
+            return None;
+        }
+        let user = user_under(self.seats.seats(paper), label)?;
+        self.accounts.name_of(user)
+    }
+
+    /// Her own forms, without her name; none where she doesn't review the paper.
+    fn own_reviews(
+        &self,
+        alloc: Global,
+        user: &Option<UserNo>,
+        by: &Standing,
+        paper: PaperNo,
+    ) -> Result<ReviewLines, AllocError>
+        ensures { IfOk result (λ lines. lines ≡ own_reviews self.now.tables user.now by.now paper) }
+    {
+        let mut lines = Vec::new(alloc);
+        let Some(label) = self.seat_of(user, paper) else {
+            return Ok(ReviewLines::from_vec(lines));
+        };
+        let heading = Heading {
+            to_author: by.author,
+            label,
+            user: None,
+        };
+        push_forms(
+            &mut lines,
+            &heading,
+            self.reviews.forms(paper),
+            Phase::Setup,
+        )?;
+        Ok(ReviewLines::from_vec(lines))
+    }
+}
