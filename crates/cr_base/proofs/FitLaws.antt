@@ -8,7 +8,7 @@ use Rattle.std.proofs.lemmas.Bool.Decides.{nat_tests}
 use Rattle.std.proofs.lemmas.List.{append-nil, length-map}
 use Rattle.cr_base.specs.History.{FormTold}
 use Rattle.cr_base.specs.declared.command.Command.{Command}
-use Rattle.cr_base.specs.declared.command.Command.TheVariants.{Register, SetPhase, Submit, Revise, Upload, Withdraw, Name, SetMode, SetConflict, Bid, Assign, Unassign, Review, Comment, Tag}
+use Rattle.cr_base.specs.declared.command.Command.TheVariants.{Register, SetPhase, Submit, Revise, Upload, Withdraw, Name, SetMode, SetConflict, Bid, Assign, Unassign, Review, Comment, Tag, Decide}
 use Rattle.cr_base.specs.declared.entry.Account.{Account}
 use Rattle.cr_base.specs.declared.entry.Entry.TheVariants.{Registered, Named}
 use Rattle.cr_base.specs.declared.target.Target.{Target}
@@ -17,9 +17,9 @@ use Rattle.cr_base.specs.declared.words.Role.TheVariants as roles
 use Rattle.cr_base.specs.Accounts.{number_at, lines_of}
 use Rattle.cr_base.specs.Checks.{NamedPaper, of_role, register_checks, phase_checks, submit_checks, revise_checks, upload_checks}
 use Rattle.cr_base.specs.Checks.{name_checks, mode_checks, conflict_checks, bid_checks, assign_checks, unassign_checks, target_is}
-use Rattle.cr_base.specs.Checks.{review_checks, comment_checks, tag_checks}
+use Rattle.cr_base.specs.Checks.{review_checks, comment_checks, tag_checks, decide_checks}
 use Rattle.cr_base.specs.Drawn.{Drawn, grouped, registration, registration_drawn, phase_drawn, submission_drawn, revision_drawn, upload_drawn}
-use Rattle.cr_base.specs.Drawn.{withdrawal_drawn, naming_drawn, mode_drawn, conflict_drawn, bid_drawn, assignment_drawn, unassignment_drawn, review_drawn, comment_drawn, tag_drawn}
+use Rattle.cr_base.specs.Drawn.{withdrawal_drawn, naming_drawn, mode_drawn, conflict_drawn, bid_drawn, assignment_drawn, unassignment_drawn, review_drawn, comment_drawn, tag_drawn, decision_drawn}
 use Rattle.cr_base.specs.Judging.{judge_by_role}
 use Rattle.cr_base.specs.Sources.{Facts, own_forms_in, standing_at, facts_of_tables, shown_in_tables, user_among, users_among, role_among, has_paper, maker_of, paper_named, target_named}
 use Rattle.cr_base.specs.Papers.{paper_count, paper_numbers, uploads_at, own_count, own_bytes}
@@ -233,5 +233,9 @@ module _ (t : Tables) (within : AreWithin (paper_count t.papers) t.ties) (maker 
       (record { accounts = tt; papers = there; ties = tt; seats = tt; reviews = tt; talk = (next, leb-false 1000 own k.0.1.1.1.1.1.0) }, tt)
   judged-fits (Tag paper tag on) drawn accepted =
       let k = judged-Ok (tag_checks (standing_at t (Some maker) paper) (named paper) (is_for_chairs tag)) (tag_drawn maker (unwrap_or paper 0) tag on) drawn accepted in
+      let there = paper_within t.papers.papers paper k.0.0 in
+      subst (λ (d : Drawn). FitInTurn t d.group) k.1 (record { accounts = tt; papers = there; ties = tt; seats = tt; reviews = tt; talk = tt }, tt)
+  judged-fits (Decide paper decision) drawn accepted =
+      let k = judged-Ok (decide_checks (standing_at t (Some maker) paper) (named paper)) (decision_drawn maker (unwrap_or paper 0) decision) drawn accepted in
       let there = paper_within t.papers.papers paper k.0.0 in
       subst (λ (d : Drawn). FitInTurn t d.group) k.1 (record { accounts = tt; papers = there; ties = tt; seats = tt; reviews = tt; talk = tt }, tt)

@@ -3,14 +3,16 @@ use Rattle.std.proofs.Common.{ℕ, Bool, true, false, cond, ◌≡◌, ◌≤◌
 use Rattle.std.proofs.lemmas.Bool.Decides.{nat_tests}
 use Rattle.std.proofs.lemmas.List.{drop-replicate}
 use Rattle.std.proofs.lemmas.Slice.{drop-append-drop}
-use Rattle.cr_base.specs.Words.{phase_number, phase_numbered, mode_number, mode_numbered, role_number, role_numbered, seat_number, seat_numbered}
+use Rattle.cr_base.specs.Words.{phase_number, phase_numbered, mode_number, mode_numbered, role_number, role_numbered, seat_number, seat_numbered, decision_number, decision_numbered}
 use Rattle.cr_base.specs.Shapes.{FitsShape, HasText, InRange, IsAtMost, unused, some_ordinal_range}
 use Rattle.cr_base.specs.Rows.{kind_number, label_number, label_numbered, shape_of, kind_of, row_of, built, stamped, IsBoundedEntry}
 use Rattle.cr_base.specs.declared.entry.EntryKind.{EntryKind}
 use Rattle.cr_base.specs.declared.entry.EntryKind.TheVariants as kind
 use Rattle.cr_base.specs.declared.entry.Entry.{Entry}
-use Rattle.cr_base.specs.declared.entry.Entry.TheVariants.{Named, PhaseSet, ModeSet, Conflict, Assigned, Commented, Tagged}
+use Rattle.cr_base.specs.declared.entry.Entry.TheVariants.{Named, PhaseSet, ModeSet, Conflict, Assigned, Commented, Tagged, Decided}
 use Rattle.cr_base.specs.declared.entry.Stamped.{Stamped}
+use Rattle.cr_base.specs.declared.words.Decision.{Decision}
+use Rattle.cr_base.specs.declared.words.Decision.TheVariants.{Accept, Reject}
 use Rattle.cr_base.specs.declared.words.Kind.{Kind}
 use Rattle.cr_base.specs.declared.words.Kind.TheVariants.{Primary, Secondary, Pc}
 use Rattle.cr_base.specs.declared.words.Phase.{Phase}
@@ -79,6 +81,17 @@ seat_numbered-number : (x : Kind) → seat_numbered (seat_number x) ≡ x
 seat_numbered-number Primary = refl
 seat_numbered-number Secondary = refl
 seat_numbered-number Pc = refl
+
+decision_number-cond : (b : Bool) (x y : Decision) → decision_number (cond b x y) ≡ cond b (decision_number x) (decision_number y)
+decision_number-cond true x y = refl
+decision_number-cond false x y = refl
+
+decision_number-numbered : (n : ℕ) → 1 ≤ n → n ≤ 2 → decision_number (decision_numbered n) ≡ n
+decision_number-numbered n l h = simp decision_number-cond (grind (arith, nat_tests))
+
+decision_numbered-number : (x : Decision) → decision_numbered (decision_number x) ≡ x
+decision_numbered-number Accept = refl
+decision_numbered-number Reject = refl
 
 bit : (n : ℕ) → n ≤ 1 → cond (n == 1) 1 0 ≡ n
 bit n h = grind (arith, nat_tests)
@@ -151,6 +164,7 @@ row_of-stamped kind.PhaseSet r hk f = same_row r kind.PhaseSet _ _ _ _ _ _ _ hk 
 row_of-stamped kind.ModeSet r hk f = same_row r kind.ModeSet _ _ _ _ _ _ _ hk f (unused-zero _ f.n4) (unused-zero _ f.n5) (mode_number-numbered r.n1 f.n1.1) (unused-zero _ f.n2) (unused-zero _ f.n3) (sym f.b1) (sym f.b2)
 row_of-stamped kind.Assigned r hk f = same_row r kind.Assigned _ _ _ _ _ _ _ hk f refl (unused-zero _ f.n5) refl refl (seat_number-numbered r.n3 f.n3.0 f.n3.1) (sym f.b1) (sym f.b2)
 row_of-stamped kind.Commented r hk f = same_row r kind.Commented _ _ _ _ _ _ _ hk f (unused-zero _ f.n4) (unused-zero _ f.n5) refl refl (label_number-numbered r.n3) refl (sym f.b2)
+row_of-stamped kind.Decided r hk f = same_row r kind.Decided _ _ _ _ _ _ _ hk f (unused-zero _ f.n4) (unused-zero _ f.n5) refl (decision_number-numbered r.n2 f.n2.0 f.n2.1) (unused-zero _ f.n3) (sym f.b1) (sym f.b2)
 row_of-stamped k r hk f =
     let s : Shape = shape_of k in
     same_row r k _ _ _ _ _ _ _ hk f (plain-is s.n4 r.n4 f.n4) (plain-is s.n5 r.n5 f.n5) (plain-is s.n1 r.n1 f.n1) (plain-is s.n2 r.n2 f.n2) (plain-is s.n3 r.n3 f.n3) (plain_text-is s.b1 r.b1 f.b1) (plain_text-is s.b2 r.b2 f.b2)
@@ -164,6 +178,7 @@ built-row_of (Conflict paper user on) m o h = ap (λ x. Conflict paper user x) (
 built-row_of (Assigned paper user seat ordinal) m o h = ap (λ x. Assigned paper user x ordinal) (seat_numbered-number seat)
 built-row_of (Commented paper n ordinal text) m o h = ap (λ x. Commented paper n x text) (label_numbered-number ordinal h.n3)
 built-row_of (Tagged paper tag on) m o h = ap (λ x. Tagged paper tag x) (bit-back on)
+built-row_of (Decided paper decision) m o h = ap (λ x. Decided paper x) (decision_numbered-number decision)
 built-row_of e m o h = refl
 
 restamp : (s : Stamped) (p : Bool) (f : Entry) → p ≡ s.more → f ≡ s.entry → ◌≡◌ {A = Stamped} (record { maker = s.maker; more = p; entry = f }) s

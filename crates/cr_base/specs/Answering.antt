@@ -2,6 +2,7 @@
 use Rattle.std.specs.Prelude.{ℕ, Bool, true, false, not, ◌&&◌, ◌==◌, zero, suc, List, [], ◌++◌, length, map, Option, Some, None, is_some, filter, find, unwrap_or, Result, Ok, Err, if◌then◌else◌}
 use Rattle.std.specs.Option.{option_map, option_and_then}
 use Rattle.std.specs.List.{flat_map}
+use Rattle.cr_base.specs.declared.accepted.AcceptedPaper.{AcceptedPaper}
 use Rattle.cr_base.specs.declared.command.Query.{Query}
 use Rattle.cr_base.specs.declared.command.Query.TheVariants as queries
 use Rattle.cr_base.specs.declared.comment.CommentLine.{CommentLine}
@@ -15,10 +16,14 @@ use Rattle.cr_base.specs.declared.reply.Reply.TheVariants as replies
 use Rattle.cr_base.specs.declared.reply.Rule.{Rule}
 use Rattle.cr_base.specs.declared.review.ReviewLine.{ReviewLine}
 use Rattle.cr_base.specs.declared.standing.Standing.{Standing}
+use Rattle.cr_base.specs.declared.words.Decision.{Decision}
+use Rattle.cr_base.specs.declared.words.Decision.TheVariants.{Accept}
 use Rattle.cr_base.specs.declared.words.Phase.TheVariants.{Discussion}
 use Rattle.cr_base.specs.Checks.{Check, judged, of_there, page_checks, content_checks, reviews_checks, comments_checks}
 use Rattle.cr_base.specs.History.{Upload, BidTold, SeatTold, FormTold, CommentTold}
-use Rattle.cr_base.specs.Lists.{listed, last}
+use Rattle.cr_base.specs.Decisions.{is_published}
+use Rattle.cr_base.specs.Lists.{listed, last, at_some}
+use Rattle.cr_base.specs.Logins.{query_wants_login}
 use Rattle.cr_base.specs.Page.{is_clear_member, is_clear_chair, shows_reviewer, shows_writer, where_told, page_of}
 use Rattle.cr_base.specs.Phases.{is_from}
 use Rattle.cr_base.specs.Sources.{Facts, Shown, names_in, name_in, has_paper, maker_of, facts_of_tables, shown_in_tables}
@@ -44,14 +49,29 @@ content_by facts shown paper version =
 -- the rules of asking for it
 abbrev pub content_asked : Facts → Shown → Option ℕ → Option ℕ → List Check
 content_asked facts shown paper version =
-    content_checks (facts.standing paper) (of_there (has_paper facts paper)) (is_some (content_by facts shown paper version))
+    content_checks (facts.standing paper) (at_some facts.accepted paper) (of_there (has_paper facts paper)) (is_some (content_by facts shown paper version))
+
+-- ---- who may ask
+
+-- the paper whose page or content is asked for: everyone is served what is published
+abbrev pub paper_read : Query → Option ℕ
+paper_read (queries.Page paper) = paper
+paper_read (queries.Content paper) = paper
+paper_read (queries.Version paper version) = paper
+paper_read _ = None
+
+-- nobody may not ask: what is asked for wants a login, and isn't the page or the content of a published paper
+abbrev pub login_wanted : Facts → Query → Bool
+login_wanted facts query =
+    query_wants_login query && not (is_published (facts.standing None).phase (at_some facts.accepted (paper_read query)))
 
 -- the rules of a query
 abbrev pub query_checks : Facts → Shown → Query → List Check
 query_checks facts shown queries.Accounts = []
 query_checks facts shown queries.Phase = []
+query_checks facts shown queries.AcceptedPapers = []
 query_checks facts shown queries.Me = []
-query_checks facts shown (queries.Page paper) = page_checks (facts.standing paper) (of_there (has_paper facts paper))
+query_checks facts shown (queries.Page paper) = page_checks (facts.standing paper) (at_some facts.accepted paper) (of_there (has_paper facts paper))
 query_checks facts shown (queries.Content paper) = content_asked facts shown paper None
 query_checks facts shown (queries.Version paper version) = content_asked facts shown paper (Some version)
 query_checks facts shown (queries.Reviews paper) = reviews_checks (facts.standing paper) (of_there (has_paper facts paper))
@@ -70,16 +90,21 @@ reviewer_told by accounts written seat = record {
   user = where_told (shows_reviewer by) (option_and_then (name_in accounts) seat.user);
 }
 
+-- the decision on a paper: to accept it, where it is accepted, as everyone is told; else the last one that is shown
+abbrev pub decision_by : Facts → Shown → ℕ → Option Decision
+decision_by facts shown p = if facts.accepted p then Some Accept else shown.decision p
+
 -- the page of a paper that is there
 abbrev pub page_by : Facts → Shown → Option ℕ → ℕ → Page
 page_by facts shown caller p =
-    page_of (facts.standing (Some p)) p (record {
+    page_of (facts.standing (Some p)) (facts.accepted p) p (record {
       title = shown.title p;
       abstract_ = shown.abstract_ p;
       authors = names_in facts.accounts (shown.authors p);
       bid = facts.own_bid p;
       bids = flat_map (λ (bid : BidTold). listed (bidder_told facts.accounts bid)) (shown.bids p);
       conflicts = names_in facts.accounts (shown.conflicts p);
+      decision = decision_by facts shown p;
       declared = names_in facts.accounts (shown.declared p);
       label = facts.own_seat p;
       reviewers = map (reviewer_told (facts.standing (Some p)) facts.accounts (shown.written p)) (shown.reviewers p);
@@ -134,6 +159,21 @@ comment_line by accounts comment = record {
 abbrev pub comments_by : Facts → Shown → ℕ → List CommentLine
 comments_by facts shown p = map (comment_line (facts.standing (Some p)) facts.accounts) (shown.comments p)
 
+-- ---- the accepted papers
+
+abbrev pub accepted_paper : Facts → Shown → ℕ → AcceptedPaper
+accepted_paper facts shown p = record {
+  authors = names_in facts.accounts (shown.authors p);
+  paper = p;
+  title = unwrap_or (shown.title p) [];
+}
+
+-- by number
+abbrev pub accepted_by : Facts → Shown → List AcceptedPaper
+accepted_by facts shown = map (accepted_paper facts shown) (filter facts.accepted facts.papers)
+
+-- ---- the caller
+
 -- what a user is told of herself: nobody is told anything
 abbrev pub me_by : Facts → ℕ → Me
 me_by facts user = record {
@@ -153,6 +193,7 @@ told_by facts shown caller queries.Accounts = replies.Accounts facts.accounts
 told_by facts shown caller queries.Phase =
     let by = facts.standing None in
     replies.Conference (record { mode = by.mode; papers = length facts.papers; phase = by.phase })
+told_by facts shown caller queries.AcceptedPapers = replies.AcceptedPapers (accepted_by facts shown)
 told_by facts shown caller queries.Me = replies.Me (me_by facts (maker_of caller))
 told_by facts shown caller (queries.Page paper) = replies.Page (page_by facts shown caller (unwrap_or paper 0))
 told_by facts shown caller (queries.Content paper) = replies.Content (unwrap_or (content_by facts shown paper None) [])

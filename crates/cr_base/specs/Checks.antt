@@ -10,6 +10,7 @@ use Rattle.cr_base.specs.declared.words.Phase.{Phase}
 use Rattle.cr_base.specs.declared.words.Phase.TheVariants.{Setup, Submission, Bidding, Reviewing, Discussion, Notification}
 use Rattle.cr_base.specs.declared.words.Role.{Role}
 use Rattle.cr_base.specs.declared.words.Role.TheVariants.{Account}
+use Rattle.cr_base.specs.Decisions.{is_published}
 use Rattle.cr_base.specs.Phases.{is_from, is_phase, is_next}
 use Rattle.cr_base.specs.Words.{role_number, is_member, is_chair}
 
@@ -79,11 +80,11 @@ submit_checks missing by count own =
     ∷ nat_le 20 own breaks rules.QuotaPapers
     ∷ []
 
--- a paper's page: the caller's standing at the paper, and the paper
-abbrev pub page_checks : Standing → NamedPaper → List Check
-page_checks by paper =
+-- a paper's page: the caller's standing at the paper, whether it is accepted, and the paper
+abbrev pub page_checks : Standing → Bool → NamedPaper → List Check
+page_checks by accepted paper =
     not paper.there breaks rules.NoPaper
-    ∷ not (is_member by.role || by.author) breaks rules.NotMember
+    ∷ not (is_member by.role || by.author || accepted) breaks rules.NotMember
     ∷ []
 
 -- revise and withdraw: the caller's standing at the paper, and the paper
@@ -99,13 +100,19 @@ revise_checks by paper =
 abbrev pub upload_checks : Standing → NamedPaper → ℕ → ℕ → List Check
 upload_checks by paper own more = revise_checks by paper ++ nat_lt 67108864 (own + more) breaks rules.QuotaBytes ∷ []
 
--- a paper's content: the caller's standing at the paper, the paper, and whether the version that is asked for is hers to read
-abbrev pub content_checks : Standing → NamedPaper → Bool → List Check
-content_checks by paper found =
+-- the paper's content is hers to read, whatever else she is: she is its author, or it is published
+abbrev pub reads_freely : Standing → Bool → Bool
+reads_freely by accepted = by.author || is_published by.phase accepted
+
+-- a paper's content: the caller's standing at the paper, whether it is accepted, the paper, and whether the version that is asked
+-- for is hers to read
+abbrev pub content_checks : Standing → Bool → NamedPaper → Bool → List Check
+content_checks by accepted paper found =
+    let free = reads_freely by accepted in
     not paper.there breaks rules.NoPaper
-    ∷ not (by.author || is_member by.role) breaks rules.NotMember
-    ∷ (not by.author && by.conflicted) breaks rules.Conflict
-    ∷ not (by.author || is_from Bidding by.phase) breaks rules.WrongPhase
+    ∷ not (free || is_member by.role) breaks rules.NotMember
+    ∷ (not free && by.conflicted) breaks rules.Conflict
+    ∷ not (free || is_from Bidding by.phase) breaks rules.WrongPhase
     ∷ not found breaks rules.NoContent
     ∷ []
 
@@ -267,6 +274,16 @@ tag_checks by paper for_chairs =
     ∷ not (is_member by.role) breaks rules.NotMember
     ∷ by.conflicted breaks rules.Conflict
     ∷ not (is_in_committee by.phase) breaks rules.WrongPhase
+    ∷ paper.withdrawn breaks rules.Withdrawn
+    ∷ []
+
+-- decide: the caller's standing at the paper, and the paper
+abbrev pub decide_checks : Standing → NamedPaper → List Check
+decide_checks by paper =
+    not paper.there breaks rules.NoPaper
+    ∷ not (is_chair by.role) breaks rules.NotChair
+    ∷ by.conflicted breaks rules.Conflict
+    ∷ not (is_phase by.phase Discussion) breaks rules.WrongPhase
     ∷ paper.withdrawn breaks rules.Withdrawn
     ∷ []
 

@@ -4,10 +4,11 @@ use Rattle.std.specs.List.{list_any}
 use Rattle.cr_base.specs.declared.entry.Entry.{Entry}
 use Rattle.cr_base.specs.declared.entry.Entry.TheVariants.{Registered, Named, PhaseSet, ModeSet, Submitted}
 use Rattle.cr_base.specs.declared.entry.Entry.TheVariants.{Coauthor, Revised, Uploaded, Withdrawn, Conflict}
-use Rattle.cr_base.specs.declared.entry.Entry.TheVariants.{Bid, Assigned, Unassigned, Reviewed, Commented, Tagged}
+use Rattle.cr_base.specs.declared.entry.Entry.TheVariants.{Bid, Assigned, Unassigned, Reviewed, Commented, Tagged, Decided}
 use Rattle.cr_base.specs.declared.reply.Receipt.{Receipt}
 use Rattle.cr_base.specs.declared.reply.Receipt.TheVariants as receipts
 use Rattle.cr_base.specs.declared.form.Form.{Form}
+use Rattle.cr_base.specs.declared.words.Decision.{Decision}
 use Rattle.cr_base.specs.declared.words.Kind.{Kind}
 use Rattle.cr_base.specs.declared.words.Mode.{Mode}
 use Rattle.cr_base.specs.declared.words.Phase.{Phase}
@@ -96,3 +97,6 @@ comment_drawn maker paper n ordinal text = record {
 
 abbrev pub tag_drawn : ℕ → ℕ → List ℕ → Bool → Drawn
 tag_drawn maker paper tag on = record { group = grouped maker (Tagged paper tag on ∷ []); receipt = receipts.Changed paper }
+
+abbrev pub decision_drawn : ℕ → ℕ → Decision → Drawn
+decision_drawn maker paper decision = record { group = grouped maker (Decided paper decision ∷ []); receipt = receipts.Changed paper }

@@ -6,10 +6,11 @@ use Rattle.std.specs.Str.{bytes_eq}
 use Rattle.cr_base.specs.declared.entry.Entry.{Entry}
 use Rattle.cr_base.specs.declared.entry.Entry.TheVariants.{Registered, Named, PhaseSet, ModeSet, Submitted}
 use Rattle.cr_base.specs.declared.entry.Entry.TheVariants.{Coauthor, Revised, Uploaded, Withdrawn, Conflict}
-use Rattle.cr_base.specs.declared.entry.Entry.TheVariants.{Bid, Assigned, Unassigned, Reviewed, Commented, Tagged}
+use Rattle.cr_base.specs.declared.entry.Entry.TheVariants.{Bid, Assigned, Unassigned, Reviewed, Commented, Tagged, Decided}
 use Rattle.cr_base.specs.declared.entry.Stamped.{Stamped}
 use Rattle.cr_base.specs.declared.form.Form.{Form}
 use Rattle.cr_base.specs.declared.tag.SetTag.{SetTag}
+use Rattle.cr_base.specs.declared.words.Decision.{Decision}
 use Rattle.cr_base.specs.declared.words.Kind.{Kind}
 use Rattle.cr_base.specs.declared.words.Phase.{Phase}
 use Rattle.cr_base.specs.declared.words.Phase.TheVariants.{Discussion}
@@ -171,6 +172,11 @@ own_comment_told u maker _ = []
 abbrev pub tag_told : ℕ → ℕ → Entry → List TagTold
 tag_told p maker (Tagged paper tag on) = given (paper == p) (record { tag = record { tag = tag; owner = tag_owner tag maker }; on = on })
 tag_told p maker _ = []
+
+-- what it decides of the paper
+abbrev pub decision_told : ℕ → Entry → List Decision
+decision_told p (Decided paper decision) = given (paper == p) decision
+decision_told p _ = []
 
 -- the title, the abstract that it gives the paper
 abbrev pub title_told : ℕ → Entry → List (List ℕ)

@@ -3,6 +3,7 @@ use Rattle.std.specs.Prelude.{ℕ, Bool, false, not, ◌||◌, ◌==◌, List, [
 use Rattle.std.specs.List.{flat_map, list_any}
 use Rattle.std.specs.Option.{option_and_then}
 use Rattle.cr_base.specs.declared.entry.Stamped.{Stamped}
+use Rattle.cr_base.specs.declared.words.Decision.{Decision}
 use Rattle.cr_base.specs.declared.words.Phase.{Phase}
 use Rattle.cr_base.specs.declared.words.Phase.TheVariants.{Setup}
 use Rattle.cr_base.specs.declared.words.Mode.{Mode}
@@ -12,12 +13,13 @@ use Rattle.cr_base.specs.declared.words.Role.TheVariants.{Account}
 use Rattle.cr_base.specs.declared.reply.AccountLine.{AccountLine}
 use Rattle.cr_base.specs.declared.standing.Standing.{Standing}
 use Rattle.cr_base.specs.declared.tag.SetTag.{SetTag}
+use Rattle.cr_base.specs.Decisions.{is_accepted_when}
 use Rattle.cr_base.specs.Lists.{last, last_or, listed, total, is_nothing, is_number, at_some, until, since}
 use Rattle.cr_base.specs.Tags.{with_tag}
 use Rattle.cr_base.specs.History.{History, Registration, Upload, SeatTold, all_told, all_told_by, phase_told, mode_told, paper_told}
 use Rattle.cr_base.specs.History.{own_paper_told, author_told, conflict_told, declared_told, title_told}
 use Rattle.cr_base.specs.History.{bid_told, seat_told, assigned_told, unassigned_told}
-use Rattle.cr_base.specs.History.{FormTold, CommentTold, TagTold, form_told, own_form_told, comment_told, own_comment_told, tag_told, opens_discussion}
+use Rattle.cr_base.specs.History.{FormTold, CommentTold, TagTold, form_told, own_form_told, comment_told, own_comment_told, tag_told, decision_told, opens_discussion}
 use Rattle.cr_base.specs.History.{abstract_told, upload_told, own_bytes_told, withdrawal_told, registration_told, role_told, number_told, caller_told}
 
 -- ---- PublicFacts
@@ -168,6 +170,14 @@ uploads_of p H = all_told (upload_told p) H
 -- the paper was withdrawn
 abbrev pub is_withdrawn : ℕ → History → Bool
 is_withdrawn p H = last_or false (all_told (withdrawal_told p) H)
+
+-- the last decision on the paper
+abbrev pub decision_of : ℕ → History → Option Decision
+decision_of p H = last (all_told (decision_told p) H)
+
+-- Accepted: the paper is, in its authors' eyes
+abbrev pub is_accepted : ℕ → History → Bool
+is_accepted p H = is_accepted_when (phase_of H) (is_withdrawn p H) (decision_of p H)
 
 -- how many papers the user has submitted
 abbrev pub own_papers_of : Option ℕ → History → ℕ

@@ -4,17 +4,17 @@ use Rattle.std.specs.List.{flat_map, list_any}
 use Rattle.std.specs.Option.{option_map}
 use Rattle.cr_base.specs.declared.command.Command.{Command}
 use Rattle.cr_base.specs.declared.command.Command.TheVariants.{Register, SetPhase, Submit, Revise, Upload, Withdraw, Name, SetMode, SetConflict, Bid, Assign, Unassign}
-use Rattle.cr_base.specs.declared.command.Command.TheVariants.{Review, Comment, Tag}
+use Rattle.cr_base.specs.declared.command.Command.TheVariants.{Review, Comment, Tag, Decide}
 use Rattle.cr_base.specs.declared.form.Form.{Form}
 use Rattle.cr_base.specs.declared.reply.Rule.{Rule}
 use Rattle.cr_base.specs.declared.words.Kind.{Kind}
 use Rattle.cr_base.specs.declared.words.Role.{Role}
 use Rattle.cr_base.specs.Checks.{judged, of_role, register_checks, phase_checks, submit_checks, revise_checks, upload_checks}
 use Rattle.cr_base.specs.Checks.{name_checks, mode_checks, conflict_checks, bid_checks, assign_checks, unassign_checks}
-use Rattle.cr_base.specs.Checks.{review_checks, comment_checks, tag_checks}
+use Rattle.cr_base.specs.Checks.{review_checks, comment_checks, tag_checks, decide_checks}
 use Rattle.cr_base.specs.Drawn.{Drawn, registration_drawn, phase_drawn, submission_drawn, revision_drawn, upload_drawn}
 use Rattle.cr_base.specs.Drawn.{withdrawal_drawn, naming_drawn, mode_drawn, conflict_drawn, bid_drawn, assignment_drawn, unassignment_drawn}
-use Rattle.cr_base.specs.Drawn.{review_drawn, comment_drawn, tag_drawn}
+use Rattle.cr_base.specs.Drawn.{review_drawn, comment_drawn, tag_drawn, decision_drawn}
 use Rattle.cr_base.specs.Lists.{listed, at_some}
 use Rattle.cr_base.specs.Sources.{Facts, Shown, number_in, user_among, users_among, role_among, paper_named, target_named, maker_of, facts_of_tables, shown_in_tables}
 use Rattle.cr_base.specs.Tables.{Tables}
@@ -111,6 +111,8 @@ judge_by facts shown caller (Unassign paper name) =
 judge_by facts shown caller (Review paper form) = review_judged facts shown caller paper form
 judge_by facts shown caller (Comment paper text) = comment_judged facts shown caller paper text
 judge_by facts shown caller (Tag paper tag on) = tag_judged facts shown caller paper tag on
+judge_by facts shown caller (Decide paper decision) =
+    judged (decide_checks (facts.standing paper) (paper_named facts shown paper)) (decision_drawn (maker_of caller) (unwrap_or paper 0) decision)
 
 -- RoleAnswer of a command: the same by checks on the tables
 abbrev pub judge_by_role : Tables → Option ℕ → Command → Result Drawn Rule

@@ -2,6 +2,7 @@ pub mod Accounts
 pub mod Answering
 pub mod Bounds
 pub mod Checks
+pub mod Decisions
 pub mod Drawn
 pub mod Filed
 pub mod History

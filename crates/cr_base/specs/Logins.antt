@@ -9,11 +9,13 @@ use Rattle.cr_base.specs.declared.command.Query.TheVariants as queries
 
 -- ---- the two tables
 
--- nobody may register, and be told the accounts and the state of the conference; all else is a registered user's
+-- nobody may register, and be told the accounts, the state of the conference and the accepted papers; all else is a registered
+-- user's, but for what is published (`login_wanted` in Answering)
 abbrev pub ask_wants_login : Ask → Bool
 ask_wants_login asks.Register = false
 ask_wants_login asks.Accounts = false
 ask_wants_login asks.Phase = false
+ask_wants_login asks.AcceptedPapers = false
 ask_wants_login asks.Name = true
 ask_wants_login asks.SetMode = true
 ask_wants_login asks.SetPhase = true
@@ -34,14 +36,16 @@ ask_wants_login asks.Comment = true
 ask_wants_login asks.Comments = true
 ask_wants_login asks.Tag = true
 ask_wants_login asks.Untag = true
+ask_wants_login asks.Decide = true
 ask_wants_login asks.Me = true
 
 -- whether a request for this reads the field Authorization: a table of its own, since a request may be told who calls
--- though it wants no login
+-- though it wants no login, as those for published papers are
 abbrev pub ask_reads_credentials : Ask → Bool
 ask_reads_credentials asks.Register = false
 ask_reads_credentials asks.Accounts = false
 ask_reads_credentials asks.Phase = false
+ask_reads_credentials asks.AcceptedPapers = false
 ask_reads_credentials asks.Name = true
 ask_reads_credentials asks.SetMode = true
 ask_reads_credentials asks.SetPhase = true
@@ -62,6 +66,7 @@ ask_reads_credentials asks.Comment = true
 ask_reads_credentials asks.Comments = true
 ask_reads_credentials asks.Tag = true
 ask_reads_credentials asks.Untag = true
+ask_reads_credentials asks.Decide = true
 ask_reads_credentials asks.Me = true
 
 -- ---- commands and queries
@@ -84,11 +89,13 @@ command_ask (commands.Review paper form) = asks.Review
 command_ask (commands.Comment paper text) = asks.Comment
 command_ask (commands.Tag paper tag true) = asks.Tag
 command_ask (commands.Tag paper tag false) = asks.Untag
+command_ask (commands.Decide paper decision) = asks.Decide
 
 abbrev pub query_ask : Query → Ask
 query_ask queries.Me = asks.Me
 query_ask queries.Accounts = asks.Accounts
 query_ask queries.Phase = asks.Phase
+query_ask queries.AcceptedPapers = asks.AcceptedPapers
 query_ask (queries.Page paper) = asks.Page
 query_ask (queries.Content paper) = asks.Content
 query_ask (queries.Version paper version) = asks.Version

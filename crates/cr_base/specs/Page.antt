@@ -1,13 +1,14 @@
 -- A paper's page: which keys a caller is told, by her standing at the paper, and what they hold. When she is told them
 -- follows CoCon's phases; title, abstract, authors, conflicts and review preferences are the HotCRP
 -- manual's, and so are its kinds of review.
-use Rattle.std.specs.Prelude.{ℕ, Bool, false, not, ◌||◌, ◌&&◌, List, Option, Some, None, unwrap_or, if◌then◌else◌}
-use Rattle.cr_base.specs.declared.page.BareKeys.{BareKeys}
+use Rattle.std.specs.Prelude.{ℕ, Bool, not, ◌||◌, ◌&&◌, List, Option, Some, None, unwrap_or, if◌then◌else◌}
 use Rattle.cr_base.specs.declared.page.Bidder.{Bidder}
 use Rattle.cr_base.specs.declared.page.Page.{Page}
 use Rattle.cr_base.specs.declared.page.Reviewer.{Reviewer}
 use Rattle.cr_base.specs.declared.standing.Standing.{Standing}
+use Rattle.cr_base.specs.declared.words.Decision.{Decision}
 use Rattle.cr_base.specs.declared.words.Phase.TheVariants.{Bidding, Discussion, Notification}
+use Rattle.cr_base.specs.Decisions.{is_published}
 use Rattle.cr_base.specs.Phases.{is_from}
 use Rattle.cr_base.specs.Words.{is_anonymous, is_overt, is_member, is_chair, no_bid}
 
@@ -20,13 +21,13 @@ is_clear_member by = is_member by.role && not by.conflicted
 abbrev pub is_clear_chair : Standing → Bool
 is_clear_chair by = is_chair by.role && not by.conflicted
 
--- the title: authors; members from bidding
-abbrev pub gets_title : Standing → Bool
-gets_title by = by.author || (is_member by.role && is_from Bidding by.phase)
+-- the title: authors; members from bidding; everyone, where the paper is accepted
+abbrev pub gets_title : Standing → Bool → Bool
+gets_title by accepted = by.author || (is_member by.role && is_from Bidding by.phase) || accepted
 
--- the abstract: authors; clear members from bidding
-abbrev pub gets_abstract : Standing → Bool
-gets_abstract by = by.author || (is_clear_member by && is_from Bidding by.phase)
+-- the abstract: authors; clear members from bidding; everyone, where the paper is published
+abbrev pub gets_abstract : Standing → Bool → Bool
+gets_abstract by accepted = by.author || (is_clear_member by && is_from Bidding by.phase) || is_published by.phase accepted
 
 -- the authors: authors; clear chairs from bidding; clear members from bidding unless anonymous; everyone, where the
 -- paper is accepted
@@ -49,9 +50,9 @@ gets_conflicts by = is_clear_chair by && is_from Bidding by.phase
 abbrev pub gets_declared : Standing → Bool
 gets_declared by = by.author
 
--- the versions of its content: authors all; clear members from bidding the last
-abbrev pub gets_versions : Standing → Bool
-gets_versions by = by.author || (is_clear_member by && is_from Bidding by.phase)
+-- the versions of its content: authors all; clear members from bidding the last, and so everyone, where the paper is published
+abbrev pub gets_versions : Standing → Bool → Bool
+gets_versions by accepted = by.author || (is_clear_member by && is_from Bidding by.phase) || is_published by.phase accepted
 
 -- whether it is withdrawn: authors; members from bidding
 abbrev pub gets_withdrawn : Standing → Bool
@@ -89,11 +90,9 @@ shows_writer by = is_clear_member by && (is_chair by.role || not (is_anonymous b
 abbrev pub gets_tags : Standing → Bool
 gets_tags by = is_clear_member by && is_from Bidding by.phase
 
--- the keys that have nothing to tell yet
-abbrev pub bare_keys : Standing → BareKeys
-bare_keys by = record {
-  decision = (is_clear_member by && is_from Discussion by.phase) || (by.author && is_from Notification by.phase);
-}
+-- the decision: clear members from discussion; authors from notification; everyone, where the paper is accepted
+abbrev pub gets_decision : Standing → Bool → Bool
+gets_decision by accepted = (is_clear_member by && is_from Discussion by.phase) || (by.author && is_from Notification by.phase) || accepted
 
 -- ---- the page
 
@@ -105,6 +104,7 @@ pub record PaperTexts : Type 0 where
   pub bid : Option ℕ
   pub bids : List Bidder
   pub conflicts : List (List ℕ)
+  pub decision : Option Decision
   pub declared : List (List ℕ)
   pub label : Option ℕ
   pub reviewers : List Reviewer
@@ -116,22 +116,22 @@ pub record PaperTexts : Type 0 where
 abbrev pub where_told : {A : Type 0} → Bool → Option A → Option A
 where_told told value = if told then value else None
 
--- the page of a paper; no paper is accepted yet, since nothing decides
-abbrev pub page_of : Standing → ℕ → PaperTexts → Page
-page_of by paper texts = record {
+-- the page of a paper, which is accepted or isn't
+abbrev pub page_of : Standing → Bool → ℕ → PaperTexts → Page
+page_of by accepted paper texts = record {
   paper = paper;
-  abstract_ = where_told (gets_abstract by) texts.abstract_;
-  authors = where_told (shows_author by false) (Some texts.authors);
+  abstract_ = where_told (gets_abstract by accepted) texts.abstract_;
+  authors = where_told (shows_author by accepted) (Some texts.authors);
   bid = where_told (gets_bid by) (Some (unwrap_or texts.bid no_bid));
   bids = where_told (gets_bids by) (Some texts.bids);
   conflict = where_told (gets_conflict by) (Some by.conflicted);
   conflicts = where_told (gets_conflicts by) (Some texts.conflicts);
+  decision = where_told (gets_decision by accepted) (Some texts.decision);
   declared = where_told (gets_declared by) (Some texts.declared);
   label = where_told (gets_label by) texts.label;
   reviewers = where_told (gets_reviewers by) (Some texts.reviewers);
   tags = where_told (gets_tags by) (Some texts.tags);
-  title = where_told (gets_title by) texts.title;
-  versions = where_told (gets_versions by) (Some texts.versions);
+  title = where_told (gets_title by accepted) texts.title;
+  versions = where_told (gets_versions by accepted) (Some texts.versions);
   withdrawn = where_told (gets_withdrawn by) (Some texts.withdrawn);
-  bare = bare_keys by;
 }

@@ -5,7 +5,7 @@ use Rattle.std.specs.List.{flat_map}
 use Rattle.std.specs.Option.{option_map, option_map_or}
 use Rattle.cr_base.specs.declared.entry.Entry.{Entry}
 use Rattle.cr_base.specs.declared.entry.Entry.TheVariants.{Submitted, Coauthor, Revised, Uploaded, Withdrawn, Conflict}
-use Rattle.cr_base.specs.declared.entry.Entry.TheVariants.{Bid, Assigned, Unassigned, Reviewed, Commented, Tagged}
+use Rattle.cr_base.specs.declared.entry.Entry.TheVariants.{Bid, Assigned, Unassigned, Reviewed, Commented, Tagged, Decided}
 use Rattle.cr_base.specs.declared.paper.Paper.{Paper}
 use Rattle.cr_base.specs.History.{Upload}
 use Rattle.cr_base.specs.Lists.{given, numbered, numbers_from}
@@ -123,4 +123,5 @@ PapersFit state maker (Unassigned paper user ordinal) = IsPaper state paper
 PapersFit state maker (Reviewed paper ordinal version form) = IsPaper state paper
 PapersFit state maker (Commented paper n ordinal text) = IsPaper state paper
 PapersFit state maker (Tagged paper tag on) = IsPaper state paper
+PapersFit state maker (Decided paper decision) = IsPaper state paper
 PapersFit state maker _ = Unit {0}

@@ -5,13 +5,13 @@ use Rattle.cr_base.specs.declared.entry.EntryKind.TheVariants as kind
 use Rattle.cr_base.specs.declared.entry.Entry.{Entry}
 use Rattle.cr_base.specs.declared.entry.Entry.TheVariants.{Registered, Named, PhaseSet, ModeSet, Submitted}
 use Rattle.cr_base.specs.declared.entry.Entry.TheVariants.{Coauthor, Revised, Uploaded, Withdrawn, Conflict}
-use Rattle.cr_base.specs.declared.entry.Entry.TheVariants.{Bid, Assigned, Unassigned, Reviewed, Commented, Tagged}
+use Rattle.cr_base.specs.declared.entry.Entry.TheVariants.{Bid, Assigned, Unassigned, Reviewed, Commented, Tagged, Decided}
 use Rattle.cr_base.specs.declared.entry.Stamped.{Stamped}
 use Rattle.cr_base.specs.declared.row.Row.{Row}
-use Rattle.cr_base.specs.Words.{phase_number, phase_numbered, mode_number, mode_numbered, role_number, role_numbered, seat_number, seat_numbered}
+use Rattle.cr_base.specs.Words.{phase_number, phase_numbered, mode_number, mode_numbered, role_number, role_numbered, seat_number, seat_numbered, decision_number, decision_numbered}
 use Rattle.cr_base.specs.declared.shape.Shape.{Shape}
 use Rattle.cr_base.specs.declared.shape.TextKind.TheVariants.{Nothing, Name, Digest, Title, Abstract, Content, ReviewText, CommentText, Tag}
-use Rattle.cr_base.specs.Shapes.{user_range, paper_range, phase_range, mode_range, bit, role_range, version_range, bid_range, seat_range, ordinal_range, some_ordinal_range, grade_range}
+use Rattle.cr_base.specs.Shapes.{user_range, paper_range, phase_range, mode_range, bit, role_range, version_range, bid_range, seat_range, ordinal_range, some_ordinal_range, grade_range, decision_range}
 use Rattle.cr_base.specs.Shapes.{unused, shape, with_fourth, with_fifth, FitsShape}
 
 -- the number by which rows tell the kind
@@ -32,6 +32,7 @@ kind_number kind.Unassigned = 13
 kind_number kind.Reviewed = 14
 kind_number kind.Commented = 15
 kind_number kind.Tagged = 16
+kind_number kind.Decided = 17
 
 -- the word for the kind: its name in lower case
 abbrev pub kind_name : EntryKind → List ℕ
@@ -51,6 +52,7 @@ kind_name kind.Unassigned = codes "unassigned"
 kind_name kind.Reviewed = codes "reviewed"
 kind_name kind.Commented = codes "commented"
 kind_name kind.Tagged = codes "tagged"
+kind_name kind.Decided = codes "decided"
 
 -- the fields of each kind, a line a kind
 abbrev pub shape_of : EntryKind → Shape
@@ -70,6 +72,7 @@ shape_of kind.Unassigned = shape paper_range user_range ordinal_range Nothing No
 shape_of kind.Reviewed = with_fifth grade_range (with_fourth grade_range (shape paper_range ordinal_range version_range ReviewText ReviewText))
 shape_of kind.Commented = shape paper_range version_range some_ordinal_range CommentText Nothing
 shape_of kind.Tagged = shape paper_range bit unused Tag Nothing
+shape_of kind.Decided = shape paper_range decision_range unused Nothing Nothing
 
 -- the kind of an entry
 abbrev pub kind_of : Entry → EntryKind
@@ -89,6 +92,7 @@ kind_of (Unassigned paper user ordinal) = kind.Unassigned
 kind_of (Reviewed paper ordinal version form) = kind.Reviewed
 kind_of (Commented paper n ordinal text) = kind.Commented
 kind_of (Tagged paper tag on) = kind.Tagged
+kind_of (Decided paper decision) = kind.Decided
 
 -- what a row tells of an entry beside its kind, its maker and the mark
 pub record Fields : Type 0 where
@@ -134,6 +138,7 @@ fields_of (Reviewed paper ordinal version form) =
     record (fields paper ordinal version form.to_authors form.to_pc) { n4 = form.score; n5 = form.confidence }
 fields_of (Commented paper n ordinal text) = fields paper n (label_number ordinal) text []
 fields_of (Tagged paper tag on) = fields paper (bit_number on) 0 tag []
+fields_of (Decided paper decision) = fields paper (decision_number decision) 0 [] []
 
 -- the row of an entry
 abbrev pub row_of : Stamped → Row
@@ -178,6 +183,7 @@ built kind.Unassigned r = Unassigned r.n1 r.n2 r.n3
 built kind.Reviewed r = Reviewed r.n1 r.n2 r.n3 (record { score = r.n4; confidence = r.n5; to_authors = r.b1; to_pc = r.b2 })
 built kind.Commented r = Commented r.n1 r.n2 (label_numbered r.n3) r.b1
 built kind.Tagged r = Tagged r.n1 r.b1 (r.n2 == 1)
+built kind.Decided r = Decided r.n1 (decision_numbered r.n2)
 
 abbrev pub stamped : EntryKind → Row → Stamped
 stamped k r = record { maker = r.maker; more = r.more == 1; entry = built k r }

@@ -59,6 +59,10 @@ some_ordinal_range = range 0 26
 abbrev pub grade_range : Range
 grade_range = range 1 5
 
+-- accept and reject
+abbrev pub decision_range : Range
+decision_range = range 1 2
+
 -- an unused number is 0
 abbrev pub unused : Range
 unused = range 0 0

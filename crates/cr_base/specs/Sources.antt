@@ -7,9 +7,11 @@ use Rattle.std.specs.Str.{bytes_eq}
 use Rattle.cr_base.specs.declared.reply.AccountLine.{AccountLine}
 use Rattle.cr_base.specs.declared.standing.Standing.{Standing}
 use Rattle.cr_base.specs.declared.target.Target.{Target}
+use Rattle.cr_base.specs.declared.words.Decision.{Decision}
 use Rattle.cr_base.specs.declared.words.Role.{Role}
 use Rattle.cr_base.specs.Accounts.{lines_of, role_in}
 use Rattle.cr_base.specs.Checks.{NamedPaper}
+use Rattle.cr_base.specs.Decisions.{decision_in, is_accepted_when}
 use Rattle.cr_base.specs.Lists.{listed, is_number, at_some}
 use Rattle.cr_base.specs.Pairs.{users_tied_to}
 use Rattle.cr_base.specs.History.{Upload, BidTold, SeatTold, FormTold, CommentTold}
@@ -24,7 +26,8 @@ use Rattle.cr_base.specs.Ties.{authors_in, is_author_in, is_conflicted_in, bid_i
 
 -- what rules and drawn numbers read: how the caller stands, to a paper if one is named; who has registered; the papers;
 -- how many of them are the caller's, and how many bytes she has uploaded; her last bid on each, the ordinal under which she
--- reviews it, and the forms that she has written of it, in order; and how many comments she has written
+-- reviews it, and the forms that she has written of it, in order; how many comments she has written; and which papers are
+-- accepted
 pub record Facts : Type 0 where
   pub standing : Option ℕ → Standing
   pub accounts : List AccountLine
@@ -35,12 +38,14 @@ pub record Facts : Type 0 where
   pub own_seat : ℕ → Option ℕ
   pub own_forms : ℕ → List FormTold
   pub own_comments : ℕ
+  pub accepted : ℕ → Bool
 
 -- what pages, contents and some rules tell of a paper beside the standing: its texts, its authors, who is declared in
 -- conflict with it, and whom its authors declared, both by user number; what was uploaded to it, in order; whether it is
 -- withdrawn; the last bids on it, by user number; its reviewers, by label, under which ordinal a user reviews it, how many
 -- labels were given, and to whom each; of each label the last form, the forms that the committee discusses, and whether there is
--- one; the comments on it, by number; and its tags that are for a user, who may be a chair, by their bytes
+-- one; the comments on it, by number; its tags that are for a user, who may be a chair, by their bytes; and the last decision
+-- on it
 pub record Shown : Type 0 where
   pub title : ℕ → Option (List ℕ)
   pub abstract_ : ℕ → Option (List ℕ)
@@ -59,6 +64,7 @@ pub record Shown : Type 0 where
   pub written : ℕ → ℕ → Bool
   pub comments : ℕ → List CommentTold
   pub tags : Option ℕ → Bool → ℕ → List (List ℕ)
+  pub decision : ℕ → Option Decision
 
 -- how a user stands, by the tables
 abbrev pub standing_at : Tables → Option ℕ → Option ℕ → Standing
@@ -75,6 +81,10 @@ standing_at t u paper = record {
 abbrev pub own_forms_in : Tables → Option ℕ → ℕ → List FormTold
 own_forms_in t u p = flat_map (λ (o : ℕ). map written_told (forms_in t.reviews p o)) (listed (seat_in t.seats u p))
 
+-- the paper is accepted, by the tables
+abbrev pub is_accepted_in : Tables → ℕ → Bool
+is_accepted_in t p = is_accepted_when t.stage.phase (is_withdrawn_at t.papers p) (decision_in t.decisions p)
+
 -- the facts of the tables
 abbrev pub facts_of_tables : Tables → Option ℕ → Facts
 facts_of_tables t u = record {
@@ -87,6 +97,7 @@ facts_of_tables t u = record {
   own_seat = seat_in t.seats u;
   own_forms = λ p. own_forms_in t u p;
   own_comments = own_comments_in t.talk u;
+  accepted = is_accepted_in t;
 }
 
 abbrev pub shown_in_tables : Tables → Shown
@@ -108,6 +119,7 @@ shown_in_tables t = record {
   written = is_written_in t.reviews;
   comments = λ p. map comment_as_told (comments_in t.talk p);
   tags = tags_in t.tags;
+  decision = decision_in t.decisions;
 }
 
 -- who makes the entries of a caller's command: nobody makes any but a registration

@@ -5,6 +5,7 @@ use Rattle.cr_base.specs.declared.entry.Stamped.{Stamped}
 use Rattle.cr_base.specs.History.{History}
 use Rattle.cr_base.specs.Accounts.{accounts_after, AccountsFit}
 use Rattle.cr_base.specs.Stage.{StageState, first_stage, stage_after}
+use Rattle.cr_base.specs.Decisions.{DecisionsState, no_decisions, decisions_after}
 use Rattle.cr_base.specs.Papers.{PapersState, no_papers, papers_after, PapersFit}
 use Rattle.cr_base.specs.Reviews.{ReviewsState, no_reviews, reviews_after, ReviewsFit}
 use Rattle.cr_base.specs.Seats.{SeatsState, no_seats, seats_after, SeatsFit}
@@ -13,7 +14,7 @@ use Rattle.cr_base.specs.Talk.{TalkState, no_talk, talk_after, TalkFit}
 use Rattle.cr_base.specs.Ties.{TiesState, no_ties, ties_after, TiesFit}
 
 -- the tables: the stage, the accounts by user number, the papers, who is tied to them, who reviews them, what was written in
--- reviews and in comments, and the tags that are on
+-- reviews and in comments, the tags that are on, and the decisions
 pub record Tables : Type 0 where
   pub stage : StageState
   pub accounts : List Account
@@ -23,6 +24,7 @@ pub record Tables : Type 0 where
   pub reviews : ReviewsState
   pub talk : TalkState
   pub tags : TagsState
+  pub decisions : DecisionsState
 
 -- the tables of no entries
 abbrev pub no_tables : Tables
@@ -35,6 +37,7 @@ no_tables = record {
   reviews = no_reviews;
   talk = no_talk;
   tags = no_tags;
+  decisions = no_decisions;
 }
 
 -- the tables after one more entry
@@ -48,6 +51,7 @@ tables_after t s = record {
   reviews = reviews_after t.reviews s.entry;
   talk = talk_after t.talk s.maker s.entry;
   tags = tags_after t.tags s.maker s.entry;
+  decisions = decisions_after t.decisions s.entry;
 }
 
 -- the tables after these entries

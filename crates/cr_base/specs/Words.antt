@@ -1,5 +1,5 @@
--- The words and the numbers of phases, modes, roles and assignments, and of bids: CoCon's phases and roles, the HotCRP
--- manual's anonymity, its kinds of review (primary, secondary, pc) and its review preferences.
+-- The words and the numbers of phases, modes, roles, assignments and decisions, and of bids: CoCon's phases and roles, the
+-- HotCRP manual's anonymity, its kinds of review (primary, secondary, pc), its review preferences and its decisions.
 use Rattle.std.specs.Prelude.{ℕ, ℤ, pos, negsuc, Bool, true, false, List, [], ◌∷◌, Option, Some, None, find, codes, ◌==◌, ◌+◌, ◌-◌, nat_le, nat_lt, ◌&&◌, if◌then◌else◌}
 use Rattle.std.specs.Str.{bytes_eq}
 use Rattle.cr_base.specs.declared.words.Phase.{Phase}
@@ -8,6 +8,8 @@ use Rattle.cr_base.specs.declared.words.Mode.{Mode}
 use Rattle.cr_base.specs.declared.words.Mode.TheVariants.{Overt, Blind, Anonymous}
 use Rattle.cr_base.specs.declared.words.Kind.{Kind}
 use Rattle.cr_base.specs.declared.words.Kind.TheVariants.{Primary, Secondary, Pc}
+use Rattle.cr_base.specs.declared.words.Decision.{Decision}
+use Rattle.cr_base.specs.declared.words.Decision.TheVariants.{Accept, Reject}
 use Rattle.cr_base.specs.declared.words.Role.{Role}
 use Rattle.cr_base.specs.declared.words.Role.TheVariants.{Account, Member, Chair}
 
@@ -135,6 +137,36 @@ bid_size raised = if nat_lt raised no_bid then no_bid - raised else raised - no_
 abbrev pub grade_of_value : ℤ → Option ℕ
 grade_of_value (pos n) = if nat_le 1 n && nat_le n 5 then Some n else None
 grade_of_value (negsuc n) = None
+
+-- ---- decisions
+
+-- the word for a decision
+abbrev pub decision_name : Decision → List ℕ
+decision_name Accept = codes "accept"
+decision_name Reject = codes "reject"
+
+-- the decisions
+abbrev pub decisions : List Decision
+decisions = Accept ∷ Reject ∷ []
+
+-- the decision of a word
+abbrev pub decision_named : List ℕ → Option Decision
+decision_named name = find (λ decision. bytes_eq name (decision_name decision)) decisions
+
+-- a decision by its number in rows
+abbrev pub decision_number : Decision → ℕ
+decision_number Accept = 1
+decision_number Reject = 2
+
+-- the decision of a number in rows, 1 or 2
+abbrev pub decision_numbered : ℕ → Decision
+decision_numbered n = if n == 1 then Accept else Reject
+
+-- it is to accept the paper, where there is one
+abbrev pub is_accept : Option Decision → Bool
+is_accept None = false
+is_accept (Some Accept) = true
+is_accept (Some Reject) = false
 
 -- ---- roles
 

@@ -51,39 +51,44 @@ pub enum Ask {
     Tag,
     /// That a tag is on a paper no longer: DELETE of `/papers/{p}/tags/{t}`.
     Untag,
+    /// What the committee decides on a paper: PUT of `/papers/{p}/decision`.
+    Decide,
+    /// The accepted papers: GET or HEAD of `/accepted`.
+    AcceptedPapers,
     /// What the caller is to the conference: GET or HEAD of `/me`.
     Me,
 }
 
 impl Ask {
     /// Whether it is a registered user's, so that nobody is answered `unauthorized`: every command but a registration, a
-    /// paper's page, content, reviews and comments, and what the caller is to the conference.
+    /// paper's page, content, reviews and comments, and what the caller is to the conference. Page and content of a published
+    /// paper want none, which only the history tells.
     pub fn wants_login(self) -> bool
         ensures { result ≡ ask_wants_login self }
     {
         match self {
-            Ask::Register | Ask::Accounts | Ask::Phase => false,
+            Ask::Register | Ask::Accounts | Ask::Phase | Ask::AcceptedPapers => false,
             Ask::Name | Ask::SetMode | Ask::SetPhase | Ask::SetConflict => true,
             Ask::Submit | Ask::Revise | Ask::Upload | Ask::Withdraw => true,
             Ask::Bid | Ask::Assign | Ask::Unassign => true,
-            Ask::Review | Ask::Comment | Ask::Tag | Ask::Untag => true,
+            Ask::Review | Ask::Comment | Ask::Tag | Ask::Untag | Ask::Decide => true,
             Ask::Me | Ask::Page | Ask::Content | Ask::Version => true,
             Ask::Reviews | Ask::Comments => true,
         }
     }
 
     /// Whether a request for it reads the field Authorization. This is a table of its own, since a request may be told who
-    /// calls though it wants no login.
+    /// calls though it wants no login, as those for published papers are.
     pub fn reads_credentials(self) -> bool
         ensures { result ≡ ask_reads_credentials self }
     {
         match self {
-            Ask::Register | Ask::Accounts | Ask::Phase => false,
+            Ask::Register | Ask::Accounts | Ask::Phase | Ask::AcceptedPapers => false,
             Ask::Me | Ask::Page | Ask::Content | Ask::Version => true,
             Ask::Name | Ask::SetMode | Ask::SetPhase | Ask::SetConflict => true,
             Ask::Submit | Ask::Revise | Ask::Upload | Ask::Withdraw => true,
             Ask::Bid | Ask::Assign | Ask::Unassign => true,
-            Ask::Review | Ask::Comment | Ask::Tag | Ask::Untag => true,
+            Ask::Review | Ask::Comment | Ask::Tag | Ask::Untag | Ask::Decide => true,
             Ask::Reviews | Ask::Comments => true,
         }
     }

@@ -10,10 +10,11 @@ use crate::numbers::PaperNo;
 use crate::tag::Tag;
 use crate::texts::{Blob, Short, Text};
 use crate::told::ToldNames;
-use crate::words::{Kind, Mode, Phase, Role};
+use crate::words::{Decision, Kind, Mode, Phase, Role};
+use std::fmt;
 
 /// What a request may change.
-#[derive(Drop, Debug)]
+#[derive(Drop)]
 pub enum Command {
     /// A new account.
     Register {
@@ -124,10 +125,17 @@ pub enum Command {
         /// Whether it is on.
         on: bool,
     },
+    /// The committee decides on a paper.
+    Decide {
+        /// The paper told; None where what was told is no number of a paper.
+        paper: Option<PaperNo>,
+        /// What it decides.
+        decision: Decision,
+    },
 }
 
 /// What a request may ask.
-#[derive(Clone, Copy, Debug, PartialEq, Eq)]
+#[derive(Clone, Copy, PartialEq, Eq)]
 pub enum Query {
     /// What the caller is to the conference.
     Me,
@@ -135,6 +143,8 @@ pub enum Query {
     Accounts,
     /// The phase, the mode and the number of papers.
     Phase,
+    /// The accepted papers.
+    AcceptedPapers,
     /// A paper's page.
     Page {
         /// The paper told; None where what was told is no number of a paper.
@@ -186,6 +196,7 @@ impl Command {
             Command::Comment { .. } => Ask::Comment,
             Command::Tag { on: true, .. } => Ask::Tag,
             Command::Tag { on: false, .. } => Ask::Untag,
+            Command::Decide { .. } => Ask::Decide,
         }
     }
 
@@ -194,6 +205,20 @@ impl Command {
         ensures { result ≡ command_wants_login self.now }
     {
         self.ask().wants_login()
+    }
+}
+
+/// The request alone: no text and no digest is printed.
+impl fmt::Debug for Command {
+    fn fmt<W: fmt::Write>(&self, f: &mut fmt::Formatter<W>) -> fmt::Result {
+        fmt::Debug::fmt(&self.ask(), f)
+    }
+}
+
+/// The request alone.
+impl fmt::Debug for Query {
+    fn fmt<W: fmt::Write>(&self, f: &mut fmt::Formatter<W>) -> fmt::Result {
+        fmt::Debug::fmt(&self.ask(), f)
     }
 }
 
@@ -206,6 +231,7 @@ impl Query {
             Query::Me => Ask::Me,
             Query::Accounts => Ask::Accounts,
             Query::Phase => Ask::Phase,
+            Query::AcceptedPapers => Ask::AcceptedPapers,
             Query::Page { .. } => Ask::Page,
             Query::Content { .. } => Ask::Content,
             Query::Version { .. } => Ask::Version,
@@ -214,8 +240,8 @@ impl Query {
         }
     }
 
-    /// Whether it is a registered user's, as its request tells: every query but the list of accounts and the state of the
-    /// conference.
+    /// Whether it is a registered user's, as its request tells: every query but the list of accounts, the state of the
+    /// conference and the accepted papers. Nobody may ask for the page and the content of a published paper besides.
     pub fn wants_login(&self) -> bool
         ensures { result ≡ query_wants_login self.now }
     {

@@ -6,15 +6,16 @@ use crate::bid::Bid;
 use crate::form::Form;
 use crate::numbers::{Ordinal, PaperNo, UserNo};
 use crate::tag::Tag;
-use crate::texts::{Blob, Short, Text};
-use crate::words::{Kind, Mode, Phase, Role};
+use crate::texts::{Blob, Short, Text, TwoTexts};
+use crate::words::{Decision, Kind, Mode, Phase, Role};
 use std::alloc::AllocError;
+use std::fmt;
 
 /// The SHA-256 digest of a secret (FIPS 180-4): 32 bytes.
 pub type Digest = [u8; 32];
 
 /// What one accepted command adds to the history, or one part of it.
-#[derive(Drop, Debug)]
+#[derive(Drop)]
 pub enum Entry {
     /// A user has an account from here on.
     Registered {
@@ -148,6 +149,13 @@ pub enum Entry {
         /// Whether it is on.
         on: bool,
     },
+    /// The committee has decided on a paper. The last decision counts.
+    Decided {
+        /// The paper.
+        paper: PaperNo,
+        /// What was decided.
+        decision: Decision,
+    },
 }
 
 /// The kind of an entry.
@@ -185,6 +193,8 @@ pub enum EntryKind {
     Commented,
     /// An [`Entry::Tagged`].
     Tagged,
+    /// An [`Entry::Decided`].
+    Decided,
 }
 
 /// An entry with its maker, and whether another entry of the same command follows.
@@ -231,6 +241,7 @@ impl Entry {
             Entry::Reviewed { .. } => EntryKind::Reviewed,
             Entry::Commented { .. } => EntryKind::Commented,
             Entry::Tagged { .. } => EntryKind::Tagged,
+            Entry::Decided { .. } => EntryKind::Decided,
         }
     }
 
@@ -254,11 +265,14 @@ impl Entry {
                 paper,
                 title,
                 abstract_,
-            } => Ok(Entry::Submitted {
-                paper: *paper,
-                title: title.copy()?,
-                abstract_: abstract_.copy()?,
-            }),
+            } => {
+                let texts = TwoTexts::copies(title, abstract_)?;
+                Ok(Entry::Submitted {
+                    paper: *paper,
+                    title: texts.first,
+                    abstract_: texts.second,
+                })
+            }
             Entry::Coauthor { paper, user } => Ok(Entry::Coauthor {
                 paper: *paper,
                 user: *user,
@@ -267,11 +281,14 @@ impl Entry {
                 paper,
                 title,
                 abstract_,
-            } => Ok(Entry::Revised {
-                paper: *paper,
-                title: title.copy()?,
-                abstract_: abstract_.copy()?,
-            }),
+            } => {
+                let texts = TwoTexts::copies(title, abstract_)?;
+                Ok(Entry::Revised {
+                    paper: *paper,
+                    title: texts.first,
+                    abstract_: texts.second,
+                })
+            }
             Entry::Uploaded {
                 paper,
                 version,
@@ -338,7 +355,18 @@ impl Entry {
                 tag: *tag,
                 on: *on,
             }),
+            Entry::Decided { paper, decision } => Ok(Entry::Decided {
+                paper: *paper,
+                decision: *decision,
+            }),
         }
+    }
+}
+
+/// Its kind alone: no text and no digest is printed.
+impl fmt::Debug for Entry {
+    fn fmt<W: fmt::Write>(&self, f: &mut fmt::Formatter<W>) -> fmt::Result {
+        fmt::Debug::fmt(&self.kind(), f)
     }
 }
 

@@ -2,7 +2,7 @@
 ghost use Rattle.std.specs.Prelude.{◌≡◌, IfOk};
 
 use crate::numbers::Grade;
-use crate::texts::Text;
+use crate::texts::{Text, TwoTexts};
 use std::alloc::AllocError;
 
 /// What a reviewer writes of a paper (the HotCRP manual's review form, with two texts).
@@ -23,11 +23,12 @@ impl Form {
     pub fn copy(&self) -> Result<Form, AllocError>
         ensures { IfOk result (λ form. form ≡ self.now) }
     {
+        let texts = TwoTexts::copies(&self.to_authors, &self.to_pc)?;
         Ok(Form {
             score: self.score,
             confidence: self.confidence,
-            to_authors: self.to_authors.copy()?,
-            to_pc: self.to_pc.copy()?,
+            to_authors: texts.first,
+            to_pc: texts.second,
         })
     }
 }

@@ -2,6 +2,7 @@
 //! replies. The definitions over histories and tables stand in this crate's specs.
 #![tactic(auto)]
 
+mod accepted;
 mod ask;
 mod bid;
 mod command;
@@ -28,6 +29,7 @@ mod texts;
 mod told;
 mod words;
 
+pub use accepted::{AcceptedPaper, AcceptedPapers};
 pub use ask::Ask;
 pub use bid::Bid;
 pub use command::{Command, Query};
@@ -38,7 +40,7 @@ pub use form::Form;
 pub use items::Items;
 pub use me::{Me, PaperNos};
 pub use numbers::{Grade, HIGHEST_GRADE, LAST_NUMBER, MOST_LABELS, Ordinal, PaperNo, UserNo};
-pub use page::{BareKeys, Bidder, Bids, Names, Page, Reviewer, Reviewers, TagList, Versions};
+pub use page::{Bidder, Bids, Names, Page, Reviewer, Reviewers, TagList, Versions};
 pub use pairs::{Order, Pair, Tie};
 pub use paper::Paper;
 pub use reply::{AccountLine, AccountLines, Conference, Receipt, Reply, Rule};
@@ -52,4 +54,4 @@ pub use texts::{
     Blob, Short, Text, is_abstract, is_comment, is_content, is_name, is_review_text, is_title,
 };
 pub use told::{Coauthors, MOST_COAUTHORS, ToldNames};
-pub use words::{Kind, Mode, Phase, Role};
+pub use words::{Decision, Kind, Mode, Phase, Role};

@@ -5,7 +5,8 @@ use crate::items::Items;
 use crate::numbers::{Ordinal, PaperNo};
 use crate::tag::Tag;
 use crate::texts::{Short, Text};
-use crate::words::Kind;
+use crate::words::{Decision, Kind};
+use std::fmt;
 
 /// Names of users, in an order that their place says.
 pub type Names = Items<Short>;
@@ -44,16 +45,8 @@ pub struct Reviewer {
     pub user: Option<Short>,
 }
 
-/// Which of those keys of a page are there that have nothing to tell yet, since no entry says it: no
-/// decision.
-#[derive(Clone, Copy, Debug, PartialEq, Eq)]
-pub struct BareKeys {
-    /// The decision: `none`.
-    pub decision: bool,
-}
-
 /// A paper's page: each key is there only where the caller may be told it.
-#[derive(Drop, Debug)]
+#[derive(Drop)]
 pub struct Page {
     /// The paper.
     pub paper: PaperNo,
@@ -69,6 +62,8 @@ pub struct Page {
     pub conflict: Option<bool>,
     /// Who is declared in conflict with it, by user number.
     pub conflicts: Option<Names>,
+    /// What was decided of it last; None within where nothing was.
+    pub decision: Option<Option<Decision>>,
     /// Whom the authors declared in conflict with it, by user number.
     pub declared: Option<Names>,
     /// The ordinal of the label under which the caller reviews it.
@@ -83,6 +78,11 @@ pub struct Page {
     pub versions: Option<Versions>,
     /// Whether it was withdrawn.
     pub withdrawn: Option<bool>,
-    /// The keys that have nothing to tell yet.
-    pub bare: BareKeys,
+}
+
+/// The paper's number alone: nothing that the caller is told of it is printed.
+impl fmt::Debug for Page {
+    fn fmt<W: fmt::Write>(&self, f: &mut fmt::Formatter<W>) -> fmt::Result {
+        fmt::Debug::fmt(&self.paper, f)
+    }
 }

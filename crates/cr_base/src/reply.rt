@@ -1,5 +1,6 @@
 //! Rules, receipts and replies: what a command or a query is answered.
 
+use crate::accepted::AcceptedPapers;
 use crate::bid::Bid;
 use crate::comment::CommentLines;
 use crate::items::Items;
@@ -36,7 +37,8 @@ pub enum Rule {
     /// The user named is no member of the committee.
     NotAMember,
     /// The caller is no member of the committee, and bids, declares a conflict of her own, reviews, comments, tags, or asks for
-    /// comments; or she is no author of the paper either, and asks for its page, its content or its reviews.
+    /// comments; or she is no author of the paper either, and asks for its reviews, or for its page or its content where it isn't
+    /// accepted or published.
     NotMember,
     /// The caller is in conflict with the paper.
     Conflict,
@@ -94,8 +96,8 @@ pub enum Receipt {
         /// The mode.
         mode: Mode,
     },
-    /// The paper that was revised or withdrawn, with which a conflict was turned on or off, that has lost a reviewer, or at which a
-    /// tag was turned on or off.
+    /// The paper that was revised or withdrawn, with which a conflict was turned on or off, that has lost a reviewer, at which a
+    /// tag was turned on or off, or on which the committee decided.
     Changed {
         /// Its number.
         paper: PaperNo,
@@ -158,6 +160,8 @@ pub enum Reply {
     Accounts(AccountLines),
     /// The answer to `Query::Phase`.
     Conference(Conference),
+    /// The answer to `Query::AcceptedPapers`.
+    AcceptedPapers(AcceptedPapers),
     /// The answer to `Query::Page`.
     Page(Page),
     /// The answer to `Query::Me`.

@@ -9,7 +9,7 @@ use crate::tag::is_tag;
 use crate::texts::{is_abstract, is_comment, is_content, is_name, is_review_text, is_title};
 
 /// The numbers that a field may hold, both ends among them.
-#[derive(Clone, Copy, Debug, PartialEq, Eq)]
+#[derive(Clone, Copy)]
 pub struct Range {
     /// The least.
     pub low: u64,
@@ -18,7 +18,7 @@ pub struct Range {
 }
 
 /// The bytes that a field may hold.
-#[derive(Clone, Copy, Debug, PartialEq, Eq)]
+#[derive(Clone, Copy)]
 pub enum TextKind {
     /// No bytes: the field is unused.
     Nothing,
@@ -41,7 +41,7 @@ pub enum TextKind {
 }
 
 /// What may stand in a row of one kind.
-#[derive(Clone, Copy, Debug, PartialEq, Eq)]
+#[derive(Clone, Copy)]
 pub struct Shape {
     /// The numbers of the field `n1`, and so on.
     pub n1: Range,
@@ -112,6 +112,11 @@ pub(crate) const SOME_ORDINALS: Range = Range {
 pub(crate) const GRADES: Range = Range {
     low: 1,
     high: Some(HIGHEST_GRADE),
+};
+
+pub(crate) const DECISIONS: Range = Range {
+    low: 1,
+    high: Some(2),
 };
 
 pub(crate) const BIT: Range = Range {

@@ -2,7 +2,7 @@
 ghost use Rattle.std.specs.Prelude.{◌≡◌, ◌≢◌, ◌≤◌, [], length, IfOk, IfSome, IfNone, Some, IsTrue};
 ghost use Rattle.cr_base.specs.TagTexts.{is_tag};
 ghost use Rattle.cr_base.specs.Shapes.{FitsShape};
-ghost use Rattle.cr_base.specs.Rows.{kind_name, kind_number, shape_of, row_of, bit_number, label_number, label_numbered, built, IsBoundedEntry};
+ghost use Rattle.cr_base.specs.Rows.{kind_name, kind_number, shape_of, row_of, fields_of, label_number, label_numbered, built, IsBoundedEntry};
 ghost use Rattle.cr_base.specs.declared.entry.EntryKind.{EntryKind};
 ghost use Rattle.cr_base.specs.declared.entry.Stamped.{Stamped};
 
@@ -12,12 +12,12 @@ use crate::form::Form;
 use crate::numbers::{Grade, Ordinal, PaperNo, UserNo};
 use crate::row::Row;
 use crate::shape::{
-    BIDS, BIT, GRADES, KINDS, MODES, ORDINALS, PAPERS, PHASES, ROLES, SOME_ORDINALS, Shape,
-    TextKind, UNUSED, USERS, VERSIONS,
+    BIDS, BIT, DECISIONS, GRADES, KINDS, MODES, ORDINALS, PAPERS, PHASES, ROLES, SOME_ORDINALS,
+    Shape, TextKind, UNUSED, USERS, VERSIONS,
 };
 use crate::tag::Tag;
-use crate::texts::{Blob, Short, Text};
-use crate::words::{Kind, Mode, Phase, Role};
+use crate::texts::{Blob, Short, Text, TwoTexts};
+use crate::words::{Decision, Kind, Mode, Phase, Role};
 use std::alloc::{AllocError, Global};
 
 impl EntryKind {
@@ -42,6 +42,7 @@ impl EntryKind {
             EntryKind::Reviewed => 14,
             EntryKind::Commented => 15,
             EntryKind::Tagged => 16,
+            EntryKind::Decided => 17,
         }
     }
 
@@ -68,6 +69,7 @@ impl EntryKind {
             14 => Some(EntryKind::Reviewed),
             15 => Some(EntryKind::Commented),
             16 => Some(EntryKind::Tagged),
+            17 => Some(EntryKind::Decided),
             _ => None,
         }
     }
@@ -93,6 +95,7 @@ impl EntryKind {
             EntryKind::Reviewed => "reviewed",
             EntryKind::Commented => "commented",
             EntryKind::Tagged => "tagged",
+            EntryKind::Decided => "decided",
         }
     }
 
@@ -140,6 +143,7 @@ impl EntryKind {
                 TextKind::Nothing,
             ),
             EntryKind::Tagged => Shape::of(PAPERS, BIT, UNUSED, TextKind::Tag, TextKind::Nothing),
+            EntryKind::Decided => Shape::of_numbers(PAPERS, DECISIONS, UNUSED),
         }
     }
 }
@@ -150,128 +154,206 @@ impl Entry {
     pub fn to_row(&self, alloc: Global, maker: UserNo, more: bool) -> Result<Row, AllocError>
         ensures { IfOk result (λ made. made ≡ row_of (record { maker = maker; more = more; entry = self.now })) }
     {
-        let mut row = Row::unused(self.kind(), maker, more);
+        let kind = self.kind().number();
+        let numbers = self.row_numbers();
+        let bytes = self.row_bytes(alloc)?;
+        Ok(Row {
+            kind,
+            maker: maker.number(),
+            more: u64::from(more),
+            n1: numbers.n1,
+            n2: numbers.n2,
+            n3: numbers.n3,
+            n4: numbers.n4,
+            n5: numbers.n5,
+            b1: bytes.b1,
+            b2: bytes.b2,
+        })
+    }
+
+    /// The numbers of its row.
+    fn row_numbers(&self) -> RowNumbers
+        ensures { result ≡ record { n1 = (fields_of self.now).n1; n2 = (fields_of self.now).n2; n3 = (fields_of self.now).n3; n4 = (fields_of self.now).n4; n5 = (fields_of self.now).n5 } }
+    {
         match self {
-            Entry::Registered { user, name, digest } => {
-                row.n1 = user.number();
-                row.b1 = Blob::from_slice(alloc, name.as_slice())?;
-                row.b2 = Blob::from_slice(alloc, digest)?;
-            }
-            Entry::Named { user, role } => {
-                row.n1 = user.number();
-                row.n2 = role.number();
-            }
-            Entry::PhaseSet { phase } => row.n1 = phase.number(),
-            Entry::ModeSet { mode } => row.n1 = mode.number(),
-            Entry::Submitted {
-                paper,
-                title,
-                abstract_,
-            }
-            | Entry::Revised {
-                paper,
-                title,
-                abstract_,
-            } => {
-                row.n1 = paper.number();
-                row.b1 = title.to_blob()?;
-                row.b2 = abstract_.to_blob()?;
-            }
-            Entry::Coauthor { paper, user } => {
-                row.n1 = paper.number();
-                row.n2 = user.number();
-            }
-            Entry::Uploaded {
-                paper,
-                version,
-                content,
-            } => {
-                row.n1 = paper.number();
-                row.n2 = *version;
-                row.b1 = content.copy()?;
-            }
-            Entry::Withdrawn { paper } => row.n1 = paper.number(),
+            Entry::Registered { user, .. } => RowNumbers::of(user.number(), 0, 0),
+            Entry::Named { user, role } => RowNumbers::of(user.number(), role.number(), 0),
+            Entry::PhaseSet { phase } => RowNumbers::of(phase.number(), 0, 0),
+            Entry::ModeSet { mode } => RowNumbers::of(mode.number(), 0, 0),
+            Entry::Submitted { paper, .. } => RowNumbers::of(paper.number(), 0, 0),
+            Entry::Coauthor { paper, user } => RowNumbers::of(paper.number(), user.number(), 0),
+            Entry::Revised { paper, .. } => RowNumbers::of(paper.number(), 0, 0),
+            Entry::Uploaded { paper, version, .. } => RowNumbers::of(paper.number(), *version, 0),
+            Entry::Withdrawn { paper } => RowNumbers::of(paper.number(), 0, 0),
             Entry::Conflict { paper, user, on } => {
-                row.n1 = paper.number();
-                row.n2 = user.number();
-                row.n3 = u64::from(*on);
+                RowNumbers::of(paper.number(), user.number(), u64::from(*on))
             }
-            Entry::Bid { paper, value } => {
-                row.n1 = paper.number();
-                row.n2 = value.raised();
-            }
+            Entry::Bid { paper, value } => RowNumbers::of(paper.number(), value.raised(), 0),
             Entry::Assigned {
                 paper,
                 user,
                 kind,
                 ordinal,
-            } => {
-                row.n1 = paper.number();
-                row.n2 = user.number();
-                row.n3 = kind.number();
-                row.n4 = ordinal.number();
-            }
+            } => RowNumbers {
+                n4: ordinal.number(),
+                ..RowNumbers::of(paper.number(), user.number(), kind.number())
+            },
             Entry::Unassigned {
                 paper,
                 user,
                 ordinal,
-            } => {
-                row.n1 = paper.number();
-                row.n2 = user.number();
-                row.n3 = ordinal.number();
-            }
+            } => RowNumbers::of(paper.number(), user.number(), ordinal.number()),
             Entry::Reviewed {
                 paper,
                 ordinal,
                 version,
                 form,
-            } => {
-                row.n1 = paper.number();
-                row.n2 = ordinal.number();
-                row.n3 = *version;
-                row.n4 = form.score.number();
-                row.n5 = form.confidence.number();
-                row.b1 = form.to_authors.to_blob()?;
-                row.b2 = form.to_pc.to_blob()?;
-            }
+            } => RowNumbers {
+                n4: form.score.number(),
+                n5: form.confidence.number(),
+                ..RowNumbers::of(paper.number(), ordinal.number(), *version)
+            },
             Entry::Commented {
                 paper,
                 n,
                 ordinal,
-                text,
-            } => {
-                row.n1 = paper.number();
-                row.n2 = *n;
-                row.n3 = number_of_label(ordinal);
-                row.b1 = text.to_blob()?;
-            }
-            Entry::Tagged { paper, tag, on } => {
-                row.n1 = paper.number();
-                row.n2 = u64::from(*on);
-                row.b1 = Blob::from_slice(alloc, tag.as_slice())?;
+                ..
+            } => RowNumbers::of(paper.number(), *n, number_of_label(ordinal)),
+            Entry::Tagged { paper, on, .. } => RowNumbers::of(paper.number(), u64::from(*on), 0),
+            Entry::Decided { paper, decision } => {
+                RowNumbers::of(paper.number(), decision.number(), 0)
             }
         }
-        Ok(row)
+    }
+
+    /// The bytes of its row; an error only for lack of memory.
+    fn row_bytes(&self, alloc: Global) -> Result<RowBytes, AllocError>
+        ensures { IfOk result (λ made. made ≡ record { b1 = (fields_of self.now).b1; b2 = (fields_of self.now).b2 }) }
+    {
+        match self {
+            Entry::Registered { name, digest, .. } => {
+                RowBytes::of_slices(alloc, name.as_slice(), digest)
+            }
+            Entry::Submitted {
+                title,
+                abstract_,
+                ..
+            } => RowBytes::of_texts(title, abstract_),
+            Entry::Revised {
+                title,
+                abstract_,
+                ..
+            } => RowBytes::of_texts(title, abstract_),
+            Entry::Uploaded { content, .. } => RowBytes::of_blob(content),
+            Entry::Reviewed { form, .. } => RowBytes::of_texts(&form.to_authors, &form.to_pc),
+            Entry::Commented { text, .. } => RowBytes::of_text(text),
+            Entry::Tagged { tag, .. } => RowBytes::of_slice(alloc, tag.as_slice()),
+            Entry::Named { .. }
+            | Entry::PhaseSet { .. }
+            | Entry::ModeSet { .. }
+            | Entry::Coauthor { .. }
+            | Entry::Withdrawn { .. }
+            | Entry::Conflict { .. }
+            | Entry::Bid { .. }
+            | Entry::Assigned { .. }
+            | Entry::Unassigned { .. }
+            | Entry::Decided { .. } => Ok(RowBytes::none()),
+        }
     }
 }
 
-impl Row {
-    /// A row of this kind, maker and mark, whose other fields are unused; takes no memory.
-    fn unused(kind: EntryKind, maker: UserNo, more: bool) -> Row
-        ensures { result ≡ record { kind = kind_number kind; maker = maker; more = bit_number more; n1 = 0; n2 = 0; n3 = 0; n4 = 0; n5 = 0; b1 = []; b2 = [] } }
+/// The numbers of a row, by its entry's kind.
+#[derive(Clone, Copy)]
+struct RowNumbers {
+    n1: u64,
+    n2: u64,
+    n3: u64,
+    n4: u64,
+    n5: u64,
+}
+
+impl RowNumbers {
+    /// These numbers in the first three fields; the others are unused.
+    fn of(n1: u64, n2: u64, n3: u64) -> RowNumbers
+        ensures { result ≡ record { n1 = n1; n2 = n2; n3 = n3; n4 = 0; n5 = 0 } }
     {
-        Row {
-            kind: kind.number(),
-            maker: maker.number(),
-            more: u64::from(more),
-            n1: 0,
-            n2: 0,
-            n3: 0,
+        RowNumbers {
+            n1,
+            n2,
+            n3,
             n4: 0,
             n5: 0,
+        }
+    }
+}
+
+/// The bytes of a row, by its entry's kind.
+#[derive(Drop)]
+struct RowBytes {
+    b1: Blob,
+    b2: Blob,
+}
+
+impl RowBytes {
+    /// Both fields are unused; takes no memory.
+    fn none() -> RowBytes
+        ensures { result ≡ record { b1 = []; b2 = [] } }
+    {
+        RowBytes {
             b1: Blob::empty(),
             b2: Blob::empty(),
         }
+    }
+
+    /// A copy of these bytes in the first field; an error only for lack of memory, as in those below.
+    fn of_slice(alloc: Global, first: &[u8]) -> Result<RowBytes, AllocError>
+        ensures { IfOk result (λ made. made ≡ record { b1 = first.now; b2 = [] }) }
+    {
+        let b1 = Blob::from_slice(alloc, first)?;
+        Ok(RowBytes {
+            b1,
+            b2: Blob::empty(),
+        })
+    }
+
+    /// Copies of these bytes in both fields.
+    fn of_slices(alloc: Global, first: &[u8], second: &[u8]) -> Result<RowBytes, AllocError>
+        ensures { IfOk result (λ made. made ≡ record { b1 = first.now; b2 = second.now }) }
+    {
+        let b1 = Blob::from_slice(alloc, first)?;
+        let b2 = Blob::from_slice(alloc, second)?;
+        Ok(RowBytes { b1, b2 })
+    }
+
+    /// These bytes in the first field, shared.
+    fn of_blob(first: &Blob) -> Result<RowBytes, AllocError>
+        ensures { IfOk result (λ made. made ≡ record { b1 = first.now; b2 = [] }) }
+    {
+        let b1 = first.copy()?;
+        Ok(RowBytes {
+            b1,
+            b2: Blob::empty(),
+        })
+    }
+
+    /// This text in the first field, shared.
+    fn of_text(first: &Text) -> Result<RowBytes, AllocError>
+        ensures { IfOk result (λ made. made ≡ record { b1 = first.now; b2 = [] }) }
+    {
+        let b1 = first.to_blob()?;
+        Ok(RowBytes {
+            b1,
+            b2: Blob::empty(),
+        })
+    }
+
+    /// These texts in both fields, shared.
+    fn of_texts(first: &Text, second: &Text) -> Result<RowBytes, AllocError>
+        ensures { IfOk result (λ made. made ≡ record { b1 = first.now; b2 = second.now }) }
+    {
+        let b1 = first.to_blob()?;
+        let b2 = second.to_blob()?;
+        Ok(RowBytes { b1, b2 })
     }
 }
 
@@ -339,20 +421,26 @@ fn entry_from(kind: EntryKind, row: &Row) -> Result<Entry, AllocError>
         EntryKind::ModeSet => Ok(Entry::ModeSet {
             mode: Mode::from_number(row.n1),
         }),
-        EntryKind::Submitted => Ok(Entry::Submitted {
-            paper: PaperNo::new(row.n1),
-            title: Text::from_blob(&row.b1)?,
-            abstract_: Text::from_blob(&row.b2)?,
-        }),
+        EntryKind::Submitted => {
+            let texts = TwoTexts::from_blobs(&row.b1, &row.b2)?;
+            Ok(Entry::Submitted {
+                paper: PaperNo::new(row.n1),
+                title: texts.first,
+                abstract_: texts.second,
+            })
+        }
         EntryKind::Coauthor => Ok(Entry::Coauthor {
             paper: PaperNo::new(row.n1),
             user: UserNo::new(row.n2),
         }),
-        EntryKind::Revised => Ok(Entry::Revised {
-            paper: PaperNo::new(row.n1),
-            title: Text::from_blob(&row.b1)?,
-            abstract_: Text::from_blob(&row.b2)?,
-        }),
+        EntryKind::Revised => {
+            let texts = TwoTexts::from_blobs(&row.b1, &row.b2)?;
+            Ok(Entry::Revised {
+                paper: PaperNo::new(row.n1),
+                title: texts.first,
+                abstract_: texts.second,
+            })
+        }
         EntryKind::Uploaded => Ok(Entry::Uploaded {
             paper: PaperNo::new(row.n1),
             version: row.n2,
@@ -381,17 +469,20 @@ fn entry_from(kind: EntryKind, row: &Row) -> Result<Entry, AllocError>
             user: UserNo::new(row.n2),
             ordinal: Ordinal::new(row.n3),
         }),
-        EntryKind::Reviewed => Ok(Entry::Reviewed {
-            paper: PaperNo::new(row.n1),
-            ordinal: Ordinal::new(row.n2),
-            version: row.n3,
-            form: Form {
-                score: Grade::new(row.n4),
-                confidence: Grade::new(row.n5),
-                to_authors: Text::from_blob(&row.b1)?,
-                to_pc: Text::from_blob(&row.b2)?,
-            },
-        }),
+        EntryKind::Reviewed => {
+            let texts = TwoTexts::from_blobs(&row.b1, &row.b2)?;
+            Ok(Entry::Reviewed {
+                paper: PaperNo::new(row.n1),
+                ordinal: Ordinal::new(row.n2),
+                version: row.n3,
+                form: Form {
+                    score: Grade::new(row.n4),
+                    confidence: Grade::new(row.n5),
+                    to_authors: texts.first,
+                    to_pc: texts.second,
+                },
+            })
+        }
         EntryKind::Commented => Ok(Entry::Commented {
             paper: PaperNo::new(row.n1),
             n: row.n2,
@@ -402,6 +493,10 @@ fn entry_from(kind: EntryKind, row: &Row) -> Result<Entry, AllocError>
             paper: PaperNo::new(row.n1),
             tag: tag_of(&row.b1),
             on: row.n2 == 1,
+        }),
+        EntryKind::Decided => Ok(Entry::Decided {
+            paper: PaperNo::new(row.n1),
+            decision: Decision::from_number(row.n2),
         }),
     }
 }

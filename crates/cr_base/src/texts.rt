@@ -149,6 +149,35 @@ impl Text {
     }
 }
 
+/// Two texts that are made at once: behind a `?` of the second, the first is dropped here and in no long `match`.
+#[derive(Drop)]
+pub(crate) struct TwoTexts {
+    pub(crate) first: Text,
+    pub(crate) second: Text,
+}
+
+impl TwoTexts {
+    /// Equal ones, which share the texts; an error only for lack of memory.
+    pub(crate) fn copies(first: &Text, second: &Text) -> Result<TwoTexts, AllocError>
+        ensures { IfOk result (λ made. made ≡ record { first = first.now; second = second.now }) }
+    {
+        let first = first.copy()?;
+        let second = second.copy()?;
+        Ok(TwoTexts { first, second })
+    }
+
+    /// Texts that are made of these bytes, which are UTF-8, and share them; an error only for lack of memory.
+    pub(crate) fn from_blobs(first: &Blob, second: &Blob) -> Result<TwoTexts, AllocError>
+        requires first { IsTrue (is_utf8 first.now) }
+        requires second { IsTrue (is_utf8 second.now) }
+        ensures { IfOk result (λ made. made ≡ record { first = first.now; second = second.now }) }
+    {
+        let first = Text::from_blob(first)?;
+        let second = Text::from_blob(second)?;
+        Ok(TwoTexts { first, second })
+    }
+}
+
 /// At most 34 bytes, kept in place: a name, say. Contracts see the list of its bytes.
 #[derive(Clone, Copy, Debug)]
 pub struct Short {

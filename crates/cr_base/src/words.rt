@@ -1,8 +1,9 @@
-//! Phases, modes, roles and kinds of assignment, and the words by which requests and answers name them.
+//! Phases, modes, roles, kinds of assignment and decisions, and the words by which requests and answers name them.
 ghost use Rattle.std.specs.Prelude.{◌≡◌, ◌≤◌, length};
 ghost use Rattle.cr_base.specs.Words.{phase_name, phase_named, phase_number, phase_numbered};
 ghost use Rattle.cr_base.specs.Words.{mode_name, mode_named, mode_number, mode_numbered, is_anonymous, is_overt};
 ghost use Rattle.cr_base.specs.Words.{seat_name, seat_named, seat_number, seat_numbered};
+ghost use Rattle.cr_base.specs.Words.{decision_name, decision_named, decision_number, decision_numbered};
 ghost use Rattle.cr_base.specs.Words.{role_name, role_named, role_number, role_numbered, is_member, is_chair};
 ghost use Rattle.cr_base.specs.Phases.{phase_place, is_from, is_phase, is_next};
 
@@ -47,6 +48,15 @@ pub enum Kind {
     Secondary,
     /// She reviews it as a member of the programme committee.
     Pc,
+}
+
+/// What the committee decides of a paper.
+#[derive(Clone, Copy, Debug, PartialEq, Eq)]
+pub enum Decision {
+    /// The conference takes it.
+    Accept,
+    /// It doesn't.
+    Reject,
 }
 
 /// What a user is to the committee. A chair is a member.
@@ -273,6 +283,51 @@ impl Kind {
             1 => Kind::Primary,
             2 => Kind::Secondary,
             _ => Kind::Pc,
+        }
+    }
+}
+
+impl Decision {
+    /// The word for it in requests and answers, 6 bytes.
+    pub fn name(self) -> &'static str
+        ensures value { result.now ≡ decision_name self }
+        ensures short { length result.now ≤ 6 }
+    {
+        match self {
+            Decision::Accept => "accept",
+            Decision::Reject => "reject",
+        }
+    }
+
+    /// The decision of a word, and none where no decision is called so.
+    pub fn from_name(name: &str) -> Option<Decision>
+        ensures { result ≡ decision_named name.now }
+    {
+        match name {
+            "accept" => Some(Decision::Accept),
+            "reject" => Some(Decision::Reject),
+            _ => None,
+        }
+    }
+
+    /// Its number in rows: 1 for accept, 2 for reject.
+    pub fn number(self) -> u64
+        ensures { result ≡ decision_number self }
+    {
+        match self {
+            Decision::Accept => 1,
+            Decision::Reject => 2,
+        }
+    }
+
+    /// The decision of a number in rows, 1 or 2.
+    pub(crate) fn from_number(number: u64) -> Decision
+        ensures { result ≡ decision_numbered number }
+    {
+        if number == 1 {
+            Decision::Accept
+        } else {
+            Decision::Reject
         }
     }
 }
