@@ -10,7 +10,7 @@ use Rattle.std.proofs.lemmas.List.Elements.{All-from_recursion}
 use Rattle.cr_base.specs.declared.entry.Account.{Account}
 use Rattle.cr_base.specs.declared.entry.Entry.{Entry}
 use Rattle.cr_base.specs.declared.entry.Entry.TheVariants.{Registered, Named, PhaseSet, ModeSet, Submitted, Coauthor, Revised, Uploaded, Withdrawn}
-use Rattle.cr_base.specs.declared.entry.Entry.TheVariants.{Conflict, Bid, Assigned, Unassigned, Reviewed, Commented, Tagged}
+use Rattle.cr_base.specs.declared.entry.Entry.TheVariants.{Conflict, Bid, Assigned, Unassigned, Reviewed, Commented, Tagged, Decided}
 use Rattle.cr_base.specs.declared.entry.Stamped.{Stamped}
 use Rattle.cr_base.specs.declared.reply.AccountLine.{AccountLine}
 use Rattle.cr_base.specs.declared.words.Phase.{Phase}
@@ -18,6 +18,8 @@ use Rattle.cr_base.specs.declared.words.Phase.TheVariants.{Setup, Submission, Bi
 use Rattle.cr_base.specs.declared.words.Mode.{Mode}
 use Rattle.cr_base.specs.declared.words.Mode.TheVariants.{Overt, Blind, Anonymous}
 use Rattle.cr_base.specs.declared.words.Role.{Role}
+use Rattle.cr_base.specs.declared.words.Decision.{Decision}
+use Rattle.cr_base.specs.declared.words.Decision.TheVariants.{Accept, Reject}
 use Rattle.cr_base.specs.declared.words.Kind.{Kind}
 use Rattle.cr_base.specs.declared.words.Kind.TheVariants as kind
 use Rattle.cr_base.specs.declared.words.Role.TheVariants as role
@@ -29,10 +31,10 @@ use Rattle.cr_base.specs.Lists.{numbers_from}
 use Rattle.cr_base.specs.Papers.{IsPaper}
 use Rattle.cr_base.specs.Reviews.{forms_in, written_told}
 use Rattle.cr_base.specs.Rows.{label_number, IsBoundedEntry}
-use Rattle.cr_base.specs.Shapes.{InRange, user_range, paper_range, role_range, seat_range, ordinal_range, some_ordinal_range, unused}
+use Rattle.cr_base.specs.Shapes.{InRange, user_range, paper_range, role_range, seat_range, decision_range, ordinal_range, some_ordinal_range, unused}
 use Rattle.cr_base.specs.Tables.{no_tables, tables_of, Fits, FitInTurn}
 use Rattle.cr_base.specs.Talk.{comments_in, comment_as_told}
-use Rattle.cr_base.specs.Words.{phase_number, mode_number, role_number, seat_number}
+use Rattle.cr_base.specs.Words.{phase_number, mode_number, role_number, seat_number, decision_number}
 use Rattle.cr_base.proofs.AccountLaws.{length-lines_of}
 use Rattle.cr_base.proofs.ListLaws.{length-numbers_from, list_any-numbers_from}
 use Rattle.cr_history.specs.Groups.{IsRuled, Adds, single, submitted, first_user}
@@ -112,6 +114,7 @@ module _ (H : History) (fits : FitInTurn no_tables H) where
   fits-about maker more (Reviewed paper ordinal version form) fit = submitted-within paper fit.papers.0 fit.papers.1
   fits-about maker more (Commented paper n ordinal text) fit = submitted-within paper fit.papers.0 fit.papers.1
   fits-about maker more (Tagged paper tag on) fit = submitted-within paper fit.papers.0 fit.papers.1
+  fits-about maker more (Decided paper decision) fit = submitted-within paper fit.papers.0 fit.papers.1
   fits-about maker more e fit = tt
 
 -- ---- numbers of fields
@@ -142,6 +145,10 @@ seat_number-few : (kind : Kind) → InRange seat_range (seat_number kind)
 seat_number-few kind.Primary = (omega arith, omega arith)
 seat_number-few kind.Secondary = (omega arith, omega arith)
 seat_number-few kind.Pc = (omega arith, omega arith)
+
+decision_number-few : (decision : Decision) → InRange decision_range (decision_number decision)
+decision_number-few Accept = (omega arith, omega arith)
+decision_number-few Reject = (omega arith, omega arith)
 
 -- the role to which a user rises is a member's or a chair's
 raised_number : (before to : Role) → role_number before < role_number to → InRange role_range (role_number to)
@@ -250,6 +257,18 @@ module _ (H : History) (fits : FitInTurn no_tables H) where
         n4 = zero_in;
         n5 = zero_in;
         b1 = ruled.texts;
+        b2 = refl;
+      }
+  bounded-entry maker more (Decided paper decision) made ruled fit =
+      record {
+        maker = numbered maker made;
+        more = bit_few more;
+        n1 = paper_numbered paper fit.papers;
+        n2 = decision_number-few decision;
+        n3 = zero_in;
+        n4 = zero_in;
+        n5 = zero_in;
+        b1 = refl;
         b2 = refl;
       }
 

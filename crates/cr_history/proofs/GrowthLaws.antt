@@ -8,6 +8,7 @@ use Rattle.cr_base.proofs.RowLaws.{stamped-row_of}
 use Rattle.cr_history.specs.Laws.{TablesTell, GrowthKeeps}
 use Rattle.cr_history.proofs.BidTies.{bid_of-tables}
 use Rattle.cr_history.proofs.ConflictTies.{is_conflict_on-tables, declared_by_authors-tables}
+use Rattle.cr_history.proofs.DecisionTies.{decision_of-tables, is_accepted-tables}
 use Rattle.cr_history.proofs.GroupLaws.{added-bounded}
 use Rattle.cr_history.proofs.InOrder.{in_order-append, whole-added}
 use Rattle.cr_history.proofs.InTime.{in_time-nil, in_time-append, discussed-append}
@@ -46,6 +47,8 @@ tables_tell H fits first = record {
   comments = λ p. comments_of-tables p H;
   own_comments = λ u. own_comments_of-tables u H;
   tags = λ p. tags_of-tables p H;
+  decision = λ p. decision_of-tables p H;
+  accepted = λ p. is_accepted-tables p H fits;
 }
 
 pub growth_keeps : GrowthKeeps

@@ -2,6 +2,7 @@ pub mod BidTies
 pub mod CallerLaws
 pub mod ConflictTies
 pub mod CountTies
+pub mod DecisionTies
 pub mod Folds
 pub mod FormTies
 pub mod GroupLaws

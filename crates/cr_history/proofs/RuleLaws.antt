@@ -8,14 +8,15 @@ use Rattle.std.specs.Str.{bytes_eq}
 use Rattle.std.proofs.lemmas.Bool.{eqb-true, eq-eqb, leb-false, true≢false, and_parts, not-true, not-false, or_left, or_right}
 use Rattle.cr_base.specs.declared.command.Command.{Command}
 use Rattle.cr_base.specs.declared.command.Command.TheVariants.{Register, SetPhase, Submit, Revise, Upload, Withdraw, Name, SetMode, SetConflict}
-use Rattle.cr_base.specs.declared.command.Command.TheVariants.{Bid, Assign, Unassign, Review, Comment, Tag}
+use Rattle.cr_base.specs.declared.command.Command.TheVariants.{Bid, Assign, Unassign, Review, Comment, Tag, Decide}
 use Rattle.cr_base.specs.declared.entry.Entry.TheVariants as entries
 use Rattle.cr_base.specs.declared.entry.Entry.TheVariants.{Registered, Named, PhaseSet, ModeSet, Revised, Uploaded, Withdrawn, Conflict, Assigned, Unassigned}
-use Rattle.cr_base.specs.declared.entry.Entry.TheVariants.{Reviewed, Commented, Tagged}
+use Rattle.cr_base.specs.declared.entry.Entry.TheVariants.{Reviewed, Commented, Tagged, Decided}
 use Rattle.cr_base.specs.declared.form.Form.{Form}
 use Rattle.cr_base.specs.declared.reply.AccountLine.{AccountLine}
 use Rattle.cr_base.specs.declared.standing.Standing.{Standing}
 use Rattle.cr_base.specs.declared.target.Target.{Target}
+use Rattle.cr_base.specs.declared.words.Decision.{Decision}
 use Rattle.cr_base.specs.declared.words.Kind.{Kind}
 use Rattle.cr_base.specs.declared.words.Phase.{Phase}
 use Rattle.cr_base.specs.declared.words.Phase.TheVariants.{Setup, Submission, Bidding, Reviewing, Discussion, Notification, Closed}
@@ -24,7 +25,7 @@ use Rattle.cr_base.specs.declared.words.Role.TheVariants.{Account, Chair}
 use Rattle.cr_base.specs.Lists.{at_some, is_number, listed}
 use Rattle.cr_base.specs.History.{History, Registration, all_told, registration_told}
 use Rattle.cr_base.specs.HistoryFacts.{phase_of, role_of, accounts_of, papers_of, own_papers_of, own_bytes_of}
-use Rattle.cr_base.specs.HistoryFacts.{is_author, is_conflicted, bid_of, seat_of, seats_of, is_written, own_forms_of, own_comments_of, standing_of}
+use Rattle.cr_base.specs.HistoryFacts.{is_author, is_conflicted, bid_of, seat_of, seats_of, is_written, own_forms_of, own_comments_of, is_accepted, standing_of}
 use Rattle.cr_base.specs.Page.{gets_conflicts}
 use Rattle.cr_base.specs.Phases.{is_from, is_phase, is_next}
 use Rattle.cr_base.specs.Words.{role_number, is_member, is_chair}
@@ -33,10 +34,10 @@ use Rattle.cr_base.specs.TagTexts.{is_tag, is_for_chairs}
 use Rattle.cr_base.specs.Texts.{IsName, IsCommentText}
 use Rattle.cr_base.specs.Checks.{Check, of_role, target_role, register_checks, phase_checks, submit_checks, revise_checks, upload_checks, name_checks, mode_checks}
 use Rattle.cr_base.specs.Checks.{is_in_committee, chair_checks, conflict_case, conflict_checks, bid_checks, assign_checks, unassign_checks}
-use Rattle.cr_base.specs.Checks.{review_checks, comment_checks, tag_checks}
+use Rattle.cr_base.specs.Checks.{review_checks, comment_checks, tag_checks, decide_checks}
 use Rattle.cr_base.specs.Drawn.{Drawn, grouped, registration_drawn, phase_drawn, submission_drawn, revision_drawn, upload_drawn}
 use Rattle.cr_base.specs.Drawn.{withdrawal_drawn, naming_drawn, mode_drawn, conflict_drawn, bid_drawn, assignment_drawn, unassignment_drawn}
-use Rattle.cr_base.specs.Drawn.{review_drawn, comment_drawn, tag_drawn}
+use Rattle.cr_base.specs.Drawn.{review_drawn, comment_drawn, tag_drawn, decision_drawn}
 use Rattle.cr_base.specs.Judging.{judge_by}
 use Rattle.cr_base.specs.Sources.{Facts, Shown, number_in, user_among, users_among, role_among, paper_named, target_named}
 use Rattle.cr_base.proofs.CheckLaws.{NoneBroken, judged-Ok}
@@ -59,6 +60,7 @@ facts_of u H = record {
   own_seat = λ p. seat_of u p H;
   own_forms = λ p. own_forms_of u p H;
   own_comments = own_comments_of u H;
+  accepted = λ p. is_accepted p H;
 }
 
 -- a user named, if there is one, has registered, and her role is the one that the history tells
@@ -360,7 +362,7 @@ module _ (H : History) (maker : ℕ) (shown : Shown) (registered : IsRegistered 
         texts = tt;
       }
 
-  -- ---- reviews, comments and tags
+  -- ---- reviews, comments, tags and decisions
 
   reviewed-ruled : (paper : Option ℕ) (version : ℕ) (form : Form) → IsForm form
       → NoneBroken (review_checks (standing_of (Some maker) paper H) (paper_named facts shown paper))
@@ -408,6 +410,22 @@ module _ (H : History) (maker : ℕ) (shown : Shown) (registered : IsRegistered 
         right = (clear (is_member by.role) by.conflicted (not-false (is_member by.role) none.1.1.0) none.1.1.1.0, none.1.0);
         seat = tt;
         texts = bounded;
+      }
+
+  decided-ruled : (paper : Option ℕ) (decision : Decision)
+      → NoneBroken (decide_checks (standing_of (Some maker) paper H) (paper_named facts shown paper))
+      → IsRuled H maker (Decided (unwrap_or paper 0) decision)
+  decided-ruled None decision none = absurd (true≢false none.0)
+  decided-ruled (Some p) decision none =
+      let by = standing_of (Some maker) (Some p) H in
+      record {
+        phase = not-false (is_phase by.phase Discussion) none.1.1.1.0;
+        chair = not-false (is_chair by.role) none.1.0;
+        role = tt;
+        member = tt;
+        right = none.1.1.0;
+        seat = tt;
+        texts = tt;
       }
 
   pub command-adds : (command : Command) (drawn : Drawn) → IsBoundedCommand command → judge_by facts shown (Some maker) command ≡ Ok drawn → Adds H drawn.group
@@ -500,3 +518,8 @@ module _ (H : History) (maker : ℕ) (shown : Shown) (registered : IsRegistered 
       (tag_drawn maker (unwrap_or paper 0) tag on) drawn accepted in
       subst (λ (d : Drawn). Adds H d.group) k.1
       (single maker (Tagged (unwrap_or paper 0) tag on) registered tt (tagged-ruled paper tag on bounded k.0))
+  command-adds (Decide paper decision) drawn bounded accepted =
+      let k = judged-Ok (decide_checks (standing_of (Some maker) paper H) (paper_named facts shown paper))
+      (decision_drawn maker (unwrap_or paper 0) decision) drawn accepted in
+      subst (λ (d : Drawn). Adds H d.group) k.1
+      (single maker (Decided (unwrap_or paper 0) decision) registered tt (decided-ruled paper decision k.0))

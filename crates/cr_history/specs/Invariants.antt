@@ -4,7 +4,7 @@ use Rattle.std.specs.List.{All, AllByRecursion, list_any}
 use Rattle.cr_base.specs.declared.entry.Entry.{Entry}
 use Rattle.cr_base.specs.declared.entry.Entry.TheVariants.{Registered, Named, PhaseSet, ModeSet, Submitted}
 use Rattle.cr_base.specs.declared.entry.Entry.TheVariants.{Coauthor, Revised, Uploaded, Withdrawn, Conflict}
-use Rattle.cr_base.specs.declared.entry.Entry.TheVariants.{Bid, Assigned, Unassigned, Reviewed, Commented, Tagged}
+use Rattle.cr_base.specs.declared.entry.Entry.TheVariants.{Bid, Assigned, Unassigned, Reviewed, Commented, Tagged, Decided}
 use Rattle.cr_base.specs.declared.entry.Stamped.{Stamped}
 use Rattle.cr_base.specs.declared.words.Phase.TheVariants.{Setup, Submission, Bidding, Reviewing, Discussion, Notification}
 use Rattle.cr_base.specs.Checks.{is_in_committee}
@@ -42,6 +42,7 @@ IsMadeByUser H maker (Unassigned paper user ordinal) = IsRegistered H maker
 IsMadeByUser H maker (Reviewed paper ordinal version form) = IsRegistered H maker
 IsMadeByUser H maker (Commented paper n ordinal text) = IsRegistered H maker
 IsMadeByUser H maker (Tagged paper tag on) = IsRegistered H maker
+IsMadeByUser H maker (Decided paper decision) = IsRegistered H maker
 
 -- of the entries that commands add, the first user's registration has another of its command behind it, and a submission
 -- and its co-authors may have one
@@ -85,12 +86,13 @@ IsAboutThose H (Unassigned paper user ordinal) = IsSubmitted H paper × IsRegist
 IsAboutThose H (Reviewed paper ordinal version form) = IsSubmitted H paper
 IsAboutThose H (Commented paper n ordinal text) = IsSubmitted H paper
 IsAboutThose H (Tagged paper tag on) = IsSubmitted H paper
+IsAboutThose H (Decided paper decision) = IsSubmitted H paper
 IsAboutThose H _ = Unit {0}
 
 -- the phase goes on by one; the mode is set in setup; papers are submitted, changed and withdrawn in submission; from the notification on
 -- nobody is named a member or a chair, and no conflict is turned on or off; bids are told in bidding; reviewers are assigned and
 -- unassigned, and tags turned on and off, from bidding to discussion; forms are written in reviewing and in the discussion, and
--- comments in the discussion
+-- comments in the discussion, where the committee decides too
 abbrev pub IsInPhase : History → Entry → Type 0
 IsInPhase H (Registered user name digest) = Unit {0}
 IsInPhase H (Named user role) = IsFalse (is_from Notification (phase_of H))
@@ -108,15 +110,17 @@ IsInPhase H (Unassigned paper user ordinal) = IsTrue (is_in_committee (phase_of 
 IsInPhase H (Reviewed paper ordinal version form) = IsTrue (is_phase (phase_of H) Reviewing || is_phase (phase_of H) Discussion)
 IsInPhase H (Commented paper n ordinal text) = IsTrue (is_phase (phase_of H) Discussion)
 IsInPhase H (Tagged paper tag on) = IsTrue (is_in_committee (phase_of H))
+IsInPhase H (Decided paper decision) = IsTrue (is_phase (phase_of H) Discussion)
 
--- chairs set the phase and the mode, name members and chairs, and assign and unassign reviewers; the first user alone is named
--- otherwise, as she registers, by the second entry of all
+-- chairs set the phase and the mode, name members and chairs, assign and unassign reviewers, and decide; the first user alone is
+-- named otherwise, as she registers, by the second entry of all
 abbrev pub IsByChair : History → ℕ → Entry → Type 0
 IsByChair H maker (Named user role) = IsTrue (is_chair (role_of (Some maker) H) || length H == 1)
 IsByChair H maker (PhaseSet phase) = IsTrue (is_chair (role_of (Some maker) H))
 IsByChair H maker (ModeSet mode) = IsTrue (is_chair (role_of (Some maker) H))
 IsByChair H maker (Assigned paper user kind ordinal) = IsTrue (is_chair (role_of (Some maker) H))
 IsByChair H maker (Unassigned paper user ordinal) = IsTrue (is_chair (role_of (Some maker) H))
+IsByChair H maker (Decided paper decision) = IsTrue (is_chair (role_of (Some maker) H))
 IsByChair H maker _ = Unit {0}
 
 -- roles only rise
@@ -144,7 +148,7 @@ is_clear_member_of H maker paper = is_member (role_of (Some maker) H) && not (is
 
 -- and a paper's authors alone name its co-authors, revise it, upload its content and withdraw it; members in no conflict with it
 -- bid on it, review it, comment on it and tag it, chairs alone with tags for chairs; and chairs in none assign and unassign its
--- reviewers
+-- reviewers, and decide on it
 abbrev pub IsByRight : History → ℕ → Entry → Type 0
 IsByRight H maker (Coauthor paper user) = IsTrue (is_author (Some maker) paper H)
 IsByRight H maker (Revised paper title abstract) = IsTrue (is_author (Some maker) paper H)
@@ -158,6 +162,7 @@ IsByRight H maker (Reviewed paper ordinal version form) = IsTrue (is_clear_membe
 IsByRight H maker (Commented paper n ordinal text) = IsTrue (is_clear_member_of H maker paper)
 IsByRight H maker (Tagged paper tag on) =
     IsTrue (is_clear_member_of H maker paper) × IsFalse (is_for_chairs tag && not (is_chair (role_of (Some maker) H)))
+IsByRight H maker (Decided paper decision) = IsFalse (is_conflicted (Some maker) paper H)
 IsByRight H maker _ = Unit {0}
 
 -- whoever is assigned is in no conflict with the paper and doesn't review it, and it has a label left; whoever is unassigned

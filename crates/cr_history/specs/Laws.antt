@@ -4,12 +4,13 @@ use Rattle.std.specs.List.{list_any}
 use Rattle.cr_base.specs.Accounts.{lines_of, number_at, caller_at}
 use Rattle.cr_base.specs.HistoryFacts.{standing_of, accounts_of, number_of, caller_of, papers_of, own_papers_of, own_bytes_of}
 use Rattle.cr_base.specs.HistoryFacts.{bid_of, seat_of, seats_of, reviewers_of, forms_of, forms_discussed_of, own_forms_of, comments_of, own_comments_of, tags_of}
-use Rattle.cr_base.specs.HistoryFacts.{title_of, abstract_of, uploads_of, is_withdrawn, authors_of, is_conflict_on, declared_by_authors}
+use Rattle.cr_base.specs.HistoryFacts.{title_of, abstract_of, uploads_of, is_withdrawn, decision_of, is_accepted, authors_of, is_conflict_on, declared_by_authors}
 use Rattle.cr_base.specs.declared.entry.Stamped.{Stamped}
 use Rattle.cr_base.specs.History.{History}
+use Rattle.cr_base.specs.Decisions.{decision_in}
 use Rattle.cr_base.specs.Filed.{filed_of}
 use Rattle.cr_base.specs.Reviews.{forms_in, forms_discussed_in, written_told}
-use Rattle.cr_base.specs.Sources.{standing_at, own_forms_in}
+use Rattle.cr_base.specs.Sources.{standing_at, own_forms_in, is_accepted_in}
 use Rattle.cr_base.specs.Pairs.{has_pair}
 use Rattle.cr_base.specs.Papers.{paper_numbers, own_count, own_bytes, title_at, abstract_at, uploads_at, is_withdrawn_at}
 use Rattle.cr_base.specs.Tables.{no_tables, tables_of, FitInTurn}
@@ -44,6 +45,8 @@ pub record AreTold (H : History) : Type 0 where
   pub comments : (p : ℕ) → comments_of p H ≡ map comment_as_told (comments_in (tables_of H).talk p)
   pub own_comments : (u : Option ℕ) → own_comments_of u H ≡ own_comments_in (tables_of H).talk u
   pub tags : (p : ℕ) → tags_of p H ≡ filed_of p (tables_of H).tags
+  pub decision : (p : ℕ) → decision_of p H ≡ decision_in (tables_of H).decisions p
+  pub accepted : (p : ℕ) → is_accepted p H ≡ is_accepted_in (tables_of H) p
 
 -- TablesTell: it is so where each entry fits in its turn, and a paper's co-authors are told before any conflict with it
 abbrev pub TablesTell : Type 0
