@@ -10,7 +10,7 @@ use Rattle.cr_base.specs.declared.reply.AccountLine.{AccountLine}
 use Rattle.cr_base.specs.Bounds.{IsBoundedCommand}
 use Rattle.cr_base.specs.Drawn.{Drawn}
 use Rattle.cr_base.specs.History.{History}
-use Rattle.cr_base.specs.HistoryFacts.{accounts_of, is_author, standing_of}
+use Rattle.cr_base.specs.HistoryFacts.{accounts_of, is_author, standing_of, is_accepted}
 use Rattle.cr_base.specs.Lists.{is_number}
 use Rattle.cr_base.specs.Page.{is_clear_chair}
 use Rattle.cr_base.specs.Judging.{judge_by, judge_by_role}
@@ -28,6 +28,7 @@ use Rattle.cr_policy.specs.Legal.{IsCaller, IsUser}
 use Rattle.cr_policy.specs.View.{View, view}
 use Rattle.cr_policy.specs.ViewFacts.{accounts_in_view, is_conflict_on_in_view, users_where, facts_in_view, shown_in_view}
 use Rattle.cr_policy.proofs.BidTies.{users-registered}
+use Rattle.cr_policy.proofs.DecisionTells.{accepted-seen}
 use Rattle.cr_policy.proofs.JudgeTies.{judge-tables}
 use Rattle.cr_policy.proofs.PageTells.{authors-seen, conflicts-seen}
 use Rattle.cr_policy.proofs.ReviewerTells.{seat-seen_by_chair, labels-seen}
@@ -46,6 +47,7 @@ facts-seen u H = λ i. record {
   own_seat = λ p. seat-seen u p H i;
   own_forms = λ p. own_forms-seen u p H i;
   own_comments = own_comments-seen u H i;
+  accepted = λ p. accepted-seen u p H i;
 }
 
 -- and to a clear chair, from the bidding on, who is in conflict with a paper, who reviews it, how many labels were given, and under which
@@ -78,7 +80,7 @@ module _ (user : ℕ) (H : History) where
     conflicted = λ p v registered told.
         let declared : Bool = list_any (is_number (Some v)) (users_where (λ w. is_conflict_on_in_view (Some w) p V) V) in
         ap (λ (authors : List ℕ). list_any (is_number (Some v)) authors || declared)
-        (authors-seen (Some user) p H (shown (is_author (Some user) p H) (is_told_all H user p) _ told))
+        (authors-seen (Some user) p H (shown (is_author (Some user) p H) (is_told_all H user p) _ (is_accepted p H) told))
         ∙ ap (λ b. is_author (Some v) p H || b)
         (users_where-seen v (λ w. is_conflict_on_in_view (Some w) p V) registered ∙ conflicts-seen (Some user) p H told (Some v));
     seat = λ p v told. seat-seen_by_chair (Some user) (Some v) p H told;
@@ -86,8 +88,8 @@ module _ (user : ℕ) (H : History) where
     written = λ p o told. written-seen (Some user) p o H (and_parts (is_clear_chair (standing_of (Some user) (Some p) H)) _ told).0;
   }
     where
-      shown : (author chair member : Bool) → chair ≡ true → (author || chair || member || false) ≡ true
-      shown author chair member h = grind arith
+      shown : (author chair member accepted : Bool) → chair ≡ true → (author || chair || member || accepted) ≡ true
+      shown author chair member accepted h = grind arith
 
 -- a registered user's command
 user-adds : (H : History) (user : ℕ) (command : Command) (drawn : Drawn) → IsBoundedCommand command → IsRegistered H user

@@ -1,11 +1,11 @@
 -- What the bounds leave for outsiders, for strangers and for nobody.
-use Rattle.std.proofs.Common.{◌≡◌, ℕ, Bool, true, false, cond, [], ◌∷◌, ◌++◌, eqb, refl, sym, ap, ◌∙◌, arith, ◌||◌, ◌&&◌, Option, Some, None}
+use Rattle.std.proofs.Common.{◌≡◌, ℕ, Bool, true, false, cond, List, [], ◌∷◌, ◌++◌, refl, sym, ap, subst, ◌∙◌, arith, ◌||◌, ◌&&◌, Option, Some, None}
 use Rattle.std.specs.Prelude.{not}
 use Rattle.std.specs.List.{list_any, AllByRecursion}
-use Rattle.std.proofs.lemmas.Bool.{eqb-true, or_parts, false≢true, true≢false}
+use Rattle.std.proofs.lemmas.Bool.{eqb-true, or_parts, or_from, and_parts, false≢true, true≢false}
 use Rattle.cr_base.specs.declared.entry.Entry.{Entry}
 use Rattle.cr_base.specs.declared.entry.Entry.TheVariants.{Registered, Named, Submitted, Coauthor, Revised, Uploaded, Withdrawn, Conflict}
-use Rattle.cr_base.specs.declared.entry.Entry.TheVariants.{Bid, Assigned, Unassigned, Reviewed, Commented, Tagged}
+use Rattle.cr_base.specs.declared.entry.Entry.TheVariants.{Bid, Assigned, Unassigned, Reviewed, Commented, Tagged, Decided}
 use Rattle.cr_base.specs.declared.entry.EntryKind.TheVariants as kinds
 use Rattle.cr_base.specs.declared.entry.Stamped.{Stamped}
 use Rattle.cr_base.specs.declared.words.Role.{Role}
@@ -17,9 +17,10 @@ use Rattle.cr_policy.specs.Sighting.{Sighting, blank}
 use Rattle.cr_policy.specs.ViewFacts.{is_user}
 use Rattle.cr_policy.specs.ShownTo.{is_on_committee, leads_committee, is_past_submission, is_past_reviewing, is_past_discussion}
 use Rattle.cr_policy.specs.ShownTo.{hides_authors, hides_reviewers, names_reviewers, has_conflict, serves, handles, oversees, leads, discusses, is_answered}
-use Rattle.cr_policy.specs.ShownTo.{is_replaced, is_superseded, is_reviewed, is_discussed, is_party, is_told, where_known, kind_for, paper_for, reviewer_for}
+use Rattle.cr_policy.specs.ShownTo.{is_in_programme, appears, is_decided_again, learns_outcome, is_announced}
+use Rattle.cr_policy.specs.ShownTo.{is_replaced, is_superseded, is_reviewed, is_discussed, is_party, is_told, where_known, paper_for, reviewer_for}
 use Rattle.cr_policy.specs.ShownTo.{knows_writers, learns_form, is_committees, is_chairs}
-use Rattle.cr_policy.specs.ViewBounds.{IsLeft, OutsidersShown, IsPublic, names_her, is_reviewing, IsStranger, StrangersShown, NobodyShown}
+use Rattle.cr_policy.specs.ViewBounds.{outsider, IsLeft, OutsidersShown, IsPublicIn, names_her, is_reviewing, IsStranger, StrangersShown, NobodyShown}
 use Rattle.cr_policy.proofs.BoundsParts.{IsWriters}
 use Rattle.cr_policy.proofs.BoundsWalk.{shown_to, writers-all, all-view}
 use Rattle.cr_policy.proofs.Walk.{list_any-nobody}
@@ -30,31 +31,34 @@ pub known-not : {A : Type 0} (known : Bool) (x : A) → known ≡ false → wher
 known-not known x h = ap (λ b. where_known b x) h
 
 -- what is known to those alone of whom a test holds
-known-alone : {A : Type 0} (known : Bool → Bool) (test : Bool) (x : A) → known false ≡ false
-    → where_known (known test) x ≡ cond test (where_known (known test) x) None
+known-alone : {A : Type 0} (known test : Bool) (x : A) → (test ≡ false → known ≡ false) → where_known known x ≡ cond test (where_known known x) None
 known-alone known true x h = refl
-known-alone known false x h = known-not (known false) x h
+known-alone known false x h = known-not known x (h refl)
 
--- a text isn't shown to one who is no author of the paper and may not know the last one, nor is who made it to one who
--- doesn't handle the paper
-text-hidden : (a n s : Bool) → a ≡ false → s ≡ false → (a || (n && s)) ≡ false
-text-hidden a n s ha hs = grind (arith, ha, hs)
+-- a text isn't shown to one who is no author of the paper and may not know the last one, where it isn't public; nor is who made it
+-- to one who doesn't handle the paper
+text-hidden : (a n s p : Bool) → a ≡ false → (s || p) ≡ false → (a || (n && (s || p))) ≡ false
+text-hidden a n s p ha hs = grind (arith, ha, hs)
 
-maker-hidden : (a h leads hides : Bool) → a ≡ false → h ≡ false → (a || (h && leads) || (h && not hides)) ≡ false
-maker-hidden a h leads hides ha hh = grind (arith, ha, hh)
+text-unread : (own a n h p : Bool) → a ≡ false → h ≡ false → (own || p) ≡ false → ((own || a) || (n && (h || p))) ≡ false
+text-unread own a n h p ha hh hp = grind (arith, ha, hh, hp)
 
--- of co-authors and uploads none is told but their maker; of revisions and withdrawals who serves besides
-coauthor-own : (own a h leads hides : Bool) → a ≡ false → h ≡ false → ((own || a) || (h && leads) || (h && not hides)) ≡ true → own ≡ true
-coauthor-own own a h leads hides ha hh told = grind (arith, ha, hh, told)
+maker-hidden : (a h leads hides p : Bool) → a ≡ false → h ≡ false → p ≡ false → (a || (h && leads) || (h && not hides) || p) ≡ false
+maker-hidden a h leads hides p ha hh hp = grind (arith, ha, hh, hp)
 
-upload-own : (own a n h : Bool) → a ≡ false → h ≡ false → ((own || a) || (n && h)) ≡ true → own ≡ true
-upload-own own a n h ha hh told = grind (arith, ha, hh, told)
+-- who is told of a co-author, a revision, an upload or a withdrawal: their maker; of a revision and a withdrawal besides who serves; and
+-- everyone where it is public
+coauthor-left : (own a h leads hides p : Bool) → a ≡ false → h ≡ false → ((own || a) || (h && leads) || (h && not hides) || p) ≡ true → (own || p) ≡ true
+coauthor-left own a h leads hides p ha hh told = grind (arith, ha, hh, told)
 
-revision-served : (own a n s : Bool) → a ≡ false → ((own || a) || (n && s)) ≡ true → (own || s) ≡ true
-revision-served own a n s ha told = grind (arith, ha, told)
+upload-left : (own a n h p : Bool) → a ≡ false → h ≡ false → ((own || a) || (n && (h || p))) ≡ true → (own || p) ≡ true
+upload-left own a n h p ha hh told = grind (arith, ha, hh, told)
 
-unserved : (own a n s : Bool) → a ≡ false → own ≡ false → s ≡ false → ((own || a) || (n && s)) ≡ true → ⊥
-unserved own a n s ha ho hs told = grind (arith, ha, ho, hs, told)
+revision-left : (own a n s p : Bool) → a ≡ false → ((own || a) || (n && (s || p))) ≡ true → (own || s || p) ≡ true
+revision-left own a n s p ha told = grind (arith, ha, told)
+
+withdrawal-left : (own a s : Bool) → a ≡ false → ((own || a) || s) ≡ true → (own || s) ≡ true
+withdrawal-left own a s ha told = grind (arith, ha, told)
 
 -- of bids none is told but their maker, and of assignments none but their parties
 bid-own : (own h leads : Bool) → h ≡ false → (own || (h && leads)) ≡ true → own ≡ true
@@ -85,6 +89,20 @@ comment-own own h past hh told = grind (arith, hh, told)
 pub tag-own : (own all chairs h leads : Bool) → h ≡ false → (own || ((all && h) || (chairs && (h && leads)))) ≡ true → own ≡ true
 tag-own own all chairs h leads hh told = grind (arith, hh, told)
 
+-- of decisions none is told but their makers, and everyone where the paper is accepted; and nobody learns the outcome but authors.
+-- `n` is that it is the last, `p` that everyone is told
+decision-left : (own h past n a d p : Bool) → h ≡ false → a ≡ false → ((own || (h && past)) || (n && (a && d)) || p) ≡ true → (own || p) ≡ true
+decision-left own h past n a d p hh ha told = grind (arith, hh, ha, told)
+
+outcome-unlearnt : (n a d : Bool) → a ≡ false → (n && (a && d)) ≡ false
+outcome-unlearnt n a d ha = grind (arith, ha)
+
+verdict-unread : (own h past n a d : Bool) → own ≡ false → h ≡ false → a ≡ false → ((own || (h && past)) || (n && (a && d))) ≡ false
+verdict-unread own h past n a d ho hh ha = grind (arith, ho, hh, ha)
+
+not-announced : (n p : Bool) → p ≡ false → (n && p) ≡ false
+not-announced n p hp = grind (arith, hp)
+
 -- the reader is the user who is named, where she may know it
 pub user-known : (u : Option ℕ) (known : Bool) (user : ℕ) → is_user u (where_known known user) ≡ (known && is_number u user)
 user-known u true user = refl
@@ -92,25 +110,47 @@ user-known u false user = refl
 
 -- ---- who neither wrote a paper nor handles it
 
-module _ (u : Option ℕ) (p : ℕ) (H : History) (out : (is_author u p H || handles u p H) ≡ false) where
-  wrote : (paper : ℕ) → eqb paper p ≡ true → is_author u paper H ≡ false
-  wrote paper on_it = ap (λ n. is_author u n H) (eqb-true paper p on_it) ∙ (or_parts (is_author u p H) (handles u p H) out).0
+module _ (u : Option ℕ) (H : History) (paper : ℕ) (wrote : is_author u paper H ≡ false) (handled : handles u paper H ≡ false) where
+  -- who submitted the paper is known where the paper is in the programme; a title to those who serve besides; and a text that isn't
+  -- her own where the paper appears
+  abbrev maker_known : Bool
+  maker_known = is_author u paper H || oversees u paper H || (handles u paper H && not (hides_authors (mode_of H))) || is_in_programme paper H
 
-  handled : (paper : ℕ) → eqb paper p ≡ true → handles u paper H ≡ false
-  handled paper on_it = ap (λ n. handles u n H) (eqb-true paper p on_it) ∙ (or_parts (is_author u p H) (handles u p H) out).1
+  maker-left : (maker : ℕ) → where_known maker_known maker ≡ cond (is_in_programme paper H) (where_known maker_known maker) None
+  maker-left maker =
+      known-alone maker_known (is_in_programme paper H) maker
+      (maker-hidden (is_author u paper H) (handles u paper H) (leads_committee (role_of u H)) (hides_authors (mode_of H)) (is_in_programme paper H)
+      wrote handled)
+
+  abbrev title_known : Bool → Bool
+  title_known replaced = is_author u paper H || (not replaced && (serves u H || is_in_programme paper H))
+
+  title-left : (replaced : Bool) (title : List ℕ)
+      → where_known (title_known replaced) title ≡ cond (serves u H || is_in_programme paper H) (where_known (title_known replaced) title) None
+  title-left replaced title =
+      known-alone (title_known replaced) (serves u H || is_in_programme paper H) title
+      (text-hidden (is_author u paper H) (not replaced) (serves u H) (is_in_programme paper H) wrote)
+
+  abbrev text_known : Bool → Bool → Bool
+  text_known own replaced = (own || is_author u paper H) || (not replaced && (handles u paper H || appears paper H))
+
+  text-left : (own replaced : Bool) (text : List ℕ)
+      → where_known (text_known own replaced) text ≡ cond (own || appears paper H) (where_known (text_known own replaced) text) None
+  text-left own replaced text =
+      known-alone (text_known own replaced) (own || appears paper H) text
+      (text-unread own (is_author u paper H) (not replaced) (handles u paper H) (appears paper H) wrote handled)
 
   -- whoever is told of an assignment is a party to it
-  party : (paper user maker : ℕ) → (is_party u H maker paper user || discusses u paper H || is_answered u paper H) ≡ true → eqb paper p ≡ true
-      → (is_number u maker || is_user u (reviewer_for u H maker paper user) || leads u p H) ≡ true
-  party paper user maker told on_it =
-      ap (λ b. is_number u maker || is_user u (reviewer_for u H maker paper user) || b) (ap (λ n. leads u n H) (sym (eqb-true paper p on_it)))
-      ∙ ap (λ b. is_number u maker || b || leads u paper H) (user-known u _ user)
+  party : (user maker : ℕ) → (is_party u H maker paper user || discusses u paper H || is_answered u paper H) ≡ true
+      → (is_number u maker || is_user u (reviewer_for u H maker paper user) || leads u paper H) ≡ true
+  party user maker told =
+      ap (λ b. is_number u maker || b || leads u paper H) (user-known u _ user)
       ∙ seat-left (is_number u user) (is_number u maker) (leads u paper H) (handles u paper H) (is_past_reviewing (phase_of H))
       (not (hides_reviewers (mode_of H))) (is_author u paper H) (names_reviewers (mode_of H)) (is_past_discussion (phase_of H))
-      (handled paper on_it) (wrote paper on_it) told
+      handled wrote told
 
   -- a form is left to its maker, who reads it, and to those who lead the paper, who are told that it is there
-  module _ (before later : History) (paper ordinal : ℕ) (on_it : eqb paper p ≡ true) where
+  module _ (before later : History) (ordinal : ℕ) where
     abbrev form_known : Bool → Bool
     form_known own = own || (discusses u paper H && is_discussed paper ordinal before later)
 
@@ -120,113 +160,159 @@ module _ (u : Option ℕ) (p : ℕ) (H : History) (out : (is_author u p H || han
     abbrev done_known : Bool → Bool
     done_known led = led && not (is_reviewed paper ordinal before)
 
-    led-same : leads u paper H ≡ leads u p H
-    led-same = ap (λ n. leads u n H) (eqb-true paper p on_it)
-
-    left-form : (own : Bool) → (form_known own || done_known (leads u paper H) || learns_form u H later paper ordinal) ≡ true → (own || leads u p H) ≡ true
+    left-form : (own : Bool) → (form_known own || done_known (leads u paper H) || learns_form u H later paper ordinal) ≡ true → (own || leads u paper H) ≡ true
     left-form own told =
-        ap (λ b. own || b) (sym led-same)
-        ∙ form-left own (handles u paper H) (is_past_reviewing (phase_of H)) (is_discussed paper ordinal before later) (leads u paper H)
+        form-left own (handles u paper H) (is_past_reviewing (phase_of H)) (is_discussed paper ordinal before later) (leads u paper H)
         (not (is_reviewed paper ordinal before)) (is_author u paper H) (is_past_discussion (phase_of H)) (not (is_reviewed paper ordinal later))
-        (handled paper on_it) (wrote paper on_it) told
+        handled wrote told
 
     form-own : {A : Type 0} (own : Bool) (x : A) → where_known (form_known own) x ≡ cond own (where_known (form_known own) x) None
     form-own own x =
-        known-alone form_known own x
-        (form-unread (handles u paper H) (is_past_reviewing (phase_of H)) (is_discussed paper ordinal before later) (handled paper on_it))
+        known-alone (form_known own) own x (λ other. ap (λ b. b || (discusses u paper H && is_discussed paper ordinal before later)) other
+        ∙ form-unread (handles u paper H) (is_past_reviewing (phase_of H)) (is_discussed paper ordinal before later) handled)
 
     review-own : {A : Type 0} (own : Bool) (x : A) → where_known (review_known own) x ≡ cond own (where_known (review_known own) x) None
     review-own own x =
-        known-alone review_known own x
-        (review-unread (handles u paper H) (is_past_reviewing (phase_of H)) (is_discussed paper ordinal before later) (is_author u paper H)
-        (is_past_discussion (phase_of H)) (not (is_reviewed paper ordinal later)) (handled paper on_it) (wrote paper on_it))
+        known-alone (review_known own) own x (λ other. ap review_known other
+        ∙ review-unread (handles u paper H) (is_past_reviewing (phase_of H)) (is_discussed paper ordinal before later) (is_author u paper H)
+        (is_past_discussion (phase_of H)) (not (is_reviewed paper ordinal later)) handled wrote)
 
-    done-led : where_known (done_known (leads u paper H)) true ≡ cond (leads u p H) (where_known (done_known (leads u paper H)) true) None
-    done-led =
-        known-alone done_known (leads u paper H) true refl
-        ∙ ap (λ led. cond led (where_known (done_known (leads u paper H)) true) None) led-same
+    done-led : (led : Bool) → where_known (done_known led) true ≡ cond led (where_known (done_known led) true) None
+    done-led led = known-alone (done_known led) led true (ap done_known)
 
-  left-one : (before later : History) (maker : ℕ) (more : Bool) (e : Entry) → IsWriters u H maker e → is_told u H before later maker e ≡ true
-      → is_number (paper_for u H before later maker e) p ≡ true
-      → IsLeft u (serves u H) (leads u p H) (kind_for u H before later maker e) (shown_to u H before later maker e)
-  left-one before later maker more (Bid paper value) writes told on_it = (
-    bid-own (is_number u maker) (handles u paper H) (leads_committee (role_of u H)) (handled paper on_it) told,
-    λ i. record (shown_to u H before later maker (Bid paper value)) {
-      by = known-not _ maker (ap (λ b. b && leads_committee (role_of u H)) (handled paper on_it)) i;
+  -- a decision is left to its maker, and everyone is told that the paper is accepted
+  module _ (later : History) where
+    abbrev verdict_known : Bool → Bool
+    verdict_known own = (own || discusses u paper H) || learns_outcome u H later paper
+
+    decision-told : (own : Bool) → (verdict_known own || is_announced H later paper) ≡ true → (own || is_announced H later paper) ≡ true
+    decision-told own told =
+        decision-left own (handles u paper H) (is_past_reviewing (phase_of H)) (not (is_decided_again paper later)) (is_author u paper H)
+        (is_past_discussion (phase_of H)) (is_announced H later paper) handled wrote told
+
+    announced-in : is_announced H later paper ≡ true → is_in_programme paper H ≡ true
+    announced-in announced = (and_parts (not (is_decided_again paper later)) (is_in_programme paper H) announced).1
+
+    verdict-unknown : (own : Bool) → own ≡ false → verdict_known own ≡ false
+    verdict-unknown own other =
+        verdict-unread own (handles u paper H) (is_past_reviewing (phase_of H)) (not (is_decided_again paper later)) (is_author u paper H)
+        (is_past_discussion (phase_of H)) other handled wrote
+
+    outcome-unknown : learns_outcome u H later paper ≡ false
+    outcome-unknown = outcome-unlearnt (not (is_decided_again paper later)) (is_author u paper H) (is_past_discussion (phase_of H)) wrote
+
+    accepted-left : where_known (is_announced H later paper) true
+        ≡ cond (is_in_programme paper H) (where_known (is_announced H later paper) true) None
+    accepted-left =
+        known-alone (is_announced H later paper) (is_in_programme paper H) true (not-announced (not (is_decided_again paper later)) (is_in_programme paper H))
+
+-- what the bounds leave of an entry, on its paper
+abbrev LeftAt : Option ℕ → History → Sighting → Option ℕ → Type 0
+LeftAt u H s None = Unit {0}
+LeftAt u H s (Some paper) = is_author u paper H ≡ false → handles u paper H ≡ false → IsLeft u (outsider u paper H) s.kind s
+
+module _ (u : Option ℕ) (H : History) where
+  left-one : (before later : History) (maker : ℕ) (e : Entry) → IsWriters u H maker e → is_told u H before later maker e ≡ true
+      → LeftAt u H (shown_to u H before later maker e) (paper_for u H before later maker e)
+  left-one before later maker (Submitted paper title abstract) writes told = λ wrote handled. λ i. record (blank kinds.Submitted) {
+    mine = other wrote i;
+    paper = Some paper;
+    by = maker-left u H paper wrote handled maker i;
+    title = title-left u H paper wrote handled (is_replaced paper later) title i;
+    abstract = text-left u H paper wrote handled false (is_replaced paper later) abstract i;
+  }
+    where
+      other : is_author u paper H ≡ false → is_number u maker ≡ false
+      other wrote = by (is_number u maker) writes
+        where
+          by : (own : Bool) → (own ≡ true → is_author u paper H ≡ true) → own ≡ false
+          by true h = absurd (false≢true (sym wrote ∙ h refl))
+          by false h = refl
+  left-one before later maker (Coauthor paper user) writes told = λ wrote handled. (
+    coauthor-left (is_number u maker) (is_author u paper H) (handles u paper H) (leads_committee (role_of u H)) (hides_authors (mode_of H))
+        (is_in_programme paper H) wrote handled told,
+    refl,
+  )
+  left-one before later maker (Revised paper title abstract) writes told = λ wrote handled. (
+    revision-left (is_number u maker) (is_author u paper H) (not (is_replaced paper later)) (serves u H) (is_in_programme paper H) wrote told,
+    λ i. record (shown_to u H before later maker (Revised paper title abstract)) {
+      abstract = text-left u H paper wrote handled (is_number u maker) (is_replaced paper later) abstract i;
     },
   )
-  left-one before later maker more (Assigned paper user seat ordinal) writes told on_it = (party paper user maker told on_it, refl)
-  left-one before later maker more (Unassigned paper user ordinal) writes told on_it = (party paper user maker told on_it, refl)
-  left-one before later maker more (Conflict paper user on) writes told on_it = (
-    hers (is_number u user) (is_number u maker) (is_author u paper H) (is_author (Some maker) paper H) (oversees u paper H) (wrote paper on_it)
-        (ap (λ b. b && leads_committee (role_of u H)) (handled paper on_it)) told,
+  left-one before later maker (Uploaded paper version content) writes told = λ wrote handled. (
+    upload-left (is_number u maker) (is_author u paper H) (not (is_superseded paper later)) (handles u paper H) (appears paper H) wrote handled told,
+    refl,
+  )
+  left-one before later maker (Withdrawn paper) writes told = λ wrote handled.
+      (withdrawal-left (is_number u maker) (is_author u paper H) (serves u H) wrote told, refl)
+  left-one before later maker (Conflict paper user on) writes told = λ wrote handled. (
+    hers (is_number u user) (is_number u maker) (is_author u paper H) (is_author (Some maker) paper H) (oversees u paper H) wrote
+        (ap (λ b. b && leads_committee (role_of u H)) handled) told,
     refl,
   )
     where
       hers : (named own a w o : Bool) → a ≡ false → o ≡ false → (named || own || (a && w) || o) ≡ true → (own || named) ≡ true
       hers named own a w o ha ho h = grind arith
-  left-one before later maker more (Coauthor paper user) writes told on_it = (
-    coauthor-own (is_number u maker) (is_author u paper H) (handles u paper H) (leads_committee (role_of u H)) (hides_authors (mode_of H))
-        (wrote paper on_it) (handled paper on_it) told,
-    refl,
-  )
-  left-one before later maker more (Uploaded paper version content) writes told on_it = (
-    upload-own (is_number u maker) (is_author u paper H) (not (is_superseded paper later)) (handles u paper H) (wrote paper on_it) (handled paper on_it) told,
-    refl,
-  )
-  left-one before later maker more (Withdrawn paper) writes told on_it =
-      (revision-served (is_number u maker) (is_author u paper H) true (serves u H) (wrote paper on_it) told, refl)
-  left-one before later maker more (Revised paper title abstract) writes told on_it = (
-    revision-served (is_number u maker) (is_author u paper H) (not (is_replaced paper later)) (serves u H) (wrote paper on_it) told,
-    λ i. record (shown_to u H before later maker (Revised paper title abstract)) {
-      abstract = known-alone (λ own. (own || is_author u paper H) || (not (is_replaced paper later) && handles u paper H)) (is_number u maker) abstract
-          (text-hidden (is_author u paper H) (not (is_replaced paper later)) (handles u paper H) (wrote paper on_it) (handled paper on_it)) i;
+  left-one before later maker (Bid paper value) writes told = λ wrote handled. (
+    bid-own (is_number u maker) (handles u paper H) (leads_committee (role_of u H)) handled told,
+    λ i. record (shown_to u H before later maker (Bid paper value)) {
+      by = known-not _ maker (ap (λ b. b && leads_committee (role_of u H)) handled) i;
     },
   )
-  left-one before later maker more (Submitted paper title abstract) writes told on_it = λ i. record (blank kinds.Submitted) {
-    mine = other i;
-    paper = Some paper;
-    by = known-not _ maker (maker-hidden (is_author u paper H) (handles u paper H) (leads_committee (role_of u H)) (hides_authors (mode_of H))
-        (wrote paper on_it) (handled paper on_it)) i;
-    title = known-alone (λ served. is_author u paper H || (not (is_replaced paper later) && served)) (serves u H) title
-        (text-hidden (is_author u paper H) (not (is_replaced paper later)) false (wrote paper on_it) refl) i;
-    abstract = known-not _ abstract (text-hidden (is_author u paper H) (not (is_replaced paper later)) (handles u paper H)
-        (wrote paper on_it) (handled paper on_it)) i;
-  }
-    where
-      other : is_number u maker ≡ false
-      other = by (is_number u maker) writes
-        where
-          by : (own : Bool) → (own ≡ true → is_author u paper H ≡ true) → own ≡ false
-          by true h = absurd (false≢true (sym (wrote paper on_it) ∙ h refl))
-          by false h = refl
-  left-one before later maker more (Reviewed paper ordinal version form) writes told on_it = (
-    left-form before later paper ordinal on_it (is_number u maker) told,
+  left-one before later maker (Assigned paper user seat ordinal) writes told = λ wrote handled. (party u H paper wrote handled user maker told, refl)
+  left-one before later maker (Unassigned paper user ordinal) writes told = λ wrote handled. (party u H paper wrote handled user maker told, refl)
+  left-one before later maker (Reviewed paper ordinal version form) writes told = λ wrote handled. (
+    left-form u H paper wrote handled before later ordinal (is_number u maker) told,
     λ i. record (shown_to u H before later maker (Reviewed paper ordinal version form)) {
-      version = form-own before later paper ordinal on_it (is_number u maker) version i;
-      score = review-own before later paper ordinal on_it (is_number u maker) form.score i;
-      confidence = review-own before later paper ordinal on_it (is_number u maker) form.confidence i;
-      to_authors = review-own before later paper ordinal on_it (is_number u maker) form.to_authors i;
-      to_pc = form-own before later paper ordinal on_it (is_number u maker) form.to_pc i;
-      done = done-led before later paper ordinal on_it i;
+      version = form-own u H paper wrote handled before later ordinal (is_number u maker) version i;
+      score = review-own u H paper wrote handled before later ordinal (is_number u maker) form.score i;
+      confidence = review-own u H paper wrote handled before later ordinal (is_number u maker) form.confidence i;
+      to_authors = review-own u H paper wrote handled before later ordinal (is_number u maker) form.to_authors i;
+      to_pc = form-own u H paper wrote handled before later ordinal (is_number u maker) form.to_pc i;
+      done = done-led u H paper wrote handled before later ordinal (leads u paper H) i;
     },
   )
-  left-one before later maker more (Commented paper n ordinal text) writes told on_it = (
-    comment-own (is_number u maker) (handles u paper H) (is_past_reviewing (phase_of H)) (handled paper on_it) told,
+  left-one before later maker (Commented paper n ordinal text) writes told = λ wrote handled. (
+    comment-own (is_number u maker) (handles u paper H) (is_past_reviewing (phase_of H)) handled told,
     λ i. record (shown_to u H before later maker (Commented paper n ordinal text)) {
-      by = known-not _ maker (form-unread (handles u paper H) (is_past_reviewing (phase_of H)) (knows_writers u H) (handled paper on_it)) i;
+      by = known-not _ maker (form-unread (handles u paper H) (is_past_reviewing (phase_of H)) (knows_writers u H) handled) i;
     },
   )
-  left-one before later maker more (Tagged paper tag on) writes told on_it = (
-    tag-own (is_number u maker) (is_committees tag) (is_chairs tag) (handles u paper H) (leads_committee (role_of u H)) (handled paper on_it) told,
+  left-one before later maker (Tagged paper tag on) writes told = λ wrote handled. (
+    tag-own (is_number u maker) (is_committees tag) (is_chairs tag) (handles u paper H) (leads_committee (role_of u H)) handled told,
     refl,
   )
-  left-one before later maker more e writes told on_it = absurd (false≢true on_it)
+  left-one before later maker (Decided paper decision) writes told = λ wrote handled. (
+    own-or-in (is_number u maker) (is_announced H later paper) (decision-told u H paper wrote handled later (is_number u maker) told)
+        (announced-in u H paper wrote handled later),
+    λ i. record (shown_to u H before later maker (Decided paper decision)) {
+      decision = known-alone _ (is_number u maker) decision (verdict-unknown u H paper wrote handled later (is_number u maker)) i;
+      outcome = known-not _ true (outcome-unknown u H paper wrote handled later) i;
+      accepted = accepted-left u H paper wrote handled later i;
+    },
+  )
+    where
+      own-or-in : (own announced : Bool) → (own || announced) ≡ true → (announced ≡ true → is_in_programme paper H ≡ true)
+          → (own || is_in_programme paper H) ≡ true
+      own-or-in true announced told in_it = refl
+      own-or-in false announced told in_it = in_it told
+  left-one before later maker (Registered user name digest) writes told = tt
+  left-one before later maker e writes told = tt
 
 pub outsiders-shown : OutsidersShown
 outsiders-shown u p H out =
-    all-view u H (λ (s : Sighting). is_number s.paper p ≡ true → IsLeft u (serves u H) (leads u p H) s.kind s) (λ (e : Stamped). IsWriters u H e.maker e.entry)
-    (left-one u p H out) (writers-all u H)
+    all-view u H (λ (s : Sighting). is_number s.paper p ≡ true → IsLeft u (outsider u p H) s.kind s) (λ (e : Stamped). IsWriters u H e.maker e.entry)
+    (λ before later maker more e writes told.
+    on-paper (shown_to u H before later maker e) (paper_for u H before later maker e) (left-one u H before later maker e writes told))
+    (writers-all u H)
+  where
+    on-paper : (s : Sighting) (paper : Option ℕ) → LeftAt u H s paper → is_number paper p ≡ true → IsLeft u (outsider u p H) s.kind s
+    on-paper s None left on_it = absurd (false≢true on_it)
+    on-paper s (Some paper) left on_it =
+        let same : paper ≡ p = eqb-true paper p on_it in
+        let parts = or_parts (is_author u p H) (handles u p H) out in
+        subst (λ n. IsLeft u (outsider u n H) s.kind s) same
+        (left (ap (λ n. is_author u n H) same ∙ parts.0) (ap (λ n. handles u n H) same ∙ parts.1))
 
 -- ---- strangers, and nobody
 
@@ -249,61 +335,99 @@ module _ (u : Option ℕ) (H : History) (stranger : IsStranger u H) where
   hers : {A : Type 0} {own : Bool} → own ≡ false → own ≡ true → A
   hers other own = absurd (true≢false (sym own ∙ other))
 
-  public-one : (before later : History) (maker : ℕ) (more : Bool) (e : Entry) → IsUnnamed u H e
-      → is_told u H before later maker e ≡ true → is_number u maker ≡ false
-      → IsPublic (kind_for u H before later maker e) (shown_to u H before later maker e)
-  public-one before later maker more (Registered user name digest) unnamed told other = λ i. record (blank kinds.Registered) {
+  -- and what is her own, or public, is public where it is another's
+  public : (own p : Bool) → own ≡ false → (own || p) ≡ true → p ≡ true
+  public own p other left = ap (λ b. b || p) (sym other) ∙ left
+
+  title-public : (paper : ℕ) (replaced : Bool) (title : List ℕ)
+      → where_known (title_known u H paper (stranger.author paper) (unhandled paper) replaced) title
+      ≡ cond (is_in_programme paper H) (where_known (title_known u H paper (stranger.author paper) (unhandled paper) replaced) title) None
+  title-public paper replaced title =
+      let shown : Option (List ℕ) = where_known (title_known u H paper (stranger.author paper) (unhandled paper) replaced) title in
+      title-left u H paper (stranger.author paper) (unhandled paper) replaced title
+      ∙ ap (λ b. cond (b || is_in_programme paper H) shown None) stranger.serving
+
+  text-public : (paper : ℕ) (own replaced : Bool) (text : List ℕ) → own ≡ false
+      → where_known (text_known u H paper (stranger.author paper) (unhandled paper) own replaced) text
+      ≡ cond (appears paper H) (where_known (text_known u H paper (stranger.author paper) (unhandled paper) own replaced) text) None
+  text-public paper own replaced text other =
+      let shown : Option (List ℕ) = where_known (text_known u H paper (stranger.author paper) (unhandled paper) own replaced) text in
+      text-left u H paper (stranger.author paper) (unhandled paper) own replaced text
+      ∙ ap (λ b. cond (b || appears paper H) shown None) other
+
+  public-one : (before later : History) (maker : ℕ) (e : Entry) → IsUnnamed u H e
+      → is_told u H before later maker e ≡ true → is_number u maker ≡ false → IsPublicIn H (shown_to u H before later maker e)
+  public-one before later maker (Registered user name digest) unnamed told other = λ i. record (blank kinds.Registered) {
     mine = other i;
     user = Some user;
     name = Some name;
     digest = where_known (other i) digest;
   }
-  public-one before later maker more (Submitted paper title abstract) unnamed told other = λ i. record (blank kinds.Submitted) {
+  public-one before later maker (Submitted paper title abstract) unnamed told other = λ i. record (blank kinds.Submitted) {
     mine = other i;
     paper = Some paper;
-    by = known-not _ maker (maker-hidden (is_author u paper H) (handles u paper H) (leads_committee (role_of u H)) (hides_authors (mode_of H))
-        (stranger.author paper) (unhandled paper)) i;
-    title = known-not _ title (text-hidden (is_author u paper H) (not (is_replaced paper later)) (serves u H) (stranger.author paper) stranger.serving) i;
-    abstract = known-not _ abstract (text-hidden (is_author u paper H) (not (is_replaced paper later)) (handles u paper H)
-        (stranger.author paper) (unhandled paper)) i;
+    by = maker-left u H paper (stranger.author paper) (unhandled paper) maker i;
+    title = title-public paper (is_replaced paper later) title i;
+    abstract = text-public paper false (is_replaced paper later) abstract refl i;
   }
-  public-one before later maker more (Coauthor paper user) unnamed told other =
-      hers other
-      (coauthor-own (is_number u maker) (is_author u paper H) (handles u paper H) (leads_committee (role_of u H)) (hides_authors (mode_of H))
-      (stranger.author paper) (unhandled paper) told)
-  public-one before later maker more (Revised paper title abstract) unnamed told other =
-      absurd (unserved (is_number u maker) (is_author u paper H) (not (is_replaced paper later)) (serves u H) (stranger.author paper) other
-      stranger.serving told)
-  public-one before later maker more (Uploaded paper version content) unnamed told other =
-      hers other
-      (upload-own (is_number u maker) (is_author u paper H) (not (is_superseded paper later)) (handles u paper H) (stranger.author paper)
-      (unhandled paper) told)
-  public-one before later maker more (Bid paper value) unnamed told other =
+  public-one before later maker (Coauthor paper user) unnamed told other = (
+    public (is_number u maker) (is_in_programme paper H) other
+        (coauthor-left (is_number u maker) (is_author u paper H) (handles u paper H) (leads_committee (role_of u H)) (hides_authors (mode_of H))
+        (is_in_programme paper H) (stranger.author paper) (unhandled paper) told),
+    λ i. record (shown_to u H before later maker (Coauthor paper user)) { mine = other i },
+  )
+  public-one before later maker (Revised paper title abstract) unnamed told other = (
+    public (is_number u maker || serves u H) (is_in_programme paper H) (or_from (is_number u maker) (serves u H) other stranger.serving)
+        (revision-left (is_number u maker) (is_author u paper H) (not (is_replaced paper later)) (serves u H) (is_in_programme paper H)
+        (stranger.author paper) told),
+    λ i. record (shown_to u H before later maker (Revised paper title abstract)) {
+      mine = other i;
+      abstract = text-public paper (is_number u maker) (is_replaced paper later) abstract other i;
+    },
+  )
+  public-one before later maker (Uploaded paper version content) unnamed told other = (
+    public (is_number u maker) (appears paper H) other
+        (upload-left (is_number u maker) (is_author u paper H) (not (is_superseded paper later)) (handles u paper H) (appears paper H)
+        (stranger.author paper) (unhandled paper) told),
+    λ i. record (shown_to u H before later maker (Uploaded paper version content)) { mine = other i },
+  )
+  public-one before later maker (Bid paper value) unnamed told other =
       hers other (bid-own (is_number u maker) (handles u paper H) (leads_committee (role_of u H)) (unhandled paper) told)
-  public-one before later maker more (Assigned paper user seat ordinal) unnamed told other = absurd (untold paper user maker unnamed.0 unnamed.1 told other)
-  public-one before later maker more (Unassigned paper user ordinal) unnamed told other = absurd (untold paper user maker unnamed.0 unnamed.1 told other)
-  public-one before later maker more (Reviewed paper ordinal version form) unnamed told other = absurd (unreviewed (is_number u maker) other
-      (form-left (is_number u maker) (handles u paper H) (is_past_reviewing (phase_of H)) (is_discussed paper ordinal before later) (leads u paper H)
-      (not (is_reviewed paper ordinal before)) (is_author u paper H) (is_past_discussion (phase_of H)) (not (is_reviewed paper ordinal later))
-      (unhandled paper) (stranger.author paper) told))
+  public-one before later maker (Assigned paper user seat ordinal) unnamed told other = absurd (untold paper user maker unnamed.0 unnamed.1 told other)
+  public-one before later maker (Unassigned paper user ordinal) unnamed told other = absurd (untold paper user maker unnamed.0 unnamed.1 told other)
+  public-one before later maker (Reviewed paper ordinal version form) unnamed told other =
+      absurd (unreviewed (is_number u maker) (leads_committee (role_of u H)) (not (has_conflict u paper H)) other unnamed.1
+      (left-form u H paper (stranger.author paper) (unhandled paper) before later ordinal (is_number u maker) told))
     where
-      unreviewed : (own : Bool) → own ≡ false → (own || leads u paper H) ≡ true → ⊥
-      unreviewed own o led = by own (leads_committee (role_of u H)) (not (has_conflict u paper H)) o unnamed.1 led
-        where
-          by : (own chair clear : Bool) → own ≡ false → (chair && true) ≡ false → (own || (chair && clear)) ≡ true → ⊥
-          by own chair clear o c led = grind (arith, o, c, led)
-  public-one before later maker more (Commented paper n ordinal text) unnamed told other =
+      unreviewed : (own chair clear : Bool) → own ≡ false → (chair && true) ≡ false → (own || (chair && clear)) ≡ true → ⊥
+      unreviewed own chair clear o c led = grind (arith, o, c, led)
+  public-one before later maker (Commented paper n ordinal text) unnamed told other =
       hers other (comment-own (is_number u maker) (handles u paper H) (is_past_reviewing (phase_of H)) (unhandled paper) told)
-  public-one before later maker more (Tagged paper tag on) unnamed told other =
+  public-one before later maker (Tagged paper tag on) unnamed told other =
       hers other
       (tag-own (is_number u maker) (is_committees tag) (is_chairs tag) (handles u paper H) (leads_committee (role_of u H)) (unhandled paper) told)
-  public-one before later maker more (Withdrawn paper) unnamed told other =
-      absurd (unserved (is_number u maker) (is_author u paper H) true (serves u H) (stranger.author paper) other stranger.serving told)
-  public-one before later maker more (Conflict paper user on) unnamed told other = absurd (undeclared unnamed.0 other (stranger.author paper) stranger.serving)
+  public-one before later maker (Withdrawn paper) unnamed told other =
+      hers (or_from (is_number u maker) (serves u H) other stranger.serving)
+      (withdrawal-left (is_number u maker) (is_author u paper H) (serves u H) (stranger.author paper) told)
+  public-one before later maker (Conflict paper user on) unnamed told other = absurd (undeclared unnamed.0 other (stranger.author paper) stranger.serving)
     where
       undeclared : is_number u user ≡ false → is_number u maker ≡ false → is_author u paper H ≡ false → serves u H ≡ false → ⊥
       undeclared n o a s = grind (arith, told, n, o, a, s)
-  public-one before later maker more e unnamed told other = λ i. record (shown_to u H before later maker e) { mine = other i }
+  public-one before later maker (Decided paper decision) unnamed told other = (
+    announced-in u H paper (stranger.author paper) (unhandled paper) later announced,
+    λ i. record (shown_to u H before later maker (Decided paper decision)) {
+      mine = other i;
+      decision = known-not _ decision (verdict-unknown u H paper (stranger.author paper) (unhandled paper) later (is_number u maker) other) i;
+      outcome = known-not _ true (outcome-unknown u H paper (stranger.author paper) (unhandled paper) later) i;
+      accepted = where_known (announced i) true;
+    },
+  )
+    where
+      announced : is_announced H later paper ≡ true
+      announced =
+          public (is_number u maker) (is_announced H later paper) other
+          (decision-told u H paper (stranger.author paper) (unhandled paper) later (is_number u maker) told)
+  public-one before later maker e unnamed told other = λ i. record (shown_to u H before later maker e) { mine = other i }
 
   unnamed-all : (G : History) → list_any (λ (e : Stamped). names_her u e.entry) G ≡ false
       → (leads_committee (role_of u H) && list_any (λ (e : Stamped). is_reviewing e.entry) G) ≡ false
@@ -320,8 +444,9 @@ module _ (u : Option ℕ) (H : History) (stranger : IsStranger u H) where
 
 pub strangers-shown : StrangersShown
 strangers-shown u H stranger =
-    all-view u H (λ (s : Sighting). s.mine ≡ false → IsPublic s.kind s) (λ (e : Stamped). IsUnnamed u H e.entry)
-    (public-one u H stranger) (unnamed-all u H stranger H stranger.named stranger.leading)
+    all-view u H (λ (s : Sighting). s.mine ≡ false → IsPublicIn H s) (λ (e : Stamped). IsUnnamed u H e.entry)
+    (λ before later maker more e unnamed told. public-one u H stranger before later maker e unnamed told)
+    (unnamed-all u H stranger H stranger.named stranger.leading)
 
 -- nobody is a stranger
 nobody-stranger : (H : History) → IsStranger None H
@@ -354,6 +479,6 @@ nobody-stranger H = record {
 pub nobody-shown : NobodyShown
 nobody-shown H =
     let stranger = nobody-stranger H in
-    all-view None H (λ (s : Sighting). IsPublic s.kind s) (λ (e : Stamped). IsUnnamed None H e.entry)
-    (λ before later maker more e unnamed told. public-one None H stranger before later maker more e unnamed told refl)
+    all-view None H (λ (s : Sighting). IsPublicIn H s) (λ (e : Stamped). IsUnnamed None H e.entry)
+    (λ before later maker more e unnamed told. public-one None H stranger before later maker e unnamed told refl)
     (unnamed-all None H stranger H stranger.named stranger.leading)

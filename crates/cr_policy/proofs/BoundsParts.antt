@@ -1,40 +1,44 @@
 -- What an entry shows, part by part, is what the bounds give: one lemma a part.
-use Rattle.std.proofs.Common.{◌≡◌, ℕ, Bool, true, false, List, [], ◌∷◌, ◌++◌, eqb, refl, sym, ap, ◌∙◌, arith, ◌||◌, ◌&&◌, Option, Some}
+use Rattle.std.proofs.Common.{◌≡◌, ℕ, Bool, true, false, List, [], ◌∷◌, ◌++◌, eqb, refl, sym, ap, ◌∙◌, arith, ◌||◌, ◌&&◌, Option, Some, None}
 use Rattle.std.specs.Prelude.{not, unwrap_or}
 use Rattle.std.specs.List.{list_any}
 use Rattle.std.proofs.lemmas.Bool.{true≢false, false≢true, and_right}
 use Rattle.std.proofs.Math.Bool.{or-false}
 use Rattle.cr_base.specs.declared.entry.Entry.{Entry}
 use Rattle.cr_base.specs.declared.entry.Entry.TheVariants.{Registered, Submitted, Coauthor, Revised, Uploaded, Conflict, Bid, Assigned, Unassigned, PhaseSet}
-use Rattle.cr_base.specs.declared.entry.Entry.TheVariants.{Reviewed, Commented, Tagged}
+use Rattle.cr_base.specs.declared.entry.Entry.TheVariants.{Reviewed, Commented, Tagged, Decided}
 use Rattle.cr_base.specs.declared.entry.Stamped.{Stamped}
 use Rattle.cr_base.specs.declared.form.Form.{Form}
+use Rattle.cr_base.specs.declared.words.Decision.{Decision}
+use Rattle.cr_base.specs.declared.words.Decision.TheVariants.{Accept, Reject}
 use Rattle.cr_base.specs.declared.words.Phase.{Phase}
 use Rattle.cr_base.specs.declared.words.Phase.TheVariants.{Setup, Submission, Bidding, Reviewing, Discussion, Notification, Closed}
 use Rattle.cr_base.specs.declared.words.Mode.{Mode}
 use Rattle.cr_base.specs.declared.words.Mode.TheVariants.{Overt, Blind, Anonymous}
 use Rattle.cr_base.specs.declared.words.Role.{Role}
 use Rattle.cr_base.specs.declared.words.Role.TheVariants.{Account, Member, Chair}
+use Rattle.cr_base.specs.Decisions.{is_published}
 use Rattle.cr_base.specs.Lists.{given, is_nothing, is_number, until}
-use Rattle.cr_base.specs.History.{History, all_told, opens, opens_discussion, title_told, upload_told, form_told, whole_form}
-use Rattle.cr_base.specs.HistoryFacts.{phase_of, mode_of, role_of, is_author, is_conflicted}
+use Rattle.cr_base.specs.History.{History, all_told, opens, opens_discussion, title_told, upload_told, form_told, decision_told, whole_form}
+use Rattle.cr_base.specs.HistoryFacts.{phase_of, mode_of, role_of, is_author, is_conflicted, is_withdrawn, decision_of, is_accepted}
 use Rattle.cr_base.specs.Phases.{is_from, is_phase}
 use Rattle.cr_base.specs.TagTexts.{is_for_all, is_for_chairs}
-use Rattle.cr_base.specs.Words.{is_anonymous, is_overt, is_member, is_chair}
+use Rattle.cr_base.specs.Words.{is_anonymous, is_overt, is_member, is_chair, is_accept}
 use Rattle.cr_history.proofs.LineTies.{stamp}
 use Rattle.cr_policy.specs.Sighting.{Sighting, where_shown}
 use Rattle.cr_policy.specs.Part as part
 use Rattle.cr_policy.specs.Part.{whole}
 use Rattle.cr_policy.specs.Triggers.{Reader, reader, Around, none_in, TriggerRow, ◌see◌, position_of, user_named, seat_rows, rows, applies_any, shows}
 use Rattle.cr_policy.specs.View.{is_seen, joined}
-use Rattle.cr_policy.specs.ShownTo.{is_on_committee, leads_committee, is_past_submission, is_past_reviewing, is_past_discussion}
+use Rattle.cr_policy.specs.ShownTo.{is_on_committee, leads_committee, is_past_submission, is_past_reviewing, is_past_discussion, is_over}
+use Rattle.cr_policy.specs.ShownTo.{takes, is_in_programme, appears, decides, is_decided_again, reads_decision, learns_outcome, is_announced}
 use Rattle.cr_policy.specs.ShownTo.{hides_authors, hides_reviewers, names_reviewers, serves, handles, oversees, leads, discusses, is_answered}
 use Rattle.cr_policy.specs.ShownTo.{is_notified, knows_writers, is_discussion, begins_discussion, gives_form, is_reviewed, is_discussed}
 use Rattle.cr_policy.specs.ShownTo.{reads_form, learns_form, counts_form, reads_review, is_committees, is_chairs}
 use Rattle.cr_policy.specs.ShownTo.{gives_texts, is_replaced, gives_content, is_superseded, owns, is_party, is_told, where_known}
 use Rattle.cr_policy.specs.ShownTo.{kind_for, mark_for, paper_for, reviewer_for, user_for, name_for, digest_for, role_for, phase_for, mode_for, maker_for}
 use Rattle.cr_policy.specs.ShownTo.{title_for, abstract_for, version_for, content_for, switch_for, value_for, seat_for, ordinal_for}
-use Rattle.cr_policy.specs.ShownTo.{score_for, confidence_for, to_authors_for, to_pc_for, done_for, n_for, text_for, tag_for}
+use Rattle.cr_policy.specs.ShownTo.{score_for, confidence_for, to_authors_for, to_pc_for, done_for, n_for, text_for, tag_for, decision_for, outcome_for, accepted_for}
 
 -- ---- the words of the table, and those of the bounds
 
@@ -54,22 +58,29 @@ chair-committee Account = refl
 chair-committee Member = refl
 chair-committee Chair = refl
 
--- phases: what the bidding, the discussion and the notification begin, and that they come in this order
+-- phases: what the bidding, the discussion, the notification and the end begin, and that the first three come in this order
 pub record PhaseWords (phase : Phase) : Type 0 where
   pub bidding : is_from Bidding phase ≡ is_past_submission phase
   pub discussion : is_from Discussion phase ≡ is_past_reviewing phase
   pub notification : is_from Notification phase ≡ is_past_discussion phase
+  pub closed : is_from Closed phase ≡ is_over phase
   pub discussion_later : (is_past_submission phase && is_past_reviewing phase) ≡ is_past_reviewing phase
   pub notification_later : (is_past_reviewing phase && is_past_discussion phase) ≡ is_past_discussion phase
 
 pub phase-words : (phase : Phase) → PhaseWords phase
-phase-words Setup = record { bidding = refl; discussion = refl; notification = refl; discussion_later = refl; notification_later = refl }
-phase-words Submission = record { bidding = refl; discussion = refl; notification = refl; discussion_later = refl; notification_later = refl }
-phase-words Bidding = record { bidding = refl; discussion = refl; notification = refl; discussion_later = refl; notification_later = refl }
-phase-words Reviewing = record { bidding = refl; discussion = refl; notification = refl; discussion_later = refl; notification_later = refl }
-phase-words Discussion = record { bidding = refl; discussion = refl; notification = refl; discussion_later = refl; notification_later = refl }
-phase-words Notification = record { bidding = refl; discussion = refl; notification = refl; discussion_later = refl; notification_later = refl }
-phase-words Closed = record { bidding = refl; discussion = refl; notification = refl; discussion_later = refl; notification_later = refl }
+phase-words Setup = record { bidding = refl; discussion = refl; notification = refl; closed = refl; discussion_later = refl; notification_later = refl }
+phase-words Submission = record { bidding = refl; discussion = refl; notification = refl; closed = refl; discussion_later = refl; notification_later = refl }
+phase-words Bidding = record { bidding = refl; discussion = refl; notification = refl; closed = refl; discussion_later = refl; notification_later = refl }
+phase-words Reviewing = record { bidding = refl; discussion = refl; notification = refl; closed = refl; discussion_later = refl; notification_later = refl }
+phase-words Discussion = record { bidding = refl; discussion = refl; notification = refl; closed = refl; discussion_later = refl; notification_later = refl }
+phase-words Notification = record { bidding = refl; discussion = refl; notification = refl; closed = refl; discussion_later = refl; notification_later = refl }
+phase-words Closed = record { bidding = refl; discussion = refl; notification = refl; closed = refl; discussion_later = refl; notification_later = refl }
+
+-- decisions: what is taken
+accept-takes : (decision : Option Decision) → is_accept decision ≡ takes decision
+accept-takes None = refl
+accept-takes (Some Accept) = refl
+accept-takes (Some Reject) = refl
 
 -- modes: what is hidden from members, what authors are named, and that no mode has both
 pub record ModeWords (mode : Mode) : Type 0 where
@@ -133,6 +144,13 @@ none_in-reviewed p o H = none-told (form_told p o) (gives_form p o) one H
     one (Reviewed paper ordinal version form) = given-nothing (eqb paper p && eqb ordinal o) (whole_form version form)
     one e = refl
 
+none_in-decided : (p : ℕ) (H : History) → none_in (decision_told p) H ≡ not (is_decided_again p H)
+none_in-decided p H = none-told (decision_told p) (decides p) one H
+  where
+    one : (e : Entry) → is_nothing (decision_told p e) ≡ not (decides p e)
+    one (Decided paper decision) = given-nothing (eqb paper p) decision
+    one e = refl
+
 -- what opens the discussion begins it, and so a form stands as the table says
 phase-discussion : (phase : Phase) → is_phase phase Discussion ≡ is_discussion phase
 phase-discussion Setup = refl
@@ -173,19 +191,33 @@ IsWriters u H maker e = Unit {0}
 known-same : {A : Type 0} (c known : Bool) (x : A) → c ≡ known → where_shown c (Some x) ≡ where_known known x
 known-same c known x h = ap (λ b. where_known b x) h
 
--- a text is shown to the paper's authors, the last one to those who may know it, and what she made to its maker
-text-known : (a n m f own n' s : Bool) → n ≡ n' → (m && f) ≡ s → (a || ((n && m && f) || (own || false))) ≡ ((own || a) || (n' && s))
-text-known a n m f own n' s hn hs = grind (arith, hn, hs)
+-- a text is shown to the paper's authors, the last one to those who may know it and to everyone where it is public, and what she
+-- made to its maker
+text-known : (a n m f k own n' s p : Bool) → n ≡ n' → (m && f) ≡ s → k ≡ p
+    → (a || ((n && m && f) || ((n && k) || (own || false)))) ≡ ((own || a) || (n' && (s || p)))
+text-known a n m f k own n' s p hn hs hp = grind (arith, hn, hs, hp)
 
 -- a maker who is an author of the paper is shown what an author is
 own-author : (a own rest : Bool) → (own ≡ true → a ≡ true) → ((own || a) || rest) ≡ (a || rest)
 own-author a true rest wrote = ap (λ b. b || rest) (sym (wrote refl))
 own-author a false rest wrote = refl
 
--- who is told of a revision: its title's readers, since who may read the abstract may read the title
-revision-seen : (a n m f c own n' s : Bool) → n ≡ n' → (m && f) ≡ s → (a || ((n && m && f) || ((n && (m && not c) && f) || (own || false))))
-    ≡ ((own || a) || (n' && s))
-revision-seen a n m f c own n' s hn hs = grind (arith, hn, hs)
+-- who is told of a co-author, and who of a paper's submitter. `c` is that the reader is a chair in no conflict, `m` a member in none,
+-- `h` that members who wrote are hidden, `f` that it is the bidding or later, `k` that the paper is accepted
+coauthor-seen : (a c m h f k own o s h' p : Bool) → (c && f) ≡ o → (m && f) ≡ s → h ≡ h' → k ≡ p
+    → (a || ((c && f) || ((m && not h && f) || (k || (own || false))))) ≡ ((own || a) || o || (s && not h') || p)
+coauthor-seen a c m h f k own o s h' p ho hs hh hp = grind (arith, ho, hs, hh, hp)
+
+submitter-seen : (a c m h f k o s h' p : Bool) → (c && f) ≡ o → (m && f) ≡ s → h ≡ h' → k ≡ p
+    → (a || ((c && f) || ((m && not h && f) || (k || false)))) ≡ (a || o || (s && not h') || p)
+submitter-seen a c m h f k o s h' p ho hs hh hp = grind (arith, ho, hs, hh, hp)
+
+-- who is told of a revision: its title's readers, since who may read the abstract may read the title. `k` is that the paper is
+-- accepted, `z` that the conference is closed
+revision-seen : (a n m f c k z own n' s p : Bool) → n ≡ n' → (m && f) ≡ s → k ≡ p
+    → (a || ((n && m && f) || ((n && (m && not c) && f) || ((n && k) || ((n && (k && z)) || (own || false))))))
+    ≡ ((own || a) || (n' && (s || p)))
+revision-seen a n m f c k z own n' s p hn hs hp = grind (arith, hn, hs, hp)
 
 -- an assignment: who is told of it, who is told the reviewer, what she is to the paper, and her label. `n` is that it names the
 -- reader, `c` that she is a chair in no conflict, `m` a member in none, `f` that it is the discussion, `h` that members who wrote are
@@ -228,6 +260,10 @@ tag-seen : (all chairs m c f own all' chairs' h o : Bool) → all ≡ all' → c
     → ((all && m && f) || ((chairs && c && f) || (own || false))) ≡ (own || ((all' && h) || (chairs' && o)))
 tag-seen all chairs m c f own all' chairs' h o ha hc hh ho = grind (arith, ha, hc, hh, ho)
 
+-- a decision: who is told of it. `d` is that the reader discusses the paper, `l` that she learns its outcome, `k` that it is announced
+decision-seen : (d l k own d' l' k' : Bool) → d ≡ d' → l ≡ l' → k ≡ k' → (d || (l || (k || (own || false)))) ≡ ((own || d') || l' || k')
+decision-seen d l k own d' l' k' hd hl hk = grind (arith, hd, hl, hk)
+
 module _ (u : Option ℕ) (H : History) (at : Around) (maker : ℕ) (more : Bool) where
   abbrev r : Reader
   r = reader u H
@@ -269,6 +305,16 @@ module _ (u : Option ℕ) (H : History) (at : Around) (maker : ℕ) (more : Bool
   answered-same p =
       ap (λ b. is_author u p H && b && is_from Notification (phase_of H)) (mode-words (mode_of H)).named
       ∙ ap (λ b. is_author u p H && names_reviewers (mode_of H) && b) (phase-words (phase_of H)).notification
+
+  programme-same : (p : ℕ) → is_accepted p H ≡ is_in_programme p H
+  programme-same p =
+      ap (λ b. b && not (is_withdrawn p H) && is_from Notification (phase_of H)) (accept-takes (decision_of p H))
+      ∙ ap (λ b. takes (decision_of p H) && not (is_withdrawn p H) && b) (phase-words (phase_of H)).notification
+
+  appears-same : (p : ℕ) → is_published (phase_of H) (is_accepted p H) ≡ appears p H
+  appears-same p =
+      ap (λ b. b && is_from Closed (phase_of H)) (programme-same p)
+      ∙ ap (λ b. is_in_programme p H && b) (phase-words (phase_of H)).closed
 
   -- ---- who is told of an assignment and of its end, and what of it
 
@@ -398,16 +444,51 @@ module _ (u : Option ℕ) (H : History) (at : Around) (maker : ℕ) (more : Bool
             → (((m && c) && f) && not ((chair && c) || not a)) ≡ (d && not (l || not h))
         by m c f chair l a h d hc ha hd = grind (arith, hc, ha, hd)
 
+  -- ---- who is told of a decision, and what of it
+
+  module _ (paper : ℕ) where
+    -- the tests of the rows: it is the last, and she is notified; it is the last, and the paper is accepted
+    abbrev told_outcome : Bool
+    told_outcome = none_in (decision_told paper) at.after && is_author u paper H && is_from Notification (phase_of H)
+
+    abbrev announced : Bool
+    announced = none_in (decision_told paper) at.after && is_accepted paper H
+
+    outcome-same : told_outcome ≡ learns_outcome u H at.after paper
+    outcome-same = by _ _ (is_author u paper H) (is_from Notification (phase_of H)) _ (none_in-decided paper at.after) (notified-same paper)
+      where
+        by : (n n' a f l : Bool) → n ≡ n' → (a && f) ≡ l → (n && a && f) ≡ (n' && l)
+        by n n' a f l hn hl = grind (arith, hn, hl)
+
+    announced-same : announced ≡ is_announced H at.after paper
+    announced-same =
+        ap (λ b. b && is_accepted paper H) (none_in-decided paper at.after)
+        ∙ ap (λ b. not (is_decided_again paper at.after) && b) (programme-same paper)
+
+    verdict-seen : (discussing paper || (told_outcome || (announced || (is_number u maker || false))))
+        ≡ (reads_decision u H maker paper || learns_outcome u H at.after paper || is_announced H at.after paper)
+    verdict-seen =
+        decision-seen (discussing paper) told_outcome announced (is_number u maker) _ _ _ (discusses-same paper) outcome-same announced-same
+
+    verdict-read : (discussing paper || (told_outcome || (is_number u maker || false)))
+        ≡ (reads_decision u H maker paper || learns_outcome u H at.after paper)
+    verdict-read = form-review (discussing paper) told_outcome (is_number u maker) _ _ (discusses-same paper) outcome-same
+
   -- ---- part by part
 
   pub seen-told : (e : Entry) → is_seen r at (stamp maker more e) ≡ is_told u H at.before at.after maker e
   seen-told (Registered user name digest) = refl
+  seen-told (Coauthor paper user) =
+      coauthor-seen (is_author u paper H) (is_chair (role_of u H) && not (is_conflicted u paper H))
+      (is_member (role_of u H) && not (is_conflicted u paper H)) (is_anonymous (mode_of H)) (is_from Bidding (phase_of H)) (is_accepted paper H)
+      (is_number u maker) _ _ _ _ (oversees-same paper) (handles-same paper) (mode-words (mode_of H)).authors (programme-same paper)
   seen-told (Revised paper title abstract) =
-      revision-seen (is_author u paper H) _ (is_member (role_of u H)) (is_from Bidding (phase_of H)) (is_conflicted u paper H) (is_number u maker) _ _
-      (none_in-replaced paper at.after) serves-same
+      revision-seen (is_author u paper H) _ (is_member (role_of u H)) (is_from Bidding (phase_of H)) (is_conflicted u paper H) (is_accepted paper H)
+      (is_from Closed (phase_of H)) (is_number u maker) _ _ _ (none_in-replaced paper at.after) serves-same (programme-same paper)
   seen-told (Uploaded paper version content) =
-      text-known (is_author u paper H) _ (is_member (role_of u H) && not (is_conflicted u paper H)) (is_from Bidding (phase_of H)) (is_number u maker) _ _
-      (none_in-superseded paper at.after) (handles-same paper)
+      text-known (is_author u paper H) _ (is_member (role_of u H) && not (is_conflicted u paper H)) (is_from Bidding (phase_of H))
+      (is_published (phase_of H) (is_accepted paper H)) (is_number u maker) _ _ _
+      (none_in-superseded paper at.after) (handles-same paper) (appears-same paper)
   seen-told (Assigned paper user seat ordinal) = assignment-seen paper user
   seen-told (Unassigned paper user ordinal) = assignment-seen paper user
   seen-told (Reviewed paper ordinal version form) = review-seen paper ordinal version form
@@ -416,6 +497,7 @@ module _ (u : Option ℕ) (H : History) (at : Around) (maker : ℕ) (more : Bool
       tag-seen (is_for_all tag) (is_for_chairs tag) (is_member (role_of u H) && not (is_conflicted u paper H))
       (is_chair (role_of u H) && not (is_conflicted u paper H)) (is_from Bidding (phase_of H)) (is_number u maker) _ _ _ _
       (for-committee tag) (for-chairs tag) (handles-same paper) (oversees-same paper)
+  seen-told (Decided paper decision) = verdict-seen paper
   seen-told e =
       let chair = chair-leads (role_of u H) in
       let on_it = chair-committee (role_of u H) in
@@ -460,40 +542,55 @@ module _ (u : Option ℕ) (H : History) (at : Around) (maker : ℕ) (more : Bool
   maker-one (Registered user name digest) = refl
   maker-one (Submitted paper title abstract) =
       known-same _ _ maker
-      (let chair = chair-leads (role_of u H) in
-      let on_it = chair-committee (role_of u H) in
-      let member = member-committee (role_of u H) in
-      let from = (phase-words (phase_of H)).bidding in
-      let hides = (mode-words (mode_of H)).authors in
-      grind (arith, chair, on_it, member, from, hides))
+      (submitter-seen (is_author u paper H) (is_chair (role_of u H) && not (is_conflicted u paper H))
+      (is_member (role_of u H) && not (is_conflicted u paper H)) (is_anonymous (mode_of H)) (is_from Bidding (phase_of H)) (is_accepted paper H)
+      _ _ _ _ (oversees-same paper) (handles-same paper) (mode-words (mode_of H)).authors (programme-same paper))
   maker-one (Bid paper value) = known-same _ _ maker (or-false _ ∙ oversees-same paper)
   maker-one (Commented paper n ordinal text) = known-same _ _ maker (or-false _ ∙ writer-same paper)
   maker-one e = refl
 
-  -- a title or an abstract: who owns the entry, and the last one who may read it from the bidding on; of a submission the
-  -- bounds name its authors alone, since its maker is one
-  text-one : (paper : ℕ) (m s known : Bool) (text : List ℕ) → (m && is_from Bidding (phase_of H)) ≡ s
-      → (owns u H maker paper || (not (is_replaced paper at.after) && s)) ≡ known
-      → where_shown (is_author u paper H || ((none_in (title_told paper) at.after && m && is_from Bidding (phase_of H)) || (is_number u maker || false)))
+  -- a title or an abstract is shown to those who own the entry, the last one to those who may read it from the bidding on, and to
+  -- everyone where it is public; of a submission the bounds name its authors alone, since its maker is one
+  abbrev IsTextShown : ℕ → Bool → Bool → Bool → List ℕ → Type 0
+  IsTextShown paper m k known text =
+      where_shown
+      (is_author u paper H
+      || ((none_in (title_told paper) at.after && m && is_from Bidding (phase_of H))
+      || ((none_in (title_told paper) at.after && k) || (is_number u maker || false))))
       (Some text)
       ≡ where_known known text
-  text-one paper m s known text may same =
-      known-same _ _ text (text-known (is_author u paper H) _ m (is_from Bidding (phase_of H)) (is_number u maker) _ s (none_in-replaced paper at.after) may
+
+  text-one : (paper : ℕ) (m s k p known : Bool) (text : List ℕ) → (m && is_from Bidding (phase_of H)) ≡ s → k ≡ p
+      → (owns u H maker paper || (not (is_replaced paper at.after) && (s || p))) ≡ known → IsTextShown paper m k known text
+  text-one paper m s k p known text may public same =
+      known-same _ _ text (text-known (is_author u paper H) _ m (is_from Bidding (phase_of H)) k (is_number u maker) _ s p
+      (none_in-replaced paper at.after) may public
       ∙ same)
 
+  title-shown : (paper : ℕ) (title : List ℕ) (known : Bool)
+      → (owns u H maker paper || (not (is_replaced paper at.after) && (serves u H || is_in_programme paper H))) ≡ known
+      → IsTextShown paper (is_member (role_of u H)) (is_accepted paper H) known title
+  title-shown paper title known same =
+      text-one paper (is_member (role_of u H)) (serves u H) (is_accepted paper H) (is_in_programme paper H) known title
+      serves-same (programme-same paper) same
+
+  abstract-shown : (paper : ℕ) (abstract : List ℕ) (known : Bool)
+      → (owns u H maker paper || (not (is_replaced paper at.after) && (handles u paper H || appears paper H))) ≡ known
+      → IsTextShown paper (is_member (role_of u H) && not (is_conflicted u paper H)) (is_published (phase_of H) (is_accepted paper H)) known abstract
+  abstract-shown paper abstract known same =
+      text-one paper (is_member (role_of u H) && not (is_conflicted u paper H)) (handles u paper H)
+      (is_published (phase_of H) (is_accepted paper H)) (appears paper H) known abstract
+      (handles-same paper) (appears-same paper) same
+
   pub title-one : (e : Entry) → IsWriters u H maker e → (seen e).title ≡ title_for u H at.before at.after maker e
-  title-one (Submitted paper title abstract) writes =
-      text-one paper (is_member (role_of u H)) (serves u H) _ title serves-same (own-author (is_author u paper H) (is_number u maker) _ writes)
-  title-one (Revised paper title abstract) writes = text-one paper (is_member (role_of u H)) (serves u H) _ title serves-same refl
+  title-one (Submitted paper title abstract) writes = title-shown paper title _ (own-author (is_author u paper H) (is_number u maker) _ writes)
+  title-one (Revised paper title abstract) writes = title-shown paper title _ refl
   title-one (Registered user name digest) writes = refl
   title-one e writes = refl
 
   pub abstract-one : (e : Entry) → IsWriters u H maker e → (seen e).abstract ≡ abstract_for u H at.before at.after maker e
-  abstract-one (Submitted paper title abstract) writes =
-      text-one paper (is_member (role_of u H) && not (is_conflicted u paper H)) (handles u paper H) _ abstract (handles-same paper)
-      (own-author (is_author u paper H) (is_number u maker) _ writes)
-  abstract-one (Revised paper title abstract) writes =
-      text-one paper (is_member (role_of u H) && not (is_conflicted u paper H)) (handles u paper H) _ abstract (handles-same paper) refl
+  abstract-one (Submitted paper title abstract) writes = abstract-shown paper abstract _ (own-author (is_author u paper H) (is_number u maker) _ writes)
+  abstract-one (Revised paper title abstract) writes = abstract-shown paper abstract _ refl
   abstract-one (Registered user name digest) writes = refl
   abstract-one e writes = refl
 
@@ -560,3 +657,16 @@ module _ (u : Option ℕ) (H : History) (at : Around) (maker : ℕ) (more : Bool
   pub tag-one : (e : Entry) → is_told u H at.before at.after maker e ≡ true → (seen e).tag ≡ tag_for u H at.before at.after maker e
   tag-one (Tagged paper tag on) told = ap (λ b. where_known b tag) (seen-told (Tagged paper tag on) ∙ told)
   tag-one e told = refl
+
+  -- a decision is shown to those who read it or learn the outcome, and each mark to those whom it is for
+  pub decision-one : (e : Entry) → (seen e).decision ≡ decision_for u H at.before at.after maker e
+  decision-one (Decided paper decision) = known-same _ _ decision (verdict-read paper)
+  decision-one e = refl
+
+  pub outcome-one : (e : Entry) → (seen e).outcome ≡ outcome_for u H at.before at.after maker e
+  outcome-one (Decided paper decision) = known-same _ _ true (or-false _ ∙ outcome-same paper)
+  outcome-one e = refl
+
+  pub accepted-one : (e : Entry) → (seen e).accepted ≡ accepted_for u H at.before at.after maker e
+  accepted-one (Decided paper decision) = known-same _ _ true (or-false _ ∙ announced-same paper)
+  accepted-one e = refl

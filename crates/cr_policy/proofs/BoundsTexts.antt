@@ -1,5 +1,5 @@
 -- Others than a paper's authors are shown one of its titles at most that they didn't give it, and one of its abstracts and of
--- its contents.
+-- its contents; and others than those who discuss it one of the decisions on it.
 use Rattle.std.proofs.Common.{◌≡◌, ◌≤◌, ℕ, Bool, true, false, List, [], ◌∷◌, ◌++◌, eqb, refl, sym, ap, subst, ◌∙◌, arith}
 use Rattle.std.proofs.Common.{◌||◌, ◌&&◌, append-nil, length, Option}
 use Rattle.std.specs.Prelude.{not}
@@ -7,16 +7,18 @@ use Rattle.std.specs.List.{flat_map, list_any}
 use Rattle.std.proofs.lemmas.Bool.{eqb-true, or_parts}
 use Rattle.std.proofs.lemmas.List.Concat.{flat_map-append}
 use Rattle.cr_base.specs.declared.entry.Entry.{Entry}
-use Rattle.cr_base.specs.declared.entry.Entry.TheVariants.{Submitted, Revised, Uploaded}
+use Rattle.cr_base.specs.declared.entry.Entry.TheVariants.{Submitted, Revised, Uploaded, Decided}
 use Rattle.cr_base.specs.declared.entry.Stamped.{Stamped}
+use Rattle.cr_base.specs.declared.words.Decision.{Decision}
+use Rattle.cr_base.specs.declared.words.Decision.TheVariants.{Reject}
 use Rattle.cr_base.specs.Lists.{given, listed, is_number}
 use Rattle.cr_base.specs.History.{History}
 use Rattle.cr_base.specs.HistoryFacts.{is_author}
 use Rattle.cr_policy.specs.Sighting.{Sighting}
 use Rattle.cr_policy.specs.View.{view}
 use Rattle.cr_policy.specs.ViewFacts.{only}
-use Rattle.cr_policy.specs.ShownTo.{serves, handles, is_told, where_known, gives_texts, is_replaced, gives_content, is_superseded, each_told}
-use Rattle.cr_policy.specs.ViewBounds.{text_shown, OneTitle, OneAbstract, OneContent}
+use Rattle.cr_policy.specs.ShownTo.{serves, handles, discusses, is_notified, is_in_programme, appears, decides, is_decided_again, is_told, where_known, gives_texts, is_replaced, gives_content, is_superseded, each_told}
+use Rattle.cr_policy.specs.ViewBounds.{part_shown, OneTitle, OneAbstract, OneContent, OneDecision}
 use Rattle.cr_policy.proofs.BoundsWalk.{shown_to, view-told}
 use Rattle.cr_policy.proofs.Walk.{only-true, only-false, flat_map-given}
 
@@ -41,10 +43,10 @@ told_of-same false own known known' x h = only-false _ ∙ sym (only-false _)
 told_of-same true true known known' x h = only-false _ ∙ sym (only-false _)
 told_of-same true false known known' x h = ap (λ b. told_of true false b x) (h refl refl)
 
--- ---- one matter: titles, abstracts or contents
+-- ---- one matter: titles, abstracts, contents or decisions
 
 -- the paper's entries on this matter are those that `gives` tells, and `value` is what each gives
-module _ (u : Option ℕ) (p : ℕ) (H : History) (gives : Entry → Bool) (value : Entry → List ℕ) (may : Bool) (seen : Sighting → List (List ℕ)) where
+module _ {A : Type 0} (u : Option ℕ) (p : ℕ) (H : History) (gives : Entry → Bool) (value : Entry → A) (may : Bool) (seen : Sighting → List A) where
   -- a later entry gives the paper another
   abbrev is_late : History → Bool
   is_late later = list_any (λ (e : Stamped). gives e.entry) later
@@ -56,13 +58,13 @@ module _ (u : Option ℕ) (p : ℕ) (H : History) (gives : Entry → Bool) (valu
       → seen (shown_to u H before later maker e) ≡ told_of (gives e) (is_number u maker) (not (is_late later) && may) (value e)
 
   module _ (shows : ShowsLast) where
-    abbrev all_seen : History → History → List (List ℕ)
+    abbrev all_seen : History → History → List A
     all_seen before G = flat_map seen (each_told u H (shown_to u H) before G)
 
     -- of each entry at most one, nothing of those that give it none, and nothing where a later entry gives it another
     few : (before later : History) (maker : ℕ) (e : Entry) → length (seen (shown_to u H before later maker e)) ≤ 1
     few before later maker e =
-        subst (λ (xs : List (List ℕ)). length xs ≤ 1) (sym (shows before later maker e)) (told_of-few (gives e) (is_number u maker) _ (value e))
+        subst (λ (xs : List A). length xs ≤ 1) (sym (shows before later maker e)) (told_of-few (gives e) (is_number u maker) _ (value e))
 
     other : (before later : History) (maker : ℕ) (e : Entry) → gives e ≡ false → seen (shown_to u H before later maker e) ≡ []
     other before later maker e h = shows before later maker e ∙ ap (λ b. told_of b (is_number u maker) (not (is_late later) && may) (value e)) h ∙ only-false _
@@ -78,7 +80,7 @@ module _ (u : Option ℕ) (p : ℕ) (H : History) (gives : Entry → Bool) (valu
         flat_map-append seen (given told one) (each_told u H (shown_to u H) (before ++ e ∷ []) G)
         ∙ ap (λ xs. xs ++ all_seen (before ++ e ∷ []) G) (flat_map-given seen told one)
 
-    only-nothing : (b : Bool) (xs : List (List ℕ)) → xs ≡ [] → only b xs ≡ []
+    only-nothing : (b : Bool) (xs : List A) → xs ≡ [] → only b xs ≡ []
     only-nothing b xs h = ap (only b) h
 
     none-seen : (before G : History) → is_late G ≡ false → all_seen before G ≡ []
@@ -90,32 +92,32 @@ module _ (u : Option ℕ) (p : ℕ) (H : History) (gives : Entry → Bool) (valu
         (only-nothing (is_told u H before G e.maker e.entry) (seen (shown_to u H before G e.maker e.entry)) (other before G e.maker e.entry parts.0))
         ∙ none-seen (before ++ e ∷ []) G parts.1
 
-    only-few : (b : Bool) (xs : List (List ℕ)) → length xs ≤ 1 → length (only b xs) ≤ 1
-    only-few true xs h = subst (λ (ys : List (List ℕ)). length ys ≤ 1) (sym (only-true xs)) h
-    only-few false xs h = subst (λ (ys : List (List ℕ)). length ys ≤ 1) (sym (only-false xs)) (omega arith)
+    only-few : (b : Bool) (xs : List A) → length xs ≤ 1 → length (only b xs) ≤ 1
+    only-few true xs h = subst (λ (ys : List A). length ys ≤ 1) (sym (only-true xs)) h
+    only-few false xs h = subst (λ (ys : List A). length ys ≤ 1) (sym (only-false xs)) (omega arith)
 
     one-seen : (before G : History) → length (all_seen before G) ≤ 1
     one-seen before [] = omega arith
     one-seen before (e ∷ G) =
         let told : Bool = is_told u H before G e.maker e.entry in
-        let one : List (List ℕ) = seen (shown_to u H before G e.maker e.entry) in
-        subst (λ (xs : List (List ℕ)). length xs ≤ 1) (sym (first-seen before e G))
+        let one : List A = seen (shown_to u H before G e.maker e.entry) in
+        subst (λ (xs : List A). length xs ≤ 1) (sym (first-seen before e G))
         (by (only told one) (all_seen (before ++ e ∷ []) G) (is_late G)
         (none-seen (before ++ e ∷ []) G)
         (only-few told one (few before G e.maker e.entry))
         (λ more. only-nothing told one (late before G e.maker e.entry more))
         (one-seen (before ++ e ∷ []) G))
       where
-        by : (xs ys : List (List ℕ)) (more : Bool) → (more ≡ false → ys ≡ []) → length xs ≤ 1 → (more ≡ true → xs ≡ []) → length ys ≤ 1 → length (xs ++ ys) ≤ 1
-        by xs ys true none few late rest = subst (λ (zs : List (List ℕ)). length (zs ++ ys) ≤ 1) (sym (late refl)) rest
+        by : (xs ys : List A) (more : Bool) → (more ≡ false → ys ≡ []) → length xs ≤ 1 → (more ≡ true → xs ≡ []) → length ys ≤ 1 → length (xs ++ ys) ≤ 1
+        by xs ys true none few late rest = subst (λ (zs : List A). length (zs ++ ys) ≤ 1) (sym (late refl)) rest
         by xs ys false none few late rest =
-            subst (λ (zs : List (List ℕ)). length (xs ++ zs) ≤ 1) (sym (none refl))
-            (subst (λ (zs : List (List ℕ)). length zs ≤ 1) (sym (append-nil xs)) few)
+            subst (λ (zs : List A). length (xs ++ zs) ≤ 1) (sym (none refl))
+            (subst (λ (zs : List A). length zs ≤ 1) (sym (append-nil xs)) few)
 
     one-view : length (flat_map seen (view u H)) ≤ 1
     one-view = subst (λ (V : List Sighting). length (flat_map seen V) ≤ 1) (sym (view-told u H)) (one-seen [] H)
 
--- ---- the three matters
+-- ---- the four matters
 
 -- what an entry gives: a title, an abstract, or the content of a version
 abbrev title_given : Entry → List ℕ
@@ -132,53 +134,78 @@ abbrev content_given : Entry → List ℕ
 content_given (Uploaded paper version content) = content
 content_given _ = []
 
--- who is no author of the paper may know what another gave it only where it is the last; `late` tells whether another comes
--- later to a paper, and `may` who may know the last
-module _ (u : Option ℕ) (p : ℕ) (H : History) (stranger : is_author u p H ≡ false) (late may : ℕ → Bool) where
+-- or a decision
+abbrev decision_given : Entry → Decision
+decision_given (Decided paper decision) = decision
+decision_given _ = Reject
+
+-- who doesn't know all of the paper may know what another gave it only where it is the last; `knows` tells who does, its authors or
+-- those who discuss it, `late` whether another comes later to a paper, and `may` who may know the last
+module _ (u : Option ℕ) (p : ℕ) (H : History) (knows late may : ℕ → Bool) (stranger : knows p ≡ false) where
   author-known : {A : Type 0} (own : Bool) (paper : ℕ) (x : A)
-      → told_of (eqb paper p) own (is_author u paper H || (not (late paper) && may paper)) x
-      ≡ told_of (eqb paper p) own (not (late p) && may p) x
+      → told_of (eqb paper p) own (knows paper || (not (late paper) && may paper)) x ≡ told_of (eqb paper p) own (not (late p) && may p) x
   author-known own paper x = told_of-same (eqb paper p) own _ _ x (λ same other.
       let e : paper ≡ p = eqb-true paper p same in
-      ap (λ n. is_author u n H || (not (late n) && may n)) e ∙ ap (λ b. b || (not (late p) && may p)) stranger)
+      ap (λ n. knows n || (not (late n) && may n)) e ∙ ap (λ b. b || (not (late p) && may p)) stranger)
 
   owner-known : {A : Type 0} (own : Bool) (paper : ℕ) (x : A)
-      → told_of (eqb paper p) own ((own || is_author u paper H) || (not (late paper) && may paper)) x
-      ≡ told_of (eqb paper p) own (not (late p) && may p) x
+      → told_of (eqb paper p) own ((own || knows paper) || (not (late paper) && may paper)) x ≡ told_of (eqb paper p) own (not (late p) && may p) x
   owner-known own paper x =
-      told_of-same (eqb paper p) own _ _ x (λ same other. ap (λ b. (b || is_author u paper H) || (not (late paper) && may paper)) other)
+      told_of-same (eqb paper p) own _ _ x (λ same other. ap (λ b. (b || knows paper) || (not (late paper) && may paper)) other)
       ∙ author-known own paper x
 
 pub one-title : OneTitle
-one-title u p H stranger = one-view u p H (gives_texts p) title_given (serves u H) (text_shown (λ (s : Sighting). s.title) p) shows
+one-title u p H stranger = one-view u p H (gives_texts p) title_given (may p) (part_shown (λ (s : Sighting). s.title) p) shows
   where
+    may : ℕ → Bool
+    may n = serves u H || is_in_programme n H
+
     shows : (before later : History) (maker : ℕ) (e : Entry)
-        → text_shown (λ (s : Sighting). s.title) p (shown_to u H before later maker e)
-        ≡ told_of (gives_texts p e) (is_number u maker) (not (is_replaced p later) && serves u H) (title_given e)
+        → part_shown (λ (s : Sighting). s.title) p (shown_to u H before later maker e)
+        ≡ told_of (gives_texts p e) (is_number u maker) (not (is_replaced p later) && may p) (title_given e)
     shows before later maker (Submitted paper title abstract) =
-        author-known u p H stranger (λ n. is_replaced n later) (λ n. serves u H) (is_number u maker) paper title
+        author-known u p H (λ n. is_author u n H) (λ n. is_replaced n later) may stranger (is_number u maker) paper title
     shows before later maker (Revised paper title abstract) =
-        owner-known u p H stranger (λ n. is_replaced n later) (λ n. serves u H) (is_number u maker) paper title
+        owner-known u p H (λ n. is_author u n H) (λ n. is_replaced n later) may stranger (is_number u maker) paper title
     shows before later maker e = sym (only-false _)
 
 pub one-abstract : OneAbstract
-one-abstract u p H stranger = one-view u p H (gives_texts p) abstract_given (handles u p H) (text_shown (λ (s : Sighting). s.abstract) p) shows
+one-abstract u p H stranger = one-view u p H (gives_texts p) abstract_given (may p) (part_shown (λ (s : Sighting). s.abstract) p) shows
   where
+    may : ℕ → Bool
+    may n = handles u n H || appears n H
+
     shows : (before later : History) (maker : ℕ) (e : Entry)
-        → text_shown (λ (s : Sighting). s.abstract) p (shown_to u H before later maker e)
-        ≡ told_of (gives_texts p e) (is_number u maker) (not (is_replaced p later) && handles u p H) (abstract_given e)
+        → part_shown (λ (s : Sighting). s.abstract) p (shown_to u H before later maker e)
+        ≡ told_of (gives_texts p e) (is_number u maker) (not (is_replaced p later) && may p) (abstract_given e)
     shows before later maker (Submitted paper title abstract) =
-        author-known u p H stranger (λ n. is_replaced n later) (λ n. handles u n H) (is_number u maker) paper abstract
+        author-known u p H (λ n. is_author u n H) (λ n. is_replaced n later) may stranger (is_number u maker) paper abstract
     shows before later maker (Revised paper title abstract) =
-        owner-known u p H stranger (λ n. is_replaced n later) (λ n. handles u n H) (is_number u maker) paper abstract
+        owner-known u p H (λ n. is_author u n H) (λ n. is_replaced n later) may stranger (is_number u maker) paper abstract
     shows before later maker e = sym (only-false _)
 
 pub one-content : OneContent
-one-content u p H stranger = one-view u p H (gives_content p) content_given (handles u p H) (text_shown (λ (s : Sighting). s.content) p) shows
+one-content u p H stranger = one-view u p H (gives_content p) content_given (may p) (part_shown (λ (s : Sighting). s.content) p) shows
   where
+    may : ℕ → Bool
+    may n = handles u n H || appears n H
+
     shows : (before later : History) (maker : ℕ) (e : Entry)
-        → text_shown (λ (s : Sighting). s.content) p (shown_to u H before later maker e)
-        ≡ told_of (gives_content p e) (is_number u maker) (not (is_superseded p later) && handles u p H) (content_given e)
+        → part_shown (λ (s : Sighting). s.content) p (shown_to u H before later maker e)
+        ≡ told_of (gives_content p e) (is_number u maker) (not (is_superseded p later) && may p) (content_given e)
     shows before later maker (Uploaded paper version content) =
-        owner-known u p H stranger (λ n. is_superseded n later) (λ n. handles u n H) (is_number u maker) paper content
+        owner-known u p H (λ n. is_author u n H) (λ n. is_superseded n later) may stranger (is_number u maker) paper content
+    shows before later maker e = sym (only-false _)
+
+pub one-decision : OneDecision
+one-decision u p H silent = one-view u p H (decides p) decision_given (may p) (part_shown (λ (s : Sighting). s.decision) p) shows
+  where
+    may : ℕ → Bool
+    may n = is_notified u n H
+
+    shows : (before later : History) (maker : ℕ) (e : Entry)
+        → part_shown (λ (s : Sighting). s.decision) p (shown_to u H before later maker e)
+        ≡ told_of (decides p e) (is_number u maker) (not (is_decided_again p later) && may p) (decision_given e)
+    shows before later maker (Decided paper decision) =
+        owner-known u p H (λ n. discusses u n H) (λ n. is_decided_again n later) may silent (is_number u maker) paper decision
     shows before later maker e = sym (only-false _)

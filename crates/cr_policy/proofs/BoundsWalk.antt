@@ -19,14 +19,14 @@ use Rattle.cr_policy.specs.Triggers.{reader, Around}
 use Rattle.cr_policy.specs.View.{sight, sights, view, is_seen, joined}
 use Rattle.cr_policy.specs.ShownTo.{PartFor, is_told, each_told, kind_for, mark_for, paper_for, user_for, name_for, digest_for, role_for, phase_for, mode_for}
 use Rattle.cr_policy.specs.ShownTo.{maker_for, title_for, abstract_for, version_for, content_for, switch_for, value_for, seat_for, ordinal_for}
-use Rattle.cr_policy.specs.ShownTo.{score_for, confidence_for, to_authors_for, to_pc_for, done_for, n_for, text_for, tag_for}
+use Rattle.cr_policy.specs.ShownTo.{score_for, confidence_for, to_authors_for, to_pc_for, done_for, n_for, text_for, tag_for, decision_for, outcome_for, accepted_for}
 use Rattle.cr_policy.specs.ViewBounds.{EntriesShown, MarksShown, PapersShown, UsersShown, NamesShown, DigestsShown, RolesShown, PhasesShown, ModesShown}
 use Rattle.cr_policy.specs.ViewBounds.{MakersShown, TitlesShown, AbstractsShown, VersionsShown, ContentsShown, SwitchesShown, ValuesShown}
 use Rattle.cr_policy.specs.ViewBounds.{SeatsShown, OrdinalsShown, ScoresShown, ConfidencesShown, TextsToAuthorsShown, TextsToPcShown, DoneShown}
-use Rattle.cr_policy.specs.ViewBounds.{NumbersShown, CommentsShown, TagsShown}
+use Rattle.cr_policy.specs.ViewBounds.{NumbersShown, CommentsShown, TagsShown, DecisionsShown, OutcomesShown, AcceptedShown}
 use Rattle.cr_policy.proofs.BoundsParts.{IsWriters, seen-told, shown-one, mark-one, user-one, digest-one, maker-one, title-one, abstract-one, version-one}
 use Rattle.cr_policy.proofs.BoundsParts.{content-one, switch-one, value-one, seat-one, ordinal-one, score-one, confidence-one, to_authors-one}
-use Rattle.cr_policy.proofs.BoundsParts.{to_pc-one, done-one, n-one, comment-one, tag-one}
+use Rattle.cr_policy.proofs.BoundsParts.{to_pc-one, done-one, n-one, comment-one, tag-one, decision-one, outcome-one, accepted-one}
 
 -- ---- one entry
 
@@ -59,6 +59,9 @@ shown_to u H before later maker e = record {
   n = n_for u H before later maker e;
   text = text_for u H before later maker e;
   tag = tag_for u H before later maker e;
+  decision = decision_for u H before later maker e;
+  outcome = outcome_for u H before later maker e;
+  accepted = accepted_for u H before later maker e;
 }
 
 module _ (u : Option ℕ) (H : History) where
@@ -98,6 +101,9 @@ module _ (u : Option ℕ) (H : History) where
     n = n-one u H at maker more e told i;
     text = comment-one u H at maker more e told i;
     tag = tag-one u H at maker more e told i;
+    decision = decision-one u H at maker more e i;
+    outcome = outcome-one u H at maker more e i;
+    accepted = accepted-one u H at maker more e i;
   }
 
   sight-one : (at : Around) (maker : ℕ) (more : Bool) (e : Entry) → IsWriters u H maker e → sight (reader u H) at (stamp maker more e)
@@ -276,3 +282,12 @@ comments-shown u H = map-view u H (λ (s : Sighting). s.text)
 
 pub tags-shown : TagsShown
 tags-shown u H = map-view u H (λ (s : Sighting). s.tag)
+
+pub decisions-shown : DecisionsShown
+decisions-shown u H = map-view u H (λ (s : Sighting). s.decision)
+
+pub outcomes-shown : OutcomesShown
+outcomes-shown u H = map-view u H (λ (s : Sighting). s.outcome)
+
+pub accepted-shown : AcceptedShown
+accepted-shown u H = map-view u H (λ (s : Sighting). s.accepted)

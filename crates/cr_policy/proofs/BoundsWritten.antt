@@ -1,21 +1,22 @@
 -- Of what is written of a paper, its forms, comments and tags, little is shown to its authors, little before the discussion, and
--- little of who wrote it.
-use Rattle.std.proofs.Common.{◌≡◌, ℕ, Bool, true, false, List, [], ◌∷◌, eqb, refl, sym, ap, ◌∙◌, arith, ◌||◌, ◌&&◌, Option, None}
+-- little of who wrote it; and of decisions little to all but those who discuss the paper.
+use Rattle.std.proofs.Common.{◌≡◌, ℕ, Bool, true, false, List, [], ◌∷◌, eqb, refl, sym, ap, ◌∙◌, arith, ◌||◌, ◌&&◌, Option, Some, None}
 use Rattle.std.specs.Prelude.{not, All}
-use Rattle.std.proofs.lemmas.Bool.{eqb-true, false≢true, and_parts, and_right, or_from}
+use Rattle.std.proofs.lemmas.Bool.{eqb-true, false≢true, and_parts, and_right, or_from, or_parts}
 use Rattle.std.proofs.Math.Bool.{or-false}
 use Rattle.cr_base.specs.declared.entry.Entry.{Entry}
-use Rattle.cr_base.specs.declared.entry.Entry.TheVariants.{Reviewed, Commented, Tagged}
+use Rattle.cr_base.specs.declared.entry.Entry.TheVariants.{Reviewed, Commented, Tagged, Decided}
 use Rattle.cr_base.specs.declared.entry.EntryKind.TheVariants as kinds
 use Rattle.cr_base.specs.Lists.{is_number}
 use Rattle.cr_base.specs.History.{History}
-use Rattle.cr_base.specs.HistoryFacts.{phase_of, mode_of, role_of, is_author}
+use Rattle.cr_base.specs.HistoryFacts.{phase_of, mode_of, role_of, is_author, is_withdrawn, decision_of}
 use Rattle.cr_policy.specs.Sighting.{Sighting, blank}
 use Rattle.cr_policy.specs.View.{view}
 use Rattle.cr_policy.specs.ViewFacts.{is_kind}
-use Rattle.cr_policy.specs.ShownTo.{leads_committee, is_past_reviewing, is_past_discussion, hides_reviewers, has_conflict, serves, handles, oversees, leads}
-use Rattle.cr_policy.specs.ShownTo.{is_discussed, is_reviewed, is_committees, is_chairs, is_setters, is_told}
+use Rattle.cr_policy.specs.ShownTo.{leads_committee, is_past_reviewing, is_past_discussion, hides_reviewers, has_conflict, serves, handles, oversees, leads, discusses}
+use Rattle.cr_policy.specs.ShownTo.{is_discussed, is_reviewed, is_committees, is_chairs, is_setters, is_told, takes, is_in_programme, is_decided_again, is_announced, where_known}
 use Rattle.cr_policy.specs.ViewBounds.{is_others, is_tag_so, FormsEarly, FormsFromAuthors, CommentsFromAuthors, WritersUnnamed, PrivateTagsAreOwn, ChairsTags}
+use Rattle.cr_policy.specs.ViewBounds.{DecisionsEarly, DecisionsUntold}
 use Rattle.cr_policy.proofs.BoundsParts.{phase-words}
 use Rattle.cr_policy.proofs.BoundsWalk.{shown_to, each-view}
 use Rattle.cr_policy.proofs.BoundsLeft.{known-not, form-unread, comment-own, tag-own}
@@ -185,3 +186,67 @@ chairs-tags u p H apart =
         none (eqb paper p) (is_number u maker) (is_committees tag) (is_chairs tag) (handles u paper H) (oversees u paper H)
         (chairs-apart tag) (λ same. ap (λ n. oversees u n H) (eqb-true paper p same) ∙ apart) told
     each before later maker e told = refl
+
+-- ---- decisions
+
+-- a decision that she is told of: `o` is that it is her own, `x` that she discusses the paper, `n` that it is the last, `a` that she is
+-- an author of the paper, `t` that the conference takes it and it isn't withdrawn, `d` that it is the notification or later
+pub decisions-early : DecisionsEarly
+decisions-early u p H apart early =
+    each-view u H (λ (s : Sighting). is_others kinds.Decided p s ≡ false) each
+  where
+    untold : (o x n a t d : Bool) → x ≡ false → d ≡ false → ((o || x) || (n && (a && d)) || (n && (t && d))) ≡ true → o ≡ true
+    untold o x n a t d hx hd told = grind (arith, hx, hd, told)
+
+    none : (same own : Bool) → (same ≡ true → own ≡ true) → (same && not own) ≡ false
+    none true own h = ap not (h refl)
+    none false own h = refl
+
+    each : (before later : History) (maker : ℕ) (e : Entry) → is_told u H before later maker e ≡ true
+        → is_others kinds.Decided p (shown_to u H before later maker e) ≡ false
+    each before later maker (Decided paper decision) told =
+        none (eqb paper p) (is_number u maker)
+        (λ same. untold (is_number u maker) (discusses u paper H) (not (is_decided_again paper later)) (is_author u paper H)
+        (takes (decision_of paper H) && not (is_withdrawn paper H)) (is_past_discussion (phase_of H))
+        (ap (λ n. discusses u n H) (eqb-true paper p same) ∙ apart) early told)
+    each before later maker e told = refl
+
+pub decisions-untold : DecisionsUntold
+decisions-untold u p H apart = each-view u H IsUntold each
+  where
+    IsUntold : Sighting → Type 0
+    IsUntold s =
+        is_others kinds.Decided p s ≡ true
+        → (is_in_programme p H ≡ true) × (s ≡ record (blank kinds.Decided) { paper = Some p; accepted = Some true })
+
+    announced : (o x n a d t : Bool) → o ≡ false → x ≡ false → a ≡ false → ((o || x) || (n && (a && d)) || (n && t)) ≡ true → (n && t) ≡ true
+    announced o x n a d t ho hx ha told = grind (arith, ho, hx, ha, told)
+
+    unread : (o x n a d : Bool) → o ≡ false → x ≡ false → a ≡ false → ((o || x) || (n && (a && d))) ≡ false
+    unread o x n a d ho hx ha = grind (arith, ho, hx, ha)
+
+    unlearnt : (n a d : Bool) → a ≡ false → (n && (a && d)) ≡ false
+    unlearnt n a d ha = grind (arith, ha)
+
+    each : (before later : History) (maker : ℕ) (e : Entry) → is_told u H before later maker e ≡ true → IsUntold (shown_to u H before later maker e)
+    each before later maker (Decided paper decision) told = λ other.
+        let parts = other-parts (eqb paper p) (is_number u maker) other in
+        let same : paper ≡ p = eqb-true paper p parts.0 in
+        let either = or_parts (is_author u p H) (discusses u p H) apart in
+        let wrote = ap (λ n. is_author u n H) same ∙ either.0 in
+        let silent = ap (λ n. discusses u n H) same ∙ either.1 in
+        let last : Bool = not (is_decided_again paper later) in
+        let seen : is_announced H later paper ≡ true =
+        announced (is_number u maker) (discusses u paper H) last (is_author u paper H) (is_past_discussion (phase_of H)) (is_in_programme paper H)
+        parts.1 silent wrote told in (
+          ap (λ n. is_in_programme n H) (sym same) ∙ (and_parts last (is_in_programme paper H) seen).1,
+          λ i. record (shown_to u H before later maker (Decided paper decision)) {
+            mine = parts.1 i;
+            paper = Some (same i);
+            decision = known-not _ decision
+                (unread (is_number u maker) (discusses u paper H) last (is_author u paper H) (is_past_discussion (phase_of H)) parts.1 silent wrote) i;
+            outcome = known-not _ true (unlearnt last (is_author u paper H) (is_past_discussion (phase_of H)) wrote) i;
+            accepted = where_known (seen i) true;
+          },
+        )
+    each before later maker e told = λ other. absurd (false≢true other)

@@ -1,5 +1,4 @@
--- The small conference is legal, each reader's view of it is the one that is written, and those who may not know see the same of its
--- twins.
+-- The small conference is legal, whatever its chairs decide.
 use Rattle.std.proofs.Common.{ℕ, Bool, true, false, List, [], ◌∷◌, ◌++◌, map, refl, sym, ◌≡◌, length, ◌&&◌, Option, Some, None, if◌then◌else◌, arith}
 use Rattle.std.specs.Prelude.{codes, nat_le, ◌≤◌, ◌==◌, IsTrue}
 use Rattle.std.specs.List.{list_all, list_any}
@@ -8,12 +7,13 @@ use Rattle.std.proofs.lemmas.Bool.{and_parts, leb-true, true≢false}
 use Rattle.std.proofs.lemmas.Option.{none-some, same_Some}
 use Rattle.cr_base.specs.declared.command.Command.{Command}
 use Rattle.cr_base.specs.declared.command.Command.TheVariants.{SetPhase, Submit, Revise, Upload, Withdraw, Name, SetMode, SetConflict}
-use Rattle.cr_base.specs.declared.command.Command.TheVariants.{Bid, Assign, Unassign, Review, Comment, Tag}
+use Rattle.cr_base.specs.declared.command.Command.TheVariants.{Bid, Assign, Unassign, Review, Comment, Tag, Decide}
 use Rattle.cr_base.specs.declared.form.Form.{Form}
+use Rattle.cr_base.specs.declared.words.Decision.{Decision}
 use Rattle.cr_base.specs.declared.words.Kind.TheVariants.{Primary, Secondary, Pc}
 use Rattle.cr_base.specs.declared.words.Mode.{Mode}
-use Rattle.cr_base.specs.declared.words.Mode.TheVariants.{Overt, Blind, Anonymous}
-use Rattle.cr_base.specs.declared.words.Phase.TheVariants.{Submission, Bidding, Reviewing, Discussion, Notification}
+use Rattle.cr_base.specs.declared.words.Mode.TheVariants.{Anonymous}
+use Rattle.cr_base.specs.declared.words.Phase.TheVariants.{Submission, Bidding, Reviewing, Discussion, Notification, Closed}
 use Rattle.cr_base.specs.declared.words.Role.TheVariants.{Member, Chair}
 use Rattle.cr_base.specs.Bounds.{IsGrade, IsForm, IsBoundedCommand}
 use Rattle.cr_base.specs.History.{History, Registration, all_told, registration_told}
@@ -23,10 +23,9 @@ use Rattle.cr_policy.specs.Conference.{alice, bob, carol, dave, fay, gus, hal, D
 use Rattle.cr_policy.specs.Conference.{proofs, we_prove, types, we_type, drafts, we_draft, fewer_proofs, we_prove_less, more_proofs, we_prove_more}
 use Rattle.cr_policy.specs.Conference.{first_version, second_version, only_version, hot, own_tag, chairs_tag}
 use Rattle.cr_policy.specs.Conference.{first_form, second_form, last_form, alices_form, agreed}
-use Rattle.cr_policy.specs.Conference.{registered, opened, submitted, before_bidding, having_tags, in_bidding, in_reviewing, in_discussion, at_notification}
-use Rattle.cr_policy.specs.ConferenceLaws.{IsReviewed, ConferenceLegal, views_of, ViewsBeforeBidding, ViewsInBidding, ViewsInReviewing}
-use Rattle.cr_policy.specs.ConferenceLaws.{ViewsInDiscussion, ViewsAtNotification, TwinsAlike, AsidesHidden}
-use Rattle.cr_policy.specs.ConferenceViews.{views_before, views_in_bidding, views_in_reviewing, views_in_discussion, views_at_notification}
+use Rattle.cr_policy.specs.Conference.{registered, opened, submitted, before_bidding, having_tags, in_bidding, in_reviewing, having_comments}
+use Rattle.cr_policy.specs.Conference.{Verdicts, verdicts, in_discussion, at_notification, at_close}
+use Rattle.cr_policy.specs.ConferenceLaws.{IsReviewed, IsDecided, ConferenceLegal}
 use Rattle.cr_policy.specs.Legal.{CallsAs, Call, step, LeadsTo, Legal}
 use Rattle.cr_policy.proofs.LegalLaws.{LeadsTo-append}
 use Rattle.cr_policy.proofs.WitnessLaws.{register, ascii-utf8}
@@ -74,7 +73,8 @@ reached-leads from to (turn ∷ turns) h =
 
 -- a legal history goes on by turns
 goes_on : (from to : History) (turns : List Turn) → reached from turns ≡ Some to → Legal from → Legal to
-goes_on from to turns leads legal = (legal.0 ++ calls_of turns, LeadsTo-append [] from to legal.0 (calls_of turns) legal.1 (reached-leads from to turns leads))
+goes_on from to turns leads legal =
+    (legal.0 ++ calls_of turns, LeadsTo-append [] from to legal.0 (calls_of turns) legal.1 (reached-leads from to turns leads))
 
 -- a user's command
 abbrev by : (user : ℕ) (command : Command) → IsBoundedCommand command → Turn
@@ -89,8 +89,9 @@ is_name-bounded name h =
     record { some = leb-true 1 (length name) sized.0; few = leb-true (length name) 32 sized.1; bytes = bytes.1 }
 
 -- of texts whose bytes are below 128
-ascii-title : (text : List ℕ) → (nat_le 1 (length text) && nat_le (length text) 200 && list_all is_title_byte text && list_all (λ b. nat_le b 127) text)
-    ≡ true → IsTitle text
+ascii-title : (text : List ℕ)
+    → (nat_le 1 (length text) && nat_le (length text) 200 && list_all is_title_byte text && list_all (λ b. nat_le b 127) text) ≡ true
+    → IsTitle text
 ascii-title text h =
     let p = and_parts (nat_le 1 (length text) && nat_le (length text) 200 && list_all is_title_byte text) (list_all (λ b. nat_le b 127) text) h in
     let q = and_parts (nat_le 1 (length text) && nat_le (length text) 200) (list_all is_title_byte text) p.0 in
@@ -233,16 +234,26 @@ reviewing_turns twin =
     ∷ by (assigned twin) (Review (Some 1) second_form) (bounded-form second_form refl refl refl (ascii-review second_form.to_pc refl))
     ∷ []
 
-abbrev discussion_turns : (a : Asides) → AreAsides a → Bool → List Turn
-discussion_turns a are twin =
+abbrev comment_turns : (a : Asides) → AreAsides a → Bool → List Turn
+comment_turns a are twin =
     by alice (SetPhase Discussion) tt
     ∷ by (assigned twin) (Review (Some 1) (last_form a)) (bounded-form (last_form a) refl refl refl are.to_pc)
     ∷ by (assigned twin) (Comment (Some 1) a.comment) are.comment
     ∷ by (other_than (assigned twin)) (Comment (Some 1) agreed) agreed-bounded
     ∷ []
 
+abbrev deciding : ℕ → ℕ → Option Decision → List Turn
+deciding chair paper None = []
+deciding chair paper (Some decision) = by chair (Decide (Some paper) decision) tt ∷ []
+
+abbrev decision_turns : Verdicts → List Turn
+decision_turns v = deciding fay 2 v.other ++ deciding alice 1 v.first ++ deciding alice 1 v.last
+
 abbrev notification_turns : List Turn
 notification_turns = by alice (SetPhase Notification) tt ∷ []
+
+abbrev closing_turns : List Turn
+closing_turns = by alice (SetPhase Closed) tt ∷ []
 
 -- that each call is allowed is computed: in each mode where a member calls who may not oversee the paper, and for each of the two whom
 -- alice may assign
@@ -263,17 +274,32 @@ reviewing-leads d Anonymous a true = refl
 reviewing-leads d mode a false = refl
 reviewing-leads d mode a true = refl
 
-discussion-leads : (d : Digests) (mode : Mode) (a : Asides) (are : AreAsides a) (twin : Bool)
-    → reached (in_reviewing d mode a (assigned twin)) (discussion_turns a are twin) ≡ Some (in_discussion d mode a (assigned twin))
-discussion-leads d Anonymous a are false = refl
-discussion-leads d Anonymous a are true = refl
-discussion-leads d mode a are false = refl
-discussion-leads d mode a are true = refl
+comments-lead : (d : Digests) (mode : Mode) (a : Asides) (are : AreAsides a) (twin : Bool)
+    → reached (in_reviewing d mode a (assigned twin)) (comment_turns a are twin) ≡ Some (having_comments d mode a (assigned twin))
+comments-lead d Anonymous a are false = refl
+comments-lead d Anonymous a are true = refl
+comments-lead d mode a are false = refl
+comments-lead d mode a are true = refl
 
-notification-leads : (d : Digests) (mode : Mode) (a : Asides) (twin : Bool)
-    → reached (in_discussion d mode a (assigned twin)) notification_turns ≡ Some (at_notification d mode a (assigned twin))
-notification-leads d mode a false = refl
-notification-leads d mode a true = refl
+-- what the chairs decide, and the phases behind it, where this member is assigned to paper 1
+record AreLed (d : Digests) (mode : Mode) (a : Asides) (member : ℕ) (v : Verdicts) : Type 0 where
+  discussion : reached (having_comments d mode a member) (decision_turns v) ≡ Some (in_discussion d mode a member v)
+  notification : reached (in_discussion d mode a member v) notification_turns ≡ Some (at_notification d mode a member v)
+  closed : reached (at_notification d mode a member v) closing_turns ≡ Some (at_close d mode a member v)
+
+led : (d : Digests) (mode : Mode) (a : Asides) (other first last : Option Decision)
+    → AreLed d mode a dave (record { other = other; first = first; last = last })
+led d mode a None None None = record { discussion = refl; notification = refl; closed = refl }
+led d mode a None None (Some last) = record { discussion = refl; notification = refl; closed = refl }
+led d mode a None (Some first) None = record { discussion = refl; notification = refl; closed = refl }
+led d mode a None (Some first) (Some last) = record { discussion = refl; notification = refl; closed = refl }
+led d mode a (Some other) None None = record { discussion = refl; notification = refl; closed = refl }
+led d mode a (Some other) None (Some last) = record { discussion = refl; notification = refl; closed = refl }
+led d mode a (Some other) (Some first) None = record { discussion = refl; notification = refl; closed = refl }
+led d mode a (Some other) (Some first) (Some last) = record { discussion = refl; notification = refl; closed = refl }
+
+twin-led : (d : Digests) (mode : Mode) (a : Asides) → AreLed d mode a hal verdicts
+twin-led d mode a = record { discussion = refl; notification = refl; closed = refl }
 
 -- each phase is legal
 module _ (d : Digests) (mode : Mode) (a : Asides) (are : AreAsides a) (twin : Bool) where
@@ -283,39 +309,66 @@ module _ (d : Digests) (mode : Mode) (a : Asides) (are : AreAsides a) (twin : Bo
       (goes_on (before_bidding d mode) (having_tags d mode a) (bidding_turns a are) (bidding-leads d mode a are) legal)
 
   reviewing-legal : Legal (in_bidding d mode a (assigned twin)) → Legal (in_reviewing d mode a (assigned twin))
-  reviewing-legal = goes_on (in_bidding d mode a (assigned twin)) (in_reviewing d mode a (assigned twin)) (reviewing_turns twin) (reviewing-leads d mode a twin)
+  reviewing-legal =
+      goes_on (in_bidding d mode a (assigned twin)) (in_reviewing d mode a (assigned twin)) (reviewing_turns twin)
+      (reviewing-leads d mode a twin)
 
-  discussion-legal : Legal (in_reviewing d mode a (assigned twin)) → Legal (in_discussion d mode a (assigned twin))
-  discussion-legal =
-      goes_on (in_reviewing d mode a (assigned twin)) (in_discussion d mode a (assigned twin)) (discussion_turns a are twin)
-      (discussion-leads d mode a are twin)
+  comments-legal : Legal (in_reviewing d mode a (assigned twin)) → Legal (having_comments d mode a (assigned twin))
+  comments-legal =
+      goes_on (in_reviewing d mode a (assigned twin)) (having_comments d mode a (assigned twin)) (comment_turns a are twin)
+      (comments-lead d mode a are twin)
 
-  notification-legal : Legal (in_discussion d mode a (assigned twin)) → Legal (at_notification d mode a (assigned twin))
-  notification-legal =
-      goes_on (in_discussion d mode a (assigned twin)) (at_notification d mode a (assigned twin)) notification_turns (notification-leads d mode a twin)
+  up_to-comments : Legal (before_bidding d mode) → Legal (having_comments d mode a (assigned twin))
+  up_to-comments before = comments-legal (reviewing-legal (bidding-legal before))
 
--- and who is what in it is computed for each of the two members
-reviewed : (d : Digests) (mode : Mode) (a : Asides) → AreAsides a → Legal (before_bidding d mode) → (twin : Bool) → IsReviewed d mode a (assigned twin)
+-- the three phases behind it, where this member is assigned
+record AreLegal (d : Digests) (mode : Mode) (a : Asides) (member : ℕ) (v : Verdicts) : Type 0 where
+  discussion : Legal (in_discussion d mode a member v)
+  notification : Legal (at_notification d mode a member v)
+  closed : Legal (at_close d mode a member v)
+
+decided-legal : (d : Digests) (mode : Mode) (a : Asides) (member : ℕ) (v : Verdicts) → AreLed d mode a member v
+    → Legal (having_comments d mode a member) → AreLegal d mode a member v
+decided-legal d mode a member v led legal =
+    let discussion = goes_on (having_comments d mode a member) (in_discussion d mode a member v) (decision_turns v) led.discussion legal in
+    let notification = goes_on (in_discussion d mode a member v) (at_notification d mode a member v) notification_turns led.notification discussion in
+    let closed = goes_on (at_notification d mode a member v) (at_close d mode a member v) closing_turns led.closed notification in
+    record { discussion = discussion; notification = notification; closed = closed }
+
+-- who is what in it is computed for each of the two members
+reviewed : (d : Digests) (mode : Mode) (a : Asides) → AreAsides a → Legal (before_bidding d mode) → (twin : Bool)
+    → IsReviewed d mode a (assigned twin)
 reviewed d mode a are before twin =
     let bidding = bidding-legal d mode a are twin before in
     let reviewing = reviewing-legal d mode a are twin bidding in
-    let discussion = discussion-legal d mode a are twin reviewing in
-    by_member twin bidding reviewing discussion (notification-legal d mode a are twin discussion)
+    by_member twin bidding reviewing (comments-legal d mode a are twin reviewing)
   where
     by_member : (twin : Bool) → Legal (in_bidding d mode a (assigned twin)) → Legal (in_reviewing d mode a (assigned twin))
-        → Legal (in_discussion d mode a (assigned twin)) → Legal (at_notification d mode a (assigned twin)) → IsReviewed d mode a (assigned twin)
-    by_member false bidding reviewing discussion notification = record {
-      bidding = record { legal = bidding; cast = refl };
-      reviewing = record { legal = reviewing; cast = refl };
-      discussion = record { legal = discussion; cast = refl };
-      notification = record { legal = notification; cast = refl };
-    }
-    by_member true bidding reviewing discussion notification = record {
-      bidding = record { legal = bidding; cast = refl };
-      reviewing = record { legal = reviewing; cast = refl };
-      discussion = record { legal = discussion; cast = refl };
-      notification = record { legal = notification; cast = refl };
-    }
+        → Legal (having_comments d mode a (assigned twin)) → IsReviewed d mode a (assigned twin)
+    by_member false bidding reviewing comments =
+        let decided = decided-legal d mode a dave verdicts (led d mode a verdicts.other verdicts.first verdicts.last) comments in
+        record {
+          bidding = record { legal = bidding; cast = refl };
+          reviewing = record { legal = reviewing; cast = refl };
+          discussion = record { legal = decided.discussion; cast = refl };
+          notification = record { legal = decided.notification; cast = refl };
+          closed = record { legal = decided.closed; cast = refl };
+        }
+    by_member true bidding reviewing comments =
+        let decided = decided-legal d mode a hal verdicts (twin-led d mode a) comments in
+        record {
+          bidding = record { legal = bidding; cast = refl };
+          reviewing = record { legal = reviewing; cast = refl };
+          discussion = record { legal = decided.discussion; cast = refl };
+          notification = record { legal = decided.notification; cast = refl };
+          closed = record { legal = decided.closed; cast = refl };
+        }
+
+-- and the phases are legal whatever is decided
+decided : (d : Digests) (mode : Mode) (a : Asides) → Legal (having_comments d mode a dave) → (v : Verdicts) → IsDecided d mode a v
+decided d mode a comments v =
+    let legal = decided-legal d mode a dave v (led d mode a v.other v.first v.last) comments in
+    record { discussion = legal.discussion; notification = legal.notification; closed = legal.closed }
 
 pub conference-legal : ConferenceLegal
 conference-legal d mode a digests asides =
@@ -324,50 +377,5 @@ conference-legal d mode a digests asides =
       before = record { legal = before; cast = refl };
       reviewed = reviewed d mode a asides before false;
       twin = reviewed d mode a asides before true;
+      decided = decided d mode a (up_to-comments d mode a asides false before);
     }
-
--- ---- views: each is computed, in each mode
-
--- what holds in each mode
-in_each_mode : (P : Mode → Type 0) → P Overt → P Blind → P Anonymous → (mode : Mode) → P mode
-in_each_mode P overt blind anonymous Overt = overt
-in_each_mode P overt blind anonymous Blind = blind
-in_each_mode P overt blind anonymous Anonymous = anonymous
-
-pub views-before : ViewsBeforeBidding
-views-before d mode a = in_each_mode (λ mode. views_of (before_bidding d mode) ≡ views_before d mode) refl refl refl mode
-
-pub views-bidding : ViewsInBidding
-views-bidding d mode a = in_each_mode (λ mode. views_of (in_bidding d mode a dave) ≡ views_in_bidding d mode a) refl refl refl mode
-
-pub views-reviewing : ViewsInReviewing
-views-reviewing d mode a = in_each_mode (λ mode. views_of (in_reviewing d mode a dave) ≡ views_in_reviewing d mode a) refl refl refl mode
-
-pub views-discussion : ViewsInDiscussion
-views-discussion d mode a = in_each_mode (λ mode. views_of (in_discussion d mode a dave) ≡ views_in_discussion d mode a) refl refl refl mode
-
-pub views-notification : ViewsAtNotification
-views-notification d mode a = in_each_mode (λ mode. views_of (at_notification d mode a dave) ≡ views_at_notification d mode a) refl refl refl mode
-
--- ---- the twins
-
-pub twins-alike : TwinsAlike
-twins-alike d Overt a = record {
-  author = refl;
-  author_throughout = λ hidden. absurd (true≢false hidden);
-  coauthor = refl;
-  coauthor_throughout = λ hidden. absurd (true≢false hidden);
-  conflicted_member = refl;
-  conflicted_chair = refl;
-}
-twins-alike d mode a = record {
-  author = refl;
-  author_throughout = λ hidden. refl;
-  coauthor = refl;
-  coauthor_throughout = λ hidden. refl;
-  conflicted_member = refl;
-  conflicted_chair = refl;
-}
-
-pub asides-hidden : AsidesHidden
-asides-hidden d mode a b = record { author = refl; coauthor = refl; conflicted_member = refl; conflicted_chair = refl }

@@ -18,7 +18,8 @@ use Rattle.cr_base.specs.declared.words.Phase.TheVariants.{Submission, Bidding, 
 use Rattle.cr_base.specs.declared.words.Role.{Role}
 use Rattle.cr_base.specs.declared.words.Role.TheVariants.{Account, Member, Chair}
 use Rattle.cr_base.specs.Checks.{Check, ◌breaks◌, judged, is_in_committee, declare_checks, own_checks, other_checks, off_checks, conflict_case, conflict_checks}
-use Rattle.cr_base.specs.Checks.{bid_checks, reviewer_checks, assign_checks, unassign_checks, review_checks, comment_checks, tag_checks}
+use Rattle.cr_base.specs.Checks.{bid_checks, reviewer_checks, assign_checks, unassign_checks}
+use Rattle.cr_base.specs.Checks.{review_checks, comment_checks, tag_checks, decide_checks}
 use Rattle.cr_base.specs.Lists.{at_some, is_number}
 use Rattle.cr_base.specs.History.{History, Upload}
 use Rattle.cr_base.specs.Page.{is_clear_member, is_clear_chair, shows_author, gets_conflicts, gets_withdrawn}
@@ -27,9 +28,10 @@ use Rattle.cr_base.specs.Tables.{tables_of}
 use Rattle.cr_base.specs.TagTexts.{is_for_chairs}
 use Rattle.cr_base.specs.Words.{is_anonymous, is_member, is_chair}
 use Rattle.cr_base.specs.Drawn.{Drawn, revision_drawn, upload_drawn, withdrawal_drawn, conflict_drawn}
-use Rattle.cr_base.specs.Drawn.{bid_drawn, assignment_drawn, unassignment_drawn, review_drawn, comment_drawn, tag_drawn}
+use Rattle.cr_base.specs.Drawn.{bid_drawn, assignment_drawn, unassignment_drawn, review_drawn, comment_drawn, tag_drawn, decision_drawn}
 use Rattle.cr_base.specs.Judging.{conflict_judged, assignment_judged, unassignment_judged, judge_by, judge_by_role}
-use Rattle.cr_base.specs.Sources.{Facts, Shown, maker_of, user_among, role_among, has_paper, paper_named, standing_at, facts_of_tables, shown_in_tables}
+use Rattle.cr_base.specs.Sources.{Facts, Shown, maker_of, user_among, role_among, has_paper, paper_named, standing_at, is_accepted_in}
+use Rattle.cr_base.specs.Sources.{facts_of_tables, shown_in_tables}
 use Rattle.cr_base.proofs.CheckLaws.{NoneBroken, judged-behind, asked-behind}
 use Rattle.cr_history.specs.Invariants.{Invariants}
 use Rattle.cr_history.specs.Laws.{AreTold, AreFormsTold}
@@ -37,6 +39,7 @@ use Rattle.cr_policy.specs.View.{view}
 use Rattle.cr_policy.specs.ViewFacts.{shown_in_view}
 use Rattle.cr_policy.specs.Judge.{judge}
 use Rattle.cr_policy.proofs.FactTies.{facts_in_view-tables, authors-tables, withdrawn-tables, own_uploads-tables, seat-tables, labels-tables}
+use Rattle.cr_policy.proofs.PageTells.{also_accepted}
 use Rattle.cr_policy.proofs.PageTies.{conflicts-tables}
 use Rattle.cr_policy.proofs.ReviewTies.{written-tables}
 use Rattle.cr_policy.proofs.TalkTies.{comment_count-tables}
@@ -237,7 +240,7 @@ conflict-same facts shown tabled u (Some p) target on same = by (role_among fact
         (reviews shown) (reviews tabled)
         (λ told. ap (list_any (is_number target)) (same.authors p told)))
 
--- ---- bids, reviews, comments and tags
+-- ---- bids, reviews, comments, tags and decisions
 
 -- whether a paper is withdrawn is asked of these only behind the rules that let through members from the bidding on
 module _ (facts : Facts) (shown tabled : Shown) (same : Agree facts shown tabled) (p : ℕ) where
@@ -292,6 +295,19 @@ module _ (facts : Facts) (shown tabled : Shown) (same : Agree facts shown tabled
       ∷ not (is_member by_member.role) breaks rules.NotMember ∷ by_member.conflicted breaks rules.Conflict
       ∷ not (is_in_committee by_member.phase) breaks rules.WrongPhase ∷ []) drawn
       (λ none. (none.1.1.0, in_committee by_member drawn none.1.1.1.1.0))
+
+  -- and of a decision behind those that let through chairs in the discussion
+  decide-same : (drawn : Drawn)
+      → judged (decide_checks by_member (paper_named facts shown (Some p))) drawn
+      ≡ judged (decide_checks by_member (paper_named facts tabled (Some p))) drawn
+  decide-same drawn =
+      asked-behind
+      (not (has_paper facts (Some p)) breaks rules.NoPaper ∷ not (is_chair by_member.role) breaks rules.NotChair
+      ∷ by_member.conflicted breaks rules.Conflict ∷ not (is_phase by_member.phase Discussion) breaks rules.WrongPhase ∷ [])
+      (shown.withdrawn p) (tabled.withdrawn p) rules.Withdrawn [] drawn
+      (λ none.
+      let begun = at_phase Discussion refl (not-false (is_phase by_member.phase Discussion) none.1.1.1.0) in
+      same.withdrawn p (told-chair by_member drawn none.1.0 begun))
 
   -- so it is of a comment, and how many there are is counted only behind those that let through members from the discussion on
   comment-same : (own : ℕ) (drawn : ℕ → Drawn)
@@ -434,6 +450,8 @@ command-same facts shown tabled u (commands.Review (Some p) form) same =
 command-same facts shown tabled u (commands.Comment (Some p) text) same =
     comment-same facts shown tabled same p facts.own_comments (λ n. comment_drawn (maker_of u) p (n + 1) (facts.own_seat p) text)
 command-same facts shown tabled u (commands.Tag (Some p) tag on) same = tag-same facts shown tabled same p (is_for_chairs tag) (tag_drawn (maker_of u) p tag on)
+command-same facts shown tabled u (commands.Decide (Some p) decision) same =
+    decide-same facts shown tabled same p (decision_drawn (maker_of u) p decision)
 command-same facts shown tabled u command same = refl
 
 -- the judgement by any user's view is the one by the tables
@@ -443,7 +461,8 @@ judge-tables u H command kept told forms =
     ap (λ (facts : Facts). judge_by facts (shown_in_view u (view u H)) u command) (facts_in_view-tables u H told forms)
     ∙ command-same (facts_of_tables (tables_of H) u) (shown_in_view u (view u H)) (shown_in_tables (tables_of H)) u command (record {
       withdrawn = λ p may. withdrawn-tables u H told p may;
-      authors = λ p may. authors-tables u H told p may;
+      authors = λ p may.
+          authors-tables u H told p (also_accepted (standing_at (tables_of H) u (Some p)) (is_accepted_in (tables_of H) p) may);
       uploads = λ p may. own_uploads-tables u H told p may;
       conflicts = λ p may. conflicts-tables u H p kept.fits told (ap gets_conflicts (told.standing u (Some p)) ∙ may);
       seat = λ p may v. seat-tables u H told p may v;

@@ -1,15 +1,16 @@
 -- Histories that grow by allowed calls.
-use Rattle.std.proofs.Common.{ℕ, ◌≡◌, List, [], ◌∷◌, ◌++◌, refl, sym, ap, subst, Option, Some, Result, Ok, Err}
+use Rattle.std.proofs.Common.{ℕ, ◌≡◌, List, [], ◌∷◌, ◌++◌, refl, sym, ap, subst, Option, Some, None, Result, Ok, Err}
 use Rattle.cr_base.specs.declared.command.Command.{Command}
 use Rattle.cr_base.specs.declared.command.Query.{Query}
 use Rattle.cr_base.specs.declared.reply.Rule.{Rule}
 use Rattle.cr_base.specs.Accounts.{number_at, caller_at}
 use Rattle.cr_base.specs.HistoryFacts.{number_of, caller_of}
 use Rattle.cr_base.specs.History.{History}
-use Rattle.cr_base.specs.Answering.{answer_by_role}
+use Rattle.cr_base.specs.Answering.{answer_by_role, login_wanted}
 use Rattle.cr_base.specs.declared.entry.Stamped.{Stamped}
 use Rattle.cr_base.specs.Drawn.{Drawn}
 use Rattle.cr_base.specs.Judging.{judge_by_role}
+use Rattle.cr_base.specs.Sources.{Facts, facts_of_tables}
 use Rattle.cr_base.specs.Tables.{no_tables, tables_of, FitInTurn}
 use Rattle.cr_history.specs.Invariants.{Invariants, InTurn, IsInOrder, ComesFirst, DeclaresInTime}
 use Rattle.cr_history.specs.Laws.{AreTold}
@@ -17,13 +18,14 @@ use Rattle.cr_history.proofs.CallerLaws.{caller-registered}
 use Rattle.cr_history.proofs.FormTies.{forms_tell}
 use Rattle.cr_history.proofs.GrowthLaws.{growth_keeps, tables_tell}
 use Rattle.cr_policy.specs.View.{view}
-use Rattle.cr_policy.specs.Judge.{judge, answer}
+use Rattle.cr_policy.specs.Judge.{judge, answer, needs_login}
 use Rattle.cr_policy.specs.Legal.{Call, IsUser, IsAllowed, followed_by, step, LeadsTo, Legal}
 use Rattle.cr_policy.specs.Laws.{ViewSuffices, DeclaredFromView, LegalKeeps, DigestsAreOwn}
 use Rattle.cr_policy.specs.Triggers.{reader}
 use Rattle.cr_policy.proofs.AcceptedLaws.{accepted-adds, accepted-fits}
 use Rattle.cr_policy.proofs.DeclaredLaws.{declared-seen_by_author}
 use Rattle.cr_policy.proofs.DigestLaws.{own_digests}
+use Rattle.cr_policy.proofs.FactTies.{facts_in_view-tables}
 use Rattle.cr_policy.proofs.JudgeTies.{judge-tables}
 use Rattle.cr_policy.proofs.PageTies.{answer-tables}
 
@@ -111,6 +113,12 @@ Legal-judge u H command legal = let kept = legal_invariants H legal in judge-tab
 
 pub Legal-answer : (u : Option ℕ) (H : History) (query : Query) → Legal H → answer u (view u H) query ≡ answer_by_role (tables_of H) u query
 Legal-answer u H query legal = let kept = legal_invariants H legal in answer-tables u H kept (Kept-told H kept) (forms_tell H kept) query
+
+-- and so is whether a query wants a login
+pub Legal-needs_login : (H : History) (query : Query) → Legal H → needs_login (view None H) query ≡ login_wanted (facts_of_tables (tables_of H) None) query
+Legal-needs_login H query legal =
+    let kept = legal_invariants H legal in
+    ap (λ (facts : Facts). login_wanted facts query) (facts_in_view-tables None H (Kept-told H kept) (forms_tell H kept))
 
 -- an author's view tells whom the paper's authors declared
 pub Legal-declared : DeclaredFromView

@@ -8,7 +8,10 @@ pub mod BoundsWalk
 pub mod BoundsWritten
 pub mod CommentTells
 pub mod ConferenceProofs
+pub mod ConferenceSeen
+pub mod ConferenceVerdicts
 pub mod Cuts
+pub mod DecisionTells
 pub mod DeclaredLaws
 pub mod DigestLaws
 pub mod FactTies

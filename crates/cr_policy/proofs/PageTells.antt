@@ -1,18 +1,22 @@
 -- What a view says of a paper is what the history says, where the reader's standing tells them.
 use Rattle.std.proofs.Common.{◌≡◌, ℕ, Bool, true, false, [], ◌∷◌, refl, sym, ap, ◌∙◌, ◌||◌, ◌&&◌, Option, Some, eqb, arith}
+use Rattle.std.specs.Prelude.{not}
 use Rattle.std.specs.List.{flat_map}
 use Rattle.cr_base.specs.declared.entry.Entry.{Entry}
 use Rattle.cr_base.specs.declared.entry.Entry.TheVariants.{Submitted, Revised}
 use Rattle.cr_base.specs.declared.entry.Stamped.{Stamped}
+use Rattle.cr_base.specs.declared.standing.Standing.{Standing}
 use Rattle.cr_base.specs.declared.words.Phase.TheVariants.{Bidding}
 use Rattle.cr_base.specs.Lists.{given, listed, last, last_or, is_nothing}
 use Rattle.cr_base.specs.History.{History, author_told, title_told, abstract_told, upload_told, withdrawal_told}
 use Rattle.cr_base.specs.Answering.{uploads_told}
-use Rattle.cr_base.specs.HistoryFacts.{phase_of, standing_of, is_author, is_conflict_on, title_of, abstract_of, authors_of, uploads_of, is_withdrawn}
+use Rattle.cr_base.specs.HistoryFacts.{phase_of, standing_of, is_author, is_conflict_on, title_of, abstract_of, authors_of, uploads_of}
+use Rattle.cr_base.specs.HistoryFacts.{is_withdrawn, is_accepted}
 use Rattle.cr_base.specs.Page.{is_clear_member, is_clear_chair, gets_title, gets_abstract, shows_author, gets_conflicts, gets_versions, gets_withdrawn}
 use Rattle.cr_base.specs.Phases.{is_from}
+use Rattle.cr_base.specs.Words.{is_anonymous}
 use Rattle.cr_policy.specs.Part as part
-use Rattle.cr_policy.specs.Triggers.{reader, user_named, members, standing_to, unless_anonymous, none_in}
+use Rattle.cr_policy.specs.Triggers.{reader, user_named, members, standing_to, unless_anonymous, published, none_in}
 use Rattle.cr_policy.specs.View.{view, is_seen}
 use Rattle.cr_policy.specs.ViewFacts.{author_seen, title_seen, abstract_seen, upload_seen, withdrawal_seen}
 use Rattle.cr_policy.specs.ViewFacts.{title_in_view, abstract_in_view, authors_in_view, is_conflict_on_in_view, uploads_in_view, is_withdrawn_in_view}
@@ -21,18 +25,23 @@ use Rattle.cr_policy.proofs.Walk.{is_nothing-append, fold_last, fold_all}
 use Rattle.cr_policy.proofs.Tells.{passes, names_author, author_tells, title_tells, abstract_tells, upload_tells, withdrawal_tells}
 use Rattle.cr_policy.proofs.Tells.{author_value, title_value, abstract_value, upload_value, withdrawal_value}
 
--- an author sees it, and so do others who may at the last entry that tells it; `own` is the maker's own row
-text_shown : (a n m f own : Bool) → n ≡ true → (a || (m && f)) ≡ true → (a || ((n && m && f) || (own || false))) ≡ true
-text_shown a n m f own last told = grind arith
+-- an author sees it, and so do others who may at the last entry that tells it, and there everyone, where the paper is accepted or
+-- published (`out`); `own` is the maker's own row
+text_shown : (a n m f out own : Bool) → n ≡ true → (a || (m && f) || out) ≡ true → (a || ((n && m && f) || ((n && out) || (own || false)))) ≡ true
+text_shown a n m f out own last told = grind arith
 
 -- ---- titles
 
-pub title-seen : (u : Option ℕ) (p : ℕ) (H : History) → gets_title (standing_of u (Some p) H) ≡ true → title_in_view p (view u H) ≡ title_of p H
+pub title-seen : (u : Option ℕ) (p : ℕ) (H : History) → gets_title (standing_of u (Some p) H) (is_accepted p H) ≡ true
+    → title_in_view p (view u H) ≡ title_of p H
 title-seen u p H told =
     fold_last (reader u H) (title_seen p) (λ (e : Stamped). title_told p e.entry) (passes part.title (reader u H)) (title_tells (reader u H) p)
     (λ at e last.
-    let shown : (own : Bool) → (is_author u p H || ((none_in (title_told p) at.after && members (reader u H) && is_from Bidding (phase_of H)) || (own || false))) ≡ true =
-    λ own. text_shown (is_author u p H) (none_in (title_told p) at.after) (members (reader u H)) (is_from Bidding (phase_of H)) own last told in
+    let none : Bool = none_in (title_told p) at.after in
+    let begun : Bool = is_from Bidding (phase_of H) in
+    let shown : (own : Bool)
+    → (is_author u p H || ((none && members (reader u H) && begun) || ((none && is_accepted p H) || (own || false)))) ≡ true =
+    λ own. text_shown (is_author u p H) none (members (reader u H)) begun (is_accepted p H) own last told in
     title_value (reader u H) at p (record {
       submitted = λ maker more title abstract. shown (user_named (reader u H) maker);
       revised = λ maker more title abstract. shown (user_named (reader u H) maker);
@@ -59,13 +68,17 @@ same_nothing p (e ∷ H) =
     ∙ ap (λ b. is_nothing (abstract_told p e.entry) && b) (same_nothing p H)
     ∙ sym (is_nothing-append (abstract_told p e.entry) (flat_map (λ (e : Stamped). abstract_told p e.entry) H))
 
-pub abstract-seen : (u : Option ℕ) (p : ℕ) (H : History) → gets_abstract (standing_of u (Some p) H) ≡ true → abstract_in_view p (view u H) ≡ abstract_of p H
+pub abstract-seen : (u : Option ℕ) (p : ℕ) (H : History) → gets_abstract (standing_of u (Some p) H) (is_accepted p H) ≡ true
+    → abstract_in_view p (view u H) ≡ abstract_of p H
 abstract-seen u p H told =
     fold_last (reader u H) (abstract_seen p) (λ (e : Stamped). abstract_told p e.entry) (passes part.abstract (reader u H)) (abstract_tells (reader u H) p)
     (λ at e last.
     let clear : Bool = is_clear_member (standing_to (reader u H) p) in
-    let shown : (own : Bool) → (is_author u p H || ((none_in (title_told p) at.after && clear && is_from Bidding (phase_of H)) || (own || false))) ≡ true =
-    λ own. text_shown (is_author u p H) (none_in (title_told p) at.after) clear (is_from Bidding (phase_of H)) own (same_nothing p at.after ∙ last) told in
+    let none : Bool = none_in (title_told p) at.after in
+    let begun : Bool = is_from Bidding (phase_of H) in
+    let out : Bool = published (reader u H) p in
+    let shown : (own : Bool) → (is_author u p H || ((none && clear && begun) || ((none && out) || (own || false)))) ≡ true =
+    λ own. text_shown (is_author u p H) none clear begun out own (same_nothing p at.after ∙ last) told in
     abstract_value (reader u H) at p (record {
       submitted = λ maker more title abstract. shown (user_named (reader u H) maker);
       revised = λ maker more title abstract. shown (user_named (reader u H) maker);
@@ -80,16 +93,18 @@ uploads-seen_by_author u p H h =
     (λ at e. upload_value (reader u H) at p (λ maker more version content. first_of (is_author u p H) _ h) e) [] H
 
 -- of what others who are told see of it, the last is the last
-last_upload-seen : (u : Option ℕ) (p : ℕ) (H : History) → gets_versions (standing_of u (Some p) H) ≡ true → last (uploads_in_view p (view u H)) ≡ last (uploads_of p H)
+last_upload-seen : (u : Option ℕ) (p : ℕ) (H : History) → gets_versions (standing_of u (Some p) H) (is_accepted p H) ≡ true
+    → last (uploads_in_view p (view u H)) ≡ last (uploads_of p H)
 last_upload-seen u p H told =
     fold_last (reader u H) (upload_seen p) (λ (e : Stamped). upload_told p e.entry) (passes part.content (reader u H)) (upload_tells (reader u H) p)
     (λ at e last.
     let clear : Bool = is_clear_member (standing_to (reader u H) p) in
     upload_value (reader u H) at p (λ maker more version content.
-    text_shown (is_author u p H) (none_in (upload_told p) at.after) clear (is_from Bidding (phase_of H)) (user_named (reader u H) maker) last told) e) [] H
+    text_shown (is_author u p H) (none_in (upload_told p) at.after) clear (is_from Bidding (phase_of H)) (published (reader u H) p)
+    (user_named (reader u H) maker) last told) e) [] H
 
 -- so what she is told of it is what the history tells her
-pub uploads-seen : (u : Option ℕ) (p : ℕ) (H : History) → gets_versions (standing_of u (Some p) H) ≡ true
+pub uploads-seen : (u : Option ℕ) (p : ℕ) (H : History) → gets_versions (standing_of u (Some p) H) (is_accepted p H) ≡ true
     → uploads_told (is_author u p H) (uploads_in_view p (view u H)) ≡ uploads_told (is_author u p H) (uploads_of p H)
 uploads-seen u p H told = by (is_author u p H) refl
   where
@@ -111,10 +126,12 @@ withdrawn-seen u p H told =
 -- ---- authors
 
 -- `rest` is the maker's own row, where it names the author
-authors_shown : (a c m f n rest : Bool) → (a || (c && f) || (m && n && f) || false) ≡ true → (a || ((c && f) || ((m && n && f) || rest))) ≡ true
-authors_shown a c m f n rest told = grind arith
+authors_shown : (a c m f n accepted rest : Bool) → (a || (c && f) || (m && n && f) || accepted) ≡ true
+    → (a || ((c && f) || ((m && n && f) || (accepted || rest)))) ≡ true
+authors_shown a c m f n accepted rest told = grind arith
 
-pub authors-seen : (u : Option ℕ) (p : ℕ) (H : History) → shows_author (standing_of u (Some p) H) false ≡ true → authors_in_view p (view u H) ≡ authors_of p H
+pub authors-seen : (u : Option ℕ) (p : ℕ) (H : History) → shows_author (standing_of u (Some p) H) (is_accepted p H) ≡ true
+    → authors_in_view p (view u H) ≡ authors_of p H
 authors-seen u p H told =
     fold_all (reader u H) (author_seen p) (λ (e : Stamped). author_told p e.maker e.entry) (names_author (reader u H)) (author_tells (reader u H) p)
     (λ at e. author_value (reader u H) at p (record {
@@ -131,8 +148,18 @@ authors-seen u p H told =
     begun : Bool
     begun = is_from Bidding (phase_of H)
 
-    shown : (rest : Bool) → (is_author u p H || ((chair && begun) || ((member && unless_anonymous (reader u H) && begun) || rest))) ≡ true
-    shown rest = authors_shown (is_author u p H) chair member begun (unless_anonymous (reader u H)) rest told
+    shown : (rest : Bool)
+        → (is_author u p H || ((chair && begun) || ((member && unless_anonymous (reader u H) && begun) || (is_accepted p H || rest)))) ≡ true
+    shown rest = authors_shown (is_author u p H) chair member begun (unless_anonymous (reader u H)) (is_accepted p H) rest told
+
+-- whoever is shown a paper's authors, whatever becomes of it
+pub also_accepted : (by : Standing) (accepted : Bool) → shows_author by false ≡ true → shows_author by accepted ≡ true
+also_accepted by accepted told =
+    either by.author (is_clear_chair by && is_from Bidding by.phase) (is_clear_member by && not (is_anonymous by.mode) && is_from Bidding by.phase)
+    accepted told
+  where
+    either : (a c m accepted : Bool) → (a || c || m || false) ≡ true → (a || c || m || accepted) ≡ true
+    either a c m accepted told = grind arith
 
 -- ---- declared conflicts
 

@@ -1,9 +1,10 @@
 -- Where the tables tell what a history tells and conflicts are declared in time, answers by a view are those by the tables.
 use Rattle.std.proofs.Common.{ℕ, Bool, true, false, ◌≡◌, List, [], ◌∷◌, ◌||◌, ◌&&◌, refl, ap, ◌∙◌, arith, Option, Some, None, Result, Ok}
-use Rattle.std.specs.Prelude.{◌==◌, unwrap_or, not, is_some, map}
+use Rattle.std.specs.Prelude.{◌==◌, unwrap_or, not, is_some, map, if◌then◌else◌}
 use Rattle.std.specs.List.{flat_map, list_any, filter}
 use Rattle.std.specs.Option.{option_map}
 use Rattle.std.proofs.lemmas.Bool.{not-false}
+use Rattle.cr_base.specs.declared.accepted.AcceptedPaper.{AcceptedPaper}
 use Rattle.cr_base.specs.declared.command.Query.{Query}
 use Rattle.cr_base.specs.declared.command.Query.TheVariants as queries
 use Rattle.cr_base.specs.declared.comment.CommentLine.{CommentLine}
@@ -15,20 +16,23 @@ use Rattle.cr_base.specs.declared.reply.Reply.TheVariants as replies
 use Rattle.cr_base.specs.declared.reply.Rule.{Rule}
 use Rattle.cr_base.specs.declared.reply.Rule.TheVariants as rules
 use Rattle.cr_base.specs.declared.standing.Standing.{Standing}
+use Rattle.cr_base.specs.declared.words.Decision.TheVariants.{Accept}
 use Rattle.cr_base.specs.declared.words.Phase.TheVariants.{Bidding, Discussion}
 use Rattle.cr_base.specs.Accounts.{lines_of}
-use Rattle.cr_base.specs.Checks.{Check, ◌breaks◌, judged}
+use Rattle.cr_base.specs.Checks.{Check, ◌breaks◌, judged, reads_freely}
+use Rattle.cr_base.specs.Decisions.{is_published}
 use Rattle.cr_base.specs.History.{History, Upload, BidTold}
 use Rattle.cr_base.specs.HistoryFacts.{standing_of}
 use Rattle.cr_base.specs.Lists.{listed}
-use Rattle.cr_base.specs.Page.{PaperTexts, page_of, where_told, gets_title, gets_abstract, shows_author, gets_conflict, gets_conflicts, gets_declared}
-use Rattle.cr_base.specs.Page.{gets_versions, gets_withdrawn, gets_bid, gets_bids, gets_label, gets_reviewers, gets_tags, bare_keys}
+use Rattle.cr_base.specs.Page.{PaperTexts, page_of, where_told, is_clear_member, is_clear_chair}
+use Rattle.cr_base.specs.Page.{gets_title, gets_abstract, shows_author, gets_conflict, gets_conflicts, gets_declared}
+use Rattle.cr_base.specs.Page.{gets_versions, gets_withdrawn, gets_bid, gets_bids, gets_label, gets_reviewers, gets_tags, gets_decision}
 use Rattle.cr_base.specs.Phases.{is_from}
 use Rattle.cr_base.specs.Tables.{Tables, no_tables, tables_of, FitInTurn}
 use Rattle.cr_base.specs.Answering.{uploads_told, upload_of, content_by, content_asked, query_checks, bidder_told, reviewer_told, page_by}
-use Rattle.cr_base.specs.Answering.{comments_by, reply_or_rule, answer_by, answer_by_role}
+use Rattle.cr_base.specs.Answering.{decision_by, accepted_paper, accepted_by, comments_by, reply_or_rule, answer_by, answer_by_role}
 use Rattle.cr_base.specs.Sources.{Facts, Shown, has_paper, facts_of_tables, shown_in_tables, names_in}
-use Rattle.cr_base.specs.Words.{is_chair, is_member, no_bid}
+use Rattle.cr_base.specs.Words.{is_anonymous, is_chair, is_member, no_bid}
 use Rattle.cr_base.proofs.CheckLaws.{judged-behind}
 use Rattle.cr_history.specs.Laws.{AreTold, AreFormsTold}
 use Rattle.cr_policy.specs.View.{view}
@@ -40,8 +44,9 @@ use Rattle.cr_history.proofs.OrderTies.{has_order-tables, users-tied_to}
 use Rattle.cr_policy.proofs.StandingLaws.{accounts-seen}
 use Rattle.cr_policy.proofs.BidTies.{bids-tables}
 use Rattle.cr_policy.proofs.ReviewerTells.{same_key}
-use Rattle.cr_policy.proofs.PageTells.{title-seen, abstract-seen, conflicts-seen}
-use Rattle.cr_policy.proofs.FactTies.{facts_in_view-tables, authors-tables, withdrawn-tables, uploads-tables}
+use Rattle.cr_policy.proofs.PageTells.{conflicts-seen}
+use Rattle.cr_policy.proofs.FactTies.{facts_in_view-tables, title-tables, abstract-tables, authors-tables, withdrawn-tables, uploads-tables}
+use Rattle.cr_policy.proofs.FactTies.{decision-tables}
 use Rattle.cr_policy.proofs.ReviewTies.{reviewers-tables, reviews-tables}
 use Rattle.cr_policy.proofs.TalkTies.{comments-tables, tags-tables}
 
@@ -74,39 +79,41 @@ declared-tables u H p fits told in_time may =
 
 -- ---- pages
 
--- texts that agree where a standing tells them; a reader's own bid and label agree always
-record AgreeWhereTold (by : Standing) (x y : PaperTexts) : Type 0 where
+-- texts of a paper, which is accepted or isn't, that agree where a standing tells them; a reader's own bid and label agree always
+record AgreeWhereTold (by : Standing) (accepted : Bool) (x y : PaperTexts) : Type 0 where
   bid : x.bid ≡ y.bid
   label : x.label ≡ y.label
-  title : gets_title by ≡ true → x.title ≡ y.title
-  abstract_ : gets_abstract by ≡ true → x.abstract_ ≡ y.abstract_
-  authors : shows_author by false ≡ true → x.authors ≡ y.authors
+  title : gets_title by accepted ≡ true → x.title ≡ y.title
+  abstract_ : gets_abstract by accepted ≡ true → x.abstract_ ≡ y.abstract_
+  authors : shows_author by accepted ≡ true → x.authors ≡ y.authors
+  decision : gets_decision by accepted ≡ true → x.decision ≡ y.decision
   conflicts : gets_conflicts by ≡ true → x.conflicts ≡ y.conflicts
   declared : gets_declared by ≡ true → x.declared ≡ y.declared
   bids : gets_bids by ≡ true → x.bids ≡ y.bids
   reviewers : gets_reviewers by ≡ true → x.reviewers ≡ y.reviewers
   tags : gets_tags by ≡ true → x.tags ≡ y.tags
-  versions : gets_versions by ≡ true → x.versions ≡ y.versions
+  versions : gets_versions by accepted ≡ true → x.versions ≡ y.versions
   withdrawn : gets_withdrawn by ≡ true → x.withdrawn ≡ y.withdrawn
 
 -- they make the same page
-page_of-same : (by : Standing) (p : ℕ) (x y : PaperTexts) → AgreeWhereTold by x y → page_of by p x ≡ page_of by p y
-page_of-same by p x y agree = λ i. record {
+page_of-same : (by : Standing) (accepted : Bool) (p : ℕ) (x y : PaperTexts) → AgreeWhereTold by accepted x y
+    → page_of by accepted p x ≡ page_of by accepted p y
+page_of-same by accepted p x y agree = λ i. record {
   paper = p;
-  abstract_ = same_key (gets_abstract by) x.abstract_ y.abstract_ agree.abstract_ i;
-  authors = same_key (shows_author by false) (Some x.authors) (Some y.authors) (λ told. ap Some (agree.authors told)) i;
+  abstract_ = same_key (gets_abstract by accepted) x.abstract_ y.abstract_ agree.abstract_ i;
+  authors = same_key (shows_author by accepted) (Some x.authors) (Some y.authors) (λ told. ap Some (agree.authors told)) i;
   bid = where_told (gets_bid by) (Some (unwrap_or (agree.bid i) no_bid));
   bids = same_key (gets_bids by) (Some x.bids) (Some y.bids) (λ told. ap Some (agree.bids told)) i;
   conflict = where_told (gets_conflict by) (Some by.conflicted);
   conflicts = same_key (gets_conflicts by) (Some x.conflicts) (Some y.conflicts) (λ told. ap Some (agree.conflicts told)) i;
+  decision = same_key (gets_decision by accepted) (Some x.decision) (Some y.decision) (λ told. ap Some (agree.decision told)) i;
   declared = same_key (gets_declared by) (Some x.declared) (Some y.declared) (λ told. ap Some (agree.declared told)) i;
   label = where_told (gets_label by) (agree.label i);
   reviewers = same_key (gets_reviewers by) (Some x.reviewers) (Some y.reviewers) (λ told. ap Some (agree.reviewers told)) i;
   tags = same_key (gets_tags by) (Some x.tags) (Some y.tags) (λ told. ap Some (agree.tags told)) i;
-  title = same_key (gets_title by) x.title y.title agree.title i;
-  versions = same_key (gets_versions by) (Some x.versions) (Some y.versions) (λ told. ap Some (agree.versions told)) i;
+  title = same_key (gets_title by accepted) x.title y.title agree.title i;
+  versions = same_key (gets_versions by accepted) (Some x.versions) (Some y.versions) (λ told. ap Some (agree.versions told)) i;
   withdrawn = same_key (gets_withdrawn by) (Some x.withdrawn) (Some y.withdrawn) (λ told. ap Some (agree.withdrawn told)) i;
-  bare = bare_keys by;
 }
 
 module _ (u : Option ℕ) (H : History) (kept : Invariants H) (told : AreTold H) (forms : AreFormsTold H) where
@@ -118,6 +125,16 @@ module _ (u : Option ℕ) (H : History) (kept : Invariants H) (told : AreTold H)
 
   abbrev tabled : Shown
   tabled = shown_in_tables (tables_of H)
+
+  -- the decision on a paper, as far as she is told of it: that it is accepted everyone is
+  decision-same : (p : ℕ) → gets_decision (facts.standing (Some p)) (facts.accepted p) ≡ true
+      → decision_by facts shown p ≡ decision_by facts tabled p
+  decision-same p may = by (facts.accepted p) may
+    where
+      by : (b : Bool) → gets_decision (facts.standing (Some p)) b ≡ true
+          → (if b then Some Accept else shown.decision p) ≡ (if b then Some Accept else tabled.decision p)
+      by true may = refl
+      by false may = decision-tables u H told p may
 
   -- the page of any paper by any user's view is the one by the tables
   page-tables : (p : ℕ) → page_by facts shown u p ≡ page_by facts tabled u p
@@ -133,6 +150,7 @@ module _ (u : Option ℕ) (H : History) (kept : Invariants H) (told : AreTold H)
         bid = facts.own_bid p;
         bids = bidders (from.bids p);
         conflicts = names (from.conflicts p);
+        decision = decision_by facts from p;
         declared = names (from.declared p);
         label = facts.own_seat p;
         reviewers = map (reviewer_told by facts.accounts (from.written p)) (from.reviewers p);
@@ -141,13 +159,14 @@ module _ (u : Option ℕ) (H : History) (kept : Invariants H) (told : AreTold H)
         withdrawn = from.withdrawn p;
       } in
       let stands = told.standing u (Some p) in
-      page_of-same by p (texts shown) (texts tabled) (record {
+      page_of-same by (facts.accepted p) p (texts shown) (texts tabled) (record {
         bid = refl;
         label = refl;
-        title = λ may. title-seen u p H (ap gets_title stands ∙ may) ∙ told.title p;
-        abstract_ = λ may. abstract-seen u p H (ap gets_abstract stands ∙ may) ∙ told.abstract_ p;
+        title = λ may. title-tables u H told p may;
+        abstract_ = λ may. abstract-tables u H told p may;
         authors = λ may. ap names (authors-tables u H told p may);
         conflicts = λ may. ap names (conflicts-tables u H p kept.fits told (ap gets_conflicts stands ∙ may));
+        decision = λ may. decision-same p may;
         declared = λ may. ap names (declared-tables u H p kept.fits told kept.in_time (ap gets_declared stands ∙ may));
         bids = λ may. ap bidders (bids-tables u H told kept.in_order p may);
         reviewers = λ may. reviewers-tables u H told p facts.accounts may;
@@ -168,17 +187,22 @@ module _ (u : Option ℕ) (H : History) (kept : Invariants H) (told : AreTold H)
       judged-behind before (behind (content_by facts shown (Some p) version)) (behind (content_by facts tabled (Some p) version))
       (reply (content_by facts shown (Some p) version)) (reply (content_by facts tabled (Some p) version))
       (λ none. ap (λ (uploads : List Upload). answered (option_map (λ (upload : Upload). upload.content) (upload_of version uploads)))
-      (uploads-tables u H told p (reads by.author (is_member by.role) by.conflicted (is_from Bidding by.phase) none.1.0 none.1.1.0 none.1.1.1.0)))
+      (uploads-tables u H told p
+      (reads by.author (is_published by.phase (facts.accepted p)) (is_member by.role) by.conflicted (is_from Bidding by.phase)
+      none.1.0 none.1.1.0 none.1.1.1.0)))
     where
       by : Standing
       by = facts.standing (Some p)
 
+      free : Bool
+      free = reads_freely by (facts.accepted p)
+
       before : List Check
       before =
           not (has_paper facts (Some p)) breaks rules.NoPaper
-          ∷ not (by.author || is_member by.role) breaks rules.NotMember
-          ∷ (not by.author && by.conflicted) breaks rules.Conflict
-          ∷ not (by.author || is_from Bidding by.phase) breaks rules.WrongPhase
+          ∷ not (free || is_member by.role) breaks rules.NotMember
+          ∷ (not free && by.conflicted) breaks rules.Conflict
+          ∷ not (free || is_from Bidding by.phase) breaks rules.WrongPhase
           ∷ []
 
       behind : Option (List ℕ) → List Check
@@ -190,9 +214,9 @@ module _ (u : Option ℕ) (H : History) (kept : Invariants H) (told : AreTold H)
       answered : Option (List ℕ) → Result Reply Rule
       answered content = judged (behind content) (reply content)
 
-      reads : (author member clash begun : Bool) → not (author || member) ≡ false → (not author && clash) ≡ false → not (author || begun) ≡ false
-          → (author || ((member && not clash) && begun)) ≡ true
-      reads author member clash begun h1 h2 h3 = grind arith
+      reads : (author out member clash begun : Bool) → not ((author || out) || member) ≡ false → (not (author || out) && clash) ≡ false
+          → not ((author || out) || begun) ≡ false → (author || ((member && not clash) && begun) || out) ≡ true
+      reads author out member clash begun h1 h2 h3 = grind arith
 
   -- ---- comments
 
@@ -217,12 +241,46 @@ module _ (u : Option ℕ) (H : History) (kept : Invariants H) (told : AreTold H)
       clear : (k c : Bool) → not k ≡ false → c ≡ false → (k && not c) ≡ true
       clear k c hk hc = grind arith
 
+  -- ---- accepted papers
+
+  -- everyone is told who wrote a paper that is accepted, and its title
+  accepted_paper-same : (p : ℕ) → facts.accepted p ≡ true → accepted_paper facts shown p ≡ accepted_paper facts tabled p
+  accepted_paper-same p is =
+      let by : Standing = facts.standing (Some p) in
+      let authors = authors-tables u H told p
+      (named by.author (is_clear_chair by && is_from Bidding by.phase) (is_clear_member by && not (is_anonymous by.mode) && is_from Bidding by.phase)
+      (facts.accepted p) is) in
+      let title = title-tables u H told p (titled by.author (is_member by.role && is_from Bidding by.phase) (facts.accepted p) is) in
+      λ i. record { authors = names_in facts.accounts (authors i); paper = p; title = unwrap_or (title i) [] }
+    where
+      named : (a c m accepted : Bool) → accepted ≡ true → (a || c || m || accepted) ≡ true
+      named a c m accepted h = grind arith
+
+      titled : (a m accepted : Bool) → accepted ≡ true → (a || m || accepted) ≡ true
+      titled a m accepted h = grind arith
+
+  accepted-tables : accepted_by facts shown ≡ accepted_by facts tabled
+  accepted-tables = each facts.papers
+    where
+      each : (ps : List ℕ)
+          → map (accepted_paper facts shown) (filter facts.accepted ps) ≡ map (accepted_paper facts tabled) (filter facts.accepted ps)
+      each [] = refl
+      each (p ∷ ps) = by (facts.accepted p) (λ is. accepted_paper-same p is) (each ps)
+        where
+          by : (b : Bool) → (b ≡ true → accepted_paper facts shown p ≡ accepted_paper facts tabled p)
+              → map (accepted_paper facts shown) (filter facts.accepted ps) ≡ map (accepted_paper facts tabled) (filter facts.accepted ps)
+              → map (accepted_paper facts shown) (if b then p ∷ filter facts.accepted ps else filter facts.accepted ps)
+              ≡ map (accepted_paper facts tabled) (if b then p ∷ filter facts.accepted ps else filter facts.accepted ps)
+          by true same rest = λ i. same refl i ∷ rest i
+          by false same rest = rest
+
   -- ---- answers
 
   answer-shown : (query : Query) → answer_by facts shown u query ≡ answer_by_role (tables_of H) u query
   answer-shown queries.Me = refl
   answer-shown queries.Accounts = refl
   answer-shown queries.Phase = refl
+  answer-shown queries.AcceptedPapers = ap (λ (papers : List AcceptedPaper). replies.AcceptedPapers papers) accepted-tables
   answer-shown (queries.Page paper) = ap (λ (page : Page). reply_or_rule (judged (query_checks facts shown (queries.Page paper)) (replies.Page page))) (page-tables (unwrap_or paper 0))
   answer-shown (queries.Content paper) = ap reply_or_rule (content-tables paper None)
   answer-shown (queries.Version paper version) = ap reply_or_rule (content-tables paper (Some version))

@@ -24,6 +24,7 @@ use Rattle.cr_policy.specs.ViewFacts.{phase_in_view, mode_in_view, role_in_view,
 use Rattle.cr_policy.specs.ViewFacts.{accounts_in_view, number_in_view, authors_in_view, is_author_in_view, is_conflict_on_in_view}
 use Rattle.cr_policy.specs.ViewFacts.{is_conflicted_in_view}
 use Rattle.cr_policy.specs.Laws.{StandingFromView, PublicFactsFromView}
+use Rattle.cr_policy.proofs.DecisionTells.{accepted-seen}
 use Rattle.cr_policy.proofs.Walk.{sights-all, sights-kept, fold_all, list_any-kept}
 use Rattle.cr_history.proofs.LineTies.{stamp}
 use Rattle.cr_policy.proofs.SeatTells.{ShowsSeat, own_bid_tells, seat_tells, seat_value}
@@ -147,6 +148,7 @@ pub public_from_view : (u : Option ℕ) (H : History) → PublicFactsFromView u 
 public_from_view u H = record {
   accounts = accounts-seen u H;
   papers = papers-seen u H;
+  accepted = λ p. accepted-seen u p H;
   own_papers = own_papers-seen u H;
   own_bytes = own_bytes-seen u H;
   own_comments = own_comments-seen u H;

@@ -4,6 +4,7 @@ use Rattle.std.specs.Prelude.{map}
 use Rattle.std.specs.List.{flat_map}
 use Rattle.std.specs.Str.{bytes_eq}
 use Rattle.std.proofs.lemmas.Bool.{eqb-true, or_parts, and_parts, or_left, or_right, true≢false}
+use Rattle.std.proofs.lemmas.List.Folds.{list_any-append}
 use Rattle.cr_base.specs.declared.entry.Entry.{Entry}
 use Rattle.cr_base.specs.declared.entry.Entry.TheVariants.{Registered, Named, PhaseSet, ModeSet, Submitted}
 use Rattle.cr_base.specs.declared.entry.Entry.TheVariants.{Coauthor, Revised, Uploaded, Withdrawn, Conflict, Commented}
@@ -13,9 +14,9 @@ use Rattle.cr_base.specs.History.{phase_told, mode_told, paper_told, own_paper_t
 use Rattle.cr_base.specs.History.{title_told, abstract_told, upload_told, withdrawal_told, registration_told, role_told, number_told}
 use Rattle.cr_history.proofs.LineTies.{stamp}
 use Rattle.cr_policy.specs.Part as part
-use Rattle.cr_policy.specs.Part.{Part}
+use Rattle.cr_policy.specs.Part.{Part, whole}
 use Rattle.cr_policy.specs.Sighting.{Sighting, where_shown}
-use Rattle.cr_policy.specs.Triggers.{Reader, Around, TriggerRow, applies_any, shows}
+use Rattle.cr_policy.specs.Triggers.{Reader, Around, TriggerRow, position_of, rows, ◌see◌, applies_any, shows}
 use Rattle.cr_policy.specs.View.{sight, is_seen, joined, rows_at}
 use Rattle.cr_policy.specs.ViewFacts.{only, is_user, phase_seen, mode_seen, paper_seen, own_paper_seen, author_seen, conflict_seen, title_seen, abstract_seen, upload_shown, upload_seen, own_bytes_seen, own_comment_seen, withdrawal_seen, registration_seen, role_seen, number_seen}
 use Rattle.cr_policy.proofs.Walk.{only-true, only-false, flat_map-given, Tells, TellsAll}
@@ -106,6 +107,14 @@ seen_where r at p e h = by (is_seen r at e) refl
     by true is = refl
     by false is = absurd (true≢false (sym h ∙ hidden (rows_at r at e) p is))
 
+-- what the reader made is seen, whatever the other rows say
+own_seen : (r : Reader) (at : Around) (maker : ℕ) (more : Bool) (e : Entry) → is_number r.number maker ≡ true
+    → is_seen r at (stamp maker more e) ≡ true
+own_seen r at maker more e own =
+    let others : List TriggerRow = rows r (position_of at e) maker e in
+    list_any-append (λ (row : TriggerRow). row.applies) others (is_number r.number maker see whole ∷ [])
+    ∙ or_right (applies_any others) _ (or_left (is_number r.number maker) false own)
+
 module _ (r : Reader) (at : Around) (maker : ℕ) (more : Bool) where
   -- a sighting that tells nothing tells nothing, whether it is there or not
   pub silent : {A : Type 0} (f : Sighting → List A) (e : Entry) → f (joined r at (stamp maker more e)) ≡ [] → flat_map f (sight r at (stamp maker more e)) ≡ []
@@ -176,7 +185,7 @@ module _ (r : Reader) (at : Around) (maker : ℕ) (more : Bool) where
       (λ own. ap (λ b. map length (listed (where_shown b (Some content)))) (hers own)) hers
     where
       hers : is_number r.number maker ≡ true → is_seen r at (stamp maker more (Uploaded paper version content)) ≡ true
-      hers own = or_right (r.author paper) _ (or_right _ _ (or_left (is_number r.number maker) false own))
+      hers own = own_seen r at maker more (Uploaded paper version content) own
   own_bytes_at e = silent own_bytes_seen e refl
 
   own_comment_at : (e : Entry) → flat_map own_comment_seen (sight r at (stamp maker more e)) ≡ own_comment_told r.number maker e

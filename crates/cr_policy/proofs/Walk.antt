@@ -133,6 +133,14 @@ kept-all Holds passes told grows all before (e ∷ after) h =
     ap (λ xs. xs ++ kept passes told (before ++ e ∷ []) after) (all (record { before = before; after = after }) e h)
     ∙ ap (λ ys. told e ++ ys) (kept-all Holds passes told grows all (before ++ e ∷ []) after (grows before e h))
 
+-- where none passes, none is kept
+pub kept-none : {A : Type 0} (passes : Around → Stamped → Bool) (told : Stamped → List A)
+    → ((at : Around) (e : Stamped) → only (passes at e) (told e) ≡ []) → (before H : History) → kept passes told before H ≡ []
+kept-none passes told none before [] = refl
+kept-none passes told none before (e ∷ after) =
+    ap (λ xs. xs ++ kept passes told (before ++ e ∷ []) after) (none (record { before = before; after = after }) e)
+    ∙ kept-none passes told none (before ++ e ∷ []) after
+
 -- the values seen are those told, where each passes
 pub fold_all : {A : Type 0} (r : Reader) (seen : Sighting → List A) (told : Stamped → List A) (passes : Around → Stamped → Bool) → Tells r seen told passes
     → ((at : Around) (e : Stamped) → only (passes at e) (told e) ≡ told e) → (before H : History) → flat_map seen (sights r before H) ≡ flat_map told H
@@ -203,8 +211,8 @@ abbrev pub LastPasses : {A : Type 0} → (Around → Stamped → Bool) → (Stam
 LastPasses passes told = (at : Around) (e : Stamped) → is_nothing (flat_map told at.after) ≡ true → only (passes at e) (told e) ≡ told e
 
 -- it is the last one kept then
-last_from-kept : {A : Type 0} (passes : Around → Stamped → Bool) (told : Stamped → List A) → LastPasses passes told → (o : Option A) (before H : History)
-    → last_from o (kept passes told before H) ≡ last_from o (flat_map told H)
+pub last_from-kept : {A : Type 0} (passes : Around → Stamped → Bool) (told : Stamped → List A) → LastPasses passes told
+    → (o : Option A) (before H : History) → last_from o (kept passes told before H) ≡ last_from o (flat_map told H)
 last_from-kept passes told last_passes o before [] = refl
 last_from-kept passes told last_passes o before (e ∷ after) =
     let at : Around = record { before = before; after = after } in

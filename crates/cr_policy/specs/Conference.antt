@@ -1,15 +1,18 @@
--- A small conference, from its first registration to the notification: eight users, three papers, and every kind of entry. In its
--- twin alice assigns another member to paper 1. What the committee says that no author reads is whatever it is.
-use Rattle.std.specs.Prelude.{ℕ, ◌≡◌, true, false, List, [], ◌∷◌, ◌++◌, length, Some, None, codes, ◌==◌, if◌then◌else◌, IsTrue}
+-- A small conference, from its first registration to its close: eight users, three papers, and every kind of entry. In its
+-- twin alice assigns another member to paper 1. What the committee says that no author reads is whatever it is, and its chairs may
+-- decide otherwise than they do.
+use Rattle.std.specs.Prelude.{ℕ, ◌≡◌, true, false, List, [], ◌∷◌, ◌++◌, length, Option, Some, None, codes, ◌==◌, if◌then◌else◌, IsTrue}
 use Rattle.cr_base.specs.declared.entry.Entry.{Entry}
 use Rattle.cr_base.specs.declared.entry.Entry.TheVariants.{Registered, Named, PhaseSet, ModeSet, Submitted}
 use Rattle.cr_base.specs.declared.entry.Entry.TheVariants.{Coauthor, Revised, Uploaded, Withdrawn, Conflict}
-use Rattle.cr_base.specs.declared.entry.Entry.TheVariants.{Bid, Assigned, Unassigned, Reviewed, Commented, Tagged}
+use Rattle.cr_base.specs.declared.entry.Entry.TheVariants.{Bid, Assigned, Unassigned, Reviewed, Commented, Tagged, Decided}
 use Rattle.cr_base.specs.declared.entry.Stamped.{Stamped}
 use Rattle.cr_base.specs.declared.form.Form.{Form}
+use Rattle.cr_base.specs.declared.words.Decision.{Decision}
+use Rattle.cr_base.specs.declared.words.Decision.TheVariants.{Accept, Reject}
 use Rattle.cr_base.specs.declared.words.Kind.TheVariants.{Primary, Secondary, Pc}
 use Rattle.cr_base.specs.declared.words.Mode.{Mode}
-use Rattle.cr_base.specs.declared.words.Phase.TheVariants.{Submission, Bidding, Reviewing, Discussion, Notification}
+use Rattle.cr_base.specs.declared.words.Phase.TheVariants.{Submission, Bidding, Reviewing, Discussion, Notification, Closed}
 use Rattle.cr_base.specs.declared.words.Role.TheVariants.{Member, Chair}
 use Rattle.cr_base.specs.History.{History}
 use Rattle.cr_base.specs.TagTexts.{is_tag}
@@ -17,7 +20,7 @@ use Rattle.cr_base.specs.Texts.{IsReviewText, IsCommentText}
 
 -- ---- who takes part
 
--- a chair in no conflict, who reviews paper 1
+-- a chair in no conflict, who reviews paper 1 and decides on it
 abbrev pub alice : ℕ
 alice = 1
 
@@ -37,7 +40,7 @@ dave = 4
 abbrev pub erin : ℕ
 erin = 5
 
--- a chair in conflict with paper 1, who reviews paper 2
+-- a chair in conflict with paper 1, who reviews paper 2 and decides on it
 abbrev pub fay : ℕ
 fay = 6
 
@@ -274,8 +277,8 @@ abbrev pub other_than : ℕ → ℕ
 other_than reviewer = if reviewer == dave then hal else dave
 
 -- she opens the discussion; the member writes a last form, and comments on paper 1, and so does the other one
-abbrev pub in_discussion : Digests → Mode → Asides → ℕ → History
-in_discussion d mode a reviewer =
+abbrev pub having_comments : Digests → Mode → Asides → ℕ → History
+having_comments d mode a reviewer =
     in_reviewing d mode a reviewer
     ++ alice adds PhaseSet Discussion
     ∷ reviewer adds Reviewed 1 3 3 (last_form a)
@@ -283,6 +286,34 @@ in_discussion d mode a reviewer =
     ∷ other_than reviewer adds Commented 1 2 None agreed
     ∷ []
 
--- and she opens the notification
-abbrev pub at_notification : Digests → Mode → Asides → ℕ → History
-at_notification d mode a reviewer = in_discussion d mode a reviewer ++ alice adds PhaseSet Notification ∷ []
+-- ---- what the chairs decide
+
+-- on paper 2, which fay decides; and on paper 1, where alice may decide twice. Each is left undecided, or decided so
+pub record Verdicts : Type 0 where
+  pub other : Option Decision
+  pub first : Option Decision
+  pub last : Option Decision
+
+-- paper 2 is rejected; paper 1 is rejected first, and then accepted
+abbrev pub verdicts : Verdicts
+verdicts = record { other = Some Reject; first = Some Reject; last = Some Accept }
+
+-- and the other way round: paper 2 is accepted; paper 1 is accepted first, and then rejected
+abbrev pub reversed : Verdicts
+reversed = record { other = Some Accept; first = Some Accept; last = Some Reject }
+
+abbrev pub decides : ℕ → ℕ → Option Decision → History
+decides chair paper None = []
+decides chair paper (Some decision) = chair adds Decided paper decision ∷ []
+
+-- the whole discussion
+abbrev pub in_discussion : Digests → Mode → Asides → ℕ → Verdicts → History
+in_discussion d mode a reviewer v =
+    having_comments d mode a reviewer ++ decides fay 2 v.other ++ decides alice 1 v.first ++ decides alice 1 v.last
+
+-- alice opens the notification, and then closes the conference
+abbrev pub at_notification : Digests → Mode → Asides → ℕ → Verdicts → History
+at_notification d mode a reviewer v = in_discussion d mode a reviewer v ++ alice adds PhaseSet Notification ∷ []
+
+abbrev pub at_close : Digests → Mode → Asides → ℕ → Verdicts → History
+at_close d mode a reviewer v = at_notification d mode a reviewer v ++ alice adds PhaseSet Closed ∷ []

@@ -1,30 +1,40 @@
 -- The laws of the small conference: it is legal, its readers see what is written of them, and those who may not know who reviews a
--- paper, or what the committee says of it, see the same whoever does, and whatever that is.
-use Rattle.std.specs.Prelude.{ℕ, ◌≡◌, List, [], ◌∷◌, ◌++◌, Some, None, map, filter, IsFalse}
+-- paper, what the committee says of it, or what is decided of it, see the same whoever does, and whatever that is.
+use Rattle.std.specs.Prelude.{ℕ, ◌≡◌, List, [], ◌∷◌, ◌++◌, Option, Some, None, map, filter, IsFalse}
+use Rattle.cr_base.specs.declared.words.Decision.{Decision}
+use Rattle.cr_base.specs.declared.words.Decision.TheVariants.{Accept, Reject}
 use Rattle.cr_base.specs.declared.words.Kind.{Kind}
 use Rattle.cr_base.specs.declared.words.Kind.TheVariants.{Primary, Secondary, Pc}
 use Rattle.cr_base.specs.declared.words.Mode.{Mode}
 use Rattle.cr_base.specs.declared.words.Role.{Role}
 use Rattle.cr_base.specs.declared.words.Role.TheVariants.{Account, Member, Chair}
-use Rattle.cr_base.specs.HistoryFacts.{role_of, papers_of, authors_of, is_conflicted, is_withdrawn, reviewers_of}
+use Rattle.cr_base.specs.HistoryFacts.{role_of, papers_of, authors_of, is_conflicted, is_withdrawn, reviewers_of, decision_of, is_accepted}
 use Rattle.cr_base.specs.History.{History, SeatTold}
 use Rattle.cr_base.specs.Words.{is_overt}
 use Rattle.cr_policy.specs.Conference.{alice, bob, carol, dave, erin, fay, gus, hal, cast, Digests, AreDigests, Asides, AreAsides}
-use Rattle.cr_policy.specs.Conference.{before_bidding, in_bidding, in_reviewing, in_discussion, at_notification}
-use Rattle.cr_policy.specs.ConferenceViews.{Views, views_before, views_in_bidding, views_in_reviewing, views_in_discussion, views_at_notification}
+use Rattle.cr_policy.specs.Conference.{before_bidding, in_bidding, in_reviewing, Verdicts, verdicts, reversed, in_discussion}
+use Rattle.cr_policy.specs.Conference.{at_notification, at_close}
+use Rattle.cr_policy.specs.ConferenceViews.{Views, views_before, views_in_bidding, views_in_reviewing}
+use Rattle.cr_policy.specs.ConferenceOutcomes.{views_in_discussion, views_at_notification, views_at_close, Outside, reversed_at_close}
 use Rattle.cr_policy.specs.Legal.{Legal}
 use Rattle.cr_policy.specs.View.{View, view}
 
 -- ---- it is legal
 
--- who of the eight is what: their roles, and of each paper its authors, those who are in conflict with it and its reviewers; and
--- which papers are withdrawn
+-- the accepted papers
+abbrev pub accepted_of : History → List ℕ
+accepted_of H = filter (λ paper. is_accepted paper H) (papers_of H)
+
+-- who of the eight is what: their roles, and of each paper its authors, those who are in conflict with it, its reviewers and the last
+-- decision on it; and which papers are withdrawn, and which accepted
 pub record Casting : Type 0 where
   pub roles : List Role
   pub authors : List (List ℕ)
   pub conflicted : List (List ℕ)
   pub reviewers : List (List SeatTold)
   pub withdrawn : List ℕ
+  pub decisions : List (Option Decision)
+  pub accepted : List ℕ
 
 abbrev pub casting_of : History → Casting
 casting_of H = record {
@@ -33,10 +43,12 @@ casting_of H = record {
   conflicted = map (λ paper. filter (λ user. is_conflicted (Some user) paper H) cast) (papers_of H);
   reviewers = map (λ paper. reviewers_of paper H) (papers_of H);
   withdrawn = filter (λ paper. is_withdrawn paper H) (papers_of H);
+  decisions = map (λ paper. decision_of paper H) (papers_of H);
+  accepted = accepted_of H;
 }
 
 -- alice, carol, dave, fay and hal are the committee, and of it carol and fay are in conflict with paper 1 and nobody with the others;
--- bob and gus wrote paper 1, and gus alone papers 2 and 3, of which the last is withdrawn
+-- bob and gus wrote paper 1, and gus alone papers 2 and 3, of which the last is withdrawn; no decision is made yet
 abbrev pub reviewed_by : List (List SeatTold) → Casting
 reviewed_by reviewers = record {
   roles = Chair ∷ Account ∷ Member ∷ Member ∷ Account ∷ Chair ∷ Account ∷ Member ∷ [];
@@ -44,6 +56,8 @@ reviewed_by reviewers = record {
   conflicted = (bob ∷ carol ∷ fay ∷ gus ∷ []) ∷ (gus ∷ []) ∷ (gus ∷ []) ∷ [];
   reviewers = reviewers;
   withdrawn = 3 ∷ [];
+  decisions = None ∷ None ∷ None ∷ [];
+  accepted = [];
 }
 
 pub record IsConference (H : History) (casting : Casting) : Type 0 where
@@ -64,18 +78,30 @@ by_first member = reviewed_by ((reviewing 1 Primary member ∷ reviewing 2 Secon
 abbrev pub by_last : ℕ → Casting
 by_last member = reviewed_by ((reviewing 2 Secondary alice ∷ reviewing 3 Pc member ∷ []) ∷ (reviewing 1 Pc fay ∷ []) ∷ [] ∷ [])
 
+-- and once the chairs have decided, where these papers are accepted
+abbrev pub decided_by : ℕ → List ℕ → Casting
+decided_by member accepted = record (by_last member) { decisions = Some Accept ∷ Some Reject ∷ None ∷ []; accepted = accepted }
+
 -- in each phase from the bidding on, where this member is assigned to paper 1
 pub record IsReviewed (d : Digests) (mode : Mode) (a : Asides) (member : ℕ) : Type 0 where
   pub bidding : IsConference (in_bidding d mode a member) (by_first member)
   pub reviewing : IsConference (in_reviewing d mode a member) (by_last member)
-  pub discussion : IsConference (in_discussion d mode a member) (by_last member)
-  pub notification : IsConference (at_notification d mode a member) (by_last member)
+  pub discussion : IsConference (in_discussion d mode a member verdicts) (decided_by member [])
+  pub notification : IsConference (at_notification d mode a member verdicts) (decided_by member (1 ∷ []))
+  pub closed : IsConference (at_close d mode a member verdicts) (decided_by member (1 ∷ []))
 
--- the conference, and its twin
+-- and whatever they decide
+pub record IsDecided (d : Digests) (mode : Mode) (a : Asides) (v : Verdicts) : Type 0 where
+  pub discussion : Legal (in_discussion d mode a dave v)
+  pub notification : Legal (at_notification d mode a dave v)
+  pub closed : Legal (at_close d mode a dave v)
+
+-- the conference, its twin, and what it is with other decisions
 pub record IsLegal (d : Digests) (mode : Mode) (a : Asides) : Type 0 where
   pub before : IsConference (before_bidding d mode) by_none
   pub reviewed : IsReviewed d mode a dave
   pub twin : IsReviewed d mode a hal
+  pub decided : (v : Verdicts) → IsDecided d mode a v
 
 abbrev pub ConferenceLegal : Type 0
 ConferenceLegal = (d : Digests) (mode : Mode) (a : Asides) → AreDigests d → AreAsides a → IsLegal d mode a
@@ -109,10 +135,19 @@ abbrev pub ViewsInReviewing : Type 0
 ViewsInReviewing = AreViews (λ d mode a. in_reviewing d mode a dave) views_in_reviewing
 
 abbrev pub ViewsInDiscussion : Type 0
-ViewsInDiscussion = AreViews (λ d mode a. in_discussion d mode a dave) views_in_discussion
+ViewsInDiscussion = AreViews (λ d mode a. in_discussion d mode a dave verdicts) views_in_discussion
 
 abbrev pub ViewsAtNotification : Type 0
-ViewsAtNotification = AreViews (λ d mode a. at_notification d mode a dave) views_at_notification
+ViewsAtNotification = AreViews (λ d mode a. at_notification d mode a dave verdicts) views_at_notification
+
+abbrev pub ViewsAtClose : Type 0
+ViewsAtClose = AreViews (λ d mode a. at_close d mode a dave verdicts) views_at_close
+
+abbrev pub outside_of : History → Outside
+outside_of H = record { nobody = view None H; account = view (Some erin) H; author = view (Some bob) H; coauthor = view (Some gus) H }
+
+abbrev pub ViewsReversed : Type 0
+ViewsReversed = (d : Digests) (mode : Mode) (a : Asides) → outside_of (at_close d mode a dave reversed) ≡ reversed_at_close d mode a
 
 -- ---- its twins
 
@@ -122,15 +157,19 @@ abbrev pub seen_to_discussion : ℕ → Digests → Mode → Asides → ℕ → 
 seen_to_discussion reader d mode a member =
     view (Some reader) (in_bidding d mode a member)
     ∷ view (Some reader) (in_reviewing d mode a member)
-    ∷ view (Some reader) (in_discussion d mode a member)
+    ∷ view (Some reader) (in_discussion d mode a member verdicts)
     ∷ []
 
--- and to the notification
+-- and to the close
 abbrev pub seen_throughout : ℕ → Digests → Mode → Asides → ℕ → List View
-seen_throughout reader d mode a member = seen_to_discussion reader d mode a member ++ view (Some reader) (at_notification d mode a member) ∷ []
+seen_throughout reader d mode a member =
+    seen_to_discussion reader d mode a member
+    ++ view (Some reader) (at_notification d mode a member verdicts)
+    ∷ view (Some reader) (at_close d mode a member verdicts)
+    ∷ []
 
 -- whether dave or hal is assigned to the paper, writes its forms and comments on it under their label, its authors see the same up to
--- the discussion, and at the notification but in the open mode; and a member and a chair in conflict with it see the same throughout
+-- the discussion, and later but in the open mode; and a member and a chair in conflict with it see the same throughout
 pub record Twins (d : Digests) (mode : Mode) (a : Asides) : Type 0 where
   pub author : seen_to_discussion bob d mode a dave ≡ seen_to_discussion bob d mode a hal
   pub author_throughout : IsFalse (is_overt mode) → seen_throughout bob d mode a dave ≡ seen_throughout bob d mode a hal
@@ -152,3 +191,53 @@ pub record SameWithout (d : Digests) (mode : Mode) (a b : Asides) : Type 0 where
 
 abbrev pub AsidesHidden : Type 0
 AsidesHidden = (d : Digests) (mode : Mode) (a b : Asides) → SameWithout d mode a b
+
+-- ---- other decisions
+
+-- what a reader sees in the discussion, where the chairs decide so; and from the notification on
+abbrev pub seen_in_discussion : Option ℕ → Digests → Mode → Asides → Verdicts → View
+seen_in_discussion u d mode a v = view u (in_discussion d mode a dave v)
+
+abbrev pub seen_from_notification : Option ℕ → Digests → Mode → Asides → Verdicts → List View
+seen_from_notification u d mode a v = view u (at_notification d mode a dave v) ∷ view u (at_close d mode a dave v) ∷ []
+
+-- before the notification who isn't on the committee sees the same whatever is decided, and so do a member and a chair in conflict
+-- with paper 1 whatever is decided of that
+pub record SameEarly (d : Digests) (mode : Mode) (a : Asides) (v w : Verdicts) : Type 0 where
+  pub nobody : seen_in_discussion None d mode a v ≡ seen_in_discussion None d mode a w
+  pub account : seen_in_discussion (Some erin) d mode a v ≡ seen_in_discussion (Some erin) d mode a w
+  pub author : seen_in_discussion (Some bob) d mode a v ≡ seen_in_discussion (Some bob) d mode a w
+  pub coauthor : seen_in_discussion (Some gus) d mode a v ≡ seen_in_discussion (Some gus) d mode a w
+  pub conflicted_member : v.other ≡ w.other → seen_in_discussion (Some carol) d mode a v ≡ seen_in_discussion (Some carol) d mode a w
+  pub conflicted_chair : v.other ≡ w.other → seen_in_discussion (Some fay) d mode a v ≡ seen_in_discussion (Some fay) d mode a w
+
+-- the papers that are accepted where the chairs decide so, and the last decision on a paper
+abbrev pub accepted_with : Digests → Mode → Asides → Verdicts → List ℕ
+accepted_with d mode a v = accepted_of (at_notification d mode a dave v)
+
+abbrev pub outcome_with : ℕ → Digests → Mode → Asides → Verdicts → Option Decision
+outcome_with paper d mode a v = decision_of paper (at_notification d mode a dave v)
+
+-- from it on they do where the same papers are accepted; and so do authors where the last decision on each of their own is the same
+pub record SameLate (d : Digests) (mode : Mode) (a : Asides) (v w : Verdicts) : Type 0 where
+  pub nobody : seen_from_notification None d mode a v ≡ seen_from_notification None d mode a w
+  pub account : seen_from_notification (Some erin) d mode a v ≡ seen_from_notification (Some erin) d mode a w
+  pub author :
+      outcome_with 1 d mode a v ≡ outcome_with 1 d mode a w
+      → seen_from_notification (Some bob) d mode a v ≡ seen_from_notification (Some bob) d mode a w
+  pub coauthor :
+      outcome_with 1 d mode a v ≡ outcome_with 1 d mode a w
+      → outcome_with 2 d mode a v ≡ outcome_with 2 d mode a w
+      → seen_from_notification (Some gus) d mode a v ≡ seen_from_notification (Some gus) d mode a w
+  pub conflicted_member :
+      v.other ≡ w.other → seen_from_notification (Some carol) d mode a v ≡ seen_from_notification (Some carol) d mode a w
+  pub conflicted_chair :
+      v.other ≡ w.other → seen_from_notification (Some fay) d mode a v ≡ seen_from_notification (Some fay) d mode a w
+
+-- two conferences that differ only in what the chairs decide
+pub record VerdictTwins (d : Digests) (mode : Mode) (a : Asides) (v w : Verdicts) : Type 0 where
+  pub early : SameEarly d mode a v w
+  pub late : accepted_with d mode a v ≡ accepted_with d mode a w → SameLate d mode a v w
+
+abbrev pub VerdictsHidden : Type 0
+VerdictsHidden = (d : Digests) (mode : Mode) (a : Asides) (v w : Verdicts) → VerdictTwins d mode a v w

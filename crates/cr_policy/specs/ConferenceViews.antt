@@ -1,19 +1,21 @@
--- What each reader sees of the small conference, before the bidding, in it, in the reviewing, in the discussion and at the
--- notification: the whole of her view, a line an entry.
+-- What each reader sees of the small conference, before the bidding, in it and in the reviewing: the whole of her view, a line an
+-- entry.
 use Rattle.std.specs.Prelude.{ℕ, Bool, true, false, List, [], ◌∷◌, ◌++◌, Some, None, codes, ◌==◌, if◌then◌else◌}
 use Rattle.cr_base.specs.declared.entry.EntryKind.TheVariants as kinds
 use Rattle.cr_base.specs.declared.form.Form.{Form}
+use Rattle.cr_base.specs.declared.words.Decision.{Decision}
 use Rattle.cr_base.specs.declared.words.Kind.{Kind}
 use Rattle.cr_base.specs.declared.words.Kind.TheVariants.{Primary, Secondary, Pc}
 use Rattle.cr_base.specs.declared.words.Mode.{Mode}
 use Rattle.cr_base.specs.declared.words.Mode.TheVariants.{Overt, Anonymous}
 use Rattle.cr_base.specs.declared.words.Phase.{Phase}
-use Rattle.cr_base.specs.declared.words.Phase.TheVariants.{Submission, Bidding, Reviewing, Discussion, Notification}
+use Rattle.cr_base.specs.declared.words.Phase.TheVariants.{Submission, Bidding, Reviewing}
 use Rattle.cr_base.specs.declared.words.Role.{Role}
 use Rattle.cr_base.specs.declared.words.Role.TheVariants.{Member, Chair}
 use Rattle.cr_policy.specs.Conference.{alice, bob, carol, dave, erin, fay, gus, hal, Digests, proofs, we_prove, types, we_type}
-use Rattle.cr_policy.specs.Conference.{drafts, we_draft, fewer_proofs, we_prove_less, more_proofs, we_prove_more, first_version, second_version, only_version}
-use Rattle.cr_policy.specs.Conference.{Asides, hot, own_tag, chairs_tag, first_form, second_form, last_form, alices_form, agreed}
+use Rattle.cr_policy.specs.Conference.{drafts, we_draft, fewer_proofs, we_prove_less, more_proofs, we_prove_more}
+use Rattle.cr_policy.specs.Conference.{first_version, second_version, only_version, Asides, hot, own_tag, chairs_tag}
+use Rattle.cr_policy.specs.Conference.{first_form, second_form, alices_form}
 use Rattle.cr_policy.specs.Sighting.{Sighting, blank}
 use Rattle.cr_policy.specs.View.{View}
 
@@ -89,9 +91,10 @@ assignment paper user kind ordinal = record (blank kinds.Assigned) { paper = Som
 abbrev pub unassignment : ℕ → ℕ → ℕ → Sighting
 unassignment paper user ordinal = record (blank kinds.Unassigned) { paper = Some paper; user = Some user; ordinal = Some ordinal }
 
--- of either, what members are shown who don't oversee the paper: not who it is where the mode is anonymous
+-- of a submission, or of either of these, what members are shown who don't oversee the paper: not who it is where the mode is
+-- anonymous
 abbrev pub to_members : Mode → Sighting → Sighting
-to_members Anonymous line = record line { user = None }
+to_members Anonymous line = record line { by = None; user = None }
 to_members mode line = line
 
 -- and what authors are shown who are named their reviewers: not as what
@@ -139,6 +142,20 @@ own_comment mode user ordinal paper n text = record (comment_to_members mode use
 -- that a tag is turned on or off at the paper
 abbrev pub tagging : ℕ → List ℕ → Bool → Sighting
 tagging paper tag on = record (blank kinds.Tagged) { paper = Some paper; tag = Some tag; on = Some on }
+
+-- what is decided of the paper; and where that is what became of the reader's own
+abbrev pub decided : ℕ → Decision → Sighting
+decided paper decision = record (blank kinds.Decided) { paper = Some paper; decision = Some decision }
+
+abbrev pub as_outcome : Sighting → Sighting
+as_outcome line = record line { outcome = Some true }
+
+-- the line of a decision by which the paper is accepted; and that it is, without the decision
+abbrev pub as_accepted : Sighting → Sighting
+as_accepted line = record line { accepted = Some true }
+
+abbrev pub acceptance : ℕ → Sighting
+acceptance paper = as_accepted (record (blank kinds.Decided) { paper = Some paper })
 
 -- the line of an entry that the reader made
 abbrev pub mine : Sighting → Sighting
@@ -225,21 +242,27 @@ opening_to reader d mode =
 abbrev pub bare_papers : View
 bare_papers = bare_paper 1 ∷ bare_paper 2 ∷ bare_paper 3 ∷ []
 
--- an author: all of her own paper, with what the co-author did, and whom they declared; of the others that they are there
-abbrev pub bob_before : Digests → Mode → View
-bob_before d mode =
+-- an author: all of her own paper, with what the co-author did, and whom they declared; of paper 2 this line, and this of its content;
+-- of paper 3 that it is there
+abbrev pub bob_with : Digests → Mode → Sighting → View → View
+bob_with d mode second content =
     opening_to bob d mode
     ++ mine (both_texts_by bob 1 proofs we_prove)
     ∷ mine (coauthor 1 gus)
-    ∷ bare_paper 2
+    ∷ second
     ∷ bare_paper 3
     ∷ mine (upload 1 1 first_version)
-    ∷ mine (upload 1 2 second_version)
+    ∷ content
+    ++ mine (upload 1 2 second_version)
     ∷ mine (new_texts 1 fewer_proofs we_prove_less)
     ∷ new_texts 1 more_proofs we_prove_more
     ∷ mine (conflict 1 carol true)
     ∷ conflict 1 fay true
     ∷ []
+
+-- before the bidding of paper 2 too
+abbrev pub bob_before : Digests → Mode → View
+bob_before d mode = bob_with d mode (bare_paper 2) []
 
 -- a co-author: the same of that paper; and all of his own, that one is withdrawn too
 abbrev pub gus_before : Digests → Mode → View
@@ -275,41 +298,55 @@ views_before d mode = record {
 
 -- ---- in the bidding
 
--- a member in no conflict: of each paper the last texts, the last version and whether it is withdrawn, and unless the mode
--- is anonymous all who wrote it
-abbrev pub papers_to_members : Mode → View
-papers_to_members Anonymous =
-    bare_paper 1
-    ∷ both_texts 2 types we_type
-    ∷ both_texts 3 drafts we_draft
+-- of paper 1 that it is there; and who wrote it
+abbrev pub bare_head : View
+bare_head = bare_paper 1 ∷ []
+
+abbrev pub head_by_authors : View
+head_by_authors = bare_paper_by bob 1 ∷ coauthor 1 gus ∷ []
+
+-- and which of the two a member in no conflict with it is shown
+abbrev pub head_to_members : Mode → View
+head_to_members Anonymous = bare_head
+head_to_members mode = head_by_authors
+
+-- its last title; and its last version, and both texts
+abbrev pub title_alone : View
+title_alone = new_title 1 more_proofs ∷ []
+
+abbrev pub last_texts : View
+last_texts = upload 1 2 second_version ∷ new_texts 1 more_proofs we_prove_more ∷ []
+
+-- what the committee is told of the papers: of paper 1 this; of the others the last texts, the last version and whether it is
+-- withdrawn, and unless the mode is anonymous who wrote them. Chairs are told who did in each mode, as in the open one
+abbrev pub papers_told : Mode → View → View → View
+papers_told mode head texts =
+    head
+    ++ to_members mode (both_texts_by gus 2 types we_type)
+    ∷ to_members mode (both_texts_by gus 3 drafts we_draft)
     ∷ upload 2 1 only_version
-    ∷ upload 1 2 second_version
-    ∷ new_texts 1 more_proofs we_prove_more
-    ∷ withdrawal 3
-    ∷ phase_set Bidding
-    ∷ []
-papers_to_members mode =
-    bare_paper_by bob 1
-    ∷ coauthor 1 gus
-    ∷ both_texts_by gus 2 types we_type
-    ∷ both_texts_by gus 3 drafts we_draft
-    ∷ upload 2 1 only_version
-    ∷ upload 1 2 second_version
-    ∷ new_texts 1 more_proofs we_prove_more
-    ∷ withdrawal 3
-    ∷ phase_set Bidding
+    ∷ texts
+    ++ withdrawal 3
     ∷ []
 
--- and of the tags those for all
-abbrev pub hal_in_bidding : Digests → Mode → View
-hal_in_bidding d mode = opening_to hal d mode ++ papers_to_members mode ++ tagging 1 hot true ∷ mine (tagging 1 hot false) ∷ []
+-- a member in no conflict: all of that, and of the tags those for all. Here and below the view is a function of what is shown of
+-- paper 1, which is more where it is accepted
+abbrev pub hal_to_bidding : Digests → Mode → View → View
+hal_to_bidding d mode head =
+    opening_to hal d mode
+    ++ papers_told mode head last_texts
+    ++ phase_set Bidding
+    ∷ tagging 1 hot true
+    ∷ mine (tagging 1 hot false)
+    ∷ []
 
--- one who reviews paper 1: of the conflicts his own, of the bids his own, of the tags his own too, and of the assignments his own
-abbrev pub dave_having_tags : Digests → Mode → Asides → View
-dave_having_tags d mode a =
+-- one who reviews paper 1: of the conflicts his own, of the bids his own, and of the tags his own too
+abbrev pub dave_to_tags : Digests → Mode → Asides → View → View
+dave_to_tags d mode a head =
     opening_to dave d mode
-    ++ papers_to_members mode
-    ++ mine (conflict 2 dave true)
+    ++ papers_told mode head last_texts
+    ++ phase_set Bidding
+    ∷ mine (conflict 2 dave true)
     ∷ conflict 2 dave false
     ∷ mine (bid 1 25)
     ∷ mine (bid 1 40)
@@ -318,32 +355,16 @@ dave_having_tags d mode a =
     ∷ tagging 1 hot false
     ∷ []
 
+-- and of the assignments his own
 abbrev pub dave_in_bidding : Digests → Mode → Asides → View
-dave_in_bidding d mode a = dave_having_tags d mode a ++ assignment 1 dave Primary 1 ∷ []
+dave_in_bidding d mode a = dave_to_tags d mode a (head_to_members mode) ++ assignment 1 dave Primary 1 ∷ []
 
--- a member in conflict with paper 1: its last title alone, and no tag; of the other papers what any member sees, and her own bid
-abbrev pub carol_in_bidding : Digests → Mode → View
-carol_in_bidding d Anonymous =
-    opening_to carol d Anonymous
-    ++ bare_paper 1
-    ∷ both_texts 2 types we_type
-    ∷ both_texts 3 drafts we_draft
-    ∷ upload 2 1 only_version
-    ∷ new_title 1 more_proofs
-    ∷ withdrawal 3
-    ∷ conflict 1 carol true
-    ∷ phase_set Bidding
-    ∷ mine (bid 2 17)
-    ∷ []
-carol_in_bidding d mode =
+-- a member in conflict with paper 1: of it no tag; of the other papers what any member sees, and her own bid
+abbrev pub carol_to_bidding : Digests → Mode → View → View → View
+carol_to_bidding d mode head texts =
     opening_to carol d mode
-    ++ bare_paper 1
-    ∷ both_texts_by gus 2 types we_type
-    ∷ both_texts_by gus 3 drafts we_draft
-    ∷ upload 2 1 only_version
-    ∷ new_title 1 more_proofs
-    ∷ withdrawal 3
-    ∷ conflict 1 carol true
+    ++ papers_told mode head texts
+    ++ conflict 1 carol true
     ∷ phase_set Bidding
     ∷ mine (bid 2 17)
     ∷ []
@@ -353,15 +374,8 @@ carol_in_bidding d mode =
 abbrev pub alice_in_bidding : Digests → Mode → View
 alice_in_bidding d mode =
     opening_to alice d mode
-    ++ bare_paper_by bob 1
-    ∷ coauthor 1 gus
-    ∷ both_texts_by gus 2 types we_type
-    ∷ both_texts_by gus 3 drafts we_draft
-    ∷ upload 2 1 only_version
-    ∷ upload 1 2 second_version
-    ∷ new_texts 1 more_proofs we_prove_more
-    ∷ withdrawal 3
-    ∷ conflict 1 carol true
+    ++ papers_told Overt head_by_authors last_texts
+    ++ conflict 1 carol true
     ∷ conflict 1 fay true
     ∷ mine (phase_set Bidding)
     ∷ mine (conflict 1 fay false)
@@ -381,18 +395,12 @@ alice_in_bidding d mode =
     ∷ mine (assignment 2 fay Pc 1)
     ∷ []
 
--- a chair in conflict with paper 1: its last title alone, of its conflicts her own, and no tag; of the other papers what any chair
--- sees
-abbrev pub fay_in_bidding : Digests → Mode → View
-fay_in_bidding d mode =
+-- a chair in conflict with paper 1: of its conflicts her own, and no tag; of the other papers what any chair sees
+abbrev pub fay_to_bidding : Digests → Mode → View → View → View
+fay_to_bidding d mode head texts =
     opening_to fay d mode
-    ++ bare_paper 1
-    ∷ both_texts_by gus 2 types we_type
-    ∷ both_texts_by gus 3 drafts we_draft
-    ∷ upload 2 1 only_version
-    ∷ new_title 1 more_proofs
-    ∷ withdrawal 3
-    ∷ conflict 1 fay true
+    ++ papers_told Overt head texts
+    ++ conflict 1 fay true
     ∷ phase_set Bidding
     ∷ conflict 1 fay false
     ∷ mine (conflict 1 fay true)
@@ -403,14 +411,15 @@ fay_in_bidding d mode =
     ∷ assignment 2 fay Pc 1
     ∷ []
 
--- all others, authors among them: the phase, and not what the committee declares, bids, tags and assigns
+-- of paper 1 members in no conflict are shown the last texts, and who wrote it unless the mode is anonymous; those in conflict the
+-- last title alone. All others, authors among them: the phase, and not what the committee declares, bids, tags and assigns
 abbrev pub views_in_bidding : Digests → Mode → Asides → Views
 views_in_bidding d mode a = record (opened_to Bidding (views_before d mode)) {
-  member = hal_in_bidding d mode;
+  member = hal_to_bidding d mode (head_to_members mode);
   reviewer = dave_in_bidding d mode a;
-  conflicted_member = carol_in_bidding d mode;
+  conflicted_member = carol_to_bidding d mode bare_head title_alone;
   chair = alice_in_bidding d mode;
-  conflicted_chair = fay_in_bidding d mode;
+  conflicted_chair = fay_to_bidding d mode bare_head title_alone;
 }
 
 -- ---- in the reviewing
@@ -442,119 +451,4 @@ abbrev pub views_in_reviewing : Digests → Mode → Asides → Views
 views_in_reviewing d mode a = record (opened_to Reviewing (views_in_bidding d mode a)) {
   reviewer = dave_in_reviewing d mode a;
   chair = alice_in_reviewing d mode;
-}
-
--- ---- in the discussion
-
--- a member in no conflict: every assignment, from the bidding on, but not who it is where the mode is anonymous; of each label the
--- last form that was written before the discussion, and all later ones, whole; and every comment, with his own label
-abbrev pub hal_in_discussion : Digests → Mode → Asides → View
-hal_in_discussion d mode a =
-    hal_in_bidding d mode
-    ++ to_members mode (assignment 1 dave Primary 1)
-    ∷ to_members mode (assignment 1 alice Secondary 2)
-    ∷ to_members mode (assignment 2 fay Pc 1)
-    ∷ phase_set Reviewing
-    ∷ to_members mode (unassignment 1 dave 1)
-    ∷ to_members mode (assignment 1 dave Pc 3)
-    ∷ form 1 2 1 alices_form
-    ∷ form 1 3 2 second_form
-    ∷ phase_set Discussion
-    ∷ form 1 3 3 (last_form a)
-    ∷ comment_to_members mode dave 3 1 1 a.comment
-    ∷ own_comment mode hal 0 1 2 agreed
-    ∷ []
-
--- one who reviews paper 1: the same, and his own assignments and forms whole
-abbrev pub dave_in_discussion : Digests → Mode → Asides → View
-dave_in_discussion d mode a =
-    dave_having_tags d mode a
-    ++ assignment 1 dave Primary 1
-    ∷ to_members mode (assignment 1 alice Secondary 2)
-    ∷ to_members mode (assignment 2 fay Pc 1)
-    ∷ phase_set Reviewing
-    ∷ unassignment 1 dave 1
-    ∷ assignment 1 dave Pc 3
-    ∷ mine (form 1 3 1 first_form)
-    ∷ form 1 2 1 alices_form
-    ∷ mine (form 1 3 2 second_form)
-    ∷ phase_set Discussion
-    ∷ mine (form 1 3 3 (last_form a))
-    ∷ own_comment mode dave 3 1 1 a.comment
-    ∷ comment_to_members mode hal 0 1 2 agreed
-    ∷ []
-
--- a member in conflict with paper 1: of the other papers what any member sees
-abbrev pub carol_in_discussion : Digests → Mode → View
-carol_in_discussion d mode =
-    carol_in_bidding d mode ++ to_members mode (assignment 2 fay Pc 1) ∷ phase_set Reviewing ∷ phase_set Discussion ∷ []
-
--- a chair in no conflict: every assignment and what is done, as before; of the forms what any member sees; and every comment, and
--- who wrote it
-abbrev pub alice_in_discussion : Digests → Mode → Asides → View
-alice_in_discussion d mode a =
-    alice_in_reviewing d mode
-    ++ form 1 3 2 second_form
-    ∷ mine (phase_set Discussion)
-    ∷ form 1 3 3 (last_form a)
-    ∷ comment_by dave 1 1 a.comment
-    ∷ comment_by hal 1 2 agreed
-    ∷ []
-
--- all others, authors and a chair in conflict among them: the phase
-abbrev pub views_in_discussion : Digests → Mode → Asides → Views
-views_in_discussion d mode a = record (opened_to Discussion (views_in_reviewing d mode a)) {
-  member = hal_in_discussion d mode a;
-  reviewer = dave_in_discussion d mode a;
-  conflicted_member = carol_in_discussion d mode;
-  chair = alice_in_discussion d mode a;
-}
-
--- ---- at the notification
-
--- an author of paper 1, from the reviewing on: of each label the last form, but not its number and what is for the committee; and in
--- the open mode who was assigned and unassigned, and under which labels, but not as what
-abbrev pub results : Mode → Asides → View
-results Overt a =
-    phase_set Reviewing
-    ∷ to_authors (unassignment 1 dave 1)
-    ∷ to_authors (assignment 1 dave Pc 3)
-    ∷ form_to_authors 1 2 alices_form
-    ∷ phase_set Discussion
-    ∷ form_to_authors 1 3 (last_form a)
-    ∷ phase_set Notification
-    ∷ []
-results mode a =
-    phase_set Reviewing
-    ∷ form_to_authors 1 2 alices_form
-    ∷ phase_set Discussion
-    ∷ form_to_authors 1 3 (last_form a)
-    ∷ phase_set Notification
-    ∷ []
-
--- so of her own paper, and in the open mode who was assigned in the bidding too; and a co-author, who wrote paper 2 as well
-abbrev pub bob_at_notification : Digests → Mode → Asides → View
-bob_at_notification d Overt a =
-    bob_before d Overt
-    ++ phase_set Bidding
-    ∷ to_authors (assignment 1 dave Primary 1)
-    ∷ to_authors (assignment 1 alice Secondary 2)
-    ∷ results Overt a
-bob_at_notification d mode a = bob_before d mode ++ phase_set Bidding ∷ results mode a
-
-abbrev pub gus_at_notification : Digests → Mode → Asides → View
-gus_at_notification d Overt a =
-    gus_before d Overt
-    ++ phase_set Bidding
-    ∷ to_authors (assignment 1 dave Primary 1)
-    ∷ to_authors (assignment 1 alice Secondary 2)
-    ∷ to_authors (assignment 2 fay Pc 1)
-    ∷ results Overt a
-gus_at_notification d mode a = gus_before d mode ++ phase_set Bidding ∷ results mode a
-
--- all others: the phase
-abbrev pub views_at_notification : Digests → Mode → Asides → Views
-views_at_notification d mode a = record (opened_to Notification (views_in_discussion d mode a)) {
-  author = bob_at_notification d mode a;
-  coauthor = gus_at_notification d mode a;
 }

@@ -6,17 +6,17 @@ use Rattle.cr_base.specs.declared.command.Query.{Query}
 use Rattle.cr_base.specs.declared.words.Role.TheVariants.{Chair}
 use Rattle.cr_base.specs.History.{History}
 use Rattle.cr_base.specs.HistoryFacts.{standing_of, role_of, is_author, is_conflicted, declared_by_authors, accounts_of, papers_of, own_papers_of, own_bytes_of, number_of}
-use Rattle.cr_base.specs.HistoryFacts.{own_comments_of}
+use Rattle.cr_base.specs.HistoryFacts.{own_comments_of, is_accepted}
 use Rattle.cr_base.specs.Tables.{tables_of}
 use Rattle.cr_base.specs.Answering.{answer_by_role}
 use Rattle.cr_base.specs.Judging.{judge_by_role}
-use Rattle.cr_base.specs.Logins.{command_wants_login, query_wants_login}
+use Rattle.cr_base.specs.Logins.{command_wants_login}
 use Rattle.cr_history.specs.Invariants.{IsRegistered, Invariants}
 use Rattle.cr_policy.specs.Sighting.{Sighting}
 use Rattle.cr_policy.specs.View.{view}
 use Rattle.cr_policy.specs.ViewFacts.{is_user, standing_in_view, accounts_in_view, papers_in_view, own_papers_in_view, own_bytes_in_view, own_comments_in_view}
-use Rattle.cr_policy.specs.ViewFacts.{number_in_view, declared_in_view, authors_in_view, title_in_view, abstract_in_view}
-use Rattle.cr_policy.specs.Judge.{judge, answer}
+use Rattle.cr_policy.specs.ViewFacts.{number_in_view, is_accepted_in_view, declared_in_view, authors_in_view, title_in_view, abstract_in_view}
+use Rattle.cr_policy.specs.Judge.{judge, answer, needs_login}
 use Rattle.cr_policy.specs.Legal.{Legal, MayAsk}
 use Rattle.cr_policy.specs.Witness.{two_registrations, seen_by_nobody, seen_by_alice, one_submission}
 use Rattle.cr_policy.specs.Witness.{submission_seen_by_alice, submission_seen_by_bob, bidding_opened}
@@ -26,11 +26,12 @@ abbrev pub StandingFromView : Type 0
 StandingFromView = (u paper : Option ℕ) (H : History) → standing_in_view u paper (view u H) ≡ standing_of u paper H
 
 -- PublicFacts can be read off what anybody sees, whatever the history: who has registered, in which role, under which
--- name, and the papers; and so can how many of them are the reader's own, how many bytes she has uploaded, and how many comments
--- she has written
+-- name, the papers, and which of them are accepted; and so can how many of them are the reader's own, how many bytes she has
+-- uploaded, and how many comments she has written
 pub record PublicFactsFromView (u : Option ℕ) (H : History) : Type 0 where
   pub accounts : accounts_in_view (view u H) ≡ accounts_of H
   pub papers : papers_in_view (view u H) ≡ papers_of H
+  pub accepted : (p : ℕ) → is_accepted_in_view p (view u H) ≡ is_accepted p H
   pub own_papers : own_papers_in_view (view u H) ≡ own_papers_of u H
   pub own_bytes : own_bytes_in_view (view u H) ≡ own_bytes_of u H
   pub own_comments : own_comments_in_view (view u H) ≡ own_comments_of u H
@@ -42,7 +43,7 @@ pub record ViewSuffices : Type 0 where
   pub commands : (u : Option ℕ) (H : History) (command : Command) → Legal H
       → MayAsk H (command_wants_login command) u → judge u (view u H) command ≡ judge_by_role (tables_of H) u command
   pub queries : (u : Option ℕ) (H : History) (query : Query) → Legal H
-      → MayAsk H (query_wants_login query) u → answer u (view u H) query ≡ answer_by_role (tables_of H) u query
+      → MayAsk H (needs_login (view None H) query) u → answer u (view u H) query ≡ answer_by_role (tables_of H) u query
 
 -- DeclaredFromView: on a legal history, whom a paper's authors declared in conflict with it can be read off what an author
 -- of it sees

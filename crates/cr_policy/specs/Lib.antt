@@ -1,5 +1,6 @@
 pub mod Conference
 pub mod ConferenceLaws
+pub mod ConferenceOutcomes
 pub mod ConferenceViews
 pub mod Judge
 pub mod Laws

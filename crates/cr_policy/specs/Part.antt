@@ -3,7 +3,8 @@ use Rattle.std.specs.Prelude.{ℕ, Bool, true, false, List, ◌==◌, ◌||◌}
 use Rattle.std.specs.List.{list_any}
 
 -- the parts that an entry may have beside its kind and its paper, which are never hidden; `by` is who made it, `value` that of a
--- bid, `seat` what a reviewer is to the paper, `n` a comment's number; `done` is a mark: under the label is a form
+-- bid, `seat` what a reviewer is to the paper, `n` a comment's number; the others are marks: `done` that under the label is a form,
+-- `outcome` that the decision is what became of the reader's paper, `accepted` that the paper is accepted
 pub data Part : Type 0 where
   user : Part
   name : Part
@@ -28,6 +29,9 @@ pub data Part : Type 0 where
   n : Part
   text : Part
   tag : Part
+  decision : Part
+  outcome : Part
+  accepted : Part
 
 -- a number of its own for each part
 abbrev pub part_number : Part → ℕ
@@ -54,6 +58,9 @@ part_number done = 19
 part_number n = 20
 part_number text = 21
 part_number tag = 22
+part_number decision = 23
+part_number outcome = 24
+part_number accepted = 25
 
 -- the part is one of these
 abbrev pub these : List Part → Part → Bool
@@ -84,6 +91,9 @@ whole done = false
 whole n = true
 whole text = true
 whole tag = true
+whole decision = true
+whole outcome = false
+whole accepted = false
 
 -- it does, or is one of these besides
 abbrev pub whole_and : List Part → Part → Bool

@@ -1,7 +1,7 @@
 -- Who is shown which part of an entry: a paragraph for each part, and in it a line for each kind of entry that has it. It
 -- is the trigger table turned round and written anew, from what a committee wants: who sees titles, abstracts, authors,
--- review preferences, reviewers, reviews, comments and tags is the HotCRP manual's, from when they do follows CoCon's phases
--- (CAV 2014). It rests on facts of the history (phase, mode, roles, authors, declared conflicts) and on no other word of the
+-- review preferences, reviewers, reviews, comments, tags and decisions is the HotCRP manual's, from when they do follows CoCon's phases
+-- (CAV 2014). It rests on facts of the history (phase, mode, roles, authors, declared conflicts, withdrawals, decisions) and on no other word of the
 -- trigger table or of a paper's page: who is on the committee, who is in conflict, when the bidding begins, what a mode hides and
 -- whom a tag is for are said again, so that such a word, changed there so that more is shown, is refused here.
 use Rattle.std.specs.Prelude.{ℕ, Bool, true, false, not, List, [], ◌∷◌, ◌++◌, Option, Some, None, unwrap_or, ◌&&◌, ◌||◌, ◌==◌, if◌then◌else◌}
@@ -9,9 +9,11 @@ use Rattle.std.specs.List.{list_any}
 use Rattle.cr_base.specs.declared.entry.Entry.{Entry}
 use Rattle.cr_base.specs.declared.entry.Entry.TheVariants.{Registered, Named, PhaseSet, ModeSet, Submitted}
 use Rattle.cr_base.specs.declared.entry.Entry.TheVariants.{Coauthor, Revised, Uploaded, Withdrawn, Conflict}
-use Rattle.cr_base.specs.declared.entry.Entry.TheVariants.{Bid, Assigned, Unassigned, Reviewed, Commented, Tagged}
+use Rattle.cr_base.specs.declared.entry.Entry.TheVariants.{Bid, Assigned, Unassigned, Reviewed, Commented, Tagged, Decided}
 use Rattle.cr_base.specs.declared.entry.EntryKind.{EntryKind}
 use Rattle.cr_base.specs.declared.entry.Stamped.{Stamped}
+use Rattle.cr_base.specs.declared.words.Decision.{Decision}
+use Rattle.cr_base.specs.declared.words.Decision.TheVariants.{Accept, Reject}
 use Rattle.cr_base.specs.declared.words.Kind.{Kind}
 use Rattle.cr_base.specs.declared.words.Phase.{Phase}
 use Rattle.cr_base.specs.declared.words.Phase.TheVariants.{Setup, Submission, Bidding, Reviewing, Discussion, Notification, Closed}
@@ -21,7 +23,7 @@ use Rattle.cr_base.specs.declared.words.Role.{Role}
 use Rattle.cr_base.specs.declared.words.Role.TheVariants.{Account, Member, Chair}
 use Rattle.cr_base.specs.Lists.{given, is_number, until}
 use Rattle.cr_base.specs.History.{History}
-use Rattle.cr_base.specs.HistoryFacts.{phase_of, mode_of, role_of, is_author, is_conflict_on}
+use Rattle.cr_base.specs.HistoryFacts.{phase_of, mode_of, role_of, is_author, is_conflict_on, is_withdrawn, decision_of}
 use Rattle.cr_base.specs.Rows.{kind_of}
 
 -- ---- who reads
@@ -66,6 +68,16 @@ is_past_discussion Reviewing = false
 is_past_discussion Discussion = false
 is_past_discussion Notification = true
 is_past_discussion Closed = true
+
+-- the conference is closed
+abbrev pub is_over : Phase → Bool
+is_over Setup = false
+is_over Submission = false
+is_over Bidding = false
+is_over Reviewing = false
+is_over Discussion = false
+is_over Notification = false
+is_over Closed = true
 
 -- authors are hidden from members
 abbrev pub hides_authors : Mode → Bool
@@ -116,6 +128,20 @@ is_answered u p H = is_author u p H && names_reviewers (mode_of H) && is_past_di
 abbrev pub is_notified : Option ℕ → ℕ → History → Bool
 is_notified u p H = is_author u p H && is_past_discussion (phase_of H)
 
+-- the conference takes the paper
+abbrev pub takes : Option Decision → Bool
+takes None = false
+takes (Some Accept) = true
+takes (Some Reject) = false
+
+-- the paper is in the programme: the conference takes it, it isn't withdrawn, and it is the notification or later
+abbrev pub is_in_programme : ℕ → History → Bool
+is_in_programme p H = takes (decision_of p H) && not (is_withdrawn p H) && is_past_discussion (phase_of H)
+
+-- and it appears, for everyone to read: once the conference is closed
+abbrev pub appears : ℕ → History → Bool
+appears p H = is_in_programme p H && is_over (phase_of H)
+
 -- who discusses a paper is told who comments on it: a chair always, others unless reviewers are hidden
 abbrev pub knows_writers : Option ℕ → History → Bool
 knows_writers u H = leads_committee (role_of u H) || not (hides_reviewers (mode_of H))
@@ -138,6 +164,14 @@ gives_content p _ = false
 
 abbrev pub is_superseded : ℕ → History → Bool
 is_superseded p later = list_any (λ (e : Stamped). gives_content p e.entry) later
+
+-- the entry decides on the paper; and one of these later ones decides again
+abbrev pub decides : ℕ → Entry → Bool
+decides p (Decided paper decision) = paper == p
+decides p _ = false
+
+abbrev pub is_decided_again : ℕ → History → Bool
+is_decided_again p later = list_any (λ (e : Stamped). decides p e.entry) later
 
 -- the entry is a form under the paper's label of this ordinal; and one of these is
 abbrev pub gives_form : ℕ → ℕ → Entry → Bool
@@ -195,6 +229,18 @@ is_setters tag = not (is_committees tag) && not (is_chairs tag)
 abbrev pub reads_tag : Option ℕ → History → ℕ → List ℕ → Bool
 reads_tag u H paper tag = (is_committees tag && handles u paper H) || (is_chairs tag && oversees u paper H)
 
+-- she reads the decision on a paper: she made it, or discusses the paper
+abbrev pub reads_decision : Option ℕ → History → ℕ → ℕ → Bool
+reads_decision u H maker paper = is_number u maker || discusses u paper H
+
+-- she learns what became of her own paper: by the last decision, where she is notified
+abbrev pub learns_outcome : Option ℕ → History → History → ℕ → Bool
+learns_outcome u H later paper = not (is_decided_again paper later) && is_notified u paper H
+
+-- everyone learns that a paper is in the programme: by the last decision on it
+abbrev pub is_announced : History → History → ℕ → Bool
+is_announced H later paper = not (is_decided_again paper later) && is_in_programme paper H
+
 -- she made the entry, or is an author of its paper
 abbrev pub owns : Option ℕ → History → ℕ → ℕ → Bool
 owns u H maker paper = is_number u maker || is_author u paper H
@@ -204,22 +250,25 @@ abbrev pub is_party : Option ℕ → History → ℕ → ℕ → ℕ → Bool
 is_party u H maker paper user = is_number u user || is_number u maker || leads u paper H
 
 -- accounts, roles, phases, modes and submissions, all of them. Of a paper's other entries her own and, as an author, all but
--- conflicts that no author made; co-authors where she oversees the paper, and where she handles it unless authors are hidden;
--- a revision that none has replaced where she serves, an upload that none has superseded where she handles the paper; a
--- withdrawal where she serves; of conflicts the ones that name her, and all where she oversees the paper; of bids her own, and all
+-- conflicts that no author made; co-authors where she oversees the paper, where she handles it unless authors are hidden, and
+-- where it is in the programme; a revision that none has replaced where she serves, or the paper is in the programme; an upload
+-- that none has superseded where she handles the paper, or it appears; a withdrawal where she serves; of conflicts the ones that name her, and all where she oversees the paper; of bids her own, and all
 -- where she oversees the paper; of assignments those that she is a party to, all where she discusses the paper, and those to
 -- her own paper where she is named its reviewers; of forms her own, the first of each label where she leads the paper, those that
 -- are discussed where she discusses it, and of her own paper the last of each label where she is notified; of comments her own, and
--- all where she discusses the paper; and of tags those that she set, and those that she reads
+-- all where she discusses the paper; of tags those that she set, and those that she reads; and of decisions those that she reads,
+-- the last one by which she learns what became of her paper, and the last one of a paper in the programme
 abbrev pub is_told : Option ℕ → History → History → History → ℕ → Entry → Bool
 is_told u H before later maker (Registered user name digest) = true
 is_told u H before later maker (Named user role) = true
 is_told u H before later maker (PhaseSet phase) = true
 is_told u H before later maker (ModeSet mode) = true
 is_told u H before later maker (Submitted paper title abstract) = true
-is_told u H before later maker (Coauthor paper user) = owns u H maker paper || oversees u paper H || (handles u paper H && not (hides_authors (mode_of H)))
-is_told u H before later maker (Revised paper title abstract) = owns u H maker paper || (not (is_replaced paper later) && serves u H)
-is_told u H before later maker (Uploaded paper version content) = owns u H maker paper || (not (is_superseded paper later) && handles u paper H)
+is_told u H before later maker (Coauthor paper user) = owns u H maker paper || oversees u paper H || (handles u paper H && not (hides_authors (mode_of H))) || is_in_programme paper H
+is_told u H before later maker (Revised paper title abstract) =
+    owns u H maker paper || (not (is_replaced paper later) && (serves u H || is_in_programme paper H))
+is_told u H before later maker (Uploaded paper version content) =
+    owns u H maker paper || (not (is_superseded paper later) && (handles u paper H || appears paper H))
 is_told u H before later maker (Withdrawn paper) = owns u H maker paper || serves u H
 is_told u H before later maker (Conflict paper user on) =
     is_number u user
@@ -235,6 +284,8 @@ is_told u H before later maker (Reviewed paper ordinal version form) =
     || learns_form u H later paper ordinal
 is_told u H before later maker (Commented paper n ordinal text) = is_number u maker || discusses u paper H
 is_told u H before later maker (Tagged paper tag on) = is_number u maker || reads_tag u H paper tag
+is_told u H before later maker (Decided paper decision) =
+    reads_decision u H maker paper || learns_outcome u H later paper || is_announced H later paper
 
 -- ---- the parts of an entry that she is told of
 
@@ -267,6 +318,7 @@ paper_for u H before later maker (Unassigned paper user ordinal) = Some paper
 paper_for u H before later maker (Reviewed paper ordinal version form) = Some paper
 paper_for u H before later maker (Commented paper n ordinal text) = Some paper
 paper_for u H before later maker (Tagged paper tag on) = Some paper
+paper_for u H before later maker (Decided paper decision) = Some paper
 paper_for u H before later maker _ = None
 
 -- who reviews a paper: to the parties of the assignment, to authors who are named the reviewers, and to those who discuss the
@@ -310,42 +362,46 @@ abbrev pub mode_for : PartFor (Option Mode)
 mode_for u H before later maker (ModeSet mode) = Some mode
 mode_for u H before later maker _ = None
 
--- who submitted a paper: to its authors, to those who oversee it, and to those who handle it unless authors are hidden;
+-- who submitted a paper: to its authors, to those who oversee it, to those who handle it unless authors are hidden, and to everyone
+-- where it is in the programme;
 -- who made a bid: to those who oversee the paper; who made a comment: to those who discuss the paper and are told who comments;
 -- who made any other entry: to nobody
 abbrev pub maker_for : PartFor (Option ℕ)
 maker_for u H before later maker (Submitted paper title abstract) =
-    where_known (is_author u paper H || oversees u paper H || (handles u paper H && not (hides_authors (mode_of H)))) maker
+    where_known (is_author u paper H || oversees u paper H || (handles u paper H && not (hides_authors (mode_of H))) || is_in_programme paper H) maker
 maker_for u H before later maker (Bid paper value) = where_known (oversees u paper H) maker
 maker_for u H before later maker (Commented paper n ordinal text) = where_known (discusses u paper H && knows_writers u H) maker
 maker_for u H before later maker _ = None
 
--- a title: to the paper's authors and to whoever made the entry, and the last one to those who serve
+-- a title: to the paper's authors and to whoever made the entry, and the last one to those who serve, and to everyone where the
+-- paper is in the programme
 abbrev pub title_for : PartFor (Option (List ℕ))
-title_for u H before later maker (Submitted paper title abstract) = where_known (is_author u paper H || (not (is_replaced paper later) && serves u H)) title
+title_for u H before later maker (Submitted paper title abstract) =
+    where_known (is_author u paper H || (not (is_replaced paper later) && (serves u H || is_in_programme paper H))) title
 title_for u H before later maker (Revised paper title abstract) =
-    where_known (owns u H maker paper || (not (is_replaced paper later) && serves u H)) title
+    where_known (owns u H maker paper || (not (is_replaced paper later) && (serves u H || is_in_programme paper H))) title
 title_for u H before later maker _ = None
 
--- an abstract: to the paper's authors and to whoever made the entry, and the last one to those who handle the paper
+-- an abstract: to the paper's authors and to whoever made the entry, and the last one to those who handle the paper, and to
+-- everyone where it appears
 abbrev pub abstract_for : PartFor (Option (List ℕ))
 abstract_for u H before later maker (Submitted paper title abstract) =
-    where_known (is_author u paper H || (not (is_replaced paper later) && handles u paper H)) abstract
+    where_known (is_author u paper H || (not (is_replaced paper later) && (handles u paper H || appears paper H))) abstract
 abstract_for u H before later maker (Revised paper title abstract) =
-    where_known (owns u H maker paper || (not (is_replaced paper later) && handles u paper H)) abstract
+    where_known (owns u H maker paper || (not (is_replaced paper later) && (handles u paper H || appears paper H))) abstract
 abstract_for u H before later maker _ = None
 
 -- a version's number, and its content: to the paper's authors and to whoever made the entry, and the last one to those who
--- handle the paper
+-- handle the paper, and to everyone where it appears
 abbrev pub version_for : PartFor (Option ℕ)
 version_for u H before later maker (Uploaded paper version content) =
-    where_known (owns u H maker paper || (not (is_superseded paper later) && handles u paper H)) version
+    where_known (owns u H maker paper || (not (is_superseded paper later) && (handles u paper H || appears paper H))) version
 version_for u H before later maker (Reviewed paper ordinal version form) = where_known (reads_form u H before later maker paper ordinal) version
 version_for u H before later maker _ = None
 
 abbrev pub content_for : PartFor (Option (List ℕ))
 content_for u H before later maker (Uploaded paper version content) =
-    where_known (owns u H maker paper || (not (is_superseded paper later) && handles u paper H)) content
+    where_known (owns u H maker paper || (not (is_superseded paper later) && (handles u paper H || appears paper H))) content
 content_for u H before later maker _ = None
 
 -- whether a conflict, or a tag, is on: always
@@ -415,6 +471,22 @@ text_for u H before later maker _ = None
 abbrev pub tag_for : PartFor (Option (List ℕ))
 tag_for u H before later maker (Tagged paper tag on) = Some tag
 tag_for u H before later maker _ = None
+
+-- a decision: to those who read it, and to authors who learn of it
+abbrev pub decision_for : PartFor (Option Decision)
+decision_for u H before later maker (Decided paper decision) =
+    where_known (reads_decision u H maker paper || learns_outcome u H later paper) decision
+decision_for u H before later maker _ = None
+
+-- the mark that it is what became of a paper: to its authors, who learn of it
+abbrev pub outcome_for : PartFor (Option Bool)
+outcome_for u H before later maker (Decided paper decision) = where_known (learns_outcome u H later paper) true
+outcome_for u H before later maker _ = None
+
+-- the mark that a paper is accepted: to everyone, where it is in the programme
+abbrev pub accepted_for : PartFor (Option Bool)
+accepted_for u H before later maker (Decided paper decision) = where_known (is_announced H later paper) true
+accepted_for u H before later maker _ = None
 
 -- ---- all entries
 

@@ -5,8 +5,9 @@ use Rattle.cr_base.specs.declared.entry.EntryKind.TheVariants as kinds
 use Rattle.cr_base.specs.declared.entry.Entry.{Entry}
 use Rattle.cr_base.specs.declared.entry.Entry.TheVariants.{Registered, Named, PhaseSet, ModeSet, Submitted}
 use Rattle.cr_base.specs.declared.entry.Entry.TheVariants.{Coauthor, Revised, Uploaded, Withdrawn, Conflict}
-use Rattle.cr_base.specs.declared.entry.Entry.TheVariants.{Bid, Assigned, Unassigned, Reviewed, Commented, Tagged}
+use Rattle.cr_base.specs.declared.entry.Entry.TheVariants.{Bid, Assigned, Unassigned, Reviewed, Commented, Tagged, Decided}
 use Rattle.cr_base.specs.declared.entry.Stamped.{Stamped}
+use Rattle.cr_base.specs.declared.words.Decision.{Decision}
 use Rattle.cr_base.specs.declared.words.Kind.{Kind}
 use Rattle.cr_base.specs.declared.words.Phase.{Phase}
 use Rattle.cr_base.specs.declared.words.Mode.{Mode}
@@ -43,6 +44,9 @@ pub record Sighting : Type 0 where
   pub n : Option ℕ
   pub text : Option (List ℕ)
   pub tag : Option (List ℕ)
+  pub decision : Option Decision
+  pub outcome : Option Bool
+  pub accepted : Option Bool
 
 -- ---- an entry with all its parts
 
@@ -75,6 +79,9 @@ blank kind = record {
   n = None;
   text = None;
   tag = None;
+  decision = None;
+  outcome = None;
+  accepted = None;
 }
 
 -- the parts that each kind of entry has; `by` is its maker
@@ -105,6 +112,8 @@ entire by (Reviewed paper ordinal version form) = record (blank kinds.Reviewed) 
 entire by (Commented paper n ordinal text) =
     record (blank kinds.Commented) { paper = Some paper; by = Some by; n = Some n; ordinal = Some (unwrap_or ordinal 0); text = Some text }
 entire by (Tagged paper tag on) = record (blank kinds.Tagged) { paper = Some paper; tag = Some tag; on = Some on }
+entire by (Decided paper decision) =
+    record (blank kinds.Decided) { paper = Some paper; decision = Some decision; outcome = Some true; accepted = Some true }
 
 -- ---- the parts that are shown
 
@@ -142,6 +151,9 @@ masked shows mine s = record {
   n = where_shown (shows part.n) s.n;
   text = where_shown (shows part.text) s.text;
   tag = where_shown (shows part.tag) s.tag;
+  decision = where_shown (shows part.decision) s.decision;
+  outcome = where_shown (shows part.outcome) s.outcome;
+  accepted = where_shown (shows part.accepted) s.accepted;
 }
 
 -- the entry with those parts alone

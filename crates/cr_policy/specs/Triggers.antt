@@ -5,15 +5,16 @@ use Rattle.std.specs.List.{list_any}
 use Rattle.cr_base.specs.declared.entry.Entry.{Entry}
 use Rattle.cr_base.specs.declared.entry.Entry.TheVariants.{Registered, Named, PhaseSet, ModeSet, Submitted}
 use Rattle.cr_base.specs.declared.entry.Entry.TheVariants.{Coauthor, Revised, Uploaded, Withdrawn, Conflict}
-use Rattle.cr_base.specs.declared.entry.Entry.TheVariants.{Bid, Assigned, Unassigned, Reviewed, Commented, Tagged}
+use Rattle.cr_base.specs.declared.entry.Entry.TheVariants.{Bid, Assigned, Unassigned, Reviewed, Commented, Tagged, Decided}
 use Rattle.cr_base.specs.declared.words.Phase.{Phase}
 use Rattle.cr_base.specs.declared.standing.Standing.{Standing}
 use Rattle.cr_base.specs.declared.words.Phase.TheVariants.{Bidding, Discussion, Notification}
 use Rattle.cr_base.specs.declared.words.Mode.{Mode}
 use Rattle.cr_base.specs.declared.words.Role.{Role}
+use Rattle.cr_base.specs.Decisions.{is_published}
 use Rattle.cr_base.specs.Lists.{is_nothing, is_number, until}
-use Rattle.cr_base.specs.History.{History, all_told, opens_discussion, title_told, upload_told, form_told}
-use Rattle.cr_base.specs.HistoryFacts.{phase_of, mode_of, role_of, is_author, is_conflicted}
+use Rattle.cr_base.specs.History.{History, all_told, opens_discussion, title_told, upload_told, form_told, decision_told}
+use Rattle.cr_base.specs.HistoryFacts.{phase_of, mode_of, role_of, is_author, is_conflicted, is_accepted}
 use Rattle.cr_base.specs.Page.{is_clear_member, is_clear_chair}
 use Rattle.cr_base.specs.Phases.{is_from}
 use Rattle.cr_base.specs.TagTexts.{is_for_all, is_for_chairs}
@@ -22,7 +23,7 @@ use Rattle.cr_policy.specs.Part as part
 use Rattle.cr_policy.specs.Part.{Part, these, whole, whole_and}
 
 -- what the table asks at the end of the history: who reads, the phase, the mode, the reader's role, her ties to each
--- paper, and which user is an author of which paper
+-- paper, which user is an author of which paper, and which papers are accepted
 pub record Reader : Type 0 where
   pub number : Option ℕ
   pub now : Phase
@@ -31,6 +32,7 @@ pub record Reader : Type 0 where
   pub author : ℕ → Bool
   pub conflicted : ℕ → Bool
   pub wrote : ℕ → ℕ → Bool
+  pub accepted : ℕ → Bool
 
 -- the reader that a user is at the end of a history
 abbrev pub reader : Option ℕ → History → Reader
@@ -42,6 +44,7 @@ reader u H = record {
   author = λ p. is_author u p H;
   conflicted = λ p. is_conflicted u p H;
   wrote = λ v p. is_author (Some v) p H;
+  accepted = λ p. is_accepted p H;
 }
 
 -- how the reader stands to a paper; no row asks whether she reviews it
@@ -84,7 +87,7 @@ in_open_mode r = is_overt r.mode
 abbrev pub none_in : {A : Type 0} → (Entry → List A) → History → Bool
 none_in told H = is_nothing (all_told told H)
 
--- none of these entries is of the same matter as this one: a paper's texts, its content, or the review under a label
+-- none of these entries is of the same matter as this one: a paper's texts, its content, the review under a label, or the decision
 abbrev pub none_alike : Entry → History → Bool
 none_alike (Registered user name digest) H = true
 none_alike (Named user role) H = true
@@ -102,6 +105,7 @@ none_alike (Unassigned paper user ordinal) H = true
 none_alike (Reviewed paper ordinal version form) H = none_in (form_told paper ordinal) H
 none_alike (Commented paper n ordinal text) H = true
 none_alike (Tagged paper tag on) H = true
+none_alike (Decided paper decision) H = none_in (decision_told paper) H
 
 -- what a row may ask of where an entry stands: whether it is the first of its matter; the last; the last of those before the
 -- discussion was opened; and whether it was made when the discussion was opened already
@@ -149,6 +153,10 @@ seat_rows r paper user =
 abbrev pub discusses : Reader → ℕ → Bool
 discusses r paper = is_clear_member (standing_to r paper) && is_from Discussion r.now
 
+-- everyone may read the paper: it is accepted, and the conference is closed
+abbrev pub published : Reader → ℕ → Bool
+published r paper = is_published r.now (r.accepted paper)
+
 -- members are told who wrote what they discuss: chairs always
 abbrev pub names_writers : Reader → ℕ → Bool
 names_writers r paper = is_clear_chair (standing_to r paper) || unless_anonymous r
@@ -174,20 +182,27 @@ rows r at by (Submitted paper title abstract) =
     ∷ (at.last && is_clear_member (standing_to r paper) && is_from Bidding r.now) see these (part.abstract ∷ [])
     ∷ (is_clear_chair (standing_to r paper) && is_from Bidding r.now) see these (part.by ∷ [])
     ∷ (is_clear_member (standing_to r paper) && unless_anonymous r && is_from Bidding r.now) see these (part.by ∷ [])
+    ∷ r.accepted paper see these (part.by ∷ [])
+    ∷ (at.last && r.accepted paper) see these (part.title ∷ [])
+    ∷ (at.last && published r paper) see these (part.abstract ∷ [])
     ∷ []
 rows r at by (Coauthor paper user) =
     authors r paper see whole
     ∷ (is_clear_chair (standing_to r paper) && is_from Bidding r.now) see these (part.user ∷ [])
     ∷ (is_clear_member (standing_to r paper) && unless_anonymous r && is_from Bidding r.now) see these (part.user ∷ [])
+    ∷ r.accepted paper see these (part.user ∷ [])
     ∷ []
 rows r at by (Revised paper title abstract) =
     authors r paper see whole
     ∷ (at.last && members r && is_from Bidding r.now) see these (part.title ∷ [])
     ∷ (at.last && is_clear_member (standing_to r paper) && is_from Bidding r.now) see these (part.abstract ∷ [])
+    ∷ (at.last && r.accepted paper) see these (part.title ∷ [])
+    ∷ (at.last && published r paper) see these (part.abstract ∷ [])
     ∷ []
 rows r at by (Uploaded paper version content) =
     authors r paper see whole
     ∷ (at.last && is_clear_member (standing_to r paper) && is_from Bidding r.now) see whole
+    ∷ (at.last && published r paper) see whole
     ∷ []
 rows r at by (Withdrawn paper) =
     authors r paper see paper_alone
@@ -216,6 +231,11 @@ rows r at by (Commented paper n ordinal text) =
 rows r at by (Tagged paper tag on) =
     (is_for_all tag && is_clear_member (standing_to r paper) && is_from Bidding r.now) see whole
     ∷ (is_for_chairs tag && is_clear_chair (standing_to r paper) && is_from Bidding r.now) see whole
+    ∷ []
+rows r at by (Decided paper decision) =
+    discusses r paper see whole
+    ∷ (at.last && authors r paper && is_from Notification r.now) see these (part.outcome ∷ part.decision ∷ [])
+    ∷ (at.last && r.accepted paper) see these (part.accepted ∷ [])
     ∷ []
 
 -- whether a row applies

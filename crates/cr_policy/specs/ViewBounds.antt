@@ -7,17 +7,17 @@ use Rattle.cr_base.specs.declared.entry.Entry.TheVariants.{Coauthor, Conflict, A
 use Rattle.cr_base.specs.declared.entry.EntryKind.{EntryKind}
 use Rattle.cr_base.specs.declared.entry.EntryKind.TheVariants as kinds
 use Rattle.cr_base.specs.declared.entry.Stamped.{Stamped}
-use Rattle.cr_base.specs.Lists.{listed, is_number}
+use Rattle.cr_base.specs.Lists.{listed, is_number, at_some}
 use Rattle.cr_base.specs.History.{History}
 use Rattle.cr_base.specs.HistoryFacts.{phase_of, mode_of, role_of, is_author}
 use Rattle.cr_policy.specs.Sighting.{Sighting, blank}
 use Rattle.cr_policy.specs.View.{view}
 use Rattle.cr_policy.specs.ViewFacts.{only, is_user, is_kind}
 use Rattle.cr_policy.specs.ShownTo.{PartFor, each_told, leads_committee, is_past_reviewing, is_past_discussion, hides_reviewers, names_reviewers}
-use Rattle.cr_policy.specs.ShownTo.{serves, handles, oversees, leads, is_chairs, is_setters, kind_for, mark_for, paper_for, user_for, name_for}
+use Rattle.cr_policy.specs.ShownTo.{serves, handles, oversees, leads, discusses, is_in_programme, appears, is_chairs, is_setters, kind_for, mark_for, paper_for, user_for, name_for}
 use Rattle.cr_policy.specs.ShownTo.{digest_for, role_for, phase_for, mode_for, maker_for, title_for, abstract_for, version_for, content_for}
 use Rattle.cr_policy.specs.ShownTo.{switch_for, value_for, seat_for, ordinal_for}
-use Rattle.cr_policy.specs.ShownTo.{score_for, confidence_for, to_authors_for, to_pc_for, done_for, n_for, text_for, tag_for}
+use Rattle.cr_policy.specs.ShownTo.{score_for, confidence_for, to_authors_for, to_pc_for, done_for, n_for, text_for, tag_for, decision_for, outcome_for, accepted_for}
 
 -- ---- each part
 
@@ -110,6 +110,16 @@ CommentsShown = Shows (λ (s : Sighting). s.text) text_for
 abbrev pub TagsShown : Type 0
 TagsShown = Shows (λ (s : Sighting). s.tag) tag_for
 
+-- decisions, that one is what became of a paper, and that the paper is accepted
+abbrev pub DecisionsShown : Type 0
+DecisionsShown = Shows (λ (s : Sighting). s.decision) decision_for
+
+abbrev pub OutcomesShown : Type 0
+OutcomesShown = Shows (λ (s : Sighting). s.outcome) outcome_for
+
+abbrev pub AcceptedShown : Type 0
+AcceptedShown = Shows (λ (s : Sighting). s.accepted) accepted_for
+
 -- ---- bids, and who reviews
 
 -- the sighting is on the paper, of an entry that assigns or unassigns another than the reader, and isn't her own
@@ -189,52 +199,91 @@ ChairsTags =
     (u : Option ℕ) (p : ℕ) (H : History) → IsFalse (oversees u p H)
     → All (λ (s : Sighting). IsFalse (is_others kinds.Tagged p s && is_tag_so is_chairs s.tag)) (view u H)
 
--- ---- earlier texts and contents
+-- ---- decisions
 
--- the text that a sighting shows of the paper, whatever kind of entry it is of, where another than the reader made it
-abbrev pub text_shown : (Sighting → Option (List ℕ)) → ℕ → Sighting → List (List ℕ)
-text_shown text p s = only (is_number s.paper p && not s.mine) (listed (text s))
+-- before the notification nobody but those who discuss a paper is shown that there is a decision on it
+abbrev pub DecisionsEarly : Type 0
+DecisionsEarly =
+    (u : Option ℕ) (p : ℕ) (H : History) → IsFalse (discusses u p H) → IsFalse (is_past_discussion (phase_of H))
+    → All (λ (s : Sighting). IsFalse (is_others kinds.Decided p s)) (view u H)
+
+-- nobody but they and the paper's authors is ever shown more than that it is accepted, and that where it is in the programme
+abbrev pub DecisionsUntold : Type 0
+DecisionsUntold =
+    (u : Option ℕ) (p : ℕ) (H : History) → IsFalse (is_author u p H || discusses u p H)
+    → All
+    (λ (s : Sighting). IsTrue (is_others kinds.Decided p s)
+    → IsTrue (is_in_programme p H) × (s ≡ record (blank kinds.Decided) { paper = Some p; accepted = Some true }))
+    (view u H)
+
+-- ---- earlier texts, contents and decisions
+
+-- the part that a sighting shows of the paper, whatever kind of entry it is of, where another than the reader made it
+abbrev pub part_shown : {A : Type 0} → (Sighting → Option A) → ℕ → Sighting → List A
+part_shown part p s = only (is_number s.paper p && not s.mine) (listed (part s))
 
 -- of a paper's titles that they didn't give it themselves, others than its authors are shown one at most, and of its abstracts
 -- and its contents too
 abbrev pub OneTitle : Type 0
-OneTitle = (u : Option ℕ) (p : ℕ) (H : History) → IsFalse (is_author u p H) → length (flat_map (text_shown (λ (s : Sighting). s.title) p) (view u H)) ≤ 1
+OneTitle = (u : Option ℕ) (p : ℕ) (H : History) → IsFalse (is_author u p H) → length (flat_map (part_shown (λ (s : Sighting). s.title) p) (view u H)) ≤ 1
 
 abbrev pub OneAbstract : Type 0
-OneAbstract = (u : Option ℕ) (p : ℕ) (H : History) → IsFalse (is_author u p H) → length (flat_map (text_shown (λ (s : Sighting). s.abstract) p) (view u H)) ≤ 1
+OneAbstract = (u : Option ℕ) (p : ℕ) (H : History) → IsFalse (is_author u p H) → length (flat_map (part_shown (λ (s : Sighting). s.abstract) p) (view u H)) ≤ 1
 
 abbrev pub OneContent : Type 0
-OneContent = (u : Option ℕ) (p : ℕ) (H : History) → IsFalse (is_author u p H) → length (flat_map (text_shown (λ (s : Sighting). s.content) p) (view u H)) ≤ 1
+OneContent = (u : Option ℕ) (p : ℕ) (H : History) → IsFalse (is_author u p H) → length (flat_map (part_shown (λ (s : Sighting). s.content) p) (view u H)) ≤ 1
+
+-- and of the decisions on a paper that she didn't make herself who doesn't discuss it is shown one at most
+abbrev pub OneDecision : Type 0
+OneDecision =
+    (u : Option ℕ) (p : ℕ) (H : History) → IsFalse (discusses u p H)
+    → length (flat_map (part_shown (λ (s : Sighting). s.decision) p) (view u H)) ≤ 1
 
 -- ---- who neither wrote a paper nor handles it
 
--- all that a sighting on a paper has for one who neither wrote nor handles it: the number, the title and that it is withdrawn
--- where she serves, the whole of a conflict or an assignment that names her, the whole of what she made, and where she leads the
--- paper before the bidding the whole of each assignment, and under which labels there is a form
-abbrev pub IsLeft : Option ℕ → Bool → Bool → EntryKind → Sighting → Type 0
-IsLeft u titled leading kinds.Registered s = ⊥
-IsLeft u titled leading kinds.Named s = ⊥
-IsLeft u titled leading kinds.PhaseSet s = ⊥
-IsLeft u titled leading kinds.ModeSet s = ⊥
-IsLeft u titled leading kinds.Submitted s = s ≡ record (blank kinds.Submitted) { paper = s.paper; title = if titled then s.title else None }
-IsLeft u titled leading kinds.Coauthor s = IsTrue s.mine × (s ≡ record (blank kinds.Coauthor) { mine = s.mine; paper = s.paper; user = s.user })
-IsLeft u titled leading kinds.Revised s =
-    IsTrue (s.mine || titled)
-    × (s ≡ record (blank kinds.Revised) { mine = s.mine; paper = s.paper; title = s.title; abstract = if s.mine then s.abstract else None })
-IsLeft u titled leading kinds.Uploaded s =
-    IsTrue s.mine × (s ≡ record (blank kinds.Uploaded) { mine = s.mine; paper = s.paper; version = s.version; content = s.content })
-IsLeft u titled leading kinds.Withdrawn s = IsTrue (s.mine || titled) × (s ≡ record (blank kinds.Withdrawn) { mine = s.mine; paper = s.paper })
-IsLeft u titled leading kinds.Conflict s =
+-- what lets one know more of a paper who neither wrote nor handles it: whether she serves, whether she leads the paper, whether it
+-- is in the programme, and whether it appears
+pub record Outsider : Type 0 where
+  pub serving : Bool
+  pub leading : Bool
+  pub announced : Bool
+  pub appearing : Bool
+
+-- all that a sighting on a paper has for her: the number; the title where she serves, and that it is withdrawn; the whole of a
+-- conflict or an assignment that names her; the whole of what she made; where she leads the paper before the bidding the whole of
+-- each assignment, and under which labels there is a form; of a paper in the programme that it is accepted, its authors and its
+-- title; and of one that appears its abstract and its content
+abbrev pub IsLeft : Option ℕ → Outsider → EntryKind → Sighting → Type 0
+IsLeft u is kinds.Registered s = ⊥
+IsLeft u is kinds.Named s = ⊥
+IsLeft u is kinds.PhaseSet s = ⊥
+IsLeft u is kinds.ModeSet s = ⊥
+IsLeft u is kinds.Submitted s =
+    s ≡ record (blank kinds.Submitted) {
+      paper = s.paper;
+      by = if is.announced then s.by else None;
+      title = if is.serving || is.announced then s.title else None;
+      abstract = if is.appearing then s.abstract else None;
+    }
+IsLeft u is kinds.Coauthor s = IsTrue (s.mine || is.announced) × (s ≡ record (blank kinds.Coauthor) { mine = s.mine; paper = s.paper; user = s.user })
+IsLeft u is kinds.Revised s =
+    IsTrue (s.mine || is.serving || is.announced)
+    × (s ≡ record (blank kinds.Revised) { mine = s.mine; paper = s.paper; title = s.title; abstract = if s.mine || is.appearing then s.abstract else None })
+IsLeft u is kinds.Uploaded s =
+    IsTrue (s.mine || is.appearing)
+    × (s ≡ record (blank kinds.Uploaded) { mine = s.mine; paper = s.paper; version = s.version; content = s.content })
+IsLeft u is kinds.Withdrawn s = IsTrue (s.mine || is.serving) × (s ≡ record (blank kinds.Withdrawn) { mine = s.mine; paper = s.paper })
+IsLeft u is kinds.Conflict s =
     IsTrue (s.mine || is_user u s.user) × (s ≡ record (blank kinds.Conflict) { mine = s.mine; paper = s.paper; user = s.user; on = s.on })
-IsLeft u titled leading kinds.Bid s = IsTrue s.mine × (s ≡ record (blank kinds.Bid) { mine = s.mine; paper = s.paper; value = s.value })
-IsLeft u titled leading kinds.Assigned s =
-    IsTrue (s.mine || is_user u s.user || leading)
+IsLeft u is kinds.Bid s = IsTrue s.mine × (s ≡ record (blank kinds.Bid) { mine = s.mine; paper = s.paper; value = s.value })
+IsLeft u is kinds.Assigned s =
+    IsTrue (s.mine || is_user u s.user || is.leading)
     × (s ≡ record (blank kinds.Assigned) { mine = s.mine; paper = s.paper; user = s.user; seat = s.seat; ordinal = s.ordinal })
-IsLeft u titled leading kinds.Unassigned s =
-    IsTrue (s.mine || is_user u s.user || leading)
+IsLeft u is kinds.Unassigned s =
+    IsTrue (s.mine || is_user u s.user || is.leading)
     × (s ≡ record (blank kinds.Unassigned) { mine = s.mine; paper = s.paper; user = s.user; ordinal = s.ordinal })
-IsLeft u titled leading kinds.Reviewed s =
-    IsTrue (s.mine || leading)
+IsLeft u is kinds.Reviewed s =
+    IsTrue (s.mine || is.leading)
     × (s ≡ record (blank kinds.Reviewed) {
       mine = s.mine;
       paper = s.paper;
@@ -244,38 +293,65 @@ IsLeft u titled leading kinds.Reviewed s =
       confidence = if s.mine then s.confidence else None;
       to_authors = if s.mine then s.to_authors else None;
       to_pc = if s.mine then s.to_pc else None;
-      done = if leading then s.done else None;
+      done = if is.leading then s.done else None;
     })
-IsLeft u titled leading kinds.Commented s =
+IsLeft u is kinds.Commented s =
     IsTrue s.mine × (s ≡ record (blank kinds.Commented) { mine = s.mine; paper = s.paper; n = s.n; ordinal = s.ordinal; text = s.text })
-IsLeft u titled leading kinds.Tagged s = IsTrue s.mine × (s ≡ record (blank kinds.Tagged) { mine = s.mine; paper = s.paper; tag = s.tag; on = s.on })
+IsLeft u is kinds.Tagged s = IsTrue s.mine × (s ≡ record (blank kinds.Tagged) { mine = s.mine; paper = s.paper; tag = s.tag; on = s.on })
+IsLeft u is kinds.Decided s =
+    IsTrue (s.mine || is.announced)
+    × (s ≡ record (blank kinds.Decided) {
+      mine = s.mine;
+      paper = s.paper;
+      decision = if s.mine then s.decision else None;
+      accepted = if is.announced then s.accepted else None;
+    })
+
+-- what she is to the paper
+abbrev pub outsider : Option ℕ → ℕ → History → Outsider
+outsider u p H = record { serving = serves u H; leading = leads u p H; announced = is_in_programme p H; appearing = appears p H }
 
 -- so of any other than an author: one in conflict, one who isn't on the committee, and all before the bidding
 abbrev pub OutsidersShown : Type 0
 OutsidersShown =
     (u : Option ℕ) (p : ℕ) (H : History) → IsFalse (is_author u p H || handles u p H)
-    → All (λ (s : Sighting). IsTrue (is_number s.paper p) → IsLeft u (serves u H) (leads u p H) s.kind s) (view u H)
+    → All (λ (s : Sighting). IsTrue (is_number s.paper p) → IsLeft u (outsider u p H) s.kind s) (view u H)
 
 -- ---- strangers, and nobody
 
--- all that is public of an entry: accounts with their names and roles, phases, modes, and the papers' numbers
-abbrev pub IsPublic : EntryKind → Sighting → Type 0
-IsPublic kinds.Registered s = s ≡ record (blank kinds.Registered) { user = s.user; name = s.name }
-IsPublic kinds.Named s = s ≡ record (blank kinds.Named) { user = s.user; role = s.role }
-IsPublic kinds.PhaseSet s = s ≡ record (blank kinds.PhaseSet) { phase = s.phase }
-IsPublic kinds.ModeSet s = s ≡ record (blank kinds.ModeSet) { mode = s.mode }
-IsPublic kinds.Submitted s = s ≡ record (blank kinds.Submitted) { paper = s.paper }
-IsPublic kinds.Coauthor s = ⊥
-IsPublic kinds.Revised s = ⊥
-IsPublic kinds.Uploaded s = ⊥
-IsPublic kinds.Withdrawn s = ⊥
-IsPublic kinds.Conflict s = ⊥
-IsPublic kinds.Bid s = ⊥
-IsPublic kinds.Assigned s = ⊥
-IsPublic kinds.Unassigned s = ⊥
-IsPublic kinds.Reviewed s = ⊥
-IsPublic kinds.Commented s = ⊥
-IsPublic kinds.Tagged s = ⊥
+-- all that is public of an entry: accounts with their names and roles, phases, modes, and the papers' numbers; of a paper in the
+-- programme that it is accepted, its authors and its last title; and of one that appears its last abstract and content
+abbrev pub IsPublic : Bool → Bool → EntryKind → Sighting → Type 0
+IsPublic announced appearing kinds.Registered s = s ≡ record (blank kinds.Registered) { user = s.user; name = s.name }
+IsPublic announced appearing kinds.Named s = s ≡ record (blank kinds.Named) { user = s.user; role = s.role }
+IsPublic announced appearing kinds.PhaseSet s = s ≡ record (blank kinds.PhaseSet) { phase = s.phase }
+IsPublic announced appearing kinds.ModeSet s = s ≡ record (blank kinds.ModeSet) { mode = s.mode }
+IsPublic announced appearing kinds.Submitted s =
+    s ≡ record (blank kinds.Submitted) {
+      paper = s.paper;
+      by = if announced then s.by else None;
+      title = if announced then s.title else None;
+      abstract = if appearing then s.abstract else None;
+    }
+IsPublic announced appearing kinds.Coauthor s = IsTrue announced × (s ≡ record (blank kinds.Coauthor) { paper = s.paper; user = s.user })
+IsPublic announced appearing kinds.Revised s =
+    IsTrue announced
+    × (s ≡ record (blank kinds.Revised) { paper = s.paper; title = s.title; abstract = if appearing then s.abstract else None })
+IsPublic announced appearing kinds.Uploaded s =
+    IsTrue appearing × (s ≡ record (blank kinds.Uploaded) { paper = s.paper; version = s.version; content = s.content })
+IsPublic announced appearing kinds.Withdrawn s = ⊥
+IsPublic announced appearing kinds.Conflict s = ⊥
+IsPublic announced appearing kinds.Bid s = ⊥
+IsPublic announced appearing kinds.Assigned s = ⊥
+IsPublic announced appearing kinds.Unassigned s = ⊥
+IsPublic announced appearing kinds.Reviewed s = ⊥
+IsPublic announced appearing kinds.Commented s = ⊥
+IsPublic announced appearing kinds.Tagged s = ⊥
+IsPublic announced appearing kinds.Decided s = IsTrue announced × (s ≡ record (blank kinds.Decided) { paper = s.paper; accepted = Some true })
+
+-- what the sighting has is public, by what became of its paper
+abbrev pub IsPublicIn : History → Sighting → Type 0
+IsPublicIn H s = IsPublic (at_some (λ p. is_in_programme p H) s.paper) (at_some (λ p. appears p H) s.paper) s.kind s
 
 -- the entry is on a paper, and names her
 abbrev pub names_her : Option ℕ → Entry → Bool
@@ -301,8 +377,8 @@ pub record IsStranger (u : Option ℕ) (H : History) : Type 0 where
 
 -- strangers are shown what is public, and their own entries
 abbrev pub StrangersShown : Type 0
-StrangersShown = (u : Option ℕ) (H : History) → IsStranger u H → All (λ (s : Sighting). IsFalse s.mine → IsPublic s.kind s) (view u H)
+StrangersShown = (u : Option ℕ) (H : History) → IsStranger u H → All (λ (s : Sighting). IsFalse s.mine → IsPublicIn H s) (view u H)
 
 -- nobody is shown what is public
 abbrev pub NobodyShown : Type 0
-NobodyShown = (H : History) → All (λ (s : Sighting). IsPublic s.kind s) (view None H)
+NobodyShown = (H : History) → All (λ (s : Sighting). IsPublicIn H s) (view None H)

@@ -4,6 +4,7 @@ use Rattle.std.specs.List.{flat_map, list_any}
 use Rattle.std.specs.Str.{bytes_eq}
 use Rattle.cr_base.specs.declared.entry.EntryKind.{EntryKind}
 use Rattle.cr_base.specs.declared.entry.EntryKind.TheVariants as kinds
+use Rattle.cr_base.specs.declared.words.Decision.{Decision}
 use Rattle.cr_base.specs.declared.words.Phase.{Phase}
 use Rattle.cr_base.specs.declared.words.Phase.TheVariants.{Setup, Bidding, Discussion}
 use Rattle.cr_base.specs.declared.words.Mode.{Mode}
@@ -179,6 +180,13 @@ own_comment_seen s = only s.mine (of_kind kinds.Commented s (listed s.n))
 abbrev pub tag_seen : Option ℕ → ℕ → Sighting → List TagTold
 tag_seen u p s = only (is_number s.paper p) (of_kind kinds.Tagged s (tag_shown u s.mine s.tag s.on))
 
+-- what it decides of the paper; and that the paper is accepted
+abbrev pub decision_seen : ℕ → Sighting → List Decision
+decision_seen p s = only (is_number s.paper p) (of_kind kinds.Decided s (listed s.decision))
+
+abbrev pub accepted_seen : ℕ → Sighting → List Bool
+accepted_seen p s = only (is_number s.paper p) (of_kind kinds.Decided s (listed s.accepted))
+
 -- whether it opens the bidding
 abbrev pub bidding_seen : Sighting → Bool
 bidding_seen s = is_kind kinds.PhaseSet s && opens_phase Bidding s.phase
@@ -346,6 +354,14 @@ uploads_in_view p V = flat_map (upload_seen p) V
 abbrev pub is_withdrawn_in_view : ℕ → View → Bool
 is_withdrawn_in_view p V = last_or false (flat_map (withdrawal_seen p) V)
 
+-- DecisionOf: the last decision shown on the paper
+abbrev pub decision_in_view : ℕ → View → Option Decision
+decision_in_view p V = last (flat_map (decision_seen p) V)
+
+-- AcceptedIn: an entry shown has the mark that the paper is accepted
+abbrev pub is_accepted_in_view : ℕ → View → Bool
+is_accepted_in_view p V = last_or false (flat_map (accepted_seen p) V)
+
 -- ---- Quotas
 
 -- how many papers the reader has submitted
@@ -373,6 +389,7 @@ facts_in_view u V = record {
   own_seat = λ p. seat_in_view u p V;
   own_forms = λ p. own_forms_in_view p V;
   own_comments = own_comments_in_view V;
+  accepted = λ p. is_accepted_in_view p V;
 }
 
 -- of the users who have registered, those of whom this holds, by number
@@ -398,4 +415,5 @@ shown_in_view u V = record {
   written = λ p o. is_written_in_view p o V;
   comments = λ p. comments_in_view p V;
   tags = λ v chair p. tags_in_view v chair p V;
+  decision = λ p. decision_in_view p V;
 }

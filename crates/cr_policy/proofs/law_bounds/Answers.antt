@@ -2,10 +2,11 @@ use Rattle.cr_policy.proofs.BoundsWalk.{entries-shown, marks-shown, papers-shown
 use Rattle.cr_policy.proofs.BoundsWalk.{phases-shown, modes-shown, makers-shown, titles-shown, abstracts-shown, versions-shown}
 use Rattle.cr_policy.proofs.BoundsWalk.{contents-shown, switches-shown, values-shown, seats-shown, ordinals-shown}
 use Rattle.cr_policy.proofs.BoundsWalk.{scores-shown, confidences-shown, texts-to-authors-shown, texts-to-pc-shown, done-shown, numbers-shown}
-use Rattle.cr_policy.proofs.BoundsWalk.{comments-shown, tags-shown}
+use Rattle.cr_policy.proofs.BoundsWalk.{comments-shown, tags-shown, decisions-shown, outcomes-shown, accepted-shown}
 use Rattle.cr_policy.proofs.BoundsSeats.{own-bids, reviewers-from-authors, reviewers-early, reviewers-unnamed}
 use Rattle.cr_policy.proofs.BoundsWritten.{forms-early, forms-from-authors, comments-from-authors, writers-unnamed, private-tags, chairs-tags}
-use Rattle.cr_policy.proofs.BoundsTexts.{one-title, one-abstract, one-content}
+use Rattle.cr_policy.proofs.BoundsWritten.{decisions-early, decisions-untold}
+use Rattle.cr_policy.proofs.BoundsTexts.{one-title, one-abstract, one-content, one-decision}
 use Rattle.cr_policy.proofs.BoundsLeft.{outsiders-shown, strangers-shown, nobody-shown}
 use Rattle.cr_policy.proofs.law_bounds.Goals as goal
 
@@ -37,6 +38,9 @@ returns c = record {
   numbers = numbers-shown;
   comments = comments-shown;
   tags = tags-shown;
+  decisions = decisions-shown;
+  outcomes = outcomes-shown;
+  accepted = accepted-shown;
   own_bids = own-bids;
   reviewers_from_authors = reviewers-from-authors;
   reviewers_early = reviewers-early;
@@ -47,9 +51,12 @@ returns c = record {
   writers_unnamed = writers-unnamed;
   private_tags = private-tags;
   chairs_tags = chairs-tags;
+  decisions_early = decisions-early;
+  decisions_untold = decisions-untold;
   one_title = one-title;
   one_abstract = one-abstract;
   one_content = one-content;
+  one_decision = one-decision;
   outsiders = outsiders-shown;
   strangers = strangers-shown;
   nobody = nobody-shown;
