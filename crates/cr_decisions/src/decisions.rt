@@ -1,0 +1,106 @@
+//! The decisions on papers.
+ghost use Rattle.std.specs.Prelude.{◌≡◌, ◌≤◌, ◌<◌, ◌+◌, OnOk, length, is_some};
+ghost use Rattle.cr_base.specs.Checks.{judged, decide_checks};
+ghost use Rattle.cr_base.specs.Decisions.{no_decisions, decisions_after, decision_in};
+
+use cr_base::{Decision, Entry, PaperNo, Phase, Rule, Stamped, Standing};
+use cr_kept::Files;
+use std::alloc::{AllocError, Global};
+use std::marker::Model;
+
+/// What was decided of papers: all decisions on each, in the order in which they came. The last one counts.
+///
+/// Contracts see the decisions paper by paper, and for how many more there is room.
+#[derive(Drop)]
+pub struct Decisions {
+    decisions: Files<Decision>,
+}
+
+impl Model for Decisions {
+    ghost use Rattle.cr_decisions.specs.Seen.{SeenDecisions};
+
+    ghost Value = { SeenDecisions };
+
+    ghost view = { λ d. record { decisions = d.decisions.files; room = d.decisions.room } };
+}
+
+/// What is read.
+impl Decisions {
+    /// No decisions; takes no memory.
+    pub fn new(alloc: Global) -> Decisions
+        ensures { result.decisions ≡ no_decisions }
+    {
+        Decisions {
+            decisions: Files::new(alloc),
+        }
+    }
+
+    /// The last decision on the paper, and none where there is none or no such paper. Two binary searches;
+    /// takes no memory.
+    pub fn last(&self, paper: PaperNo) -> Option<Decision>
+        ensures { result ≡ decision_in self.now.decisions paper }
+    {
+        match self.decisions.of_paper(paper).last() {
+            Some(filed) => Some(filed.value),
+            None => None,
+        }
+    }
+
+    /// Whether the caller may decide on this paper, or the first broken rule. `by` is her standing at the paper;
+    /// `paper` is none where there is no such paper. Whether it is withdrawn stands in none of the decisions, and
+    /// no rule asks what was decided before. Takes no search and no memory.
+    ///
+    /// In this order: `NoPaper`, `NotChair`, `Conflict` where she is in conflict with the paper, `WrongPhase`
+    /// where it isn't the discussion, `Withdrawn`.
+    pub fn judge_decide(
+        &self,
+        by: &Standing,
+        paper: &Option<PaperNo>,
+        withdrawn: bool,
+    ) -> Result<(), Rule>
+        ensures { result ≡ judged (decide_checks by.now (record { there = is_some paper.now; withdrawn = withdrawn })) tt }
+    {
+        if paper.is_none() {
+            return Err(Rule::NoPaper);
+        }
+        if !by.role.is_chair() {
+            return Err(Rule::NotChair);
+        }
+        if by.conflicted {
+            return Err(Rule::Conflict);
+        }
+        if !by.phase.is(Phase::Discussion) {
+            return Err(Rule::WrongPhase);
+        }
+        if withdrawn {
+            return Err(Rule::Withdrawn);
+        }
+        Ok(())
+    }
+}
+
+/// What entries make of it.
+impl Decisions {
+    /// Takes the memory that the entries of one command need; an error only for lack of memory, and the
+    /// decisions are the same either way.
+    pub fn room(&mut self, group: &[Stamped]) -> Result<(), AllocError>
+        ensures ok { OnOk result (length group.now ≤ self.new.room) }
+        ensures same { self.new.decisions ≡ self.old.decisions }
+        ensures keeps { self.old.room ≤ self.new.room }
+    {
+        self.decisions.room(group.len())
+    }
+
+    /// One more entry, for which there is room; takes no memory. A decision costs one binary search, and a move
+    /// of the decisions on papers with higher numbers.
+    pub fn apply(&mut self, stamped: &Stamped)
+        requires { 0 < self.old.room }
+        ensures after { self.new.decisions ≡ decisions_after self.old.decisions stamped.now.entry }
+        ensures room { self.old.room ≤ self.new.room + 1 }
+    {
+        match &stamped.entry {
+            Entry::Decided { paper, decision } => self.decisions.file(*paper, *decision),
+            _ => {}
+        }
+    }
+}
