@@ -1,9 +1,10 @@
 -- What a query is answered by reads of the tables.
 use Rattle.std.proofs.Common.{ℕ, Bool, true, ◌≡◌, ◌<◌, ◌+◌, List, [], ◌∷◌, ◌++◌, length, drop, get_or}
-use Rattle.std.proofs.Common.{append_assoc, refl, sym, ap, subst, ◌∙◌, Option, Some, Result, Ok, Err}
+use Rattle.std.proofs.Common.{append_assoc, refl, sym, ap, subst, ◌∙◌, Option, Some, None, Result, Ok, Err}
 use Rattle.std.specs.Option.{option_map}
-use Rattle.std.specs.Prelude.{map, unwrap_or, IsOk, IsErrAnd}
+use Rattle.std.specs.Prelude.{map, unwrap_or, IsOk, IsErrAnd, IsSome}
 use Rattle.std.specs.Result.{result_and}
+use Rattle.std.proofs.lemmas.Bool.{true≢false}
 use Rattle.std.proofs.lemmas.List.{at_drop_more}
 use Rattle.cr_base.specs.declared.entry.Account.{Account}
 use Rattle.cr_base.specs.declared.comment.CommentLine.{CommentLine}
@@ -26,12 +27,13 @@ use Rattle.cr_base.specs.Page.{where_told}
 use Rattle.cr_base.specs.Papers.{paper_count}
 use Rattle.cr_base.specs.Tables.{Tables}
 use Rattle.cr_base.specs.Ties.{BareTies}
+use Rattle.cr_base.specs.Words.{is_member}
 use Rattle.cr_base.proofs.CheckLaws.{judged-Ok}
 use Rattle.cr_base.proofs.ListLaws.{length-numbers_from, name_in-lines_of}
 use Rattle.cr_view.specs.declared.queries.AnswerError.{AnswerError}
 use Rattle.cr_view.specs.declared.queries.AnswerError.TheVariants as errors
 use Rattle.cr_view.specs.Comments.{comments_due}
-use Rattle.cr_view.specs.Replies.{IsServed, AnswersAsDue, ShowsAsDue, reader_at, due_at, facts_at, page_due, content_due, content_reply_at}
+use Rattle.cr_view.specs.Replies.{IsNoRefusal, AnswersAsDue, ShowsAsDue, reader_at, due_at, facts_at, page_due, content_due, content_reply_at}
 use Rattle.cr_view.specs.Reviews.{reviews_due}
 use Rattle.cr_view.proofs.JudgeLaws.{refused, passed}
 
@@ -76,6 +78,11 @@ names-step accounts ties i other before after wanted found within is pushed told
 -- where none is broken, the reader stands as she does
 pub reader-is : {A : Type 0} (checks : List Check) (x given : A) → ◌≡◌ {A = Result A Rule} (Ok given) (judged checks x) → given ≡ x
 reader-is checks x given h = sym (judged-Ok checks x given (sym h)).1
+
+-- members are users
+pub member-known : (t : Tables) (user paper : Option ℕ) → is_member (standing_at t user paper).role ≡ true → IsSome user
+member-known t None paper h = absurd (true≢false (sym h))
+member-known t (Some user) paper h = refl
 
 -- what is shown, or isn't, as the answer
 abbrev pub as_reply : {A : Type 0} → (A → Reply) → Result A AnswerError → Result Reply AnswerError
@@ -122,14 +129,14 @@ module _ {A : Type 0} (asked : Option ℕ → Query) (told : Facts → Shown →
       subst (λ (e : AnswerError). ShowsAsDue {A = A} (Err e) due) (sym out)
       (subst (λ (r : Result A Rule). IsOk r) (passed checks (λ (s : Standing). wanted) (standing_at t user paper) by reads) refl)
 
-module _ {A : Type 0} (checks : List Check) (x : A) (made : A → Reply) (serves : (a : A) → IsServed (made a)) where
+module _ {A : Type 0} (checks : List Check) (x : A) (made : A → Reply) (serves : (a : A) → IsNoRefusal (made a)) where
   abbrev due : Reply
   due = reply_or_rule (judged checks (made x))
 
   shown-due : (given : A) → judged checks x ≡ Ok given → due ≡ made given
   shown-due given h = ap reply_or_rule (sym (passed checks made x given (sym h)))
 
-  shown-served : (judgement : Result A Rule) → judged checks x ≡ judgement → IsOk judgement → IsServed due
+  shown-served : (judgement : Result A Rule) → judged checks x ≡ judgement → IsOk judgement → IsNoRefusal due
   shown-served (Ok given) h ok = λ rule e. serves given rule (sym (shown-due given h) ∙ e)
   shown-served (Err rule) h ok = cc
 

@@ -6,7 +6,8 @@ use Rattle.cr_base.specs.declared.reply.Rule.TheVariants as rules
 use Rattle.cr_base.specs.declared.standing.Standing.{Standing}
 use Rattle.cr_base.specs.Answering.{content_by}
 use Rattle.cr_base.specs.Checks.{Check, ◌breaks◌, judged, of_there, content_checks}
-use Rattle.cr_base.specs.Sources.{has_paper, standing_at, facts_of_tables, shown_in_tables}
+use Rattle.cr_base.specs.Lists.{at_some}
+use Rattle.cr_base.specs.Sources.{has_paper, is_accepted_in, standing_at, facts_of_tables, shown_in_tables}
 use Rattle.cr_base.specs.Tables.{Tables}
 use Rattle.cr_base.proofs.CheckLaws.{NoneBroken, judged-Ok}
 use Rattle.cr_view.specs.Replies.{content_at, content_due, content_reader_at}
@@ -42,7 +43,7 @@ module _ (t : Tables) (user paper version : Option ℕ) where
   here = standing_at t user paper
 
   abbrev asked : Bool → List Check
-  asked found = content_checks here (of_there (has_paper (facts_of_tables t user) paper)) found
+  asked found = content_checks here (at_some (is_accepted_in t) paper) (of_there (has_paper (facts_of_tables t user) paper)) found
 
   -- those that don't ask for the version
   abbrev before : List Check

@@ -1,3 +1,4 @@
+pub mod AcceptedLaws
 pub mod AnswerLaws
 pub mod AssigningLaws
 pub mod CommentLaws

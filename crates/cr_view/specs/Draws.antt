@@ -5,10 +5,10 @@ use Rattle.cr_base.specs.declared.reply.Receipt.TheVariants as receipts
 use Rattle.cr_base.specs.declared.reply.Rule.{Rule}
 use Rattle.cr_base.specs.Drawn.{Drawn, grouped, registration_drawn, phase_drawn, revision_drawn, upload_drawn}
 use Rattle.cr_base.specs.Drawn.{withdrawal_drawn, naming_drawn, mode_drawn, conflict_drawn, bid_drawn, assignment_drawn, unassignment_drawn}
-use Rattle.cr_base.specs.Drawn.{review_drawn, comment_drawn, tag_drawn}
+use Rattle.cr_base.specs.Drawn.{review_drawn, comment_drawn, tag_drawn, decision_drawn}
 use Rattle.cr_view.specs.declared.draw.Draw.{Draw}
 use Rattle.cr_view.specs.declared.draw.Draw.TheVariants.{Registration, Phase, Submission, Revision, Upload, Withdrawal}
-use Rattle.cr_view.specs.declared.draw.Draw.TheVariants.{Naming, Mode, Conflict, Bid, Assignment, Unassignment, Review, Comment, Tag}
+use Rattle.cr_view.specs.declared.draw.Draw.TheVariants.{Naming, Mode, Conflict, Bid, Assignment, Unassignment, Review, Comment, Tag, Decision}
 
 -- the entries and the receipt of a draw; a submission's co-authors were found before, each once
 abbrev pub drawn_by : Draw → Drawn
@@ -30,6 +30,7 @@ drawn_by (Unassignment maker paper user ordinal) = unassignment_drawn maker pape
 drawn_by (Review maker paper ordinal version form) = review_drawn maker paper ordinal version form
 drawn_by (Comment maker paper n ordinal text) = comment_drawn maker paper n ordinal text
 drawn_by (Tag maker paper tag on) = tag_drawn maker paper tag on
+drawn_by (Decision maker paper decision) = decision_drawn maker paper decision
 
 -- the draw is of a paper that is there
 abbrev pub IsOfPaper : Draw → Type 0
@@ -40,12 +41,17 @@ IsOfPaper (Naming maker user name role) = ⊥
 IsOfPaper (Mode maker mode) = ⊥
 IsOfPaper draw = Unit {0}
 
--- the draw is of what members write on such a paper: a review, a comment or a tag
+-- the draw marks such a paper: by a tag, or by what is decided of it
+abbrev pub IsOfMarking : Draw → Type 0
+IsOfMarking (Tag maker paper tag on) = Unit {0}
+IsOfMarking (Decision maker paper decision) = Unit {0}
+IsOfMarking draw = ⊥
+
+-- the same, or it is of what members write on such a paper: a review or a comment
 abbrev pub IsOfWriting : Draw → Type 0
 IsOfWriting (Review maker paper ordinal version form) = Unit {0}
 IsOfWriting (Comment maker paper n ordinal text) = Unit {0}
-IsOfWriting (Tag maker paper tag on) = Unit {0}
-IsOfWriting draw = ⊥
+IsOfWriting draw = IsOfMarking draw
 
 -- the same, or it is of who may review such a paper: a bid, or an assignment that begins or ends
 abbrev pub IsOfReviewing : Draw → Type 0

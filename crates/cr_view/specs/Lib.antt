@@ -1,3 +1,4 @@
+pub mod Accepted
 pub mod ByTables
 pub mod Callers
 pub mod Comments

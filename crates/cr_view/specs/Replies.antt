@@ -19,26 +19,26 @@ use Rattle.cr_base.specs.Accounts.{lines_of}
 use Rattle.cr_base.specs.Answering.{query_checks, page_by, uploads_told, upload_of, content_by, content_asked, reply_or_rule, bidder_told, reviewer_told}
 use Rattle.cr_base.specs.Checks.{judged, of_there, content_checks}
 use Rattle.cr_base.specs.History.{Upload, BidTold, SeatTold}
-use Rattle.cr_base.specs.Lists.{listed}
+use Rattle.cr_base.specs.Lists.{listed, at_some}
 use Rattle.cr_base.specs.Page.{is_clear_chair, is_clear_member, shows_reviewer, where_told}
 use Rattle.cr_base.specs.Papers.{paper_count, uploads_at}
 use Rattle.cr_base.specs.Seats.{told_of, seat_in}
-use Rattle.cr_base.specs.Sources.{Facts, Shown, own_forms_in, standing_at, facts_of_tables, shown_in_tables, has_paper, names_in, name_in}
+use Rattle.cr_base.specs.Sources.{Facts, Shown, is_accepted_in, own_forms_in, standing_at, facts_of_tables, shown_in_tables, has_paper, names_in, name_in}
 use Rattle.cr_base.specs.Tables.{Tables}
 use Rattle.cr_base.specs.Ties.{BareTies, bid_in}
 use Rattle.cr_view.specs.declared.queries.AnswerError.{AnswerError}
 use Rattle.cr_view.specs.declared.queries.AnswerError.TheVariants as errors
 
 -- the reply is no refusal
-abbrev pub IsServed : Reply → Type 0
-IsServed reply = (rule : Rule) → reply ≢ replies.Refused rule
+abbrev pub IsNoRefusal : Reply → Type 0
+IsNoRefusal reply = (rule : Rule) → reply ≢ replies.Refused rule
 
 -- A query to which this reply is due was answered so: by that reply, or by the rule that it tells; memory runs out only
 -- where it tells none.
 abbrev pub AnswersAsDue : Result Reply AnswerError → Reply → Type 0
-AnswersAsDue (Ok reply) due = (reply ≡ due) × IsServed due
+AnswersAsDue (Ok reply) due = (reply ≡ due) × IsNoRefusal due
 AnswersAsDue (Err (errors.Rule rule)) due = due ≡ replies.Refused rule
-AnswersAsDue (Err errors.OutOfMemory) due = IsServed due
+AnswersAsDue (Err errors.OutOfMemory) due = IsNoRefusal due
 
 -- the same of a page or a content, which is due or stands behind a rule
 abbrev pub ShowsAsDue : {A : Type 0} → Result A AnswerError → Result A Rule → Type 0
@@ -74,6 +74,7 @@ facts_at t user by = record {
   own_seat = seat_in t.seats user;
   own_forms = λ p. own_forms_in t user p;
   own_comments = 0;
+  accepted = is_accepted_in t;
 }
 
 -- the page of a paper, for such a user; and the page that is due to a user, or the first broken rule
@@ -94,7 +95,7 @@ content_at t author p version = option_map (λ (u : Upload). u.content) (upload_
 abbrev pub content_reader_at : Tables → Option ℕ → Option ℕ → Result Standing Rule
 content_reader_at t user paper =
     let by = standing_at t user paper in
-    judged (content_checks by (of_there (has_paper (facts_of_tables t user) paper)) true) by
+    judged (content_checks by (at_some (is_accepted_in t) paper) (of_there (has_paper (facts_of_tables t user) paper)) true) by
 
 -- the content that is due to a user, or the first broken rule; and the reply that holds it
 abbrev pub content_due : Tables → Option ℕ → Option ℕ → Option ℕ → Result (List ℕ) Rule

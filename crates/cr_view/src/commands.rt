@@ -39,7 +39,7 @@ impl Live {
     /// where the user named is in conflict with the paper, else `AlreadyAssigned`, else `LabelsSpent`, and
     /// the end of one `NotAssigned`, else `HasReview` where a form is written under her label. Of all else the
     /// rules and their order stand at the tables' own `register_check`, `judge_phase`, `judge_name`,
-    /// `judge_mode`, `judge_conflict`, `judge_review`, `judge_comment` and `judge_tag`.
+    /// `judge_mode`, `judge_conflict`, `judge_review`, `judge_comment`, `judge_tag` and `judge_decide`.
     ///
     /// Takes no memory: the command's texts and its content are moved. A registration, a naming, a
     /// conflict, an assignment and the end of one take one look-up by name, a submission one for each
@@ -86,6 +86,9 @@ impl Live {
             Command::Review { paper, form } => self.judge_review(maker(caller), &paper, form),
             Command::Comment { paper, text } => self.judge_comment(maker(caller), &paper, text),
             Command::Tag { paper, tag, on } => self.judge_tag(maker(caller), &paper, tag, on),
+            Command::Decide { paper, decision } => {
+                self.judge_decision(maker(caller), &paper, decision)
+            }
         }
     }
 

@@ -12,11 +12,11 @@ use cr_base::{Blob, PaperNo, Phase, Reply, Rule, Standing, UserNo};
 
 impl Live {
     /// The content of a version of a paper, or of its last one, as a user, or nobody, may read it, or the
-    /// first broken rule: `NoPaper` where there is no such paper; where she is no author of it, `NotMember`,
-    /// else `Conflict` where she is in conflict with it, else `WrongPhase` before the bidding; else
-    /// `NoContent` where the paper has no such version, or where she is no author of it and that isn't the
-    /// last one. An error for lack of memory only where no rule is broken. The bytes are shared: the cost
-    /// is a few reads by number and one look-up, whatever their number.
+    /// first broken rule: `NoPaper` where there is no such paper; where she is no author of it and it isn't
+    /// published, `NotMember`, else `Conflict` where she is in conflict with it, else `WrongPhase` before the
+    /// bidding; else `NoContent` where the paper has no such version, or where she is no author of it and that
+    /// isn't the last one. An error for lack of memory only where no rule is broken. The bytes are shared: the
+    /// cost is a few reads by number, that of `is_accepted` and one look-up, whatever their number.
     pub fn content_for(
         &self,
         user: &Option<UserNo>,
@@ -97,7 +97,7 @@ impl Live {
             return Err(Rule::NoPaper);
         }
         let by = self.standing(user, paper);
-        if by.author {
+        if by.author || self.has_published(paper) {
             return Ok(by);
         }
         if !by.role.is_member() {

@@ -1,11 +1,11 @@
 //! What an accepted command draws.
 ghost use Rattle.std.specs.Prelude.{◌≡◌, IfOk};
-ghost use Rattle.cr_view.specs.Draws.{drawn_by, IsOfPaper, IsOfReviewing, IsOfWriting};
+ghost use Rattle.cr_view.specs.Draws.{drawn_by, IsOfMarking, IsOfPaper, IsOfReviewing, IsOfWriting};
 
 use crate::group::{registration, single, submission};
 use cr_base::{
-    Bid, Blob, Coauthors, Digest, Entry, Form, Kind, Mode, Ordinal, PaperNo, Phase, Receipt, Role,
-    Short, Stamped, Tag, Text, UserNo,
+    Bid, Blob, Coauthors, Decision, Digest, Entry, Form, Kind, Mode, Ordinal, PaperNo, Phase,
+    Receipt, Role, Short, Stamped, Tag, Text, UserNo,
 };
 use std::alloc::{AllocError, Global};
 
@@ -171,6 +171,15 @@ pub enum Draw {
         /// Whether it is on.
         on: bool,
     },
+    /// What the committee decides of a paper.
+    Decision {
+        /// Who makes it known.
+        maker: UserNo,
+        /// The paper.
+        paper: PaperNo,
+        /// What it decides.
+        decision: Decision,
+    },
 }
 
 impl Draw {
@@ -197,6 +206,7 @@ impl Draw {
             Draw::Review { version, .. } => Receipt::Version { version: *version },
             Draw::Comment { n, .. } => Receipt::Comment { n: *n },
             Draw::Tag { paper, .. } => Receipt::Changed { paper: *paper },
+            Draw::Decision { paper, .. } => Receipt::Changed { paper: *paper },
         }
     }
 
@@ -271,8 +281,8 @@ fn of_paper(alloc: Global, draw: Draw) -> Result<Vec<Stamped>, AllocError>
     }
 }
 
-/// The entry of a draw that is of who may review a paper, or of what is written on it; an error only for lack of
-/// memory.
+/// The entry of a draw that is of who may review a paper, or of what is written on it or marks it; an error only
+/// for lack of memory.
 fn of_reviewing(alloc: Global, draw: Draw) -> Result<Vec<Stamped>, AllocError>
     requires { IsOfReviewing draw }
     ensures { IfOk result (λ group. group.items ≡ (drawn_by draw).group) }
@@ -315,7 +325,7 @@ fn of_reviewing(alloc: Global, draw: Draw) -> Result<Vec<Stamped>, AllocError>
     }
 }
 
-/// The entry of a draw that is of what members write on a paper; an error only for lack of memory.
+/// The entry of a draw that is of what members write on a paper, or marks it; an error only for lack of memory.
 fn of_writing(alloc: Global, draw: Draw) -> Result<Vec<Stamped>, AllocError>
     requires { IsOfWriting draw }
     ensures { IfOk result (λ group. group.items ≡ (drawn_by draw).group) }
@@ -351,12 +361,28 @@ fn of_writing(alloc: Global, draw: Draw) -> Result<Vec<Stamped>, AllocError>
             };
             single(alloc, maker, entry)
         }
+        other => of_marking(alloc, other),
+    }
+}
+
+/// The entry of a draw that marks a paper: by a tag, or by what is decided of it. An error only for lack of
+/// memory.
+fn of_marking(alloc: Global, draw: Draw) -> Result<Vec<Stamped>, AllocError>
+    requires { IsOfMarking draw }
+    ensures { IfOk result (λ group. group.items ≡ (drawn_by draw).group) }
+{
+    match draw {
         Draw::Tag {
             maker,
             paper,
             tag,
             on,
         } => single(alloc, maker, Entry::Tagged { paper, tag, on }),
+        Draw::Decision {
+            maker,
+            paper,
+            decision,
+        } => single(alloc, maker, Entry::Decided { paper, decision }),
         _ => unreachable!(),
     }
 }

@@ -2,6 +2,7 @@
 //! answered, and what an accepted command adds. Every look-up is in the tables; no view is made.
 #![tactic(auto)]
 
+mod accepted;
 mod assigning;
 mod coauthors;
 mod commands;

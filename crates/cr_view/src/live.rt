@@ -13,6 +13,7 @@ use cr_accounts::Accounts;
 use cr_assign::Seats;
 use cr_base::{Digest, Entry, PaperNo, Short, Stamped, Standing, UserNo};
 use cr_conflicts::Ties;
+use cr_decisions::Decisions;
 use cr_papers::Papers;
 use cr_phases::Stage;
 use cr_reviews::Reviews;
@@ -33,6 +34,7 @@ pub struct Live {
     pub(crate) reviews: Reviews,
     pub(crate) talk: Talk,
     pub(crate) tags: Tags,
+    pub(crate) decisions: Decisions,
 }
 
 // Written out, so that a caller doesn't prove again how each table is dropped.
@@ -47,6 +49,7 @@ impl Drop for Live {
             reviews: _,
             talk: _,
             tags: _,
+            decisions: _,
         } = self;
     }
 }
@@ -69,8 +72,9 @@ impl Model for Live {
         reviews = t.reviews.reviews;
         talk = t.talk.talk;
         tags = t.tags.tags;
+        decisions = t.decisions.decisions;
       };
-      room = min t.accounts.room (min t.papers.room (min t.ties.room (min t.seats.room (min t.reviews.room (min t.talk.room t.tags.room)))));
+      room = min t.accounts.room (min t.papers.room (min t.ties.room (min t.seats.room (min t.reviews.room (min t.talk.room (min t.tags.room t.decisions.room))))));
     } };
 
     // The papers that have ties are there, and so are those that have seats.
@@ -92,6 +96,7 @@ impl Live {
             reviews: Reviews::new(alloc),
             talk: Talk::new(alloc),
             tags: Tags::new(alloc),
+            decisions: Decisions::new(alloc),
         }
     }
 
@@ -108,7 +113,8 @@ impl Live {
         self.seats.room(group)?;
         self.reviews.room(group)?;
         self.talk.room(group)?;
-        self.tags.room(group)
+        self.tags.room(group)?;
+        self.decisions.room(group)
     }
 
     /// One more entry, for which there is room. It is taken whole, since one table keeps its texts or its
@@ -124,6 +130,7 @@ impl Live {
         self.ties.apply(&stamped);
         self.seats.apply(&stamped);
         self.tags.apply(&stamped);
+        self.decisions.apply(&stamped);
         match &stamped.entry {
             Entry::PhaseSet { .. } | Entry::Reviewed { .. } => self.reviews.apply(stamped),
             Entry::Commented { .. } => self.talk.apply(stamped),

@@ -3,24 +3,35 @@ ghost use Rattle.std.specs.Prelude.{◌≡◌, IfOk, Some};
 ghost use Rattle.std.specs.Option.{option_copied};
 ghost use Rattle.cr_base.specs.Lists.{listed};
 ghost use Rattle.cr_base.specs.Page.{gets_title, gets_abstract, gets_conflict, gets_conflicts, gets_declared, gets_versions, gets_withdrawn};
-ghost use Rattle.cr_base.specs.Page.{is_clear_chair, is_clear_member, gets_bid, gets_bids, gets_label, gets_reviewers, gets_tags, bare_keys, where_told};
+ghost use Rattle.cr_base.specs.Page.{is_clear_chair, is_clear_member, gets_bid, gets_bids, gets_label, gets_reviewers, gets_tags, gets_decision, where_told};
+ghost use Rattle.cr_base.specs.Decisions.{is_published};
 
 use cr_anonymity::shows_reviewer;
-use cr_base::{BareKeys, Kind, Phase, Standing, Text, Versions};
+use cr_base::{Kind, Phase, Standing, Text, Versions};
 use std::alloc::{AllocError, Global};
 
-/// Whether she is told the title: authors; members from bidding on.
-pub(crate) fn gets_title(by: &Standing) -> bool
-    ensures { result ≡ gets_title by.now }
+/// Whether everyone is served a paper, which is accepted or isn't: where it is, once the conference is closed.
+pub(crate) fn is_published(by: &Standing, accepted: bool) -> bool
+    ensures { result ≡ is_published by.now.phase accepted }
 {
-    by.author || (by.role.is_member() && by.phase.is_from(Phase::Bidding))
+    accepted && by.phase.is_from(Phase::Closed)
 }
 
-/// Whether she is told the abstract: authors; from bidding on members who aren't in conflict.
-pub(crate) fn gets_abstract(by: &Standing) -> bool
-    ensures { result ≡ gets_abstract by.now }
+/// Whether she is told the title: authors; members from bidding on; everyone where the paper is accepted.
+pub(crate) fn gets_title(by: &Standing, accepted: bool) -> bool
+    ensures { result ≡ gets_title by.now accepted }
 {
-    by.author || (by.is_clear_member() && by.phase.is_from(Phase::Bidding))
+    by.author || (by.role.is_member() && by.phase.is_from(Phase::Bidding)) || accepted
+}
+
+/// Whether she is told the abstract: authors; from bidding on members who aren't in conflict; everyone where
+/// the paper is published.
+pub(crate) fn gets_abstract(by: &Standing, accepted: bool) -> bool
+    ensures { result ≡ gets_abstract by.now accepted }
+{
+    by.author
+        || (by.is_clear_member() && by.phase.is_from(Phase::Bidding))
+        || is_published(by, accepted)
 }
 
 /// Whether she is told if she is in conflict: members and authors.
@@ -56,11 +67,14 @@ pub(crate) fn gets_declared(by: &Standing) -> bool
     by.author
 }
 
-/// Whether she is told the versions: authors; from bidding on members who aren't in conflict.
-pub(crate) fn gets_versions(by: &Standing) -> bool
-    ensures { result ≡ gets_versions by.now }
+/// Whether she is told the versions: authors; from bidding on members who aren't in conflict; everyone where the
+/// paper is published.
+pub(crate) fn gets_versions(by: &Standing, accepted: bool) -> bool
+    ensures { result ≡ gets_versions by.now accepted }
 {
-    by.author || (by.is_clear_member() && by.phase.is_from(Phase::Bidding))
+    by.author
+        || (by.is_clear_member() && by.phase.is_from(Phase::Bidding))
+        || is_published(by, accepted)
 }
 
 /// Whether she is told if the paper is withdrawn: authors; members from bidding on.
@@ -139,16 +153,14 @@ pub(crate) fn kind_told(by: &Standing, kind: Kind) -> Option<Kind>
     }
 }
 
-/// Which of the keys that have nothing to tell yet are there for her.
-pub(crate) fn bare_keys(by: &Standing) -> BareKeys
-    ensures { result ≡ bare_keys by.now }
+/// Whether she is told the decision: from discussion on members who aren't in conflict; from notification on
+/// authors; everyone where the paper is accepted.
+pub(crate) fn gets_decision(by: &Standing, accepted: bool) -> bool
+    ensures { result ≡ gets_decision by.now accepted }
 {
-    let discussion = by.phase.is_from(Phase::Discussion);
-    let notification = by.phase.is_from(Phase::Notification);
-    let clear_member = by.is_clear_member();
-    BareKeys {
-        decision: (clear_member && discussion) || (by.author && notification),
-    }
+    (by.is_clear_member() && by.phase.is_from(Phase::Discussion))
+        || (by.author && by.phase.is_from(Phase::Notification))
+        || accepted
 }
 
 /// The text, shared, where it is told; an error only for lack of memory.

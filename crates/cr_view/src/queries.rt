@@ -1,13 +1,15 @@
 //! What queries are answered by the tables.
-ghost use Rattle.std.specs.Prelude.{◌≡◌, ◌≢◌, IfOk, IsSome, IsTrue, OnErr, Some};
+ghost use Rattle.std.specs.Prelude.{◌≡◌, ◌≢◌, IfOk, IsSome, IsTrue, OnErr, Some, if◌then◌else◌};
 ghost use Rattle.cr_base.specs.Accounts.{lines_of};
 ghost use Rattle.cr_base.specs.Answering.{query_checks, answer_by_role};
 ghost use Rattle.cr_base.specs.Checks.{judged};
-ghost use Rattle.cr_base.specs.Page.{gets_tags, gets_versions, where_told};
+ghost use Rattle.cr_base.specs.Decisions.{decision_in};
+ghost use Rattle.cr_base.specs.Page.{gets_decision, gets_tags, gets_versions, where_told};
 ghost use Rattle.cr_base.specs.Sources.{facts_of_tables, shown_in_tables, has_paper};
 ghost use Rattle.cr_base.specs.Tags.{tags_in};
 ghost use Rattle.cr_base.specs.Words.{is_chair, is_member};
 ghost use Rattle.cr_base.specs.declared.command.Query.TheVariants as queries;
+ghost use Rattle.cr_base.specs.declared.words.Decision.TheVariants.{Accept};
 ghost use Rattle.cr_view.specs.Callers.{HasAsker};
 ghost use Rattle.cr_view.specs.Replies.{AnswersAsDue, ShowsAsDue, conference_at, names_of, page_at, page_due, reader_at, versions_at};
 
@@ -15,13 +17,13 @@ use crate::commands::maker;
 use crate::lists::push_some;
 use crate::live::Live;
 use crate::page::{
-    bare_keys, conflict_told, gets_abstract, gets_conflicts, gets_declared, gets_tags, gets_title,
-    gets_versions, last_alone, shared_where, withdrawn_told,
+    conflict_told, gets_abstract, gets_conflicts, gets_decision, gets_declared, gets_tags,
+    gets_title, gets_versions, last_alone, shared_where, withdrawn_told,
 };
 use cr_anonymity::shows_author;
 use cr_base::{
-    AccountLines, Conference, Names, Page, PaperNo, Query, Reply, Rule, Standing, TagList, Tie,
-    UserNo, Versions,
+    AccountLines, Conference, Decision, Names, Page, PaperNo, Query, Reply, Rule, Standing,
+    TagList, Tie, UserNo, Versions,
 };
 use std::alloc::{AllocError, Global};
 
@@ -29,14 +31,14 @@ use std::alloc::{AllocError, Global};
 impl Live {
     /// Whether a user, or nobody, may ask this, or the first broken rule of its kind: of a page
     /// `NoPaper` where there is no such paper, else `NotMember` where she is neither a member of the
-    /// committee nor an author of the paper; of a content, of reviews and of comments as `content_for`,
+    /// committee nor an author of the paper, and it isn't accepted; of a content, of reviews and of comments as `content_for`,
     /// `reviews_for` and `comments_for` tell it. Takes no memory; a few reads by number, of a content one
     /// look-up besides.
     pub fn may(&self, user: &Option<UserNo>, query: &Query) -> Result<(), Rule>
         ensures { result ≡ judged (query_checks (facts_of_tables self.now.tables user.now) (shown_in_tables self.now.tables) query.now) tt }
     {
         match query {
-            Query::Me | Query::Accounts | Query::Phase => Ok(()),
+            Query::Me | Query::Accounts | Query::Phase | Query::AcceptedPapers => Ok(()),
             Query::Page { paper } => self.reader(user, paper).and(Ok(())),
             Query::Content { paper } => self.may_read(user, paper, None),
             Query::Version { paper, version } => self.may_read(user, paper, Some(*version)),
@@ -53,7 +55,7 @@ impl Live {
             return Err(Rule::NoPaper);
         }
         let by = self.standing(user, paper);
-        if !(by.role.is_member() || by.author) {
+        if !(by.role.is_member() || by.author || self.has_accepted(paper)) {
             return Err(Rule::NotMember);
         }
         Ok(by)
@@ -99,7 +101,8 @@ impl Live {
     /// version and each tag that is told, and, where reviewers are told, one for each who was ever assigned, at
     /// most 26, and a walk over the paper's forms; what she is told of herself a walk over her own papers, over
     /// those with which she is in conflict and over those that she reviews; a content one look-up, whatever its
-    /// length; reviews and comments as `reviews_for` and `comments_for` tell it.
+    /// length; the accepted papers, reviews and comments as `accepted_papers`, `reviews_for` and `comments_for`
+    /// tell it.
     pub fn answer(
         &self,
         alloc: Global,
@@ -114,6 +117,7 @@ impl Live {
             Query::Me => Ok(Reply::Me(self.me(alloc, maker(caller))?)),
             Query::Accounts => Ok(Reply::Accounts(self.accounts(alloc)?)),
             Query::Phase => Ok(Reply::Conference(self.conference())),
+            Query::AcceptedPapers => Ok(Reply::AcceptedPapers(self.accepted_papers(alloc)?)),
             Query::Page { paper } => match self.show(alloc, caller, paper) {
                 Ok(page) => Ok(Reply::Page(page)),
                 Err(error) => Err(error),
@@ -176,14 +180,22 @@ impl Live {
         requires { IsTrue (is_member by.now.role) → IsSome user.now }
         ensures { IfOk result (λ page. page ≡ page_at self.now.tables user.now by.now paper) }
     {
-        let title = shared_where(gets_title(by), self.papers.last_title(paper))?;
-        let abstract_ = shared_where(gets_abstract(by), self.papers.last_abstract(paper))?;
+        let accepted = self.is_accepted(paper);
+        let title = shared_where(gets_title(by, accepted), self.papers.last_title(paper))?;
+        let abstract_ = shared_where(
+            gets_abstract(by, accepted),
+            self.papers.last_abstract(paper),
+        )?;
         let bids = self.bids_told(alloc, by, paper)?;
         let reviewers = self.reviewers_told(alloc, by, paper)?;
-        let authors = self.names_where(alloc, shows_author(by, false), self.ties.authors(paper))?;
+        let authors = self.names_where(
+            alloc,
+            shows_author(by, accepted),
+            self.ties.authors(paper),
+        )?;
         let conflicts = self.names_where(alloc, gets_conflicts(by), self.ties.conflicts(paper))?;
         let declared = self.names_where(alloc, gets_declared(by), self.ties.declared(paper))?;
-        let versions = self.versions_told(alloc, by, paper)?;
+        let versions = self.versions_told(alloc, by, accepted, paper)?;
         let tags = self.tags_told(alloc, user, by, paper)?;
         Ok(Page {
             paper,
@@ -193,6 +205,7 @@ impl Live {
             bids,
             conflict: conflict_told(by),
             conflicts,
+            decision: self.decision_told(by, accepted, paper),
             declared,
             label: self.label_told(user, by, paper),
             reviewers,
@@ -200,7 +213,6 @@ impl Live {
             title,
             versions,
             withdrawn: withdrawn_told(by, self.papers.is_withdrawn(paper)),
-            bare: bare_keys(by),
         })
     }
 
@@ -209,17 +221,37 @@ impl Live {
         &self,
         alloc: Global,
         by: &Standing,
+        accepted: bool,
         paper: PaperNo,
     ) -> Result<Option<Versions>, AllocError>
-        ensures { IfOk result (λ versions. versions ≡ where_told (gets_versions by.now) (Some (versions_at self.now.tables by.now.author paper))) }
+        ensures { IfOk result (λ versions. versions ≡ where_told (gets_versions by.now accepted) (Some (versions_at self.now.tables by.now.author paper))) }
     {
-        if !gets_versions(by) {
+        if !gets_versions(by, accepted) {
             return Ok(None);
         }
         if by.author {
             return Ok(Some(self.papers.versions(alloc, paper)?));
         }
         Ok(Some(last_alone(alloc, self.papers.last_version(paper))?))
+    }
+
+    /// What was decided of the paper, which is accepted or isn't, where she is told it.
+    fn decision_told(
+        &self,
+        by: &Standing,
+        accepted: bool,
+        paper: PaperNo,
+    ) -> Option<Option<Decision>>
+        ensures { result ≡ where_told (gets_decision by.now accepted)
+            (Some (if accepted then Some Accept else decision_in self.now.tables.decisions paper)) }
+    {
+        if !gets_decision(by, accepted) {
+            return None;
+        }
+        if accepted {
+            return Some(Some(Decision::Accept));
+        }
+        Some(self.decisions.last(paper))
     }
 
     /// The tags that are on and for her, where she is told them.
@@ -259,7 +291,7 @@ impl Live {
     }
 
     /// The names of the users of these ties, without those whom nobody knows.
-    fn names(&self, alloc: Global, ties: &[Tie<()>]) -> Result<Names, AllocError>
+    pub(crate) fn names(&self, alloc: Global, ties: &[Tie<()>]) -> Result<Names, AllocError>
         ensures { IfOk result (λ names. names ≡ names_of self.now.tables ties.now) }
     {
         let mut names = Vec::with_capacity(alloc, ties.len())?;

@@ -1,4 +1,4 @@
-//! What is judged of what members write on a paper: reviews, comments and tags.
+//! What is judged of what members write on a paper, reviews, comments and tags, and of what is decided of it.
 ghost use Rattle.std.specs.Prelude.{◌≡◌, IsSome, Some};
 ghost use Rattle.cr_base.specs.Judging.{judge_by_role};
 ghost use Rattle.cr_base.specs.declared.command.Command.TheVariants as commands;
@@ -7,7 +7,7 @@ ghost use Rattle.cr_view.specs.Draws.{drawn_or_rule};
 
 use crate::draw::Draw;
 use crate::live::Live;
-use cr_base::{Form, Ordinal, PaperNo, Rule, Tag, Text, UserNo};
+use cr_base::{Decision, Form, Ordinal, PaperNo, Rule, Tag, Text, UserNo};
 
 /// The label of who reviews.
 fn held(ordinal: &Option<Ordinal>) -> Ordinal
@@ -88,6 +88,25 @@ impl Live {
             paper: named.paper,
             tag,
             on,
+        }))
+    }
+
+    pub(crate) fn judge_decision(
+        &self,
+        maker: UserNo,
+        paper: &Option<PaperNo>,
+        decision: Decision,
+    ) -> Result<Draw, Rule>
+        ensures { drawn_or_rule result ≡ judge_by_role self.now.tables (Some maker) (commands.Decide paper.now decision) }
+    {
+        let named = self.named(maker, paper)?;
+        let kept = self
+            .decisions
+            .judge_decide(&named.by, &Some(named.paper), named.withdrawn);
+        kept.and(Ok(Draw::Decision {
+            maker,
+            paper: named.paper,
+            decision,
         }))
     }
 }

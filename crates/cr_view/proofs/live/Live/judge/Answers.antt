@@ -131,3 +131,13 @@ pub returns-in-Tag-clause-fits : goal.returns-in-Tag-clause-fits
 returns-in-Tag-clause-fits c =
     draw-fits c.args.self.now.tables c.law_within.ensures.ties c.maker-in-Tag.result
     (commands.Tag c.in-Tag.paper c.in-Tag.tag c.in-Tag.on) c.judge_tag.result c.judge_tag.ensures
+
+pub returns-in-Decide-clause-drawn : goal.returns-in-Decide-clause-drawn
+returns-in-Decide-clause-drawn c =
+    along c.args.self.now.tables c.args.caller.now (Some c.maker-in-Decide.result) c.args.command
+    (commands.Decide c.in-Decide.paper c.in-Decide.decision) _ c.maker-in-Decide.ensures c.in-Decide.is c.judge_decision.ensures
+
+pub returns-in-Decide-clause-fits : goal.returns-in-Decide-clause-fits
+returns-in-Decide-clause-fits c =
+    draw-fits c.args.self.now.tables c.law_within.ensures.ties c.maker-in-Decide.result
+    (commands.Decide c.in-Decide.paper c.in-Decide.decision) c.judge_decision.result c.judge_decision.ensures

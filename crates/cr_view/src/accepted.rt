@@ -1,0 +1,116 @@
+//! Which papers are accepted, who may ask for them, and what everyone is told of them.
+ghost use Rattle.std.specs.Prelude.{◌≡◌, ◌++◌, [], IfOk, None, OnOk, unwrap_or};
+ghost use Rattle.cr_base.specs.Answering.{accepted_by, accepted_paper, login_wanted};
+ghost use Rattle.cr_base.specs.Decisions.{is_published};
+ghost use Rattle.cr_base.specs.Lists.{at_some, given};
+ghost use Rattle.cr_base.specs.Papers.{title_at};
+ghost use Rattle.cr_base.specs.Sources.{facts_of_tables, shown_in_tables, is_accepted_in};
+
+use crate::live::Live;
+use cr_base::{AcceptedPaper, AcceptedPapers, Decision, PaperNo, Phase, Query, Text};
+use std::alloc::{AllocError, Global};
+
+/// Which papers are accepted.
+impl Live {
+    /// Whether the paper is accepted: the last decision on it is to accept it, it isn't withdrawn, and its
+    /// authors are told, which they are from the notification on. Takes no memory; before the notification no
+    /// search, else two binary searches and a read by number.
+    pub fn is_accepted(&self, paper: PaperNo) -> bool
+        ensures { result ≡ is_accepted_in self.now.tables paper }
+    {
+        if !self.stage.phase().is_from(Phase::Notification) {
+            return false;
+        }
+        match self.decisions.last(paper) {
+            Some(Decision::Accept) => !self.papers.is_withdrawn(paper),
+            _ => false,
+        }
+    }
+
+    /// Whether a paper is named, and is accepted.
+    pub(crate) fn has_accepted(&self, paper: &Option<PaperNo>) -> bool
+        ensures { result ≡ at_some (is_accepted_in self.now.tables) paper.now }
+    {
+        match paper {
+            Some(paper) => self.is_accepted(*paper),
+            None => false,
+        }
+    }
+
+    /// Whether a paper is named, and everyone is served it: it is accepted, and the conference is closed.
+    pub(crate) fn has_published(&self, paper: &Option<PaperNo>) -> bool
+        ensures { result ≡ is_published self.now.tables.stage.phase (at_some (is_accepted_in self.now.tables) paper.now) }
+    {
+        self.has_accepted(paper) && self.stage.phase().is_from(Phase::Closed)
+    }
+
+    /// Whether nobody may not ask this: what is asked for is a registered user's, and isn't the page or the
+    /// content of a published paper. Costs what `is_accepted` does.
+    pub fn needs_login(&self, query: &Query) -> bool
+        ensures { result ≡ login_wanted (facts_of_tables self.now.tables None) query.now }
+    {
+        match query {
+            Query::Page { paper } => !self.has_published(paper),
+            Query::Content { paper } => !self.has_published(paper),
+            Query::Version { paper, .. } => !self.has_published(paper),
+            other => other.wants_login(),
+        }
+    }
+}
+
+/// What everyone is told of them.
+impl Live {
+    /// The accepted papers, by number, each with its last title and the names of its authors, the submitter
+    /// first; an error only for lack of memory. A walk over all papers, which costs each what `is_accepted`
+    /// does; of those that are accepted a binary search, and a look-up for each author. Shares the titles, and
+    /// takes no memory but for the answer.
+    pub fn accepted_papers(&self, alloc: Global) -> Result<AcceptedPapers, AllocError>
+        ensures { IfOk result (λ papers. papers ≡ accepted_by (facts_of_tables self.now.tables None) (shown_in_tables self.now.tables)) }
+    {
+        let mut papers = Vec::new(alloc);
+        for before in 0..self.papers.count() {
+            self.push_accepted(&mut papers, alloc, PaperNo::new(before + 1))?;
+        }
+        Ok(AcceptedPapers::from_vec(papers))
+    }
+
+    /// Adds what is told of the paper, where it is accepted; an error only for lack of memory.
+    fn push_accepted(
+        &self,
+        papers: &mut Vec<AcceptedPaper>,
+        alloc: Global,
+        paper: PaperNo,
+    ) -> Result<(), AllocError>
+        ensures { OnOk result (papers.new.items ≡ papers.old.items
+            ++ given (is_accepted_in self.now.tables paper)
+            (accepted_paper (facts_of_tables self.now.tables None) (shown_in_tables self.now.tables) paper)) }
+    {
+        if self.is_accepted(paper) {
+            papers.push(self.accepted_paper(alloc, paper)?)?;
+        }
+        Ok(())
+    }
+
+    /// What is told of the paper; an error only for lack of memory.
+    fn accepted_paper(&self, alloc: Global, paper: PaperNo) -> Result<AcceptedPaper, AllocError>
+        ensures { IfOk result (λ told. told ≡ accepted_paper (facts_of_tables self.now.tables None) (shown_in_tables self.now.tables) paper) }
+    {
+        let authors = self.names(alloc, self.ties.authors(paper))?;
+        let title = self.title_or_none(alloc, paper)?;
+        Ok(AcceptedPaper {
+            authors,
+            paper,
+            title,
+        })
+    }
+
+    /// The paper's last title, shared; no bytes where there is no such paper. An error only for lack of memory.
+    fn title_or_none(&self, alloc: Global, paper: PaperNo) -> Result<Text, AllocError>
+        ensures { IfOk result (λ title. title ≡ unwrap_or (title_at self.now.tables.papers paper) []) }
+    {
+        match self.papers.last_title(paper) {
+            Some(title) => title.copy(),
+            None => Text::from_str(alloc, ""),
+        }
+    }
+}
