@@ -3,8 +3,8 @@ use Rattle.std.specs.Prelude.{ℕ, List, Option, Some, None, codes}
 use Rattle.serde_json.specs.Data.{Data}
 use Rattle.cr_base.specs.declared.command.Command.{Command}
 use Rattle.cr_base.specs.declared.command.Command.TheVariants as commands
-use Rattle.cr_bodies.specs.Field.{◌>>=◌, abstract_under, bid_under, comment_under, digest_under, flag_under, grade_under, kind_under, mode_under}
-use Rattle.cr_bodies.specs.Field.{name_under, names_under, phase_under, review_text_under, role_under, title_under, user_under}
+use Rattle.cr_bodies.specs.Field.{◌>>=◌, abstract_under, bid_under, comment_under, decision_under, digest_under, flag_under, grade_under, kind_under}
+use Rattle.cr_bodies.specs.Field.{mode_under, name_under, names_under, phase_under, review_text_under, role_under, title_under, user_under}
 use Rattle.cr_bodies.specs.Json.{json_of}
 use Rattle.cr_base.specs.declared.ask.Ask.{Ask}
 use Rattle.cr_base.specs.declared.ask.Ask.TheVariants as asks
@@ -55,8 +55,12 @@ command_in asks.Review paper d = do
 command_in asks.Comment paper d = do
   text ← comment_under (codes "text") d
   Some (commands.Comment paper text)
+command_in asks.Decide paper d = do
+  decision ← decision_under (codes "decision") d
+  Some (commands.Decide paper decision)
 command_in asks.Accounts paper d = None
 command_in asks.Phase paper d = None
+command_in asks.AcceptedPapers paper d = None
 command_in asks.Page paper d = None
 command_in asks.Withdraw paper d = None
 command_in asks.Content paper d = None

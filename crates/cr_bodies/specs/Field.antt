@@ -3,12 +3,13 @@ use Rattle.std.specs.Prelude.{ℕ, ℤ, List, [], ◌∷◌, length, Bool, IsTru
 use Rattle.sha2.specs.Sha256.{sha256}
 use Rattle.serde_json.specs.Data.{Data, Items, no_items, item}
 use Rattle.serde_json.specs.Find.{get, as_array, as_bool, as_i64, as_number, as_str}
+use Rattle.cr_base.specs.declared.words.Decision.{Decision}
 use Rattle.cr_base.specs.declared.words.Kind.{Kind}
 use Rattle.cr_base.specs.declared.words.Mode.{Mode}
 use Rattle.cr_base.specs.declared.words.Phase.{Phase}
 use Rattle.cr_base.specs.declared.words.Role.{Role}
 use Rattle.cr_base.specs.Texts.{IsAbstract, IsCommentText, IsName, IsReviewText, IsTitle, is_abstract, is_comment_text, is_name, is_review_text, is_title}
-use Rattle.cr_base.specs.Words.{bid_of_value, grade_of_value, mode_named, phase_named, role_named, seat_named}
+use Rattle.cr_base.specs.Words.{bid_of_value, decision_named, grade_of_value, mode_named, phase_named, role_named, seat_named}
 use Rattle.cr_bodies.specs.Secret.{is_secret}
 use Rattle.cr_bodies.specs.declared.field.Grammar.{Grammar}
 use Rattle.cr_bodies.specs.declared.field.Grammar.TheVariants.{Name, Secret, Title, Abstract, ReviewText, CommentText}
@@ -113,7 +114,8 @@ bid_under key d = integer_under key d >>= bid_of_value
 abbrev pub grade_under : List ℕ → Data → Option ℕ
 grade_under key d = integer_under key d >>= grade_of_value
 
--- the phase, the mode, the kind of assignment, and the role that somebody may be named to, whose word stands under a key
+-- the phase, the mode, the kind of assignment, the decision, and the role that somebody may be named to, whose word stands under
+-- a key
 abbrev pub phase_under : List ℕ → Data → Option Phase
 phase_under key d = text_under key d >>= phase_named
 
@@ -122,6 +124,9 @@ mode_under key d = text_under key d >>= mode_named
 
 abbrev pub kind_under : List ℕ → Data → Option Kind
 kind_under key d = text_under key d >>= seat_named
+
+abbrev pub decision_under : List ℕ → Data → Option Decision
+decision_under key d = text_under key d >>= decision_named
 
 abbrev pub role_under : List ℕ → Data → Option Role
 role_under key d = text_under key d >>= role_named

@@ -10,7 +10,7 @@ ghost use Rattle.cr_bodies.specs.Bodies.{command_in as command_in_text, command_
 ghost use Rattle.cr_bodies.specs.Outcome.{TellsBody, TellsBodySeen};
 
 use crate::field::{
-    Grammar, bid, digest, flag, grade, kind, mode, name, names, phase, role, tested, user,
+    Grammar, bid, decision, digest, flag, grade, kind, mode, name, names, phase, role, tested, user,
 };
 use cr_base::{Ask, Command, Form, PaperNo, Text};
 use serde_json::Value;
@@ -45,6 +45,26 @@ fn read_json(alloc: Global, body: &[u8]) -> Result<Value, BodyError>
         Err(error) if error.is_memory() => Err(BodyError::OutOfMemory),
         Err(_) => Err(BodyError::Bad),
     }
+}
+
+/// The registration that a JSON value tells.
+fn registration(body: &Value) -> Result<Command, BodyError>
+    ensures told { TellsBody result (command_in_text Ask.Register None (view body.now)) }
+    ensures bounded { IfOk result IsBoundedCommand }
+{
+    let name = name(body, "name")?;
+    let digest = digest(body, "secret")?;
+    Ok(Command::Register { name, digest })
+}
+
+/// The naming of a member or a chair that a JSON value tells.
+fn naming(body: &Value) -> Result<Command, BodyError>
+    ensures told { TellsBody result (command_in_text Ask.Name None (view body.now)) }
+    ensures bounded { IfOk result IsBoundedCommand }
+{
+    let user = user(body, "name")?;
+    let role = role(body, "role")?;
+    Ok(Command::Name { user, role })
 }
 
 /// The submission that a JSON value tells.
@@ -88,6 +108,15 @@ fn conflict(paper: Option<PaperNo>, body: &Value) -> Result<Command, BodyError>
     let on = flag(body, "on")?;
     let user = user(body, "user")?;
     Ok(Command::SetConflict { paper, user, on })
+}
+
+/// The bid that a JSON value tells.
+fn bidding(paper: Option<PaperNo>, body: &Value) -> Result<Command, BodyError>
+    ensures told { TellsBody result (command_in_text Ask.Bid paper (view body.now)) }
+    ensures bounded { IfOk result IsBoundedCommand }
+{
+    let value = bid(body, "bid")?;
+    Ok(Command::Bid { paper, value })
 }
 
 /// The assignment that a JSON value tells.
@@ -144,16 +173,8 @@ fn command_in(
     ensures bounded { IfOk result IsBoundedCommand }
 {
     match ask {
-        Ask::Register => {
-            let name = name(body, "name")?;
-            let digest = digest(body, "secret")?;
-            Ok(Command::Register { name, digest })
-        }
-        Ask::Name => {
-            let user = user(body, "name")?;
-            let role = role(body, "role")?;
-            Ok(Command::Name { user, role })
-        }
+        Ask::Register => registration(body),
+        Ask::Name => naming(body),
         Ask::SetMode => {
             let mode = mode(body, "mode")?;
             Ok(Command::SetMode { mode })
@@ -165,14 +186,16 @@ fn command_in(
         Ask::Submit => submission(alloc, body),
         Ask::Revise => revision(alloc, paper, body),
         Ask::SetConflict => conflict(paper, body),
-        Ask::Bid => {
-            let value = bid(body, "bid")?;
-            Ok(Command::Bid { paper, value })
-        }
+        Ask::Bid => bidding(paper, body),
         Ask::Assign => assignment(paper, body),
         Ask::Review => review(alloc, paper, body),
         Ask::Comment => comment(alloc, paper, body),
-        Ask::Accounts | Ask::Phase | Ask::Page | Ask::Me => Err(BodyError::Bad),
+        Ask::Decide => {
+            let decision = decision(body, "decision")?;
+            Ok(Command::Decide { paper, decision })
+        }
+        Ask::Accounts | Ask::Phase | Ask::AcceptedPapers => Err(BodyError::Bad),
+        Ask::Page | Ask::Me => Err(BodyError::Bad),
         Ask::Withdraw | Ask::Content | Ask::Upload | Ask::Version => Err(BodyError::Bad),
         Ask::Unassign | Ask::Reviews | Ask::Comments => Err(BodyError::Bad),
         Ask::Tag | Ask::Untag => Err(BodyError::Bad),

@@ -3,8 +3,9 @@ ghost use Rattle.std.specs.Prelude.{◌≡◌, ◌≤◌, length, IfOk, IsTrue};
 ghost use Rattle.cr_base.specs.Bounds.{IsGrade};
 ghost use Rattle.cr_base.specs.Texts.{IsName};
 ghost use Rattle.cr_base.specs.Words.{is_member};
-ghost use Rattle.cr_bodies.specs.Field.{IsOf, admits as admits_text, bid_under, digest_under, flag_under, grade_under, kind_under, mode_under, name_told, name_under};
-ghost use Rattle.cr_bodies.specs.Field.{names_of, names_under, phase_under, role_under, text_under, tested_under, user_under};
+ghost use Rattle.cr_bodies.specs.Field.{IsOf, admits as admits_text, bid_under, decision_under, digest_under, flag_under, grade_under};
+ghost use Rattle.cr_bodies.specs.Field.{kind_under, mode_under, name_told, name_under, names_of, names_under, phase_under, role_under};
+ghost use Rattle.cr_bodies.specs.Field.{text_under, tested_under, user_under};
 ghost use Rattle.cr_bodies.specs.Outcome.{Tells, TellsBody, TellsSeen};
 ghost use Rattle.serde_json.specs.Data.{array};
 ghost use Rattle.serde_json.specs.View.{items_view, view};
@@ -12,8 +13,8 @@ ghost use Rattle.serde_json.specs.View.{items_view, view};
 use crate::body::BodyError;
 use crate::secret::{digest_of, is_secret};
 use cr_base::{
-    Bid, Digest, Grade, Kind, MOST_COAUTHORS, Mode, Phase, Role, Short, ToldNames, is_abstract,
-    is_comment, is_name, is_review_text, is_title,
+    Bid, Decision, Digest, Grade, Kind, MOST_COAUTHORS, Mode, Phase, Role, Short, ToldNames,
+    is_abstract, is_comment, is_name, is_review_text, is_title,
 };
 use serde_json::Value;
 use std::alloc::Global;
@@ -204,6 +205,16 @@ pub(crate) fn kind(body: &Value, key: &str) -> Result<Kind, BodyError>
 {
     match Kind::from_name(text(body, key)?) {
         Some(kind) => Ok(kind),
+        None => Err(BodyError::Bad),
+    }
+}
+
+/// The decision whose word stands under a key.
+pub(crate) fn decision(body: &Value, key: &str) -> Result<Decision, BodyError>
+    ensures { Tells result (decision_under key.now (view body.now)) }
+{
+    match Decision::from_name(text(body, key)?) {
+        Some(decision) => Ok(decision),
         None => Err(BodyError::Bad),
     }
 }

@@ -1,5 +1,6 @@
 -- The bytes of whole answers, each in the form that its request wants.
 use Rattle.std.specs.Prelude.{ℕ, List, [], ◌++◌, Bool, true, if◌then◌else◌, codes, length, map}
+use Rattle.cr_base.specs.declared.accepted.AcceptedPaper.{AcceptedPaper}
 use Rattle.cr_base.specs.declared.comment.CommentLine.{CommentLine}
 use Rattle.cr_base.specs.declared.me.Me.{Me}
 use Rattle.cr_base.specs.declared.page.Page.{Page}
@@ -12,7 +13,7 @@ use Rattle.cr_base.specs.declared.review.ReviewLine.{ReviewLine}
 use Rattle.cr_http.specs.declared.refusal.Refusal.{Refusal}
 use Rattle.cr_print.specs.declared.head.Extra.{Extra}
 use Rattle.cr_print.specs.declared.head.Extra.TheVariants.{Nothing}
-use Rattle.cr_print.specs.declared.head.Head.{Head}
+use Rattle.cr_print.specs.declared.head.AnswerHead.{AnswerHead}
 use Rattle.cr_print.specs.declared.head.MediaType.TheVariants.{Json, OctetStream}
 use Rattle.cr_print.specs.declared.status.Status.{Status}
 use Rattle.cr_print.specs.declared.status.Status.TheVariants.{Okay}
@@ -25,6 +26,7 @@ use Rattle.cr_print.specs.Receipt.{receipt_status, receipt_content}
 use Rattle.cr_print.specs.Conference.{conference_content}
 use Rattle.cr_print.specs.Json.{list_alone}
 use Rattle.cr_print.specs.Accounts.{account_text}
+use Rattle.cr_print.specs.Accepted.{accepted_text}
 use Rattle.cr_print.specs.Reviews.{review_text}
 use Rattle.cr_print.specs.Comments.{comment_text}
 use Rattle.cr_print.specs.Page.{page_content}
@@ -35,11 +37,11 @@ abbrev pub unless_head : Bool → List ℕ → List ℕ
 unless_head is_head content = if is_head then [] else content
 
 -- the head tells the content's length whether the content follows or not
-abbrev pub answer_text : Head → List ℕ → Form → List ℕ
+abbrev pub answer_text : AnswerHead → List ℕ → Form → List ℕ
 answer_text head content form = head_text head (length content) form.closes ++ unless_head form.is_head content
 
 -- the head of an answer whose content is JSON
-abbrev pub json_head : Status → Extra → Head
+abbrev pub json_head : Status → Extra → AnswerHead
 json_head status extra = record { status = status; media_type = Json; extra = extra }
 
 -- the answer to a query that is served, in JSON
@@ -66,9 +68,12 @@ conference_text conference form = served_text (conference_content conference) fo
 unfoldable pub list_text : List ℕ → List (List ℕ) → Form → List ℕ
 list_text key texts form = served_text (list_alone key texts) form
 
--- the list of accounts, the reviews of a paper and the comments on it
+-- the list of accounts, the accepted papers, the reviews of a paper and the comments on it
 unfoldable pub accounts_text : List AccountLine → Form → List ℕ
 accounts_text accounts form = list_text (codes "accounts") (map account_text accounts) form
+
+unfoldable pub papers_text : List AcceptedPaper → Form → List ℕ
+papers_text papers form = list_text (codes "papers") (map accepted_text papers) form
 
 unfoldable pub reviews_text : List ReviewLine → Form → List ℕ
 reviews_text reviews form = list_text (codes "reviews") (map review_text reviews) form
@@ -85,7 +90,7 @@ unfoldable pub me_text : Me → Form → List ℕ
 me_text me form = served_text (me_content me) form
 
 -- the head of an answer whose content is bytes as they are
-abbrev pub bytes_head : Head
+abbrev pub bytes_head : AnswerHead
 bytes_head = record { status = Okay; media_type = OctetStream; extra = Nothing }
 
 -- what stands in front of a content of so many bytes that is served as it is
@@ -97,6 +102,7 @@ abbrev pub front_text : Form → Reply → List ℕ
 front_text form (replies.Accepted receipt) = receipt_text receipt form
 front_text form (replies.Refused rule) = refusal_text (Rule rule) form
 front_text form (replies.Accounts accounts) = accounts_text accounts form
+front_text form (replies.AcceptedPapers papers) = papers_text papers form
 front_text form (replies.Reviews reviews) = reviews_text reviews form
 front_text form (replies.Comments comments) = comments_text comments form
 front_text form (replies.Conference conference) = conference_text conference form
@@ -122,6 +128,7 @@ abbrev pub IsBrief : Reply → Type 0
 IsBrief (replies.Accepted receipt) = Unit {0}
 IsBrief (replies.Refused rule) = Unit {0}
 IsBrief (replies.Accounts accounts) = ⊥
+IsBrief (replies.AcceptedPapers papers) = ⊥
 IsBrief (replies.Reviews reviews) = ⊥
 IsBrief (replies.Comments comments) = ⊥
 IsBrief (replies.Conference conference) = Unit {0}

@@ -4,7 +4,7 @@ use Rattle.http.specs.StatusCode.{code_digits}
 use Rattle.cr_routes.specs.Asks.{allow_text}
 use Rattle.cr_print.specs.declared.head.Extra.{Extra}
 use Rattle.cr_print.specs.declared.head.Extra.TheVariants.{Nothing, Challenge, Allow}
-use Rattle.cr_print.specs.declared.head.Head.{Head}
+use Rattle.cr_print.specs.declared.head.AnswerHead.{AnswerHead}
 use Rattle.cr_print.specs.declared.head.MediaType.{MediaType}
 use Rattle.cr_print.specs.declared.head.MediaType.TheVariants.{Json, PlainText, OctetStream}
 use Rattle.cr_print.specs.declared.status.Status.{Status}
@@ -36,7 +36,7 @@ unfoldable pub close_line : Bool → List ℕ
 close_line closes = if closes then codes "Connection: close\r\n" else []
 
 -- the head of an answer whose content has n bytes, with the empty line
-abbrev pub head_text : Head → ℕ → Bool → List ℕ
+abbrev pub head_text : AnswerHead → ℕ → Bool → List ℕ
 head_text head n closes =
     status_line head.status ++ extra_line head.extra ++ type_line head.media_type ++ length_line n ++ close_line closes
     ++ codes "\r\n"

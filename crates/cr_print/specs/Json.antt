@@ -2,8 +2,9 @@
 use Rattle.std.specs.Prelude.{◌≡◌, ℕ, List, [], ◌∷◌, ◌++◌, Bool, true, false, if◌then◌else◌, Option, Some, None, codes, decimal, map, nat_lt, Result, OnOk}
 use Rattle.json.specs.Print.{quoted}
 use Rattle.cr_anonymity.specs.Letters.{letter_of}
+use Rattle.cr_base.specs.declared.words.Decision.{Decision}
 use Rattle.cr_base.specs.declared.words.Kind.{Kind}
-use Rattle.cr_base.specs.Words.{bid_size, no_bid, seat_name}
+use Rattle.cr_base.specs.Words.{bid_size, decision_name, no_bid, seat_name}
 use Rattle.cr_print.specs.Put.{Bytes}
 
 -- ---- values
@@ -26,6 +27,18 @@ label_text ordinal = quoted (letter_of ordinal ∷ [])
 -- a kind of assignment, by its word
 abbrev pub seat_text : Kind → List ℕ
 seat_text kind = quoted (seat_name kind)
+
+-- a decision, by its word
+abbrev pub decision_text : Decision → List ℕ
+decision_text decision = quoted (decision_name decision)
+
+-- what was decided last, which may be nothing
+unfoldable pub decided_word : Option Decision → List ℕ
+decided_word None = codes "none"
+decided_word (Some decision) = decision_name decision
+
+abbrev pub decided_text : Option Decision → List ℕ
+decided_text decision = quoted (decided_word decision)
 
 -- ---- texts with commas
 

@@ -6,6 +6,7 @@ pub mod Receipt
 pub mod Conference
 pub mod Json
 pub mod Accounts
+pub mod Accepted
 pub mod Reviewers
 pub mod Reviews
 pub mod Comments

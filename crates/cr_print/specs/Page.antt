@@ -3,8 +3,7 @@ use Rattle.std.specs.Prelude.{ℕ, List, ◌++◌, Some, codes, decimal}
 use Rattle.std.specs.Option.{option_map}
 use Rattle.json.specs.Print.{quoted}
 use Rattle.cr_base.specs.declared.page.Page.{Page}
-use Rattle.cr_base.specs.Page.{where_told}
-use Rattle.cr_print.specs.Json.{Member, member_of, truth_text, bid_text, label_text, names_text, numbers_text, object_text}
+use Rattle.cr_print.specs.Json.{Member, member_of, truth_text, bid_text, decided_text, label_text, names_text, numbers_text, object_text}
 use Rattle.cr_print.specs.Reviewers.{bids_text, reviewers_text}
 
 -- the keys of a page in the order of their bytes, each where it is told
@@ -16,7 +15,7 @@ page_members page =
     ++ member_of (codes "bids") (option_map bids_text page.bids)
     ++ member_of (codes "conflict") (option_map truth_text page.conflict)
     ++ member_of (codes "conflicts") (option_map names_text page.conflicts)
-    ++ member_of (codes "decision") (where_told page.bare.decision (Some (codes "\"none\"")))
+    ++ member_of (codes "decision") (option_map decided_text page.decision)
     ++ member_of (codes "declared") (option_map names_text page.declared)
     ++ member_of (codes "label") (option_map label_text page.label)
     ++ member_of (codes "paper") (Some (decimal page.paper))

@@ -4,7 +4,7 @@ ghost use Rattle.cr_print.specs.Put.{HasRoom, Puts};
 ghost use Rattle.cr_print.specs.Answers.{answer_text, unless_head};
 
 use crate::form::Form;
-use crate::head::{HEAD_ROOM, Head, print_head};
+use crate::head::{AnswerHead, HEAD_ROOM, print_head};
 use crate::put::put;
 use arrayvec::ArrayVec;
 
@@ -28,7 +28,7 @@ fn put_content(into: &mut Vec<u8>, content: &[u8], is_head: bool)
 
 /// Puts the head before a brief content that stands at the end, from `start` on. A head tells its
 /// content's length, so the content is written first, and moved behind it. It can't fail.
-pub(crate) fn print_brief(into: &mut Vec<u8>, start: usize, head: Head, form: Form)
+pub(crate) fn print_brief(into: &mut Vec<u8>, start: usize, head: AnswerHead, form: Form)
     requires begins { start ≤ vec_len into.old }
     requires brief { vec_len into.old ≤ start + 288 }
     requires room { start + 512 ≤ vec_capacity into.old }

@@ -78,7 +78,7 @@ pub(crate) enum Extra {
 
 /// What a head tells that follows from what is answered.
 #[derive(Clone, Copy, PartialEq, Eq, Debug)]
-pub(crate) struct Head {
+pub(crate) struct AnswerHead {
     /// The status.
     pub status: Status,
     /// What kind of content it has.
@@ -88,10 +88,10 @@ pub(crate) struct Head {
 }
 
 /// The head of an answer whose content is JSON.
-pub(crate) fn json(status: Status, extra: Extra) -> Head
+pub(crate) fn json(status: Status, extra: Extra) -> AnswerHead
     ensures { result ≡ json_head status extra }
 {
-    Head {
+    AnswerHead {
         status,
         media_type: MediaType::Json,
         extra,
@@ -163,7 +163,7 @@ fn put_close(into: &mut Vec<u8>, closes: bool)
 }
 
 /// Appends the head of an answer whose content has so many bytes. It can't fail.
-pub(crate) fn print_head(into: &mut Vec<u8>, head: Head, length: usize, closes: bool)
+pub(crate) fn print_head(into: &mut Vec<u8>, head: AnswerHead, length: usize, closes: bool)
     requires { HasRoom into.old 224 }
     ensures { Puts into.old into.new (head_text head length closes) 224 }
 {

@@ -8,6 +8,7 @@
 //! it appends, and for what is brief, how much room suffices for it to take no memory.
 #![tactic(auto)]
 
+mod accepted;
 mod accounts;
 mod brief;
 mod comments;

@@ -23,7 +23,6 @@ pub(crate) fn page_room(page: &Page) -> usize {
 pub(crate) fn append_page(into: &mut Vec<u8>, page: &Page) -> Result<(), AllocError>
     ensures { Appends result into.old into.new (page_content page.now) }
 {
-    let bare = page.bare;
     let mut object = Object::open(into)?;
     object.told(into, "abstract", &page.abstract_)?;
     object.told(into, "authors", &page.authors)?;
@@ -31,7 +30,7 @@ pub(crate) fn append_page(into: &mut Vec<u8>, page: &Page) -> Result<(), AllocEr
     object.told(into, "bids", &page.bids)?;
     object.truth(into, "conflict", page.conflict)?;
     object.told(into, "conflicts", &page.conflicts)?;
-    object.fixed(into, "decision", bare.decision, "\"none\"")?;
+    object.told(into, "decision", &page.decision)?;
     object.told(into, "declared", &page.declared)?;
     object.told(into, "label", &page.label)?;
     object.number(into, "paper", page.paper.number())?;

@@ -1,12 +1,12 @@
 //! Replies.
 ghost use Rattle.std.specs.Prelude.{◌≡◌, OnErr, map};
 ghost use Rattle.cr_print.specs.Put.{HasRoom, Prints, Puts};
-ghost use Rattle.cr_print.specs.Answers.{bytes_head, content_front, served_text, list_text, page_text, me_text, front_text, block_text, IsBrief};
+ghost use Rattle.cr_print.specs.Answers.{bytes_head, content_front, served_text, list_text, papers_text, page_text, me_text, front_text, block_text, IsBrief};
 
 use crate::brief::ANSWER_ROOM;
 use crate::conference::print_conference;
 use crate::form::Form;
-use crate::head::{Extra, HEAD_ROOM, Head, MediaType, json, print_head};
+use crate::head::{AnswerHead, Extra, HEAD_ROOM, MediaType, json, print_head};
 use crate::me::append_me;
 use crate::object::append_list_alone;
 use crate::page::{append_page, page_room};
@@ -15,7 +15,7 @@ use crate::receipt::print_receipt;
 use crate::refused::{Refused, print_refusal};
 use crate::status::Status;
 use crate::value::Value;
-use cr_base::{Me, Page, Reply};
+use cr_base::{AcceptedPapers, Me, Page, Reply};
 use std::alloc::AllocError;
 
 /// Appends the answer that has this content, whatever its length.
@@ -52,6 +52,13 @@ fn print_list<T: Value>(
     print_content(into, content.as_slice(), form)
 }
 
+#[tactic(auto, unfolding(crate::specs::Answers::papers_text))]
+fn print_accepted(into: &mut Vec<u8>, papers: &AcceptedPapers, form: Form) -> Result<(), AllocError>
+    ensures { Prints result into.old into.new (papers_text papers.now form) }
+{
+    print_list(into, "papers", papers.as_slice(), form)
+}
+
 #[tactic(auto, unfolding(crate::specs::Answers::page_text))]
 fn print_page(into: &mut Vec<u8>, page: &Page, form: Form) -> Result<(), AllocError>
     ensures { Prints result into.old into.new (page_text page.now form) }
@@ -71,10 +78,10 @@ fn print_me(into: &mut Vec<u8>, me: &Me, form: Form) -> Result<(), AllocError>
 }
 
 /// The head of an answer whose content is bytes as they are.
-fn head_of_bytes() -> Head
+fn head_of_bytes() -> AnswerHead
     ensures { result ≡ bytes_head }
 {
-    Head {
+    AnswerHead {
         status: Status::Okay,
         media_type: MediaType::OctetStream,
         extra: Extra::Nothing,
@@ -114,6 +121,7 @@ pub fn print_reply(into: &mut Vec<u8>, reply: &Reply, form: Form) -> Result<(), 
             Ok(())
         }
         Reply::Accounts(accounts) => print_list(into, "accounts", accounts.as_slice(), form),
+        Reply::AcceptedPapers(papers) => print_accepted(into, papers, form),
         Reply::Reviews(reviews) => print_list(into, "reviews", reviews.as_slice(), form),
         Reply::Comments(comments) => print_list(into, "comments", comments.as_slice(), form),
         Reply::Page(page) => print_page(into, page, form),

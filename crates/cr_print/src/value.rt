@@ -2,13 +2,13 @@
 ghost use Rattle.std.specs.Prelude.{◌≡◌, List, ℕ, decimal, map};
 ghost use Rattle.json.specs.Print.{quoted};
 ghost use Rattle.cr_print.specs.Put.{Appends, Takes};
-ghost use Rattle.cr_print.specs.Json.{array_text, bid_text, label_text, minus, seat_text};
+ghost use Rattle.cr_print.specs.Json.{array_text, bid_text, decided_text, decided_word as word_for, label_text, minus, seat_text};
 
 use crate::list::append_list;
 use crate::put::{append, append_number};
 use crate::quoted::append_quoted;
 use cr_anonymity::letter;
-use cr_base::{Bid, Items, Kind, Ordinal, PaperNo, Short, Tag, Text};
+use cr_base::{Bid, Decision, Items, Kind, Ordinal, PaperNo, Short, Tag, Text};
 use std::alloc::AllocError;
 
 /// What a list has, or an object under a key.
@@ -93,12 +93,31 @@ impl Value for Kind {
     }
 }
 
+/// What was decided last of a paper: the word for it, or `none` where nothing was.
+impl Value for Option<Decision> {
+    ghost text = { decided_text };
+
+    fn append_to(&self, into: &mut Vec<u8>) -> Result<(), AllocError> {
+        append_quoted(into, decided_word(*self).as_bytes())
+    }
+}
+
 /// A list.
 impl<T: Value> Value for Items<T> {
     ghost text = { λ items. array_text (map T.text items) };
 
     fn append_to(&self, into: &mut Vec<u8>) -> Result<(), AllocError> {
         append_list(into, self.as_slice())
+    }
+}
+
+#[tactic(auto, unfolding(crate::specs::Json::decided_word))]
+fn decided_word(decision: Option<Decision>) -> &'static str
+    ensures { result.now ≡ word_for decision }
+{
+    match decision {
+        Some(decision) => decision.name(),
+        None => "none",
     }
 }
 

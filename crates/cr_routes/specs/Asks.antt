@@ -11,6 +11,7 @@ use Rattle.cr_base.specs.declared.ask.Ask.TheVariants as asks
 -- one line for each route, HEAD aside
 abbrev pub route_at : Place → Method → Option Ask
 route_at at.Register Post = Some asks.Register
+route_at at.Accepted Get = Some asks.AcceptedPapers
 route_at at.Accounts Get = Some asks.Accounts
 route_at at.Members Post = Some asks.Name
 route_at at.Mode Post = Some asks.SetMode
@@ -33,6 +34,7 @@ route_at at.Comments Get = Some asks.Comments
 route_at at.Comments Post = Some asks.Comment
 route_at at.Tag Put = Some asks.Tag
 route_at at.Tag Delete = Some asks.Untag
+route_at at.Decision Put = Some asks.Decide
 route_at at.Me Get = Some asks.Me
 route_at _ _ = None
 

@@ -1,13 +1,15 @@
 -- The paths of the server.
 use Rattle.std.specs.Prelude.{ℕ, List, [], ◌∷◌, codes}
 use Rattle.cr_routes.specs.declared.place.Place.{Place}
-use Rattle.cr_routes.specs.declared.place.Place.TheVariants.{Register, Accounts, Members, Mode, Phase, Me}
-use Rattle.cr_routes.specs.declared.place.Place.TheVariants.{Papers, Paper, Content, Version, Conflicts, Bid, Reviewers, Reviewer, Review, Reviews, Comments, Tag}
+use Rattle.cr_routes.specs.declared.place.Place.TheVariants.{Register, Accepted, Accounts, Members, Mode, Phase, Me}
+use Rattle.cr_routes.specs.declared.place.Place.TheVariants.{Papers, Paper, Content, Version, Conflicts, Bid, Reviewers, Reviewer}
+use Rattle.cr_routes.specs.declared.place.Place.TheVariants.{Review, Reviews, Comments, Tag, Decision}
 
 -- each path, with its place; a parameter is written in braces. They stand in the order in which the router keeps them:
 -- by their bytes, a path behind those that it is the start of
 abbrev pub paths : List (List ℕ × Place)
 paths =
+    (codes "/accepted", Accepted) ∷
     (codes "/accounts", Accounts) ∷
     (codes "/members", Members) ∷
     (codes "/me", Me) ∷
@@ -17,6 +19,7 @@ paths =
     (codes "/papers/{p}/conflicts", Conflicts) ∷
     (codes "/papers/{p}/content/{v}", Version) ∷
     (codes "/papers/{p}/content", Content) ∷
+    (codes "/papers/{p}/decision", Decision) ∷
     (codes "/papers/{p}/reviewers/{u}", Reviewer) ∷
     (codes "/papers/{p}/reviewers", Reviewers) ∷
     (codes "/papers/{p}/reviews", Reviews) ∷

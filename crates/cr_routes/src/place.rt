@@ -9,6 +9,8 @@ use cr_base::Ask;
 pub enum Place {
     /// `/register`
     Register,
+    /// `/accepted`
+    Accepted,
     /// `/accounts`
     Accounts,
     /// `/members`
@@ -41,6 +43,8 @@ pub enum Place {
     Comments,
     /// `/papers/{p}/tags/{t}`: one such part stands between the slashes, and one at the end.
     Tag,
+    /// `/papers/{p}/decision`: one such part stands between the slashes.
+    Decision,
     /// `/me`
     Me,
 }
@@ -54,6 +58,7 @@ impl Place {
     {
         match (self, method) {
             (Place::Register, Method::Post) => Some(Ask::Register),
+            (Place::Accepted, Method::Get | Method::Head) => Some(Ask::AcceptedPapers),
             (Place::Accounts, Method::Get | Method::Head) => Some(Ask::Accounts),
             (Place::Members, Method::Post) => Some(Ask::Name),
             (Place::Mode, Method::Post) => Some(Ask::SetMode),
@@ -76,6 +81,7 @@ impl Place {
             (Place::Comments, Method::Post) => Some(Ask::Comment),
             (Place::Tag, Method::Put) => Some(Ask::Tag),
             (Place::Tag, Method::Delete) => Some(Ask::Untag),
+            (Place::Decision, Method::Put) => Some(Ask::Decide),
             (Place::Me, Method::Get | Method::Head) => Some(Ask::Me),
             _ => None,
         }
@@ -90,10 +96,11 @@ impl Place {
         match self {
             Place::Register | Place::Members | Place::Mode | Place::Papers => "POST",
             Place::Conflicts | Place::Reviewers => "POST",
-            Place::Bid | Place::Review => "PUT",
+            Place::Bid | Place::Review | Place::Decision => "PUT",
             Place::Reviewer => "DELETE",
             Place::Tag => "DELETE, PUT",
-            Place::Accounts | Place::Version | Place::Reviews | Place::Me => "GET, HEAD",
+            Place::Accepted | Place::Accounts | Place::Me => "GET, HEAD",
+            Place::Version | Place::Reviews => "GET, HEAD",
             Place::Paper => "DELETE, GET, HEAD, PUT",
             Place::Content => "GET, HEAD, PUT",
             Place::Phase | Place::Comments => "GET, HEAD, POST",

@@ -9,7 +9,8 @@ use matchit::{InsertError, Router};
 use std::alloc::{AllocError, Global};
 
 /// As `paths` lists them.
-static PATHS: [(&str, Place); 18] = [
+static PATHS: [(&str, Place); 20] = [
+    ("/accepted", Place::Accepted),
     ("/accounts", Place::Accounts),
     ("/members", Place::Members),
     ("/me", Place::Me),
@@ -19,6 +20,7 @@ static PATHS: [(&str, Place); 18] = [
     ("/papers/{p}/conflicts", Place::Conflicts),
     ("/papers/{p}/content/{v}", Place::Version),
     ("/papers/{p}/content", Place::Content),
+    ("/papers/{p}/decision", Place::Decision),
     ("/papers/{p}/reviewers/{u}", Place::Reviewer),
     ("/papers/{p}/reviewers", Place::Reviewers),
     ("/papers/{p}/reviews", Place::Reviews),

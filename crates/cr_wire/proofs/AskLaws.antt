@@ -7,8 +7,8 @@ use Rattle.cr_base.specs.declared.ask.Ask.TheVariants as asks
 use Rattle.cr_base.specs.declared.command.Command.{Command}
 use Rattle.cr_base.specs.declared.command.Command.TheVariants as commands
 use Rattle.cr_bodies.specs.Bodies.{command_in, command_read}
-use Rattle.cr_bodies.specs.Field.{◌>>=◌, abstract_under, bid_under, comment_under, digest_under, flag_under, grade_under, kind_under, mode_under}
-use Rattle.cr_bodies.specs.Field.{name_under, names_under, phase_under, review_text_under, role_under, title_under, user_under}
+use Rattle.cr_bodies.specs.Field.{◌>>=◌, abstract_under, bid_under, comment_under, decision_under, digest_under, flag_under, grade_under, kind_under}
+use Rattle.cr_bodies.specs.Field.{mode_under, name_under, names_under, phase_under, review_text_under, role_under, title_under, user_under}
 use Rattle.cr_bodies.specs.Json.{json_of}
 use Rattle.cr_routes.specs.Parts.{FoundPath}
 use Rattle.cr_wire.specs.Asked.{LooksAtBody, ask_has_body, asked, command_of, commanded, tagged}
@@ -69,6 +69,9 @@ given asks.Review paper body =
 given asks.Comment paper body =
     of_each asks.Comment (json_of body) (command_in asks.Comment paper) (λ d.
     of_each asks.Comment (comment_under (codes "text") d) _ (λ text. refl))
+given asks.Decide paper body =
+    of_each asks.Decide (json_of body) (command_in asks.Decide paper) (λ d.
+    of_each asks.Decide (decision_under (codes "decision") d) _ (λ decision. refl))
 given ask paper body = of_each ask (json_of body) (command_in ask paper) (λ d. tt)
 
 asks_for : (ask : Ask) (told : Option Command) → GivenBy ask told → ask_of (command_of ask told) ≡ Some ask
@@ -99,6 +102,7 @@ ask_by_ask asks.Bid found body = by_body asks.Bid found body
 ask_by_ask asks.Assign found body = by_body asks.Assign found body
 ask_by_ask asks.Review found body = by_body asks.Review found body
 ask_by_ask asks.Comment found body = by_body asks.Comment found body
+ask_by_ask asks.Decide found body = by_body asks.Decide found body
 ask_by_ask asks.Tag found body = by_tag asks.Tag found true (λ tag. refl)
 ask_by_ask asks.Untag found body = by_tag asks.Untag found false (λ tag. refl)
 ask_by_ask ask found body = refl

@@ -63,6 +63,8 @@ asked asks.Comment found body = commanded asks.Comment found body
 asked asks.Comments found body = Queries (queries.Comments (paper_of found))
 asked asks.Tag found body = tagged asks.Tag found true
 asked asks.Untag found body = tagged asks.Untag found false
+asked asks.Decide found body = commanded asks.Decide found body
+asked asks.AcceptedPapers found body = Queries queries.AcceptedPapers
 asked asks.Me found body = Queries queries.Me
 
 abbrev pub with_ask : FoundPath → Option Ask → List ℕ → What
@@ -101,6 +103,8 @@ ask_has_body asks.Comment = true
 ask_has_body asks.Comments = false
 ask_has_body asks.Tag = false
 ask_has_body asks.Untag = false
+ask_has_body asks.Decide = true
+ask_has_body asks.AcceptedPapers = false
 ask_has_body asks.Me = false
 
 -- a body was looked at, which alone takes memory: this goes by what is asked for

@@ -18,8 +18,8 @@ ask_of (BadBody ask) = Some ask
 ask_of (Commands command) = Some (command_ask command)
 ask_of (Queries query) = Some (query_ask query)
 
--- whether a login is wanted, also where the body is a bad one; what is no request of the server's is refused alike to
--- everybody
+-- whether a login is wanted, also where the body is a bad one, by what is asked for alone; what is no request of the server's
+-- is refused alike to everybody
 abbrev pub wants_login : What → Bool
 wants_login what = option_map_or ask_wants_login (ask_of what) false
 

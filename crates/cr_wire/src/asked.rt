@@ -81,6 +81,7 @@ fn asked(alloc: Global, ask: Ask, found: Matched<'_>, body: &Body<'_>) -> Result
     match ask {
         Ask::Accounts => Ok(What::Query(Query::Accounts)),
         Ask::Phase => Ok(What::Query(Query::Phase)),
+        Ask::AcceptedPapers => Ok(What::Query(Query::AcceptedPapers)),
         Ask::Page => Ok(What::Query(Query::Page { paper })),
         Ask::Content => Ok(What::Query(Query::Content { paper })),
         Ask::Version => Ok(What::Query(Query::Version {
@@ -98,17 +99,15 @@ fn asked(alloc: Global, ask: Ask, found: Matched<'_>, body: &Body<'_>) -> Result
         Ask::Tag => Ok(tagged(ask, found, true)),
         Ask::Untag => Ok(tagged(ask, found, false)),
         Ask::Upload => upload(alloc, paper, body),
-        Ask::Register
-        | Ask::Name
-        | Ask::SetMode
-        | Ask::SetPhase
-        | Ask::Submit
-        | Ask::Revise
-        | Ask::SetConflict
-        | Ask::Bid
-        | Ask::Assign
-        | Ask::Review
-        | Ask::Comment => command(alloc, ask, found, body.as_slice()),
+        Ask::Register | Ask::Name | Ask::SetMode | Ask::SetPhase => {
+            command(alloc, ask, found, body.as_slice())
+        }
+        Ask::Submit | Ask::Revise | Ask::SetConflict | Ask::Bid => {
+            command(alloc, ask, found, body.as_slice())
+        }
+        Ask::Assign | Ask::Review | Ask::Comment | Ask::Decide => {
+            command(alloc, ask, found, body.as_slice())
+        }
     }
 }
 

@@ -51,16 +51,18 @@ impl What {
 
     /// Whether a login is wanted, so that nobody is answered `unauthorized`: by each command but a registration, also
     /// where its body is a bad one, by a paper's page, content, reviews and comments, and by what the caller is told of
-    /// herself. Registration, the list of accounts and the state of the conference want none, and what is no request of
-    /// these is refused alike to everybody.
+    /// herself. Registration, the list of accounts, the state of the conference and the accepted papers want none, and what
+    /// is no request of these is refused alike to everybody. That a published paper's page and content are served to nobody
+    /// too isn't looked at here: the request doesn't tell which papers are.
     pub fn wants_login(&self) -> bool
         ensures { result ≡ wants_login self.now }
     {
         self.ask().is_some_and(Ask::wants_login)
     }
 
-    /// Whether its request reads the field Authorization. POST of `/register`, GET and HEAD of `/accounts` and of `/phase`
-    /// don't: their caller is nobody. Nor does what is no request of the server's, which is refused alike to everybody.
+    /// Whether its request reads the field Authorization. POST of `/register`, GET and HEAD of `/accounts`, of `/phase` and
+    /// of `/accepted` don't: their caller is nobody. Nor does what is no request of the server's, which is refused alike to
+    /// everybody.
     pub fn reads_credentials(&self) -> bool
         ensures { result ≡ reads_credentials self.now }
     {

@@ -13,14 +13,14 @@ returns c =
     then c.in_ok-told-4.ensures
     then c.in_ok-truth.ensures
     then c.in_ok-told-5.ensures
-    then c.in_ok-fixed.ensures
     then c.in_ok-told-6.ensures
     then c.in_ok-told-7.ensures
-    then c.in_ok-number.ensures.adds
     then c.in_ok-told-8.ensures
+    then c.in_ok-number.ensures.adds
     then c.in_ok-told-9.ensures
     then c.in_ok-told-10.ensures
     then c.in_ok-told-11.ensures
+    then c.in_ok-told-12.ensures
     then c.in_ok-truth-2.ensures in
     let members : Added c.open.new.into c.truth-2.new.into c.in_ok-object.object.is_first c.truth-2.new.self.is_first (page_members c.args.page.now) = rw c.number.ensures.value at all in
     closed c.close.result c.args.into.now c.open.new.into c.truth-2.new.into c.close.new.into _ _ _ c.in_ok-object.ensures.text c.in_ok-object.ensures.first members c.close.ensures.text
