@@ -8,25 +8,26 @@ use Rattle.cr_base.specs.Accounts.{number_at, caller_at}
 use Rattle.cr_base.specs.HistoryFacts.{number_of, caller_of}
 use Rattle.cr_base.specs.declared.command.Query.{Query}
 use Rattle.cr_base.specs.declared.command.Query.TheVariants as queries
-use Rattle.cr_base.specs.Answering.{answer_by_role}
+use Rattle.cr_base.specs.Answering.{answer_by_role, login_wanted}
 use Rattle.cr_base.specs.Drawn.{Drawn}
 use Rattle.cr_base.specs.Judging.{judge_by_role}
-use Rattle.cr_base.specs.Logins.{query_wants_login}
 use Rattle.cr_base.specs.Rows.{rows_of}
+use Rattle.cr_base.specs.Sources.{facts_of_tables}
 use Rattle.cr_base.specs.Tables.{Tables, tables_of, tables_from}
-use Rattle.cr_policy.specs.Judge.{judge, answer}
+use Rattle.cr_policy.specs.Judge.{judge, answer, needs_login}
 use Rattle.cr_policy.specs.View.{view}
 use Rattle.cr_policy.specs.Legal.{Legal, MayAsk}
-use Rattle.cr_policy.proofs.LegalLaws.{Legal-judge, Legal-answer, Legal-number_of, Legal-caller_of}
+use Rattle.cr_policy.proofs.LegalLaws.{Legal-judge, Legal-answer, Legal-needs_login, Legal-number_of, Legal-caller_of}
 use Rattle.cr_history.proofs.TableTies.{tables_of-append, rows_of-append}
 use Rattle.cr_ports.specs.Keeping.{and_rows}
 use Rattle.cr_view.specs.Callers.{HasAsker}
 use Rattle.cr_book.specs.Sound.{IsSound}
 
 -- whoever may ask what only a user is told is there
-pub asker-there : (h : History) (caller : Option ℕ) (query : Query) → MayAsk h (query_wants_login query) caller → HasAsker caller query
+pub asker-there : (h : History) (caller : Option ℕ) (query : Query) → MayAsk h (needs_login (view None h) query) caller → HasAsker caller query
 asker-there h caller queries.Accounts may = tt
 asker-there h caller queries.Phase may = tt
+asker-there h caller queries.AcceptedPapers may = tt
 asker-there h caller (queries.Page paper) may = tt
 asker-there h caller (queries.Content paper) may = tt
 asker-there h caller (queries.Version paper version) may = tt
@@ -68,6 +69,12 @@ pub answered-by_view : {K : Type 0} (rows : K → Option (List Row)) (h : Histor
     → IsSound rows h t keeper → answer_by_role t caller query ≡ answer caller (view caller h) query
 answered-by_view rows h t keeper caller query sound =
     ap (λ (x : Tables). answer_by_role x caller query) sound.same ∙ sym (Legal-answer caller h query sound.legal)
+
+-- whether a login is wanted, by the tables, is what nobody's view tells
+pub login-by_view : {K : Type 0} (rows : K → Option (List Row)) (h : History) (t : Tables) (keeper : K) (query : Query)
+    → IsSound rows h t keeper → login_wanted (facts_of_tables t None) query ≡ needs_login (view None h) query
+login-by_view rows h t keeper query sound =
+    ap (λ (x : Tables). login_wanted (facts_of_tables x None) query) sound.same ∙ sym (Legal-needs_login h query sound.legal)
 
 pub number-by_view : {K : Type 0} (rows : K → Option (List Row)) (h : History) (t : Tables) (keeper : K) (name : List ℕ)
     → IsSound rows h t keeper → number_at t.accounts name ≡ number_of name h

@@ -11,11 +11,11 @@ use Rattle.std.proofs.lemmas.List.{length-map}
 use Rattle.cr_base.specs.declared.command.Command.{Command}
 use Rattle.cr_base.specs.declared.command.Command.TheVariants as commands
 use Rattle.cr_base.specs.declared.command.Command.TheVariants.{Register, SetPhase, Submit, Revise, Upload, Withdraw, Name, SetMode, SetConflict}
-use Rattle.cr_base.specs.declared.command.Command.TheVariants.{Assign, Unassign, Review, Comment, Tag}
+use Rattle.cr_base.specs.declared.command.Command.TheVariants.{Assign, Unassign, Review, Comment, Tag, Decide}
 use Rattle.cr_base.specs.declared.entry.Entry.{Entry}
 use Rattle.cr_base.specs.declared.entry.Entry.TheVariants as entries
 use Rattle.cr_base.specs.declared.entry.Entry.TheVariants.{Registered, Named, PhaseSet, ModeSet, Submitted, Revised, Uploaded, Withdrawn, Conflict}
-use Rattle.cr_base.specs.declared.entry.Entry.TheVariants.{Assigned, Unassigned, Reviewed, Commented, Tagged}
+use Rattle.cr_base.specs.declared.entry.Entry.TheVariants.{Assigned, Unassigned, Reviewed, Commented, Tagged, Decided}
 use Rattle.cr_base.specs.declared.entry.Stamped.{Stamped}
 use Rattle.cr_base.specs.declared.form.Form.{Form}
 use Rattle.cr_base.specs.declared.reply.AccountLine.{AccountLine}
@@ -24,6 +24,7 @@ use Rattle.cr_base.specs.declared.reply.Rule.TheVariants as rules
 use Rattle.cr_base.specs.declared.row.Row.{Row}
 use Rattle.cr_base.specs.declared.standing.Standing.{Standing}
 use Rattle.cr_base.specs.declared.target.Target.{Target}
+use Rattle.cr_base.specs.declared.words.Decision.{Decision}
 use Rattle.cr_base.specs.declared.words.Kind.{Kind}
 use Rattle.cr_base.specs.declared.words.Mode.{Mode}
 use Rattle.cr_base.specs.declared.words.Phase.{Phase}
@@ -35,7 +36,7 @@ use Rattle.cr_base.specs.HistoryFacts.{role_of}
 use Rattle.cr_base.specs.History.{History, Registration, all_told, registration_told}
 use Rattle.cr_base.specs.Judging.{judge_by_role}
 use Rattle.cr_base.specs.Drawn.{Drawn, besides, grouped, registration_drawn, phase_drawn, submission_drawn, revision_drawn, upload_drawn, withdrawal_drawn, naming_drawn, mode_drawn, conflict_drawn}
-use Rattle.cr_base.specs.Drawn.{bid_drawn, assignment_drawn, unassignment_drawn, review_drawn, comment_drawn, tag_drawn}
+use Rattle.cr_base.specs.Drawn.{bid_drawn, assignment_drawn, unassignment_drawn, review_drawn, comment_drawn, tag_drawn, decision_drawn}
 use Rattle.cr_base.specs.Lists.{is_nothing, listed, at_some}
 use Rattle.cr_base.specs.Logins.{command_wants_login}
 use Rattle.cr_base.specs.Papers.{own_bytes, uploads_at}
@@ -46,7 +47,7 @@ use Rattle.cr_base.specs.Sources.{own_forms_in}
 use Rattle.cr_base.specs.TagTexts.{is_for_chairs}
 use Rattle.cr_base.specs.Talk.{comments_in, comment_as_told, own_comments_in}
 use Rattle.cr_base.specs.Checks.{Check, NamedPaper, judged, of_role, register_checks, phase_checks, submit_checks, revise_checks, upload_checks, name_checks, mode_checks, conflict_checks}
-use Rattle.cr_base.specs.Checks.{bid_checks, assign_checks, unassign_checks, review_checks, comment_checks, tag_checks}
+use Rattle.cr_base.specs.Checks.{bid_checks, assign_checks, unassign_checks, review_checks, comment_checks, tag_checks, decide_checks}
 use Rattle.cr_base.specs.Texts.{IsTitle, IsAbstract}
 use Rattle.cr_base.proofs.CheckLaws.{NoneBroken, judged-Ok, judged-none}
 use Rattle.cr_book.proofs.OpeningAuthors.{new-besides, found-back, none-missing, all-listed, coauthors, grouped-cons, numbers, begin-first, told-first, open-rest, same-begin, IsNumber, bounded-numbers, Rebuilt, rebuilt, Become, become}
@@ -421,6 +422,11 @@ module _ (t : Tables) (rows : List Row) (drawn : Drawn) (begins : take (length r
         paper-told paper (λ paper. Tag paper tag on) (λ p. Tagged p tag on) (λ p. tag_checks (standing p) (named_paper (Some p)) (is_for_chairs tag))
         (λ p. tag_drawn user p tag on) refl (λ p. (refl, refl, refl, refl))
 
+    decision-told : (paper : Option ℕ) (decision : Decision) → judge_by_role t (Some user) (Decide paper decision) ≡ Ok drawn → Told t rows drawn
+    decision-told paper decision =
+        paper-told paper (λ paper. Decide paper decision) (λ p. Decided p decision) (λ p. decide_checks (standing p) (named_paper (Some p)))
+        (λ p. decision_drawn user p decision) refl (λ p. (refl, refl, refl, refl))
+
     stage-told : (to : Phase) → judge_by_role t (Some user) (SetPhase to) ≡ Ok drawn → Told t rows drawn
     stage-told to accepted =
         let by = standing_at t (Some user) None in
@@ -475,6 +481,7 @@ accepted-told H call drawn r behind legal allowed accepted begins bounded = by c
     by (Some user) (Tag paper tag on) is within judges =
         let made = subst (λ (login : Bool). CallsAs H login (Some user)) (tags-login paper tag on) is in
         tag-told t rows drawn begins user (registered user made) paper tag on judges
+    by (Some user) (Decide paper decision) is within judges = decision-told t rows drawn begins user (registered user is) paper decision judges
 
 -- ---- the call of an entry
 
@@ -581,6 +588,8 @@ module _ (H : History) (legal : Legal H) where
   user-allowed authors maker more (Tagged paper tag on) command bounded made told =
       let caller = subst (λ (login : Bool). CallsAs H login (Some maker)) (sym (tags-login (Some paper) tag on)) made in
       same-allowed (Some maker) (Tag (Some paper) tag on) command told (record { caller = caller; bounded = bounded.b1 })
+  user-allowed authors maker more (Decided paper decision) command bounded made told =
+      same-allowed (Some maker) (Decide (Some paper) decision) command told (record { caller = made; bounded = tt })
   user-allowed authors maker more (Named user role) command bounded made told =
       naming-allowed maker user command (λ name. Name (Some name) role) (λ name. record { caller = made; bounded = member_named role bounded.n2.0 }) told
   user-allowed authors maker more (Conflict paper user on) command bounded made told =

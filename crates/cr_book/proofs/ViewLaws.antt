@@ -10,6 +10,7 @@ use Rattle.cr_policy.specs.Legal.{Legal}
 use Rattle.cr_policy.specs.Triggers.{Reader, reader}
 use Rattle.cr_policy.specs.View.{sights, view}
 use Rattle.cr_policy.proofs.LegalLaws.{Legal-fits}
+use Rattle.cr_history.proofs.DecisionTies.{is_accepted-tables}
 use Rattle.cr_history.proofs.TableTies.{standing_of-tables}
 use Rattle.cr_sights.specs.Readers.{reader_in}
 use Rattle.cr_book.specs.Sound.{IsSound}
@@ -27,6 +28,7 @@ module _ (H : History) (legal : Legal H) where
     author = λ p. ap (λ (s : Standing). s.author) (same u (Some p)) i;
     conflicted = λ p. ap (λ (s : Standing). s.conflicted) (same u (Some p)) i;
     wrote = λ v p. ap (λ (s : Standing). s.author) (same (Some v) (Some p)) i;
+    accepted = λ p. is_accepted-tables p H (Legal-fits H legal) i;
   }
 
 -- what a book's tables and entries show a user is her view of its history

@@ -9,7 +9,7 @@ use Rattle.cr_base.specs.declared.command.Command.TheVariants as commands
 use Rattle.cr_base.specs.declared.entry.Entry.{Entry}
 use Rattle.cr_base.specs.declared.entry.Entry.TheVariants.{Registered, Named, PhaseSet, ModeSet, Submitted}
 use Rattle.cr_base.specs.declared.entry.Entry.TheVariants.{Revised, Uploaded, Withdrawn, Conflict, Bid, Assigned, Unassigned}
-use Rattle.cr_base.specs.declared.entry.Entry.TheVariants.{Reviewed, Commented, Tagged}
+use Rattle.cr_base.specs.declared.entry.Entry.TheVariants.{Reviewed, Commented, Tagged, Decided}
 use Rattle.cr_base.specs.declared.entry.Stamped.{Stamped}
 use Rattle.cr_base.specs.declared.row.Row.{Row}
 use Rattle.cr_base.specs.Accounts.{account_at}
@@ -82,6 +82,7 @@ paper_command_told t (Bid paper value) = Some (commands.Bid (Some paper) value)
 paper_command_told t (Reviewed paper ordinal version form) = Some (commands.Review (Some paper) form)
 paper_command_told t (Commented paper n ordinal text) = Some (commands.Comment (Some paper) text)
 paper_command_told t (Tagged paper tag on) = Some (commands.Tag (Some paper) tag on)
+paper_command_told t (Decided paper decision) = Some (commands.Decide (Some paper) decision)
 paper_command_told t e = naming_command_told t e
 
 -- what a user's command was, where the users that it names are there, and co-authors, if it tells them, no more than 19; an

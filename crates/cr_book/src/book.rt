@@ -1,10 +1,9 @@
 //! The book: one history, its tables and its keeper.
-ghost use Rattle.std.specs.Prelude.{◌≡◌, ◌≤◌, ◌++◌, ℕ, length, IfOk, IfErr, IsOk, OnOk, OnErr, IfSome, Ok, Err, Some, ◌≢◌};
+ghost use Rattle.std.specs.Prelude.{◌≡◌, ◌≤◌, ◌++◌, ℕ, length, IfOk, IfErr, IsOk, OnOk, OnErr, IfSome, Ok, Err, None, Some, ◌≢◌};
 ghost use Rattle.cr_base.specs.declared.reply.Rule.{Rule};
 ghost use Rattle.cr_base.specs.HistoryFacts.{number_of, caller_of};
-ghost use Rattle.cr_base.specs.Logins.{query_wants_login};
 ghost use Rattle.cr_base.specs.Tables.{tables_of, FitInTurn};
-ghost use Rattle.cr_policy.specs.Judge.{judge, answer};
+ghost use Rattle.cr_policy.specs.Judge.{judge, answer, needs_login};
 ghost use Rattle.cr_policy.specs.View.{view};
 ghost use Rattle.cr_base.specs.declared.command.Query.TheVariants as queries;
 ghost use Rattle.cr_policy.specs.Legal.{Legal, IsAllowed, MayAsk};
@@ -186,10 +185,11 @@ impl<K: Keeper> Book<K> {
         }
     }
 
-    /// The answer to a query of this caller, a registered user, or nobody where the query wants no
-    /// login; or the first broken rule, which is told whatever memory there is. `AnswerError::OutOfMemory`
+    /// The answer to a query of this caller, a registered user, or nobody where no login is wanted for the
+    /// query; or the first broken rule, which is told whatever memory there is. `AnswerError::OutOfMemory`
     /// comes for lack of memory alone, and never where the state of the conference is asked for. The
-    /// keeper isn't asked. `Query::Accounts` costs a walk over all accounts, `Query::Page` a few look-ups,
+    /// keeper isn't asked. `Query::Accounts` costs a walk over all accounts, `Query::AcceptedPapers` one over
+    /// all papers, with a few look-ups for each that is accepted, `Query::Page` a few look-ups,
     /// one more for each name that is told, a step for each version and each tag that is told, and, where
     /// reviewers are told, a walk over the paper's forms, `Query::Me` a walk over her own papers, conflicts and
     /// assignments, `Query::Reviews` at most three walks over the paper's forms for each of its labels, of which
@@ -197,7 +197,7 @@ impl<K: Keeper> Book<K> {
     /// `Query::Content` and `Query::Version` one look-up, `Query::Phase` nothing that grows. The length of texts
     /// and contents makes no difference.
     pub fn answer(&self, caller: &Option<UserNo>, query: &Query) -> Result<Reply, AnswerError>
-        requires { MayAsk self.now.log (query_wants_login query.now) caller.now }
+        requires { MayAsk self.now.log (needs_login (view None self.now.log) query.now) caller.now }
         ensures answered { AnswersAsDue result (answer caller.now (view caller.now self.now.log) query.now) }
         ensures sure { OnErr result (query.now ≢ queries.Phase) }
     {
@@ -220,11 +220,12 @@ impl<K: Keeper> Book<K> {
         self.live.number_of(name)
     }
 
-    /// Whether a query wants a login; takes no memory.
+    /// Whether a login is wanted for a query, as what nobody sees of the history tells: for each that is a
+    /// registered user's, but for the page and the content of a published paper. A few look-ups; takes no memory.
     pub fn needs_login(&self, query: &Query) -> bool
-        ensures { result ≡ query_wants_login query.now }
+        ensures { result ≡ needs_login (view None self.now.log) query.now }
     {
-        query.wants_login()
+        self.live.needs_login(query)
     }
 
     /// How many entries the history has; takes no memory.

@@ -98,6 +98,10 @@ fn paper_command_of(live: &Live, first: Entry) -> Option<Command>
             tag,
             on,
         }),
+        Entry::Decided { paper, decision } => Some(Command::Decide {
+            paper: Some(paper),
+            decision,
+        }),
         other => naming_command_of(live, other),
     }
 }

@@ -5,10 +5,10 @@ use Rattle.std.specs.List.{list_any}
 use Rattle.std.proofs.lemmas.Bool.Decides.{nat_tests}
 use Rattle.std.proofs.lemmas.Nat.{div-mul-add, mod-mul-add}
 use Rattle.cr_base.specs.declared.entry.Entry.{Entry}
-use Rattle.cr_base.specs.declared.entry.Entry.TheVariants.{Submitted, Revised, Uploaded, Reviewed}
+use Rattle.cr_base.specs.declared.entry.Entry.TheVariants.{Submitted, Revised, Uploaded, Reviewed, Decided}
 use Rattle.cr_base.specs.declared.entry.Stamped.{Stamped}
 use Rattle.cr_base.specs.Lists.{given, is_nothing}
-use Rattle.cr_base.specs.History.{History, all_told, form_told, title_told, upload_told}
+use Rattle.cr_base.specs.History.{History, all_told, decision_told, form_told, title_told, upload_told}
 use Rattle.cr_policy.specs.Triggers.{none_in}
 use Rattle.cr_sights.specs.Matters.{is_label, is_of, none_of}
 
@@ -41,45 +41,62 @@ label-same place o b some = grind (arith, nat_tests)
 first-other : (place : ℕ) (b : Bool) → is_label place ≡ true → false ≡ eqb 0 place && b
 first-other place b some = grind (arith, nat_tests)
 
-last-other : (place : ℕ) (b : Bool) → is_label place ≡ true → false ≡ eqb 27 place && b
-last-other place b some = grind (arith, nat_tests)
+content-other : (place : ℕ) (b : Bool) → is_label place ≡ true → false ≡ eqb 27 place && b
+content-other place b some = grind (arith, nat_tests)
 
-module _ (paper place k : ℕ) (at : k % 28 ≡ place) (of : k / 28 ≡ paper) where
+decision-other : (place : ℕ) (b : Bool) → is_label place ≡ true → false ≡ eqb 28 place && b
+decision-other place b some = grind (arith, nat_tests)
+
+module _ (paper place k : ℕ) (at : k % 29 ≡ place) (of : k / 29 ≡ paper) where
   texts-tell : place ≡ 0 → (e : Entry) → is_nothing (title_told paper e) ≡ not (is_of k e)
   texts-tell first (Submitted q title abstract) = rw (at, of, first) (given-nothing (eqb q paper) title)
   texts-tell first (Revised q title abstract) = rw (at, of, first) (given-nothing (eqb q paper) title)
   texts-tell first (Uploaded q version content) = rw (at, first) refl
-  texts-tell first (Reviewed q o version form) = rw (at, first) (ap not (label-other 0 o (eqb q (k / 28)) refl))
+  texts-tell first (Reviewed q o version form) = rw (at, first) (ap not (label-other 0 o (eqb q (k / 29)) refl))
+  texts-tell first (Decided q decision) = rw (at, first) refl
   texts-tell first _ = refl
 
   content-tells : place ≡ 27 → (e : Entry) → is_nothing (upload_told paper e) ≡ not (is_of k e)
   content-tells last (Submitted q title abstract) = rw (at, last) refl
   content-tells last (Revised q title abstract) = rw (at, last) refl
   content-tells last (Uploaded q version content) = rw (at, of, last) (given-nothing (eqb q paper) (record { version = version; content = content }))
-  content-tells last (Reviewed q o version form) = rw (at, last) (ap not (label-other 27 o (eqb q (k / 28)) refl))
+  content-tells last (Reviewed q o version form) = rw (at, last) (ap not (label-other 27 o (eqb q (k / 29)) refl))
+  content-tells last (Decided q decision) = rw (at, last) refl
   content-tells last _ = refl
+
+  decision-tells : place ≡ 28 → (e : Entry) → is_nothing (decision_told paper e) ≡ not (is_of k e)
+  decision-tells end (Submitted q title abstract) = rw (at, end) refl
+  decision-tells end (Revised q title abstract) = rw (at, end) refl
+  decision-tells end (Uploaded q version content) = rw (at, end) refl
+  decision-tells end (Reviewed q o version form) = rw (at, end) (ap not (label-other 28 o (eqb q (k / 29)) refl))
+  decision-tells end (Decided q decision) = rw (at, of, end) (given-nothing (eqb q paper) decision)
+  decision-tells end _ = refl
 
   form-tells : is_label place ≡ true → (e : Entry) → is_nothing (form_told paper place e) ≡ not (is_of k e)
   form-tells label (Reviewed q o version form) = rw (at, of) (given-nothing (eqb q paper && eqb o place) _ ∙ ap not (label-same place o (eqb q paper) label))
-  form-tells label (Submitted q title abstract) = rw at (ap not (first-other place (eqb q (k / 28)) label))
-  form-tells label (Revised q title abstract) = rw at (ap not (first-other place (eqb q (k / 28)) label))
-  form-tells label (Uploaded q version content) = rw at (ap not (last-other place (eqb q (k / 28)) label))
+  form-tells label (Submitted q title abstract) = rw at (ap not (first-other place (eqb q (k / 29)) label))
+  form-tells label (Revised q title abstract) = rw at (ap not (first-other place (eqb q (k / 29)) label))
+  form-tells label (Uploaded q version content) = rw at (ap not (content-other place (eqb q (k / 29)) label))
+  form-tells label (Decided q decision) = rw at (ap not (decision-other place (eqb q (k / 29)) label))
   form-tells label _ = refl
 
 -- ---- by the number of a matter
 
-module _ (paper place k : ℕ) (low : place < 28) (number : k ≡ paper * 28 + place) where
-  place-of : k % 28 ≡ place
-  place-of = ap (λ n. n % 28) number ∙ mod-mul-add paper 28 place low
+module _ (paper place k : ℕ) (low : place < 29) (number : k ≡ paper * 29 + place) where
+  place-of : k % 29 ≡ place
+  place-of = ap (λ n. n % 29) number ∙ mod-mul-add paper 29 place low
 
-  paper-of : k / 28 ≡ paper
-  paper-of = ap (λ n. n / 28) number ∙ div-mul-add paper 28 place low
+  paper-of : k / 29 ≡ paper
+  paper-of = ap (λ n. n / 29) number ∙ div-mul-add paper 29 place low
 
   pub texts-alike : place ≡ 0 → (H : History) → none_in (title_told paper) H ≡ none_of (Some k) H
   texts-alike first H = none-any (title_told paper) (is_of k) (texts-tell paper place k place-of paper-of first) H
 
   pub content-alike : place ≡ 27 → (H : History) → none_in (upload_told paper) H ≡ none_of (Some k) H
   content-alike last H = none-any (upload_told paper) (is_of k) (content-tells paper place k place-of paper-of last) H
+
+  pub decision-alike : place ≡ 28 → (H : History) → none_in (decision_told paper) H ≡ none_of (Some k) H
+  decision-alike end H = none-any (decision_told paper) (is_of k) (decision-tells paper place k place-of paper-of end) H
 
   pub form-alike : 1 ≤ place → place ≤ 26 → (H : History) → none_in (form_told paper place) H ≡ none_of (Some k) H
   form-alike above below H =

@@ -1,15 +1,15 @@
--- Matters: what several entries may give a paper, one after another. They are numbered, 28 for each paper: at place 0 stand its
--- texts, at 27 its content, and between them the forms under the label of this ordinal.
+-- Matters: what several entries may give a paper, one after another. They are numbered, 29 for each paper: at place 0 stand its
+-- texts, at 27 its content, at 28 the decisions on it, and between the first two the forms under the label of this ordinal.
 use Rattle.std.specs.Prelude.{◌≡◌, ℕ, ◌+◌, ◌/◌, ◌%◌, ◌==◌, ◌&&◌, nat_le, Bool, true, false, not, List, [], ◌∷◌, Option, Some, None, if◌then◌else◌, slice_index}
 use Rattle.std.specs.List.{list_any}
 use Rattle.cr_base.specs.declared.entry.Entry.{Entry}
-use Rattle.cr_base.specs.declared.entry.Entry.TheVariants.{Submitted, Revised, Uploaded, Reviewed}
+use Rattle.cr_base.specs.declared.entry.Entry.TheVariants.{Submitted, Revised, Uploaded, Reviewed, Decided}
 use Rattle.cr_base.specs.declared.entry.Stamped.{Stamped}
 use Rattle.cr_base.specs.History.{History}
 
 -- the matter of this number is the paper's at this place
 abbrev pub is_matter : ℕ → ℕ → ℕ → Bool
-is_matter paper place k = (place == k % 28) && (paper == k / 28)
+is_matter paper place k = (place == k % 29) && (paper == k / 29)
 
 -- the ordinal is a label's
 abbrev pub is_label : ℕ → Bool
@@ -21,6 +21,7 @@ is_of k (Submitted paper title abstract) = is_matter paper 0 k
 is_of k (Revised paper title abstract) = is_matter paper 0 k
 is_of k (Uploaded paper version content) = is_matter paper 27 k
 is_of k (Reviewed paper ordinal version form) = is_label ordinal && is_matter paper ordinal k
+is_of k (Decided paper decision) = is_matter paper 28 k
 is_of k _ = false
 
 -- some of the entries are of it

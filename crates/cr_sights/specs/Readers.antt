@@ -1,6 +1,7 @@
 -- What the trigger table asks of a reader, by the tables.
 use Rattle.std.specs.Prelude.{ℕ, Option, Some}
 use Rattle.cr_base.specs.Accounts.{role_in}
+use Rattle.cr_base.specs.Sources.{is_accepted_in}
 use Rattle.cr_base.specs.Tables.{Tables}
 use Rattle.cr_base.specs.Ties.{is_author_in, is_conflicted_in}
 use Rattle.cr_policy.specs.Triggers.{Reader}
@@ -15,4 +16,5 @@ reader_in t u = record {
   author = λ p. is_author_in t.ties u p;
   conflicted = λ p. is_conflicted_in t.ties u p;
   wrote = λ v p. is_author_in t.ties (Some v) p;
+  accepted = λ p. is_accepted_in t p;
 }

@@ -5,6 +5,7 @@ ghost use Rattle.cr_policy.specs.Triggers.{Around, position_of};
 ghost use Rattle.cr_policy.specs.View.{sight as sight_at};
 ghost use Rattle.cr_sights.specs.Readers.{reader_in};
 
+use crate::decisions::decision;
 use crate::papers::{coauthor, revision, submission, upload, withdrawal};
 use crate::position::Position;
 use crate::reviews::review;
@@ -60,5 +61,6 @@ pub fn sight<'a>(
         Entry::Reviewed { .. } => review(live, reader, stamped, position),
         Entry::Commented { .. } => comment(live, reader, stamped),
         Entry::Tagged { .. } => tagging(live, reader, stamped),
+        Entry::Decided { .. } => decision(live, reader, stamped, position.last),
     }
 }

@@ -6,6 +6,7 @@
 
 mod asked;
 mod by_kind;
+mod decisions;
 mod line;
 mod matter;
 mod members;

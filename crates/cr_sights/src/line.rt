@@ -4,7 +4,7 @@ ghost use Rattle.std.specs.Option.{option_copied};
 ghost use Rattle.cr_base.specs.Lists.{listed};
 ghost use Rattle.cr_print.specs.Json.{AddsMembers};
 ghost use Rattle.cr_print.specs.Put.{Appends};
-ghost use Rattle.cr_sights.specs.Lines.{by_told, first_members, last_members, line_text, lines_text, second_members, third_members, user_told, writer_told};
+ghost use Rattle.cr_sights.specs.Lines.{by_told, first_members, fourth_members, last_members, line_text, lines_text, second_members, third_members, user_told, writer_told};
 
 use crate::members::add;
 use crate::sighting::Sighting;
@@ -42,21 +42,20 @@ fn by_told<'a>(sighting: &'a Sighting) -> Option<&'a UserNo>
     }
 }
 
-/// Writes the members up to `kind`.
+/// Writes the members up to `decision`.
 fn add_first(object: &mut Object, into: &mut Vec<u8>, sighting: &Sighting) -> Result<(), AllocError>
     ensures { AddsMembers result into.old into.new object.old.is_first object.new.is_first (first_members sighting.now) }
 {
     add(object, into, "abstract", sighting.abstract_)?;
+    object.truth(into, "accepted", sighting.accepted)?;
     add(object, into, "by", by_told(sighting))?;
     add(object, into, "bytes", sighting.content)?;
     add(object, into, "confidence", sighting.confidence.as_ref())?;
-    add(object, into, "digest", sighting.digest)?;
-    object.truth(into, "done", sighting.done)?;
-    object.string(into, "kind", sighting.kind.name().as_bytes())?;
+    add(object, into, "decision", sighting.decision.as_ref())?;
     Ok(())
 }
 
-/// Writes the members from `mine` to `paper`.
+/// Writes the members from `digest` to `n`.
 fn add_second(
     object: &mut Object,
     into: &mut Vec<u8>,
@@ -64,21 +63,36 @@ fn add_second(
 ) -> Result<(), AllocError>
     ensures { AddsMembers result into.old into.new object.old.is_first object.new.is_first (second_members sighting.now) }
 {
+    add(object, into, "digest", sighting.digest)?;
+    object.truth(into, "done", sighting.done)?;
+    object.string(into, "kind", sighting.kind.name().as_bytes())?;
     object.fixed(into, "mine", sighting.mine, "true")?;
     add(object, into, "mode", sighting.mode.as_ref())?;
     add(object, into, "n", sighting.n.as_ref())?;
-    add(object, into, "name", sighting.name)?;
-    object.truth(into, "on", sighting.on)?;
-    add(object, into, "ordinal", sighting.ordinal.as_ref())?;
-    add(object, into, "paper", sighting.paper.as_ref())?;
     Ok(())
 }
 
-/// Writes the members from `phase` to `title`.
+/// Writes the members from `name` to `phase`.
 fn add_third(object: &mut Object, into: &mut Vec<u8>, sighting: &Sighting) -> Result<(), AllocError>
     ensures { AddsMembers result into.old into.new object.old.is_first object.new.is_first (third_members sighting.now) }
 {
+    add(object, into, "name", sighting.name)?;
+    object.truth(into, "on", sighting.on)?;
+    add(object, into, "ordinal", sighting.ordinal.as_ref())?;
+    object.truth(into, "outcome", sighting.outcome)?;
+    add(object, into, "paper", sighting.paper.as_ref())?;
     add(object, into, "phase", sighting.phase.as_ref())?;
+    Ok(())
+}
+
+/// Writes the members from `role` to `title`.
+fn add_fourth(
+    object: &mut Object,
+    into: &mut Vec<u8>,
+    sighting: &Sighting,
+) -> Result<(), AllocError>
+    ensures { AddsMembers result into.old into.new object.old.is_first object.new.is_first (fourth_members sighting.now) }
+{
     add(object, into, "role", sighting.role.as_ref())?;
     add(object, into, "score", sighting.score.as_ref())?;
     add(object, into, "seat", sighting.seat.as_ref())?;
@@ -109,6 +123,7 @@ fn append_line(into: &mut Vec<u8>, sighting: &Sighting) -> Result<(), AllocError
     add_first(&mut object, into, sighting)?;
     add_second(&mut object, into, sighting)?;
     add_third(&mut object, into, sighting)?;
+    add_fourth(&mut object, into, sighting)?;
     add_last(&mut object, into, sighting)?;
     object.close(into)?;
     into.push(b'\n')?;

@@ -7,28 +7,29 @@ ghost use Rattle.cr_sights.specs.Matters.{is_of, none_of};
 
 use cr_base::{Entry, PaperNo};
 
-/// How many matters a paper may have: its texts, the forms under each of 26 labels, and its content.
-const MATTERS: u32 = 28;
+/// How many matters a paper may have: its texts, the forms under each of 26 labels, its content, and the decisions on it.
+const MATTERS: u32 = 29;
 
-/// The number of the matter of a paper at a place: 0 for its texts, 27 for its content, and between them the ordinal of
-/// a label.
+/// The number of the matter of a paper at a place: 0 for its texts, 27 for its content, 28 for the decisions on it, and
+/// between the first two the ordinal of a label.
 fn number(paper: PaperNo, place: u32) -> u32
-    requires { place < 28 }
-    ensures { result ≡ paper * 28 + place }
+    requires { place < 29 }
+    ensures { result ≡ paper * 29 + place }
 {
     paper.number() as u32 * MATTERS + place
 }
 
-/// The number of the matter that an entry is of: its paper's texts, its content, or the forms under a label. None where
-/// no later entry can give the same again.
+/// The number of the matter that an entry is of: its paper's texts, its content, the forms under a label, or the decisions
+/// on it. None where no later entry can give the same again.
 pub(crate) fn matter(entry: &Entry) -> Option<u32>
     ensures same { (k : ℕ) → is_of k entry.now ≡ is_number result k }
     ensures alike { (H : History) → none_alike entry.now H ≡ none_of result H }
 {
     match entry {
         Entry::Submitted { paper, .. } | Entry::Revised { paper, .. } => Some(number(*paper, 0)),
-        Entry::Uploaded { paper, .. } => Some(number(*paper, MATTERS - 1)),
+        Entry::Uploaded { paper, .. } => Some(number(*paper, MATTERS - 2)),
         Entry::Reviewed { paper, ordinal, .. } => Some(number(*paper, ordinal.number() as u32)),
+        Entry::Decided { paper, .. } => Some(number(*paper, MATTERS - 1)),
         _ => None,
     }
 }

@@ -3,11 +3,11 @@ ghost use Rattle.std.specs.Prelude.{◌≡◌, List, ℕ, Some, decimal, option_
 ghost use Rattle.std.specs.Option.{option_copied};
 ghost use Rattle.hex.specs.Hex.{encode_lower};
 ghost use Rattle.json.specs.Print.{quoted};
-ghost use Rattle.cr_print.specs.Json.{AddsMembers, bid_text, member_of, seat_text};
+ghost use Rattle.cr_print.specs.Json.{AddsMembers, bid_text, decision_text, member_of, seat_text};
 ghost use Rattle.cr_sights.specs.Lines.{content_text, digest_text, mode_text, phase_text, role_text};
 
 use cr_base::{
-    Bid, Blob, Digest, Grade, Kind, Mode, PaperNo, Phase, Role, Short, Tag, Text, UserNo,
+    Bid, Blob, Decision, Digest, Grade, Kind, Mode, PaperNo, Phase, Role, Short, Tag, Text, UserNo,
 };
 use cr_print::Object;
 use std::alloc::AllocError;
@@ -167,6 +167,15 @@ impl Part for Role {
 /// A kind of assignment by its word.
 impl Part for Kind {
     ghost text = { seat_text };
+
+    fn write(&self, object: &mut Object, into: &mut Vec<u8>, key: &str) -> Result<(), AllocError> {
+        object.string(into, key, self.name().as_bytes())
+    }
+}
+
+/// A decision by its word.
+impl Part for Decision {
+    ghost text = { decision_text };
 
     fn write(&self, object: &mut Object, into: &mut Vec<u8>, key: &str) -> Result<(), AllocError> {
         object.string(into, key, self.name().as_bytes())

@@ -1,5 +1,6 @@
 //! What entries that make a paper and its texts, tell its authors and its content, and withdraw it show a reader.
 ghost use Rattle.std.specs.Prelude.{◌≡◌, ◌||◌, ◌&&◌, ◌∷◌, [], Bool, not, Some};
+ghost use Rattle.cr_base.specs.Decisions.{is_published};
 ghost use Rattle.cr_base.specs.Lists.{listed};
 ghost use Rattle.cr_base.specs.Page.{is_clear_member, is_clear_chair};
 ghost use Rattle.cr_base.specs.Phases.{is_from};
@@ -7,68 +8,81 @@ ghost use Rattle.cr_base.specs.Words.{is_anonymous, is_member};
 ghost use Rattle.cr_base.specs.declared.words.Phase.TheVariants as phases;
 ghost use Rattle.cr_base.specs.declared.entry.EntryKind.TheVariants as kinds;
 ghost use Rattle.cr_base.specs.Rows.{kind_of};
-ghost use Rattle.cr_policy.specs.Triggers.{Around, authors, members, none_alike, standing_to, unless_anonymous, user_named};
+ghost use Rattle.cr_policy.specs.Triggers.{Around, authors, members, none_alike, published, standing_to, unless_anonymous, user_named};
 ghost use Rattle.cr_policy.specs.View.{sight as sight_at};
 ghost use Rattle.cr_sights.specs.Readers.{reader_in};
 
 use crate::asked::is_bidding;
 use crate::sighting::{Sighting, blank};
-use cr_base::{Blob, Entry, EntryKind, PaperNo, Stamped, Standing, Text, UserNo};
+use cr_base::{Blob, Entry, EntryKind, PaperNo, Phase, Stamped, Standing, Text, UserNo};
 use cr_view::Live;
 
+/// Whether everyone may read a paper, which is accepted or isn't: where it is, once the conference is closed.
+fn is_published(by: &Standing, accepted: bool) -> bool
+    ensures { result ≡ is_published by.now.phase accepted }
+{
+    accepted && by.phase.is_from(Phase::Closed)
+}
+
 /// Whether she is shown who made a submission.
-fn shows_maker(by: &Standing) -> bool
-    ensures { result ≡ (by.now.author
-        || (is_from phases.Bidding by.now.phase && (is_clear_chair by.now || (is_clear_member by.now && not (is_anonymous by.now.mode))))) }
+fn shows_maker(by: &Standing, accepted: bool) -> bool
+    ensures { result ≡ (by.now.author || ((is_clear_chair by.now && is_from phases.Bidding by.now.phase)
+        || ((is_clear_member by.now && not (is_anonymous by.now.mode) && is_from phases.Bidding by.now.phase) || accepted))) }
 {
     let handles = by.is_clear_chair() || by.is_clear_member() && !by.mode.is_anonymous();
-    by.author || is_bidding(by) && handles
+    by.author || is_bidding(by) && handles || accepted
 }
 
 /// Whether she is shown the title of a submission or a revision.
-fn shows_title(by: &Standing, mine: bool, is_last: bool) -> bool
-    ensures { result ≡ (by.now.author || ((is_last && is_member by.now.role && is_from phases.Bidding by.now.phase) || mine)) }
+fn shows_title(by: &Standing, mine: bool, is_last: bool, accepted: bool) -> bool
+    ensures { result ≡ (by.now.author
+        || ((is_last && is_member by.now.role && is_from phases.Bidding by.now.phase) || ((is_last && accepted) || mine))) }
 {
-    by.author || is_last && by.role.is_member() && is_bidding(by) || mine
+    by.author || is_last && by.role.is_member() && is_bidding(by) || is_last && accepted || mine
 }
 
 /// Whether she is shown the abstract of a submission or a revision.
-fn shows_abstract(by: &Standing, mine: bool, is_last: bool) -> bool
-    ensures { result ≡ (by.now.author || ((is_last && is_clear_member by.now && is_from phases.Bidding by.now.phase) || mine)) }
+fn shows_abstract(by: &Standing, mine: bool, is_last: bool, accepted: bool) -> bool
+    ensures { result ≡ (by.now.author
+        || ((is_last && is_clear_member by.now && is_from phases.Bidding by.now.phase) || ((is_last && is_published by.now.phase accepted) || mine))) }
 {
-    by.author || is_last && by.is_clear_member() && is_bidding(by) || mine
+    let published = is_last && is_published(by, accepted);
+    by.author || is_last && by.is_clear_member() && is_bidding(by) || published || mine
 }
 
 /// Whether she is told that a user is an author of a paper: its authors are, who made the entry, clear chairs from
-/// the bidding, and clear members too where the mode isn't anonymous.
+/// the bidding, and clear members too where the mode isn't anonymous; and everyone, where the paper is accepted.
 fn tells_coauthor(live: &Live, reader: UserNo, maker: UserNo, paper: PaperNo) -> bool
     ensures { let r = reader_in live.now.tables (Some reader) in
         result ≡ (authors r paper || ((is_clear_chair (standing_to r paper) && is_from phases.Bidding r.now)
-        || ((is_clear_member (standing_to r paper) && unless_anonymous r && is_from phases.Bidding r.now) || user_named r maker))) }
+        || ((is_clear_member (standing_to r paper) && unless_anonymous r && is_from phases.Bidding r.now) || (r.accepted paper || user_named r maker)))) }
 {
     let by = live.standing(&Some(reader), &Some(paper));
-    shows_maker(&by) || maker == reader
+    shows_maker(&by, live.is_accepted(paper)) || maker == reader
 }
 
 /// Whether she is told of a revision of a paper: its authors are, who made it, and of the last that gives the paper
-/// texts members from the bidding.
+/// texts members from the bidding, and everyone, where the paper is accepted.
 fn tells_revision(live: &Live, reader: UserNo, maker: UserNo, is_last: bool, paper: PaperNo) -> bool
     ensures { let r = reader_in live.now.tables (Some reader) in
         result ≡ (authors r paper || ((is_last && members r && is_from phases.Bidding r.now)
-        || ((is_last && is_clear_member (standing_to r paper) && is_from phases.Bidding r.now) || user_named r maker))) }
+        || ((is_last && is_clear_member (standing_to r paper) && is_from phases.Bidding r.now)
+        || ((is_last && r.accepted paper) || ((is_last && published r paper) || user_named r maker))))) }
 {
     let by = live.standing(&Some(reader), &Some(paper));
-    shows_title(&by, maker == reader, is_last)
+    shows_title(&by, maker == reader, is_last, live.is_accepted(paper))
 }
 
 /// Whether she is told of an upload to a paper: its authors are, who made it, and of the last one clear members from
-/// the bidding.
+/// the bidding, and everyone, where the paper is published.
 fn tells_upload(live: &Live, reader: UserNo, maker: UserNo, is_last: bool, paper: PaperNo) -> bool
     ensures { let r = reader_in live.now.tables (Some reader) in
-        result ≡ (authors r paper || ((is_last && is_clear_member (standing_to r paper) && is_from phases.Bidding r.now) || user_named r maker)) }
+        result ≡ (authors r paper || ((is_last && is_clear_member (standing_to r paper) && is_from phases.Bidding r.now)
+        || ((is_last && published r paper) || user_named r maker))) }
 {
     let by = live.standing(&Some(reader), &Some(paper));
-    by.author || is_last && by.is_clear_member() && is_bidding(&by) || maker == reader
+    let published = is_last && is_published(&by, live.is_accepted(paper));
+    by.author || is_last && by.is_clear_member() && is_bidding(&by) || published || maker == reader
 }
 
 /// Whether she is told that a paper is withdrawn: its authors are, who made the entry, and members from the bidding.
@@ -102,11 +116,12 @@ pub(crate) fn submission<'a>(
     };
     let mine = reader == stamped.maker;
     let by = live.standing(&Some(reader), &Some(*paper));
+    let accepted = live.is_accepted(*paper);
     Some(Sighting {
         paper: Some(*paper),
-        by: shows_maker(&by).then_some(stamped.maker),
-        title: shows_title(&by, mine, is_last).then_some(title),
-        abstract_: shows_abstract(&by, mine, is_last).then_some(abstract_),
+        by: shows_maker(&by, accepted).then_some(stamped.maker),
+        title: shows_title(&by, mine, is_last, accepted).then_some(title),
+        abstract_: shows_abstract(&by, mine, is_last, accepted).then_some(abstract_),
         ..blank(EntryKind::Submitted, mine)
     })
 }
@@ -158,10 +173,11 @@ pub(crate) fn revision<'a>(
     }
     let mine = reader == stamped.maker;
     let by = live.standing(&Some(reader), &Some(*paper));
+    let accepted = live.is_accepted(*paper);
     Some(Sighting {
         paper: Some(*paper),
-        title: shows_title(&by, mine, is_last).then_some(title),
-        abstract_: shows_abstract(&by, mine, is_last).then_some(abstract_),
+        title: shows_title(&by, mine, is_last, accepted).then_some(title),
+        abstract_: shows_abstract(&by, mine, is_last, accepted).then_some(abstract_),
         ..blank(EntryKind::Revised, mine)
     })
 }

@@ -8,8 +8,8 @@ use cr_base::Stamped;
 use std::alloc::{AllocError, Global};
 
 /// At which place the last entry of each matter stands among some entries, counted from 1, by the number of the matter;
-/// 0 where no entry is of it, as past the end. It takes 224 bytes for each number of a paper up to the greatest one, so
-/// 2.2 MB for 9,999 papers, and up to twice that as it grows.
+/// 0 where no entry is of it, as past the end. It takes 232 bytes for each number of a paper up to the greatest one, so
+/// 2.3 MB for 9,999 papers, and up to twice that as it grows.
 #[derive(Drop)]
 pub(crate) struct Places {
     places: Vec<usize>,

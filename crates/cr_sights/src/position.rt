@@ -1,7 +1,8 @@
 //! Where an entry stands among those of its matter.
 use std::marker::Model;
 
-/// Where an entry stands among those of its matter: a paper's texts, its content, or the forms under one of its labels.
+/// Where an entry stands among those of its matter: a paper's texts, its content, the forms under one of its labels, or the
+/// decisions on it.
 /// An entry of any other kind is the first and the last of its own.
 ///
 /// Contracts see it as the trigger table asks for it.

@@ -3,7 +3,8 @@ ghost use Rattle.std.specs.Prelude.{◌≡◌};
 ghost use Rattle.cr_policy.specs.Sighting.{blank as blank_sighting};
 
 use cr_base::{
-    Bid, Blob, Digest, EntryKind, Grade, Kind, Mode, PaperNo, Phase, Role, Short, Tag, Text, UserNo,
+    Bid, Blob, Decision, Digest, EntryKind, Grade, Kind, Mode, PaperNo, Phase, Role, Short, Tag,
+    Text, UserNo,
 };
 use std::marker::Model;
 
@@ -66,6 +67,12 @@ pub struct Sighting<'a> {
     pub text: Option<&'a Text>,
     /// The tag that was turned on, or off.
     pub tag: Option<&'a Tag>,
+    /// What was decided.
+    pub decision: Option<Decision>,
+    /// That the decision is what became of the reader's paper: true where it is told.
+    pub outcome: Option<bool>,
+    /// That the paper is accepted: true where it is told.
+    pub accepted: Option<bool>,
 }
 
 impl<'a> Model for Sighting<'a> {
@@ -101,6 +108,9 @@ impl<'a> Model for Sighting<'a> {
       n = s.n;
       text = option_map (λ t. t.now) s.text;
       tag = option_map (λ t. t.now) s.tag;
+      decision = s.decision;
+      outcome = s.outcome;
+      accepted = s.accepted;
     } };
 }
 
@@ -135,5 +145,8 @@ pub(crate) fn blank<'a>(kind: EntryKind, mine: bool) -> Sighting<'a>
         n: None,
         text: None,
         tag: None,
+        decision: None,
+        outcome: None,
+        accepted: None,
     }
 }

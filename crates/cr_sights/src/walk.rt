@@ -30,8 +30,8 @@ pub enum ViewError {
 /// stands at its last value; else the count is as it was, and `OutOfMemory` comes for lack of memory alone.
 ///
 /// Costs at most four walks over the history, with a few look-ups and one write an entry, a buffer for the longest line, where
-/// of a content its length alone is written, and what tells where entries stand: 672 bytes for each number of a paper
-/// up to the greatest one, so 6.7 MB for 9,999 papers, and up to twice that as it grows.
+/// of a content its length alone is written, and what tells where entries stand: 696 bytes for each number of a paper
+/// up to the greatest one, so 7 MB for 9,999 papers, and up to twice that as it grows.
 pub fn write_view<O: Sink>(
     alloc: Global,
     live: &Live,

@@ -1,7 +1,7 @@
 use Rattle.std.proofs.Common.{◌∙◌, refl, ap, arith, ⊎_elim}
 use Rattle.cr_base.specs.declared.entry.Entry.{Entry}
 use Rattle.cr_policy.specs.Triggers.{none_alike}
-use Rattle.cr_sights.proofs.MatterLaws.{texts-alike, content-alike, form-alike}
+use Rattle.cr_sights.proofs.MatterLaws.{texts-alike, content-alike, decision-alike, form-alike}
 use Rattle.cr_sights.proofs.matter.matter.Goals as goal
 
 pub returns-in-Submitted-clause-alike : goal.returns-in-Submitted-clause-alike
@@ -20,3 +20,8 @@ returns-in-Reviewed-clause-alike c = λ H.
     ap (λ (e : Entry). none_alike e H) c.in-Reviewed.is
     ∙ form-alike c.in-Reviewed.paper c.in-Reviewed.ordinal c.number-in-Reviewed-2.result
     (omega (arith, is)) (let n = c.number-in-Reviewed-2.ensures in omega (arith, is, n)) (omega (arith, is)) (omega (arith, is)) H
+
+pub returns-in-Decided-clause-alike : goal.returns-in-Decided-clause-alike
+returns-in-Decided-clause-alike c = λ H.
+    ap (λ (e : Entry). none_alike e H) c.in-Decided.is
+    ∙ decision-alike c.in-Decided.paper 28 c.number-in-Decided.result (omega arith) c.number-in-Decided.ensures refl H

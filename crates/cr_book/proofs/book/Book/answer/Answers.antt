@@ -1,8 +1,7 @@
-use Rattle.std.proofs.Common.{◌∙◌, ap, sym, subst}
+use Rattle.std.proofs.Common.{◌∙◌, ap, sym, subst, None}
 use Rattle.cr_base.specs.declared.reply.Reply.{Reply}
 use Rattle.cr_base.specs.History.{History}
-use Rattle.cr_base.specs.Logins.{query_wants_login}
-use Rattle.cr_policy.specs.Judge.{answer}
+use Rattle.cr_policy.specs.Judge.{answer, needs_login}
 use Rattle.cr_policy.specs.Legal.{MayAsk}
 use Rattle.cr_policy.specs.View.{view}
 use Rattle.cr_view.specs.Replies.{AnswersAsDue}
@@ -15,7 +14,7 @@ answer-requires g c =
     let u = c.args.caller.now in
     let q = c.args.query.now in
     let same = ap (λ (v : SeenBook g.row.K.Denot). v.log) c.self.view_is in
-    record { caller = asker-there c.self.inside.log.items u q (subst (λ (h : History). MayAsk h (query_wants_login q) u) (sym same) c.requires) }
+    record { caller = asker-there c.self.inside.log.items u q (subst (λ (h : History). MayAsk h (needs_login (view None h) q) u) (sym same) c.requires) }
 
 pub returns-clause-answered : goal.returns-clause-answered
 returns-clause-answered g c =
