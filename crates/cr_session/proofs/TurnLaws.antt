@@ -1,6 +1,7 @@
 -- What one turn does is what Told and Step say.
 use Rattle.std.proofs.Common.{◌≡◌, ◌∙◌, ℕ, Bool, true, false, cond, Option, Some, None, Result, Ok, Err, refl, sym, ap, subst, append-nil, IsSome, IsOk, [], ◌≤◌, arith}
 use mathlib.Core.List.{IsPrefix}
+use Rattle.std.proofs.lemmas.Bool.{true≢false}
 use Rattle.cr_base.specs.declared.command.Command.TheVariants.{Register, Tag}
 use Rattle.cr_base.specs.declared.ask.Ask.{Ask}
 use Rattle.cr_routes.specs.declared.place.Place.{Place}
@@ -10,8 +11,8 @@ use Rattle.cr_base.specs.declared.command.Query.{Query}
 use Rattle.cr_base.specs.declared.reply.Rule.{Rule}
 use Rattle.cr_base.specs.History.{History}
 use Rattle.cr_base.specs.Drawn.{Drawn}
-use Rattle.cr_base.specs.Logins.{query_wants_login}
-use Rattle.cr_policy.specs.Judge.{judge, answer}
+use Rattle.cr_base.specs.Logins.{command_wants_login}
+use Rattle.cr_policy.specs.Judge.{judge, answer, needs_login}
 use Rattle.cr_policy.specs.View.{view}
 use Rattle.cr_policy.proofs.LegalLaws.{Legal-caller_registered}
 use Rattle.cr_bodies.specs.declared.credentials.Credentials.{Credentials}
@@ -21,7 +22,7 @@ use Rattle.cr_print.specs.Answers.{refusal_text, receipt_text, reply_text}
 use Rattle.cr_wire.specs.declared.what.What.{What}
 use Rattle.cr_wire.specs.declared.what.What.TheVariants as whats
 use Rattle.cr_wire.specs.declared.what.Wish.{Wish}
-use Rattle.cr_wire.specs.Caller.{caller, reads_credentials, user_told, wants_login}
+use Rattle.cr_wire.specs.Caller.{caller, reads_credentials, user_told}
 use Rattle.cr_session.specs.declared.turn.TurnResult.{TurnResult}
 use Rattle.cr_session.specs.declared.turn.TurnResult.TheVariants as turns
 use Rattle.cr_session.specs.Told.{form_of, told, told_to, served_to, is_unauthorized, reply_of, drawn, drawn_for, drawn_of, accepted, and_drawn, after_wish}
@@ -32,7 +33,7 @@ use Rattle.cr_base.specs.declared.reply.Reply.{Reply}
 use Rattle.cr_base.specs.declared.reply.Reply.TheVariants as replies
 
 -- what a wish is told, by what it is and who gives it, where she may
-told-by : (H : History) (w : Wish) (u : Option ℕ) (what : What) (close : Bool) → w.what ≡ what → u ≡ caller H w → is_unauthorized u what ≡ false
+told-by : (H : History) (w : Wish) (u : Option ℕ) (what : What) (close : Bool) → w.what ≡ what → u ≡ caller H w → is_unauthorized u (view u H) what ≡ false
     → told H w close ≡ served_to u (view u H) (form_of w close) what
 unfolding told
 told-by H w u what close is by may =
@@ -40,7 +41,7 @@ told-by H w u what close is by may =
     ∙ ap (λ v. told_to v (view v H) (form_of w close) what) (sym by)
     ∙ ap (λ b. cond b (refusal_text refused.Unauthorized (form_of w close)) (served_to u (view u H) (form_of w close) what)) may
 
-drawn-by : (H : History) (w : Wish) (u : Option ℕ) (what : What) → w.what ≡ what → u ≡ caller H w → is_unauthorized u what ≡ false
+drawn-by : (H : History) (w : Wish) (u : Option ℕ) (what : What) → w.what ≡ what → u ≡ caller H w → is_unauthorized u (view u H) what ≡ false
     → drawn H w ≡ drawn_of u (view u H) what
 unfolding drawn
 drawn-by H w u what is by may =
@@ -49,19 +50,19 @@ drawn-by H w u what is by may =
     ∙ ap (λ b. cond b None (drawn_of u (view u H) what)) may
 
 -- who wishes it may, and it wants room
-may-want : (H : History) (w : Wish) (u : Option ℕ) (what : What) → w.what ≡ what → u ≡ caller H w → is_unauthorized u what ≡ false
+may-want : (H : History) (w : Wish) (u : Option ℕ) (what : What) → w.what ≡ what → u ≡ caller H w → is_unauthorized u (view u H) what ≡ false
     → WantsRoom u (view u H) what → MayWantMemory H w
 may-want H w u what is by may wants =
     subst (λ (v : Option ℕ). MayWantFor v (view v H) w.what) by (subst (λ (x : What). MayWantFor u (view u H) x) (sym is) (may, wants))
 
 -- ---- nobody, where a login is wanted
 
-pub unauthorized : (w : Wish) (b : Ledger) (u : Option ℕ) → u ≡ caller b.history w → is_unauthorized u w.what ≡ true
+pub unauthorized : (w : Wish) (b : Ledger) (u : Option ℕ) → u ≡ caller b.history w → is_unauthorized u (view u b.history) w.what ≡ true
     → AnswersWish (turns.Refused refused.Unauthorized) w b b
 unfolding told drawn
 unauthorized w b u by is =
     let old : History = b.history in
-    let now : is_unauthorized (caller old w) w.what ≡ true = ap (λ v. is_unauthorized v w.what) (sym by) ∙ is in
+    let now : is_unauthorized (caller old w) (view (caller old w) old) w.what ≡ true = ap (λ v. is_unauthorized v (view v old) w.what) (sym by) ∙ is in
     record {
       told_is = λ close. sym (ap (λ t. cond t (refusal_text refused.Unauthorized (form_of w close))
           (served_to (caller old w) (view (caller old w) old) (form_of w close) w.what)) now);
@@ -72,7 +73,7 @@ unauthorized w b u by is =
 -- ---- what is no command and no query
 
 -- a wish that is told a refusal, and adds nothing
-refused-turn : (r : Refused) (w : Wish) (u : Option ℕ) (what : What) (b : Ledger) → w.what ≡ what → u ≡ caller b.history w → is_unauthorized u what ≡ false
+refused-turn : (r : Refused) (w : Wish) (u : Option ℕ) (what : What) (b : Ledger) → w.what ≡ what → u ≡ caller b.history w → is_unauthorized u (view u b.history) what ≡ false
     → ((close : Bool) → refusal_text r (form_of w close) ≡ served_to u (view u b.history) (form_of w close) what) → drawn_of u (view u b.history) what ≡ None
     → AnswersWish (turns.Refused r) w b b
 refused-turn r w u what b is by may text none = record {
@@ -81,28 +82,28 @@ refused-turn r w u what b is by may text none = record {
   steady = refl;
 }
 
-pub no_route : (w : Wish) (u : Option ℕ) (b : Ledger) → w.what ≡ whats.NoRoute → u ≡ caller b.history w → is_unauthorized u whats.NoRoute ≡ false
+pub no_route : (w : Wish) (u : Option ℕ) (b : Ledger) → w.what ≡ whats.NoRoute → u ≡ caller b.history w → is_unauthorized u (view u b.history) whats.NoRoute ≡ false
     → AnswersWish (turns.Refused refused.NoRoute) w b b
 no_route w u b is by may = refused-turn refused.NoRoute w u whats.NoRoute b is by may (λ close. refl) refl
 
 pub wrong_method : (w : Wish) (u : Option ℕ) (b : Ledger) (place : Place) → w.what ≡ whats.WrongMethod place → u ≡ caller b.history w
-    → is_unauthorized u (whats.WrongMethod place) ≡ false → AnswersWish (turns.Refused (refused.WrongMethod place)) w b b
+    → is_unauthorized u (view u b.history) (whats.WrongMethod place) ≡ false → AnswersWish (turns.Refused (refused.WrongMethod place)) w b b
 wrong_method w u b place is by may = refused-turn (refused.WrongMethod place) w u (whats.WrongMethod place) b is by may (λ close. refl) refl
 
 pub bad_body : (w : Wish) (u : Option ℕ) (b : Ledger) (ask : Ask) → w.what ≡ whats.BadBody ask → u ≡ caller b.history w
-    → is_unauthorized u (whats.BadBody ask) ≡ false → AnswersWish (turns.Refused refused.BadBody) w b b
+    → is_unauthorized u (view u b.history) (whats.BadBody ask) ≡ false → AnswersWish (turns.Refused refused.BadBody) w b b
 bad_body w u b ask is by may = refused-turn refused.BadBody w u (whats.BadBody ask) b is by may (λ close. refl) refl
 
 -- ---- commands
 
 told-command : (H : History) (w : Wish) (u : Option ℕ) (command : Command) (r : Result Drawn Rule) (close : Bool) → w.what ≡ whats.Command command
-    → u ≡ caller H w → is_unauthorized u (whats.Command command) ≡ false
+    → u ≡ caller H w → is_unauthorized u (view u H) (whats.Command command) ≡ false
     → judge u (view u H) command ≡ r → reply_text (reply_of r) (form_of w close) ≡ told H w close
 told-command H w u command r close is by may e =
     ap (λ x. reply_text (reply_of x) (form_of w close)) (sym e) ∙ sym (told-by H w u (whats.Command command) close is by may)
 
 stepped-command : (H : History) (w : Wish) (u : Option ℕ) (command : Command) (r : Result Drawn Rule) → w.what ≡ whats.Command command → u ≡ caller H w
-    → is_unauthorized u (whats.Command command) ≡ false
+    → is_unauthorized u (view u H) (whats.Command command) ≡ false
     → judge u (view u H) command ≡ r → after_wish H w ≡ and_drawn H (accepted r)
 stepped-command H w u command r is by may e = ap (and_drawn H) (drawn-by H w u (whats.Command command) is by may ∙ ap accepted e)
 
@@ -111,7 +112,7 @@ is_ok-accepted (Ok d) h = refl
 is_ok-accepted (Err rule) h = h
 
 pub command-turn : (turn : TurnResult) (w : Wish) (u : Option ℕ) (command : Command) (b b' : Ledger) → w.what ≡ whats.Command command → u ≡ caller b.history w
-    → is_unauthorized u (whats.Command command) ≡ false
+    → is_unauthorized u (view u b.history) (whats.Command command) ≡ false
     → JudgesCommand turn u command b b' → Turns turn w b b'
 command-turn (turns.Refused (refused.Rule rule)) w u command b b' is by may j = record {
   told_is = λ close. sym (append-nil (refusal_text (refused.Rule rule) (form_of w close))) ∙ told-command b.history w u command (Err rule) close is by may j.0;
@@ -147,7 +148,7 @@ not_refused : (reply told : Reply) (rule : Rule) → (IsBrief reply → ⊥) →
 not_refused reply told rule long is e = long (subst IsBrief (sym (is ∙ e)) tt)
 
 pub query-turn : (turn : TurnResult) (w : Wish) (u : Option ℕ) (query : Query) (b : Ledger) → w.what ≡ whats.Query query → u ≡ caller b.history w
-    → is_unauthorized u (whats.Query query) ≡ false
+    → is_unauthorized u (view u b.history) (whats.Query query) ≡ false
     → AnswersQuery turn u query b.history → Turns turn w b b
 query-turn (turns.Refused r) w u query b is by may j = absurd j
 query-turn (turns.Accepted receipt) w u query b is by may j = absurd j
@@ -177,27 +178,25 @@ reads-user false told H v e = absurd (cc)
 caller-registered : (H : History) (w : Wish) (v : ℕ) → caller H w ≡ Some v → IsUser H (Some v)
 caller-registered H w v e = reads-user (reads_credentials w.what) w.credentials H v e
 
--- who wishes what wants a login has registered
-may-ask : (H : History) (w : Wish) (u : Option ℕ) (what : What) → u ≡ caller H w → is_unauthorized u what ≡ false → MayAsk H (wants_login what) u
-may-ask H w None what by may = may
-may-ask H w (Some v) what by may = caller-registered H w v (sym by)
+-- who asks a query has registered, where it wants a login
+pub may-query : (H : History) (w : Wish) (u : Option ℕ) (query : Query) → u ≡ caller H w → is_unauthorized u (view u H) (whats.Query query) ≡ false
+    → MayAsk H (needs_login (view None H) query) u
+may-query H w None query by may = may
+may-query H w (Some v) query by may = caller-registered H w v (sym by)
 
--- so she may ask
-pub may-query : (H : History) (w : Wish) (u : Option ℕ) (query : Query) → u ≡ caller H w → is_unauthorized u (whats.Query query) ≡ false
-    → MayAsk H (query_wants_login query) u
-may-query H w u query by may = may-ask H w u (whats.Query query) by may
-
-is-user : (H : History) (u : Option ℕ) → MayAsk H true u → IsUser H u
-is-user H None h = absurd (cc)
-is-user H (Some v) h = h
+-- who gives a command that wants a login has registered
+is-user : (H : History) (w : Wish) (u : Option ℕ) (command : Command) → command_wants_login command ≡ true → u ≡ caller H w
+    → is_unauthorized u (view u H) (whats.Command command) ≡ false → IsUser H u
+is-user H w None command wants by may = absurd (true≢false (sym wants ∙ may))
+is-user H w (Some v) command wants by may = caller-registered H w v (sym by)
 
 -- nobody registers, and every other command is a registered user's
 pub caller-command : (H : History) (w : Wish) (u : Option ℕ) (command : Command) → w.what ≡ whats.Command command → u ≡ caller H w
-    → is_unauthorized u (whats.Command command) ≡ false → IsCaller H u command
+    → is_unauthorized u (view u H) (whats.Command command) ≡ false → IsCaller H u command
 caller-command H w u (Register name digest) is by may = by ∙ ap (λ (x : What). cond (reads_credentials x) (user_told w.credentials H) None) is
-caller-command H w u (Tag paper tag true) is by may = is-user H u (may-ask H w u (whats.Command (Tag paper tag true)) by may)
-caller-command H w u (Tag paper tag false) is by may = is-user H u (may-ask H w u (whats.Command (Tag paper tag false)) by may)
-caller-command H w u command is by may = is-user H u (may-ask H w u (whats.Command command) by may)
+caller-command H w u (Tag paper tag true) is by may = is-user H w u (Tag paper tag true) refl by may
+caller-command H w u (Tag paper tag false) is by may = is-user H w u (Tag paper tag false) refl by may
+caller-command H w u command is by may = is-user H w u command refl by may
 
 -- ---- what a turn leaves
 

@@ -6,7 +6,7 @@ use Rattle.cr_base.specs.declared.reply.Reply.TheVariants as replies
 use Rattle.cr_base.specs.declared.reply.Rule.{Rule}
 use Rattle.cr_base.specs.History.{History}
 use Rattle.cr_base.specs.Drawn.{Drawn}
-use Rattle.cr_policy.specs.Judge.{judge, answer}
+use Rattle.cr_policy.specs.Judge.{judge, answer, needs_login}
 use Rattle.cr_policy.specs.View.{View, view}
 use Rattle.cr_print.specs.declared.form.Form.{Form}
 use Rattle.cr_print.specs.declared.refused.Refused.TheVariants as refused
@@ -23,10 +23,11 @@ abbrev pub reply_of : Result Drawn Rule → Reply
 reply_of (Ok drawn) = replies.Accepted drawn.receipt
 reply_of (Err rule) = replies.Refused rule
 
--- nobody wishes what wants a login
-abbrev pub is_unauthorized : Option ℕ → What → Bool
-is_unauthorized None what = wants_login what
-is_unauthorized (Some user) what = false
+-- nobody wishes what wants a login; of a query her view says so, since everyone is served what is published
+abbrev pub is_unauthorized : Option ℕ → View → What → Bool
+is_unauthorized None V (Query query) = needs_login V query
+is_unauthorized None V what = wants_login what
+is_unauthorized (Some user) V what = false
 
 -- how the answer to a wish is sent, where the connection closes behind it or not
 abbrev pub form_of : Wish → Bool → Form
@@ -43,7 +44,7 @@ served_to u V form (Query query) = reply_text (answer u V query) form
 -- the answer's bytes to what a caller wishes: whoever can't be told from nobody is answered one and the same, where a
 -- login is wanted
 abbrev pub told_to : Option ℕ → View → Form → What → List ℕ
-told_to u V form what = if is_unauthorized u what then refusal_text refused.Unauthorized form else served_to u V form what
+told_to u V form what = if is_unauthorized u V what then refusal_text refused.Unauthorized form else served_to u V form what
 
 -- the answer's bytes to a wish, computed from its caller's view
 unfoldable pub told : History → Wish → Bool → List ℕ
@@ -70,7 +71,7 @@ drawn_of u V (Query query) = None
 
 -- what a caller's wish adds: nothing, where a login is wanted and nobody calls
 abbrev pub drawn_for : Option ℕ → View → What → Option Drawn
-drawn_for u V what = if is_unauthorized u what then None else drawn_of u V what
+drawn_for u V what = if is_unauthorized u V what then None else drawn_of u V what
 
 unfoldable pub drawn : History → Wish → Option Drawn
 drawn H w = drawn_for (caller H w) (view (caller H w) H) w.what

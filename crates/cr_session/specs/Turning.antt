@@ -58,7 +58,7 @@ WantsRoom u V (whats.Query query) = (rule : Rule) → answer u V query ≢ repli
 
 -- and only for a caller who may
 abbrev pub MayWantFor : Option ℕ → View → What → Type 0
-MayWantFor u V what = (is_unauthorized u what ≡ false) × WantsRoom u V what
+MayWantFor u V what = (is_unauthorized u V what ≡ false) × WantsRoom u V what
 
 abbrev pub MayWantMemory : History → Wish → Type 0
 MayWantMemory H w = MayWantFor (caller H w) (view (caller H w) H) w.what

@@ -1,9 +1,10 @@
 //! One turn: a wish is judged or answered by the book.
-ghost use Rattle.std.specs.Prelude.{◌≡◌, ◌≤◌, ◌<◌, ◌^◌, [], ℕ, OnOk, OnErr, vec_capacity};
+ghost use Rattle.std.specs.Prelude.{◌≡◌, ◌≤◌, ◌<◌, ◌^◌, [], ℕ, None, OnOk, OnErr, vec_capacity};
 ghost use mathlib.Core.List.{IsPrefix};
-ghost use Rattle.cr_base.specs.Logins.{query_wants_login};
 ghost use Rattle.cr_lock.specs.Passes.{after_turn};
+ghost use Rattle.cr_policy.specs.Judge.{needs_login};
 ghost use Rattle.cr_policy.specs.Legal.{IsAllowed, MayAsk};
+ghost use Rattle.cr_policy.specs.View.{view};
 ghost use Rattle.cr_print.specs.Put.{HasRoom};
 ghost use Rattle.cr_wire.specs.Bounds.{IsBoundedWhat};
 ghost use Rattle.cr_wire.specs.Caller.{caller};
@@ -75,9 +76,9 @@ pub(crate) fn take_turn<K: Keeper>(book: &mut Book<K>, wish: Wish) -> TurnResult
     }
 }
 
-/// Whether nobody wishes what wants a login.
+/// Whether nobody wishes what wants a login; the book tells of the page and the content of a paper whether it is published.
 fn is_unauthorized<K: Keeper>(book: &Book<K>, caller: &Option<UserNo>, what: &What) -> bool
-    ensures { result ≡ is_unauthorized caller.now what.now }
+    ensures { result ≡ is_unauthorized caller.now (view caller.now book.now.log) what.now }
 {
     match (caller, what) {
         (Some(_), _) => false,
@@ -112,7 +113,7 @@ fn judge<K: Keeper>(book: &mut Book<K>, caller: &Option<UserNo>, command: Comman
 
 /// Answers a query.
 fn answer<K: Keeper>(book: &Book<K>, caller: &Option<UserNo>, query: &Query) -> TurnResult
-    requires { MayAsk book.now.log (query_wants_login query.now) caller.now }
+    requires { MayAsk book.now.log (needs_login (view None book.now.log) query.now) caller.now }
     ensures { AnswersQuery result caller.now query.now book.now.log }
 {
     match book.answer(caller, query) {

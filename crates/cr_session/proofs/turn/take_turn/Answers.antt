@@ -1,4 +1,5 @@
 use Rattle.std.proofs.Common.{◌∙◌, ap, subst, sym}
+use Rattle.cr_policy.specs.View.{view}
 use Rattle.cr_wire.specs.Bounds.{IsBoundedWhat}
 use Rattle.cr_wire.specs.declared.what.What.{What}
 use Rattle.cr_session.specs.Replay.{ledger_of}
@@ -13,21 +14,21 @@ returns-then-is_unauthorized g c = unauthorized c.args.wish (ledger_of g.K.Keepe
 pub returns-in-NoRoute : goal.returns-in-NoRoute
 returns-in-NoRoute g c =
     no_route c.args.wish _ (ledger_of g.K.Keeper.faults c.args.book.now) c.in-NoRoute.is c.caller_of-caller.ensures
-    (ap (λ (x : What). is_unauthorized c.caller_of-caller.result x) (sym c.in-NoRoute.is) ∙ sym c.is_unauthorized.ensures ∙ c.if-is_unauthorized.false)
+    (ap (λ (x : What). is_unauthorized c.caller_of-caller.result (view c.caller_of-caller.result c.args.book.now.log) x) (sym c.in-NoRoute.is) ∙ sym c.is_unauthorized.ensures ∙ c.if-is_unauthorized.false)
 
 pub returns-in-WrongMethod : goal.returns-in-WrongMethod
 returns-in-WrongMethod g c =
     wrong_method c.args.wish _ (ledger_of g.K.Keeper.faults c.args.book.now) _ c.in-WrongMethod.is c.caller_of-caller.ensures
-    (ap (λ (x : What). is_unauthorized c.caller_of-caller.result x) (sym c.in-WrongMethod.is) ∙ sym c.is_unauthorized.ensures ∙ c.if-is_unauthorized.false)
+    (ap (λ (x : What). is_unauthorized c.caller_of-caller.result (view c.caller_of-caller.result c.args.book.now.log) x) (sym c.in-WrongMethod.is) ∙ sym c.is_unauthorized.ensures ∙ c.if-is_unauthorized.false)
 
 pub returns-in-BadBody : goal.returns-in-BadBody
 returns-in-BadBody g c =
     bad_body c.args.wish _ (ledger_of g.K.Keeper.faults c.args.book.now) _ c.in-BadBody.is c.caller_of-caller.ensures
-    (ap (λ (x : What). is_unauthorized c.caller_of-caller.result x) (sym c.in-BadBody.is) ∙ sym c.is_unauthorized.ensures ∙ c.if-is_unauthorized.false)
+    (ap (λ (x : What). is_unauthorized c.caller_of-caller.result (view c.caller_of-caller.result c.args.book.now.log) x) (sym c.in-BadBody.is) ∙ sym c.is_unauthorized.ensures ∙ c.if-is_unauthorized.false)
 
 pub judge-requires : goal.judge-requires
 judge-requires g c =
-    let may = ap (λ (x : What). is_unauthorized c.caller_of-caller.result x) (sym c.in-Command.is) ∙ sym c.is_unauthorized.ensures
+    let may = ap (λ (x : What). is_unauthorized c.caller_of-caller.result (view c.caller_of-caller.result c.args.book.now.log) x) (sym c.in-Command.is) ∙ sym c.is_unauthorized.ensures
     ∙ c.if-is_unauthorized.false in
     record {
       caller = caller-command c.args.book.now.log c.args.wish c.caller_of-caller.result c.in-Command.command c.in-Command.is c.caller_of-caller.ensures may;
@@ -37,17 +38,17 @@ judge-requires g c =
 pub answer-requires : goal.answer-requires
 answer-requires g c =
     may-query c.args.book.now.log c.args.wish c.caller_of-caller.result c.in-Query.query c.caller_of-caller.ensures
-    (ap (λ (x : What). is_unauthorized c.caller_of-caller.result x) (sym c.in-Query.is) ∙ sym c.is_unauthorized.ensures ∙ c.if-is_unauthorized.false)
+    (ap (λ (x : What). is_unauthorized c.caller_of-caller.result (view c.caller_of-caller.result c.args.book.now.log) x) (sym c.in-Query.is) ∙ sym c.is_unauthorized.ensures ∙ c.if-is_unauthorized.false)
 
 pub returns-in-Command : goal.returns-in-Command
 returns-in-Command g c =
     command-turn _ c.args.wish _ _ (ledger_of g.K.Keeper.faults c.args.book.now)
     (ledger_of g.K.Keeper.faults c.judge.new.book) c.in-Command.is c.caller_of-caller.ensures
-    (ap (λ (x : What). is_unauthorized c.caller_of-caller.result x) (sym c.in-Command.is) ∙ sym c.is_unauthorized.ensures
+    (ap (λ (x : What). is_unauthorized c.caller_of-caller.result (view c.caller_of-caller.result c.args.book.now.log) x) (sym c.in-Command.is) ∙ sym c.is_unauthorized.ensures
     ∙ c.if-is_unauthorized.false) c.judge.ensures
 
 pub returns-in-Query : goal.returns-in-Query
 returns-in-Query g c =
     query-turn _ c.args.wish _ _ (ledger_of g.K.Keeper.faults c.args.book.now) c.in-Query.is c.caller_of-caller.ensures
-    (ap (λ (x : What). is_unauthorized c.caller_of-caller.result x) (sym c.in-Query.is) ∙ sym c.is_unauthorized.ensures
+    (ap (λ (x : What). is_unauthorized c.caller_of-caller.result (view c.caller_of-caller.result c.args.book.now.log) x) (sym c.in-Query.is) ∙ sym c.is_unauthorized.ensures
     ∙ c.if-is_unauthorized.false) c.answer.ensures
