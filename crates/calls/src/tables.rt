@@ -4,6 +4,7 @@ use cr_accounts::Accounts;
 use cr_assign::Seats;
 use cr_base::{Command, Entry, Order, Pair, PaperNo, Query, Reply, Short, Stamped, Tie, UserNo};
 use cr_conflicts::Ties;
+use cr_decisions::Decisions;
 use cr_kept::Files;
 use cr_pairs::{IndexedPairs, PairMap};
 use cr_papers::Papers;
@@ -38,6 +39,7 @@ fn make_room(alloc: Global) -> Result<(), AllocError> {
     Reviews::new(alloc).room(&group)?;
     Talk::new(alloc).room(&group)?;
     Tags::new(alloc).room(&group)?;
+    Decisions::new(alloc).room(&group)?;
     Files::<i8>::new(alloc).room(1)?;
     PairMap::<i8>::new(alloc, Order::ByPaper).room(1)?;
     IndexedPairs::<i8>::new(alloc).room(1)
