@@ -3,7 +3,7 @@
 A conference is a list of entries; each answer, each rule and each line of a view is read off that list anew, with no table
 beside it. It is slow and short, and stands against the program in `random_runs.py`. It answers requests whose bodies are
 well formed; what is wrong with a body or a head stands in cases. Below, `u` and `v` are users' numbers, `p` is a paper's, and
-`t` is the user whom a command names.
+`t` is the user whom a command names; nobody's number is None.
 """
 import hashlib
 import json
@@ -47,6 +47,11 @@ class Conference:
 
     def users(self):
         return [f for m, f in self.entries_of("registered")]
+
+    def caller(self, who):
+        """The user who calls: a name stands for her usual secret, a token `NAME.SECRET` for itself, '-' for none."""
+        name, _, told = who.partition(".")
+        return self.number_of(name) if told in ("", f"{name}-secret-000001") else None
 
     def number_of(self, name):
         for u, n in self.users():
@@ -148,18 +153,32 @@ class Conference:
         chair = self.role_of(u) == "chair"
         return sorted(tag for tag in on if on[tag] and (chair or not tag.startswith("~~")))
 
+    def decision(self, p):
+        """The last decision on a paper, `none` where there is none."""
+        told = [f[1] for m, f in self.entries_of("decided") if f[0] == p]
+        return told[-1] if told else "none"
+
+    def accepted(self, p):
+        return self.decision(p) == "accept" and not self.withdrawn(p) and self.is_from("notification")
+
+    def published(self, p):
+        return self.accepted(p) and self.phase == "closed"
+
     # ---- one request
     def ask(self, who, method, path, body=None):
-        """who: a registered name, or '-' for nobody."""
-        u = self.number_of(who) if who != "-" else None
+        """The answer's code and content, the whole one to HEAD too; `who` is as in `caller`."""
+        u = self.caller(who)
         parts = path.strip("/").split("/")
+        method = "GET" if method == "HEAD" else method
         if path == "/register":
             return self.register(body)
         if path == "/accounts":
             return 200, dump({"accounts": [{"name": n, "role": self.role_of(v), "user": v} for v, n in self.users()]})
         if path == "/phase" and method == "GET":
             return 200, dump({"mode": self.mode, "papers": len(self.papers()), "phase": self.phase})
-        if u is None:
+        if path == "/accepted":
+            return self.accepted_papers()
+        if u is None and not (method == "GET" and self.is_public(parts)):
             return err(401, "unauthorized")
         if path == "/phase":
             return self.set_phase(u, body["phase"])
@@ -171,8 +190,7 @@ class Conference:
             return self.me(u)
         if path == "/papers":
             return self.submit(u, body)
-        p = int(parts[1]) if re.match(r"^[1-9][0-9]*$", parts[1]) and int(parts[1]) <= 9999 else None
-        rest = parts[2:]
+        p, rest = self.paper_told(parts[1]), parts[2:]
         if not rest:
             if method == "GET":
                 return self.page(u, p)
@@ -184,7 +202,7 @@ class Conference:
                 return self.content(u, p, None)
             return self.upload(u, p, body)
         if rest[0] == "content":
-            return self.content(u, p, int(rest[1]))
+            return self.content(u, p, int(rest[1]) if re.match(r"^[1-9][0-9]*$", rest[1]) else 0)
         if rest == ["conflicts"]:
             return self.conflict(u, p, body)
         if rest == ["bid"]:
@@ -201,7 +219,17 @@ class Conference:
             return self.comments_page(u, p) if method == "GET" else self.comment(u, p, body)
         if rest[0] == "tags":
             return self.tag(u, p, rest[1], method == "PUT")
+        if rest == ["decision"]:
+            return self.decide(u, p, body)
         raise ValueError(path)
+
+    def paper_told(self, text):
+        """The paper's number that a segment tells, where it tells one."""
+        return int(text) if re.match(r"^[1-9][0-9]*$", text) and int(text) <= 9999 else None
+
+    def is_public(self, parts):
+        """Whether nobody is served at this path: it is the page of a published paper, or its content."""
+        return parts[0] == "papers" and len(parts) > 1 and parts[2:3] in ([], ["content"]) and self.published(self.paper_told(parts[1]))
 
     def first(self, *rules):
         for broken, rule in rules:
@@ -292,9 +320,10 @@ class Conference:
         ups = self.uploads(p)
         told = ups if author else ups[-1:]
         got = told[-1:] if v is None else [x for x in told if x[1] == v]
-        r = self.first((not self.is_there(p), "no_paper"), (not author and not member, "not_member"),
-                       (not author and self.conflicted(u, p), "conflict"),
-                       (not author and not self.is_from("bidding"), "wrong_phase"), (not got, "no_content"))
+        free = author or self.published(p)
+        r = self.first((not self.is_there(p), "no_paper"), (not free and not member, "not_member"),
+                       (not free and self.conflicted(u, p), "conflict"),
+                       (not free and not self.is_from("bidding"), "wrong_phase"), (not got, "no_content"))
         return r if r else (200, "bytes: " + got[0][2])
 
     def committee(self):
@@ -425,6 +454,19 @@ class Conference:
         self.history.append((u, "tagged", (p, tag, on)))
         return 200, dump({"paper": p})
 
+    def decide(self, u, p, body):
+        r = self.first((not self.is_there(p), "no_paper"), (self.role_of(u) != "chair", "not_chair"), (self.conflicted(u, p), "conflict"),
+                       (self.phase != "discussion", "wrong_phase"), (self.withdrawn(p), "withdrawn"))
+        if r:
+            return r
+        self.history.append((u, "decided", (p, body["decision"])))
+        return 200, dump({"paper": p})
+
+    def accepted_papers(self):
+        names = lambda p: [self.name_of(v) for v in self.authors(p)]
+        told = [{"authors": names(p), "paper": p, "title": self.last_texts(p)[0]} for p in self.papers() if self.accepted(p)]
+        return 200, dump({"papers": told})
+
     def me(self, u):
         ps = self.papers()
         return 200, dump({
@@ -436,7 +478,8 @@ class Conference:
     def page(self, u, p):
         author = p in self.papers() and u in self.authors(p)
         member, chair = self.role_of(u) != "account", self.role_of(u) == "chair"
-        r = self.first((not self.is_there(p), "no_paper"), (not member and not author, "not_member"))
+        accepted, published = self.accepted(p), self.published(p)
+        r = self.first((not self.is_there(p), "no_paper"), (not member and not author and not accepted, "not_member"))
         if r:
             return r
         clear = not self.conflicted(u, p)
@@ -445,9 +488,9 @@ class Conference:
         anon = self.mode == "anonymous"
         out = {"paper": p}
         title, abstract = self.last_texts(p)
-        if author or (cm and bidding):
+        if author or (cm and bidding) or published:
             out["abstract"] = abstract
-        if author or (cc and bidding) or (cm and bidding and not anon):
+        if author or (cc and bidding) or (cm and bidding and not anon) or accepted:
             out["authors"] = [self.name_of(v) for v in self.authors(p)]
         if cm and bidding:
             out["bid"] = self.bid_of(u, p) or 0
@@ -457,8 +500,8 @@ class Conference:
             out["conflict"] = self.conflicted(u, p)
         if cc and bidding:
             out["conflicts"] = [n for v, n in self.users() if self.declared_on(v, p)]
-        if (cm and disc) or (author and notif):
-            out["decision"] = "none"
+        if (cm and disc) or (author and notif) or accepted:
+            out["decision"] = self.decision(p)
         if author:
             by = [f[1] for m, f in self.entries_of("conflict") if f[0] == p and m in self.authors(p)]
             out["declared"] = [n for v, n in self.users() if v in by]
@@ -473,12 +516,12 @@ class Conference:
             out["reviewers"] = [{"label": lab(f), "user": self.name_of(f[1])} for f in self.reviewers(p)]
         if cm and bidding:
             out["tags"] = self.tags(u, p)
-        if author or (member and bidding):
+        if author or (member and bidding) or accepted:
             out["title"] = title
         ups = [f[1] for f in self.uploads(p)]
         if author:
             out["versions"] = ups
-        elif cm and bidding:
+        elif (cm and bidding) or published:
             out["versions"] = ups[-1:]
         if author or (member and bidding):
             out["withdrawn"] = self.withdrawn(p)
@@ -513,6 +556,9 @@ def view_lines(c, who):
     def last_upload(i, p):
         return not any(k == "uploaded" and f[0] == p for m, k, f in c.history[i + 1:])
 
+    def last_decision(i, p):
+        return not any(k == "decided" and f[0] == p for m, k, f in c.history[i + 1:])
+
     for i, (m, k, f) in enumerate(c.history):
         mine = m == u
         shown = {}
@@ -542,6 +588,7 @@ def view_lines(c, who):
             p = f if k == "withdrawn" else f[0]
             author, clear = u in c.authors(p), not c.conflicted(u, p)
             cm, cc = member and clear, chair and clear
+            accepted, published = c.accepted(p), c.published(p)
             kind = k
             if k == "submitted":
                 whole = {"paper": p, "title": f[1], "abstract": f[2]}
@@ -551,17 +598,22 @@ def view_lines(c, who):
                 row(last_text(i, p) and member and bidding, {"title": f[1]})
                 row(last_text(i, p) and cm and bidding, {"abstract": f[2]})
                 row((cc or (cm and not anon)) and bidding, {"by": m})
+                row(accepted, {"by": m})
+                row(last_text(i, p) and accepted, {"title": f[1]})
+                row(last_text(i, p) and published, {"abstract": f[2]})
             if k == "coauthor":
                 whole = {"paper": p, "user": f[1]}
-                row(author or mine or ((cc or (cm and not anon)) and bidding), whole)
+                row(author or mine or ((cc or (cm and not anon)) and bidding) or accepted, whole)
             if k == "revised":
                 whole = {"paper": p, "title": f[1], "abstract": f[2]}
                 row(author or mine, whole)
                 row(last_text(i, p) and member and bidding, {"paper": p, "title": f[1]})
                 row(last_text(i, p) and cm and bidding, {"abstract": f[2]})
+                row(last_text(i, p) and accepted, {"paper": p, "title": f[1]})
+                row(last_text(i, p) and published, {"abstract": f[2]})
             if k == "uploaded":
                 whole = {"paper": p, "version": f[1], "bytes": len(f[2])}
-                row(author or mine or (last_upload(i, p) and cm and bidding), whole)
+                row(author or mine or (last_upload(i, p) and ((cm and bidding) or published)), whole)
             if k == "withdrawn":
                 row(author or mine or (member and bidding), {"paper": p})
             if k == "conflict":
@@ -589,6 +641,10 @@ def view_lines(c, who):
             if k == "tagged":
                 whole = {"paper": p, "tag": f[1], "on": f[2]}
                 row(mine or (not f[1].startswith("~") and cm and bidding) or (f[1].startswith("~~") and cc and bidding), whole)
+            if k == "decided":
+                row(mine or (cm and disc), {"paper": p, "decision": f[1]})
+                row(last_decision(i, p) and author and notif, {"paper": p, "outcome": True, "decision": f[1]})
+                row(last_decision(i, p) and accepted, {"paper": p, "accepted": True})
         if seen:
             out.append(dump({"kind": kind, **({"mine": True} if mine else {}), **shown}))
     return out

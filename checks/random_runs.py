@@ -41,7 +41,7 @@ class Run:
                 self.ask("alice", "POST", "/members", {"name": name, "role": role})
         if self.random.random() < 0.7:
             self.ask("alice", "POST", "/mode", {"mode": self.random.choice(["open", "blind", "anonymous"])})
-        steps = {"setup": 5, "submission": 90, "bidding": 160, "reviewing": 80, "discussion": 100, "notification": 50, "closed": 25}
+        steps = {"setup": 5, "submission": 90, "bidding": 160, "reviewing": 80, "discussion": 130, "notification": 60, "closed": 100}
         for phase in PHASES:
             if phase != "setup":
                 self.ask("alice", "POST", "/phase", {"phase": phase})
@@ -50,7 +50,7 @@ class Run:
 
     def ask(self, who, method, path, body=None):
         code, content = self.model.ask(who, method, path, body)
-        self.asked.append((who, method, path, body, code, content))
+        self.asked.append((who, method, path, body, code, without(content) if method == "HEAD" else content))
 
     def paper(self):
         """Mostly a paper that is there."""
@@ -82,18 +82,27 @@ class Run:
 
         return self.caller(fits)
 
+    def reader(self):
+        """Anybody; the more often nobody, without a secret or with a wrong one, the more there is for nobody to read."""
+        nobody = ["-", "-", f"{self.random.choice(NAMES)}.wrong-secret-000001"]
+        return self.random.choice(NAMES * 6 + nobody * {"notification": 4, "closed": 24}.get(self.model.phase, 1))
+
     def author(self, paper):
         return self.caller(lambda user: paper.isdigit() and user in self.model.authors(int(paper)))
 
     def deeds(self):
         """What is asked for, as often as the phase suggests."""
-        asked = ["page"] * 6 + ["reviews", "comments"] * 3 + ["me", "conflict", "content", "version", "member", "accounts", "phase", "back", "tag"]
+        asked = ["page"] * 6 + ["reviews", "comments"] * 3
+        asked += ["me", "conflict", "content", "version", "member", "accounts", "phase", "back", "tag", "decide", "accepted"]
         if self.model.phase == "submission":
             return asked + ["submit"] * 6 + ["upload", "revise", "conflict"] * 3 + ["withdraw", "bid", "assign", "unassign"]
         if self.model.phase == "bidding":
             return asked + ["bid", "assign", "tag"] * 5 + ["unassign", "conflict"] * 3 + ["submit", "upload", "revise", "withdraw", "review"]
         if self.model.phase == "discussion":
-            return asked + ["review", "comment", "tag"] * 6 + ["assign", "unassign", "conflict"] * 2 + ["bid", "submit", "upload", "revise", "withdraw"]
+            return asked + ["review", "comment", "tag"] * 6 + ["decide"] * 10 + ["assign", "unassign", "conflict"] * 2 + ["bid", "submit", "upload", "revise", "withdraw"]
+        if self.model.is_from("notification"):
+            asked += ["bid", "assign", "unassign", "review", "comment", "submit", "upload", "revise", "withdraw"]
+            return asked + ["page", "content", "version"] * 9 + ["accepted"] * 3
         return asked + ["review"] * 8 + ["assign", "tag"] * 4 + ["unassign", "conflict"] * 3 + ["bid", "submit", "upload", "revise", "withdraw", "comment"]
 
     def step(self):
@@ -101,8 +110,9 @@ class Run:
         anybody = choose.choice(NAMES * 6 + ["-"])
         texts = {"title": choose.choice(["Proofs", "Types", "A paper, \"quoted\"", "Übung"]), "abstract": choose.choice(["", "We prove.", "Two\nlines.\t\\"])}
         deed = choose.choice(self.deeds())
+        read = choose.choice(["GET", "GET", "GET", "HEAD"])
         if deed == "page":
-            self.ask(anybody, "GET", f"/papers/{p}")
+            self.ask(self.reader(), read, f"/papers/{p}")
         elif deed == "me":
             self.ask(anybody, "GET", "/me")
         elif deed == "bid":
@@ -132,14 +142,18 @@ class Run:
         elif deed == "tag":
             tag = choose.choice(["hot", "a-1", "~hot", "~mine", "~~hot", "~~chairs"])
             self.ask(self.member(p), choose.choice(["PUT", "PUT", "DELETE"]), f"/papers/{p}/tags/{tag}")
+        elif deed == "decide":
+            self.ask(self.chair(p), "PUT", f"/papers/{p}/decision", {"decision": choose.choice(["accept", "accept", "reject"])})
+        elif deed == "accepted":
+            self.ask(self.reader(), read, "/accepted")
         elif deed == "reviews":
-            self.ask(anybody, "GET", f"/papers/{p}/reviews")
+            self.ask(anybody, read, f"/papers/{p}/reviews")
         elif deed == "comments":
-            self.ask(anybody, "GET", f"/papers/{p}/comments")
+            self.ask(anybody, read, f"/papers/{p}/comments")
         elif deed == "content":
-            self.ask(anybody, "GET", f"/papers/{p}/content")
+            self.ask(self.reader(), read, f"/papers/{p}/content")
         elif deed == "version":
-            self.ask(anybody, "GET", f"/papers/{p}/content/{choose.randint(1, 3)}")
+            self.ask(self.reader(), read, f"/papers/{p}/content/{choose.choice(['1', '2', '3', '0', '01'])}")
         elif deed == "member":
             self.ask(self.chair(), "POST", "/members", {"name": self.name(), "role": choose.choice(["member", "chair"])})
         elif deed == "accounts":
@@ -154,25 +168,36 @@ def spelled(who, method, path, body):
     """A request's bytes."""
     lines = [f"{method} {path} HTTP/1.1", "Host: c"]
     if who != "-":
-        lines.append(f"Authorization: Bearer {who}.{secret(who)}")
+        lines.append(f"Authorization: Bearer {who if '.' in who else who + '.' + secret(who)}")
     content = b"" if body is None else (body if isinstance(body, str) else dump(body)).encode()
     lines.append(f"Content-Length: {len(content)}")
     return "\r\n".join(lines).encode() + b"\r\n\r\n" + content
 
 
-def answers(text):
-    """The status and the content of each answer in these bytes."""
+def without(content):
+    """What HEAD is answered where GET is answered this."""
+    return f"{len(content.removeprefix('bytes: ').encode())} bytes"
+
+
+def answers(text, methods):
+    """The status and the content of each answer in these bytes, to requests of these methods."""
     told = []
-    while text:
+    for method in methods:
+        if not text:
+            break
         head, _, rest = text.partition(b"\r\n\r\n")
         lines = head.decode().split("\r\n")
         length = int(next(line.split(": ")[1] for line in lines if line.startswith("Content-Length")))
+        if method == "HEAD":
+            told.append((int(lines[0].split()[1]), f"{length} bytes"))
+            text = rest
+            continue
         content = rest[:length].decode()
         if "Content-Type: application/octet-stream" in lines:
             content = "bytes: " + content
         told.append((int(lines[0].split()[1]), content))
         text = rest[length:]
-    return told
+    return told if not text else told + [(0, f"{len(text)} bytes more")]
 
 
 def tried(seed):
@@ -182,7 +207,7 @@ def tried(seed):
         store = os.path.join(room, "store")
         text = b"".join(spelled(*asked[:4]) for asked in run.asked)
         child = subprocess.run([CONFD, "pipe", "--store", store], input=text, stdout=subprocess.PIPE, check=True)
-        told = answers(child.stdout)
+        told = answers(child.stdout, [asked[1] for asked in run.asked])
         for asked, answer in zip(run.asked, told):
             if asked[4:] != answer:
                 return f"{' '.join(str(part) for part in asked[:4])}: came {answer}, due {asked[4:]}", 0
@@ -213,4 +238,5 @@ def main():
     sys.exit(failed > 0)
 
 
-main()
+if __name__ == "__main__":
+    main()
