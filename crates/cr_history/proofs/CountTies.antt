@@ -1,9 +1,9 @@
 -- What the tables count of each user is what a history tells of her.
-use Rattle.std.proofs.Common.{ℕ, Bool, true, false, cond, ◌≡◌, ◌+◌, List, [], ◌∷◌, ◌++◌, eqb, refl, sym, ap, ◌∙◌, arith, zero, suc, get_or, Option, Some, None}
+use Rattle.std.proofs.Common.{ℕ, Bool, true, false, cond, ◌≡◌, ◌+◌, List, [], ◌∷◌, ◌++◌, length, eqb, refl, sym, ap, ◌∙◌, arith, zero, suc, get_or, Option, Some, None}
 use Rattle.std.proofs.lemmas.Bool.Decides.{nat_tests}
 use Rattle.cr_base.specs.declared.entry.Entry.{Entry}
 use Rattle.cr_base.specs.declared.entry.Stamped.{Stamped}
-use Rattle.cr_base.specs.Lists.{is_number}
+use Rattle.cr_base.specs.Lists.{given, is_number}
 use Rattle.cr_base.specs.History.{History, all_told_by}
 use Rattle.cr_base.specs.Papers.{with_more}
 use Rattle.cr_base.specs.Tables.{Tables, no_tables, tables_after, tables_of}
@@ -58,6 +58,15 @@ sum-with_more (Some v) maker more told n sums is =
     by : (b : Bool) (m : ℕ) → told ≡ cond b more 0 → m + (told + n) ≡ cond b (m + more) m + n
     by true m is = omega (arith, is)
     by false m is = omega (arith, is)
+
+-- one value more, where it is the user's, is one more in her sum
+pub sum-with_one : {A : Type 0} (u : Option ℕ) (maker : ℕ) (x : A) (n : ℕ) (sums : List ℕ)
+    → sum_at sums u + (length (given (is_number u maker) x) + n) ≡ sum_at (with_more maker 1 sums) u + n
+sum-with_one u maker x n sums = sum-with_more u maker 1 (length (given (is_number u maker) x)) n sums (by (is_number u maker))
+  where
+    by : (b : Bool) → length (given b x) ≡ cond b 1 0
+    by true = refl
+    by false = refl
 
 pub plus_nothing : (n : ℕ) → n + 0 ≡ n
 plus_nothing n = omega arith

@@ -19,7 +19,7 @@ use Rattle.cr_base.proofs.PaperLaws.{read-changed, read-kept, numbers_from-with_
 use Rattle.cr_base.proofs.LastLaws.{last_from-given, last_or-given}
 use Rattle.cr_base.proofs.ListLaws.{turned, numbered-nil, numbered-none, numbered-push, numbers_from-push}
 use Rattle.cr_base.proofs.TieLaws.{users_tied_to-push}
-use Rattle.cr_history.proofs.CountTies.{sum_at, sum-with_more, plus_nothing, sum-tables}
+use Rattle.cr_history.proofs.CountTies.{sum_at, sum-with_more, sum-with_one, plus_nothing, sum-tables}
 use Rattle.cr_history.proofs.Folds.{told-always, told-fitting}
 
 -- ---- the numbers of the papers
@@ -41,12 +41,7 @@ papers_of-tables H fits = told-fitting ◌++◌ append-nil (λ (t : Tables). pap
 
 own-entry : (u : Option ℕ) (state : PapersState) (maker : ℕ) (e : Entry) (n : ℕ)
     → sum_at state.submitted u + (length (own_paper_told u maker e) + n) ≡ sum_at (papers_after state maker e).submitted u + n
-own-entry u state maker (Submitted paper title abstract) n =
-    sum-with_more u maker 1 (length (given (is_number u maker) paper)) n state.submitted (by (is_number u maker))
-  where
-    by : (b : Bool) → length (given b paper) ≡ cond b 1 0
-    by true = refl
-    by false = refl
+own-entry u state maker (Submitted paper title abstract) n = sum-with_one u maker paper n state.submitted
 own-entry u state maker e n = omega arith
 
 -- a user's own papers are those that she submitted

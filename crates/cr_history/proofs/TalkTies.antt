@@ -1,5 +1,5 @@
 -- The comments that a history tells are those that the table of comments has.
-use Rattle.std.proofs.Common.{ℕ, Bool, true, false, cond, ◌≡◌, ◌+◌, List, ◌++◌, length, length-append, append_assoc, append-nil}
+use Rattle.std.proofs.Common.{ℕ, Bool, true, false, ◌≡◌, ◌+◌, List, ◌++◌, length, length-append, append_assoc, append-nil}
 use Rattle.std.proofs.Common.{eqb, refl, sym, ap, ◌∙◌, arith, Option, Some, None}
 use Rattle.std.specs.Prelude.{map}
 use Rattle.std.proofs.lemmas.List.{map-append}
@@ -10,12 +10,12 @@ use Rattle.cr_base.specs.declared.entry.Stamped.{Stamped}
 use Rattle.cr_base.specs.Filed.{filed}
 use Rattle.cr_base.specs.History.{History, CommentTold, comment_told, own_comment_told}
 use Rattle.cr_base.specs.HistoryFacts.{comments_of, own_comments_of}
-use Rattle.cr_base.specs.Lists.{given, is_number}
+use Rattle.cr_base.specs.Lists.{given}
 use Rattle.cr_base.specs.Tables.{Tables, no_tables, tables_of}
 use Rattle.cr_base.specs.Talk.{TalkState, talk_after, comments_in, comment_as_told, own_comments_in}
 use Rattle.cr_base.proofs.FiledLaws.{filed_of-with_filed}
 use Rattle.cr_base.proofs.ListLaws.{turned}
-use Rattle.cr_history.proofs.CountTies.{sum_at, sum-with_more, sum-tables}
+use Rattle.cr_history.proofs.CountTies.{sum_at, sum-with_one, sum-tables}
 use Rattle.cr_history.proofs.Folds.{told-always}
 
 -- ---- the comments on a paper
@@ -49,12 +49,7 @@ comments_of-tables p H =
 
 own-entry : (u : Option ℕ) (talk : TalkState) (maker : ℕ) (e : Entry) (n : ℕ)
     → sum_at talk.written u + (length (own_comment_told u maker e) + n) ≡ sum_at (talk_after talk maker e).written u + n
-own-entry u talk maker (Commented paper k ordinal text) n =
-    sum-with_more u maker 1 (length (given (is_number u maker) k)) n talk.written (by (is_number u maker))
-  where
-    by : (b : Bool) → length (given b k) ≡ cond b 1 0
-    by true = refl
-    by false = refl
+own-entry u talk maker (Commented paper k ordinal text) n = sum-with_one u maker k n talk.written
 own-entry u talk maker e n = omega arith
 
 -- she has written as many as the table says
