@@ -6,6 +6,7 @@ use Rattle.cr_base.specs.declared.accepted.AcceptedPaper.{AcceptedPaper}
 use Rattle.cr_base.specs.declared.command.Query.{Query}
 use Rattle.cr_base.specs.declared.command.Query.TheVariants as queries
 use Rattle.cr_base.specs.declared.comment.CommentLine.{CommentLine}
+use Rattle.cr_base.specs.declared.found.FoundPaper.{FoundPaper}
 use Rattle.cr_base.specs.declared.me.Me.{Me}
 use Rattle.cr_base.specs.declared.page.Bidder.{Bidder}
 use Rattle.cr_base.specs.declared.page.Page.{Page}
@@ -15,6 +16,7 @@ use Rattle.cr_base.specs.declared.reply.Reply.{Reply}
 use Rattle.cr_base.specs.declared.reply.Reply.TheVariants as replies
 use Rattle.cr_base.specs.declared.reply.Rule.{Rule}
 use Rattle.cr_base.specs.declared.review.ReviewLine.{ReviewLine}
+use Rattle.cr_base.specs.declared.search.Step.{Step}
 use Rattle.cr_base.specs.declared.standing.Standing.{Standing}
 use Rattle.cr_base.specs.declared.words.Decision.{Decision}
 use Rattle.cr_base.specs.declared.words.Decision.TheVariants.{Accept}
@@ -26,6 +28,7 @@ use Rattle.cr_base.specs.Lists.{listed, last, at_some}
 use Rattle.cr_base.specs.Logins.{query_wants_login}
 use Rattle.cr_base.specs.Page.{is_clear_member, is_clear_chair, shows_reviewer, shows_writer, where_told, page_of}
 use Rattle.cr_base.specs.Phases.{is_from}
+use Rattle.cr_base.specs.Searching.{Told, is_found, found_paper}
 use Rattle.cr_base.specs.Sources.{Facts, Shown, names_in, name_in, has_paper, maker_of, facts_of_tables, shown_in_tables}
 use Rattle.cr_base.specs.Tables.{Tables}
 use Rattle.cr_base.specs.Words.{is_chair}
@@ -71,6 +74,7 @@ query_checks facts shown queries.Accounts = []
 query_checks facts shown queries.Phase = []
 query_checks facts shown queries.AcceptedPapers = []
 query_checks facts shown queries.Me = []
+query_checks facts shown (queries.Search search only_count) = []
 query_checks facts shown (queries.Page paper) = page_checks (facts.standing paper) (at_some facts.accepted paper) (of_there (has_paper facts paper))
 query_checks facts shown (queries.Content paper) = content_asked facts shown paper None
 query_checks facts shown (queries.Version paper version) = content_asked facts shown paper (Some version)
@@ -187,6 +191,42 @@ me_by facts user = record {
   user = user;
 }
 
+-- ---- searches
+
+-- a reply, or the rule that stands in its way
+abbrev pub reply_or_rule : Result Reply Rule → Reply
+reply_or_rule (Ok reply) = reply
+reply_or_rule (Err rule) = replies.Refused rule
+
+-- the lines that are answered, where it isn't a rule
+abbrev pub reviews_answered : Reply → List ReviewLine
+reviews_answered (replies.Reviews lines) = lines
+reviews_answered _ = []
+
+abbrev pub comments_answered : Reply → List CommentLine
+comments_answered (replies.Comments lines) = lines
+comments_answered _ = []
+
+-- what a caller is told of a paper, as the terms of a search ask
+abbrev pub told_of : Facts → Shown → Option ℕ → ℕ → Told
+told_of facts shown caller p = record {
+  page = page_by facts shown caller p;
+  accepted = facts.accepted p;
+  conflicted = (facts.standing (Some p)).conflicted;
+  reviews = reviews_answered (reply_or_rule (judged (query_checks facts shown (queries.Reviews (Some p))) (replies.Reviews (reviews_by facts shown p))));
+  comments = comments_answered (reply_or_rule (judged (query_checks facts shown (queries.Comments (Some p))) (replies.Comments (comments_by facts shown p))));
+}
+
+-- the papers that a search finds, by number, with what it tells of each
+abbrev pub found_by : Facts → Shown → Option ℕ → List Step → List FoundPaper
+found_by facts shown caller search =
+    map (λ (p : ℕ). found_paper p (told_of facts shown caller p)) (filter (λ (p : ℕ). is_found (told_of facts shown caller p) search) facts.papers)
+
+-- them, or how many there are
+abbrev pub search_told : Facts → Shown → Option ℕ → List Step → Bool → Reply
+search_told facts shown caller search true = replies.Count (length (found_by facts shown caller search))
+search_told facts shown caller search false = replies.Found (found_by facts shown caller search)
+
 -- what a query is answered where it breaks no rule
 abbrev pub told_by : Facts → Shown → Option ℕ → Query → Reply
 told_by facts shown caller queries.Accounts = replies.Accounts facts.accounts
@@ -200,11 +240,7 @@ told_by facts shown caller (queries.Content paper) = replies.Content (unwrap_or 
 told_by facts shown caller (queries.Version paper version) = replies.Content (unwrap_or (content_by facts shown paper (Some version)) [])
 told_by facts shown caller (queries.Reviews paper) = replies.Reviews (reviews_by facts shown (unwrap_or paper 0))
 told_by facts shown caller (queries.Comments paper) = replies.Comments (comments_by facts shown (unwrap_or paper 0))
-
--- a reply, or the rule that stands in its way
-abbrev pub reply_or_rule : Result Reply Rule → Reply
-reply_or_rule (Ok reply) = reply
-reply_or_rule (Err rule) = replies.Refused rule
+told_by facts shown caller (queries.Search search only_count) = search_told facts shown caller search only_count
 
 -- the answer to a query: the first broken rule of its list, or what is told
 abbrev pub answer_by : Facts → Shown → Option ℕ → Query → Reply

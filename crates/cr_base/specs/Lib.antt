@@ -16,6 +16,8 @@ pub mod Papers
 pub mod Phases
 pub mod Reviews
 pub mod Rows
+pub mod Search
+pub mod Searching
 pub mod Seats
 pub mod Shapes
 pub mod Short

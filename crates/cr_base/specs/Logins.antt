@@ -38,6 +38,7 @@ ask_wants_login asks.Tag = true
 ask_wants_login asks.Untag = true
 ask_wants_login asks.Decide = true
 ask_wants_login asks.Me = true
+ask_wants_login asks.Search = true
 
 -- whether a request for this reads the field Authorization: a table of its own, since a request may be told who calls
 -- though it wants no login, as those for published papers are
@@ -68,6 +69,7 @@ ask_reads_credentials asks.Tag = true
 ask_reads_credentials asks.Untag = true
 ask_reads_credentials asks.Decide = true
 ask_reads_credentials asks.Me = true
+ask_reads_credentials asks.Search = true
 
 -- ---- commands and queries
 
@@ -101,6 +103,7 @@ query_ask (queries.Content paper) = asks.Content
 query_ask (queries.Version paper version) = asks.Version
 query_ask (queries.Reviews paper) = asks.Reviews
 query_ask (queries.Comments paper) = asks.Comments
+query_ask (queries.Search search only_count) = asks.Search
 
 -- each wants the login that its request does
 abbrev pub command_wants_login : Command → Bool

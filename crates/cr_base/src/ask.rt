@@ -57,12 +57,14 @@ pub enum Ask {
     AcceptedPapers,
     /// What the caller is to the conference: GET or HEAD of `/me`.
     Me,
+    /// The papers that a search finds: GET or HEAD of `/search`.
+    Search,
 }
 
 impl Ask {
     /// Whether it is a registered user's, so that nobody is answered `unauthorized`: every command but a registration, a
-    /// paper's page, content, reviews and comments, and what the caller is to the conference. Page and content of a published
-    /// paper want none, which only the history tells.
+    /// paper's page, content, reviews and comments, searches, and what the caller is to the conference. Page and content of a
+    /// published paper want none, which only the history tells.
     pub fn wants_login(self) -> bool
         ensures { result ≡ ask_wants_login self }
     {
@@ -73,7 +75,7 @@ impl Ask {
             Ask::Bid | Ask::Assign | Ask::Unassign => true,
             Ask::Review | Ask::Comment | Ask::Tag | Ask::Untag | Ask::Decide => true,
             Ask::Me | Ask::Page | Ask::Content | Ask::Version => true,
-            Ask::Reviews | Ask::Comments => true,
+            Ask::Reviews | Ask::Comments | Ask::Search => true,
         }
     }
 
@@ -89,7 +91,7 @@ impl Ask {
             Ask::Submit | Ask::Revise | Ask::Upload | Ask::Withdraw => true,
             Ask::Bid | Ask::Assign | Ask::Unassign => true,
             Ask::Review | Ask::Comment | Ask::Tag | Ask::Untag | Ask::Decide => true,
-            Ask::Reviews | Ask::Comments => true,
+            Ask::Reviews | Ask::Comments | Ask::Search => true,
         }
     }
 }

@@ -7,6 +7,7 @@ use crate::bid::Bid;
 use crate::entry::Digest;
 use crate::form::Form;
 use crate::numbers::PaperNo;
+use crate::search::Search;
 use crate::tag::Tag;
 use crate::texts::{Blob, Short, Text};
 use crate::told::ToldNames;
@@ -135,7 +136,7 @@ pub enum Command {
 }
 
 /// What a request may ask.
-#[derive(Clone, Copy, PartialEq, Eq)]
+#[derive(Drop)]
 pub enum Query {
     /// What the caller is to the conference.
     Me,
@@ -171,6 +172,13 @@ pub enum Query {
     Comments {
         /// The paper told; None where what was told is no number of a paper.
         paper: Option<PaperNo>,
+    },
+    /// The papers of which a search holds, among those whose title the caller is told.
+    Search {
+        /// The search.
+        search: Search,
+        /// How many they are is asked for, and not which.
+        only_count: bool,
     },
 }
 
@@ -237,6 +245,7 @@ impl Query {
             Query::Version { .. } => Ask::Version,
             Query::Reviews { .. } => Ask::Reviews,
             Query::Comments { .. } => Ask::Comments,
+            Query::Search { .. } => Ask::Search,
         }
     }
 

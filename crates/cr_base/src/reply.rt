@@ -3,6 +3,7 @@
 use crate::accepted::AcceptedPapers;
 use crate::bid::Bid;
 use crate::comment::CommentLines;
+use crate::found::FoundPapers;
 use crate::items::Items;
 use crate::me::Me;
 use crate::numbers::{Ordinal, PaperNo, UserNo};
@@ -172,4 +173,8 @@ pub enum Reply {
     Reviews(ReviewLines),
     /// The answer to `Query::Comments`.
     Comments(CommentLines),
+    /// The answer to `Query::Search`: the papers that it finds.
+    Found(FoundPapers),
+    /// The answer to `Query::Search` where their number alone is asked for.
+    Count(u64),
 }

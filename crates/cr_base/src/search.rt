@@ -1,0 +1,114 @@
+//! What a search asks of each paper, as a tree of terms (the HotCRP manual's search keywords).
+ghost use Rattle.std.specs.Prelude.{◌≡◌};
+ghost use Rattle.cr_base.specs.Search.{IsSpelled};
+
+use crate::tag::Tag;
+use crate::texts::Blob;
+use crate::words::Decision;
+use std::marker::Model;
+
+/// How a paper stands, as `status:` asks.
+#[derive(Clone, Copy, PartialEq, Eq)]
+pub enum Status {
+    /// It isn't withdrawn.
+    Active,
+    /// It is withdrawn.
+    Withdrawn,
+    /// It is accepted, as everyone is told then.
+    Accepted,
+}
+
+/// What a paper may have, as `has:` asks.
+#[derive(Clone, Copy, PartialEq, Eq)]
+pub enum Feature {
+    /// A content.
+    Content,
+    /// A review.
+    Review,
+    /// A comment.
+    Comment,
+    /// A decision.
+    Decision,
+    /// The caller's conflict.
+    Conflict,
+    /// The caller's label: she reviews it.
+    Mine,
+}
+
+/// What one term of a search asks of a paper. A text is looked for as it stands, letters of ASCII without regard to case.
+#[derive(Drop)]
+pub enum Term {
+    /// Title or abstract has the text.
+    Plain(Blob),
+    /// The title has it.
+    Title(Blob),
+    /// The abstract has it.
+    Abstract(Blob),
+    /// The name of an author has it.
+    Author(Blob),
+    /// The name of a reviewer has it.
+    Reviewer(Blob),
+    /// The tag is on.
+    Tag(Tag),
+    /// The decision is this one, or none was made.
+    Decision(Option<Decision>),
+    /// The paper stands so.
+    Status(Status),
+    /// The paper has that.
+    Has(Feature),
+}
+
+/// A step of a search: terms and operations, each operation behind its operands.
+#[derive(Drop)]
+pub enum Step {
+    /// A term.
+    Term(Term),
+    /// The operand doesn't hold.
+    Not,
+    /// Both operands hold.
+    And {
+        /// How many steps the second operand takes, which stand right before this one.
+        second: u16,
+    },
+    /// One of the operands holds, or both.
+    Or {
+        /// How many steps the second operand takes, which stand right before this one.
+        second: u16,
+    },
+}
+
+/// A search, or the empty one, which has no step and holds of every paper. Contracts see its steps, which spell one tree (`tree_of`).
+#[derive(Drop)]
+pub struct Search {
+    steps: Vec<Step>,
+}
+
+impl Model for Search {
+    ghost use Rattle.std.specs.Prelude.{List};
+    ghost use Rattle.cr_base.specs.declared.search.Step.{Step};
+    ghost use Rattle.cr_base.specs.Search.{IsSpelled};
+
+    ghost Value = { List Step };
+
+    ghost view = { λ s. s.steps.items };
+
+    ghost invariant = { λ s. IsSpelled s.steps.items };
+}
+
+impl Search {
+    /// The search that these steps spell.
+    pub fn from_steps(steps: Vec<Step>) -> Search
+        requires { IsSpelled steps.items }
+        ensures { result ≡ steps.items }
+    {
+        Search { steps }
+    }
+
+    /// Its steps, none of the empty search.
+    pub fn steps(&self) -> &[Step]
+        ensures value { result.now ≡ self.now }
+        ensures spelled { IsSpelled result.now }
+    {
+        self.steps.as_slice()
+    }
+}
