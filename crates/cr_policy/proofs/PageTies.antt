@@ -1,6 +1,6 @@
 -- Where the tables tell what a history tells and conflicts are declared in time, answers by a view are those by the tables.
 use Rattle.std.proofs.Common.{ℕ, Bool, true, false, ◌≡◌, List, [], ◌∷◌, ◌||◌, ◌&&◌, refl, ap, ◌∙◌, arith, Option, Some, None, Result, Ok}
-use Rattle.std.specs.Prelude.{◌==◌, unwrap_or, not, is_some, map, if◌then◌else◌}
+use Rattle.std.specs.Prelude.{◌==◌, unwrap_or, not, is_some, map, length, if◌then◌else◌}
 use Rattle.std.specs.List.{flat_map, list_any, filter}
 use Rattle.std.specs.Option.{option_map}
 use Rattle.std.proofs.lemmas.Bool.{not-false}
@@ -8,6 +8,7 @@ use Rattle.cr_base.specs.declared.accepted.AcceptedPaper.{AcceptedPaper}
 use Rattle.cr_base.specs.declared.command.Query.{Query}
 use Rattle.cr_base.specs.declared.command.Query.TheVariants as queries
 use Rattle.cr_base.specs.declared.comment.CommentLine.{CommentLine}
+use Rattle.cr_base.specs.declared.found.FoundPaper.{FoundPaper}
 use Rattle.cr_base.specs.declared.page.Bidder.{Bidder}
 use Rattle.cr_base.specs.declared.page.Page.{Page}
 use Rattle.cr_base.specs.declared.reply.AccountLine.{AccountLine}
@@ -15,6 +16,7 @@ use Rattle.cr_base.specs.declared.reply.Reply.{Reply}
 use Rattle.cr_base.specs.declared.reply.Reply.TheVariants as replies
 use Rattle.cr_base.specs.declared.reply.Rule.{Rule}
 use Rattle.cr_base.specs.declared.reply.Rule.TheVariants as rules
+use Rattle.cr_base.specs.declared.search.Step.{Step}
 use Rattle.cr_base.specs.declared.standing.Standing.{Standing}
 use Rattle.cr_base.specs.declared.words.Decision.TheVariants.{Accept}
 use Rattle.cr_base.specs.declared.words.Phase.TheVariants.{Bidding, Discussion}
@@ -30,7 +32,9 @@ use Rattle.cr_base.specs.Page.{gets_versions, gets_withdrawn, gets_bid, gets_bid
 use Rattle.cr_base.specs.Phases.{is_from}
 use Rattle.cr_base.specs.Tables.{Tables, no_tables, tables_of, FitInTurn}
 use Rattle.cr_base.specs.Answering.{uploads_told, upload_of, content_by, content_asked, query_checks, bidder_told, reviewer_told, page_by}
+use Rattle.cr_base.specs.Answering.{told_of, found_by, search_told, reviews_answered, comments_answered}
 use Rattle.cr_base.specs.Answering.{decision_by, accepted_paper, accepted_by, comments_by, reply_or_rule, answer_by, answer_by_role}
+use Rattle.cr_base.specs.Searching.{is_found, found_paper}
 use Rattle.cr_base.specs.Sources.{Facts, Shown, has_paper, facts_of_tables, shown_in_tables, names_in}
 use Rattle.cr_base.specs.Words.{is_anonymous, is_chair, is_member, no_bid}
 use Rattle.cr_base.proofs.CheckLaws.{judged-behind}
@@ -274,6 +278,24 @@ module _ (u : Option ℕ) (H : History) (kept : Invariants H) (told : AreTold H)
           by true same rest = λ i. same refl i ∷ rest i
           by false same rest = rest
 
+  -- ---- searches
+
+  told-same : (p : ℕ) → told_of facts shown u p ≡ told_of facts tabled u p
+  told-same p = λ i. record {
+    page = page-tables p i;
+    accepted = facts.accepted p;
+    conflicted = (facts.standing (Some p)).conflicted;
+    reviews = reviews_answered (reply_or_rule (reviews-tables u H told p forms i));
+    comments = comments_answered (reply_or_rule (comments-same (Some p) i));
+  }
+
+  found-same : (search : List Step) → found_by facts shown u search ≡ found_by facts tabled u search
+  found-same search = λ i. map (λ (p : ℕ). found_paper p (told-same p i)) (filter (λ (p : ℕ). is_found (told-same p i) search) facts.papers)
+
+  search-same : (search : List Step) (only_count : Bool) → search_told facts shown u search only_count ≡ search_told facts tabled u search only_count
+  search-same search true = ap (λ (found : List FoundPaper). replies.Count (length found)) (found-same search)
+  search-same search false = ap (λ (found : List FoundPaper). replies.Found found) (found-same search)
+
   -- ---- answers
 
   answer-shown : (query : Query) → answer_by facts shown u query ≡ answer_by_role (tables_of H) u query
@@ -287,6 +309,7 @@ module _ (u : Option ℕ) (H : History) (kept : Invariants H) (told : AreTold H)
   answer-shown (queries.Reviews None) = refl
   answer-shown (queries.Reviews (Some p)) = ap reply_or_rule (reviews-tables u H told p forms)
   answer-shown (queries.Comments paper) = ap reply_or_rule (comments-same paper)
+  answer-shown (queries.Search search only_count) = search-same search only_count
 
   -- and so is the answer
   pub answer-tables : (query : Query) → answer u (view u H) query ≡ answer_by_role (tables_of H) u query

@@ -16,7 +16,7 @@ use Rattle.cr_base.specs.declared.words.Decision.{Decision}
 use Rattle.cr_base.specs.declared.words.Decision.TheVariants.{Accept, Reject}
 use Rattle.cr_base.specs.declared.words.Kind.{Kind}
 use Rattle.cr_base.specs.declared.words.Phase.{Phase}
-use Rattle.cr_base.specs.declared.words.Phase.TheVariants.{Setup, Submission, Bidding, Reviewing, Discussion, Notification, Closed}
+use Rattle.cr_base.specs.declared.words.Phase.TheVariants.{Bidding, Reviewing, Discussion, Notification, Closed}
 use Rattle.cr_base.specs.declared.words.Mode.{Mode}
 use Rattle.cr_base.specs.declared.words.Mode.TheVariants.{Overt, Blind, Anonymous}
 use Rattle.cr_base.specs.declared.words.Role.{Role}
@@ -39,45 +39,26 @@ leads_committee Account = false
 leads_committee Member = false
 leads_committee Chair = true
 
--- it is bidding, or later
-abbrev pub is_past_submission : Phase → Bool
-is_past_submission Setup = false
-is_past_submission Submission = false
-is_past_submission Bidding = true
-is_past_submission Reviewing = true
-is_past_submission Discussion = true
-is_past_submission Notification = true
-is_past_submission Closed = true
-
--- it is the discussion, or later
-abbrev pub is_past_reviewing : Phase → Bool
-is_past_reviewing Setup = false
-is_past_reviewing Submission = false
-is_past_reviewing Bidding = false
-is_past_reviewing Reviewing = false
-is_past_reviewing Discussion = true
-is_past_reviewing Notification = true
-is_past_reviewing Closed = true
+-- the conference is closed
+abbrev pub is_over : Phase → Bool
+is_over Closed = true
+is_over _ = false
 
 -- it is the notification, or later
 abbrev pub is_past_discussion : Phase → Bool
-is_past_discussion Setup = false
-is_past_discussion Submission = false
-is_past_discussion Bidding = false
-is_past_discussion Reviewing = false
-is_past_discussion Discussion = false
 is_past_discussion Notification = true
-is_past_discussion Closed = true
+is_past_discussion phase = is_over phase
 
--- the conference is closed
-abbrev pub is_over : Phase → Bool
-is_over Setup = false
-is_over Submission = false
-is_over Bidding = false
-is_over Reviewing = false
-is_over Discussion = false
-is_over Notification = false
-is_over Closed = true
+-- it is the discussion, or later
+abbrev pub is_past_reviewing : Phase → Bool
+is_past_reviewing Discussion = true
+is_past_reviewing phase = is_past_discussion phase
+
+-- it is bidding, or later
+abbrev pub is_past_submission : Phase → Bool
+is_past_submission Bidding = true
+is_past_submission Reviewing = true
+is_past_submission phase = is_past_reviewing phase
 
 -- authors are hidden from members
 abbrev pub hides_authors : Mode → Bool
@@ -183,13 +164,8 @@ is_reviewed p o H = list_any (λ (e : Stamped). gives_form p o e.entry) H
 
 -- the entry begins the discussion
 abbrev pub is_discussion : Phase → Bool
-is_discussion Setup = false
-is_discussion Submission = false
-is_discussion Bidding = false
-is_discussion Reviewing = false
 is_discussion Discussion = true
-is_discussion Notification = false
-is_discussion Closed = false
+is_discussion _ = false
 
 abbrev pub begins_discussion : Entry → Bool
 begins_discussion (PhaseSet phase) = is_discussion phase
@@ -252,19 +228,24 @@ is_party u H maker paper user = is_number u user || is_number u maker || leads u
 -- accounts, roles, phases, modes and submissions, all of them. Of a paper's other entries her own and, as an author, all but
 -- conflicts that no author made; co-authors where she oversees the paper, where she handles it unless authors are hidden, and
 -- where it is in the programme; a revision that none has replaced where she serves, or the paper is in the programme; an upload
--- that none has superseded where she handles the paper, or it appears; a withdrawal where she serves; of conflicts the ones that name her, and all where she oversees the paper; of bids her own, and all
--- where she oversees the paper; of assignments those that she is a party to, all where she discusses the paper, and those to
--- her own paper where she is named its reviewers; of forms her own, the first of each label where she leads the paper, those that
--- are discussed where she discusses it, and of her own paper the last of each label where she is notified; of comments her own, and
--- all where she discusses the paper; of tags those that she set, and those that she reads; and of decisions those that she reads,
--- the last one by which she learns what became of her paper, and the last one of a paper in the programme
+-- that none has superseded where she handles the paper, or it appears; a withdrawal where she serves; of conflicts the ones
+-- that name her, and all where she oversees the paper; of bids her own, and all where she oversees the paper; of assignments
+-- those that she is a party to, all where she discusses the paper, and those to her own paper where she is named its
+-- reviewers; of forms her own, the first of each label where she leads the paper, those that are discussed where she discusses
+-- it, and of her own paper the last of each label where she is notified; of comments her own, and all where she discusses the
+-- paper; of tags those that she set, and those that she reads; and of decisions those that she reads, the last one by which
+-- she learns what became of her paper, and the last one of a paper in the programme
 abbrev pub is_told : Option ℕ → History → History → History → ℕ → Entry → Bool
 is_told u H before later maker (Registered user name digest) = true
 is_told u H before later maker (Named user role) = true
 is_told u H before later maker (PhaseSet phase) = true
 is_told u H before later maker (ModeSet mode) = true
 is_told u H before later maker (Submitted paper title abstract) = true
-is_told u H before later maker (Coauthor paper user) = owns u H maker paper || oversees u paper H || (handles u paper H && not (hides_authors (mode_of H))) || is_in_programme paper H
+is_told u H before later maker (Coauthor paper user) =
+    owns u H maker paper
+    || oversees u paper H
+    || (handles u paper H && not (hides_authors (mode_of H)))
+    || is_in_programme paper H
 is_told u H before later maker (Revised paper title abstract) =
     owns u H maker paper || (not (is_replaced paper later) && (serves u H || is_in_programme paper H))
 is_told u H before later maker (Uploaded paper version content) =

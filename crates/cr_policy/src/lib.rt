@@ -26,9 +26,10 @@ ghost use Rattle.cr_policy.specs.ViewBounds.{OneTitle, OneAbstract, OneContent, 
 /// How a user stands can be read off what she sees: phase, mode, role and her ties to any paper, of
 /// every history and for every user, nobody among them. An author sees all authors of her paper, and
 /// whoever is none is told so by what she sees; each entry on a conflict of hers is shown her, and each by
-/// which she is assigned or unassigned, so she is told whether she is in conflict and whether she reviews. What is public can be read off any view, the accounts,
-/// their names and roles, the papers, and which of them are accepted; and so can how many of the papers are the reader's own,
-/// how many bytes she has uploaded, and how many comments she has written.
+/// which she is assigned or unassigned, so she is told whether she is in conflict and whether she
+/// reviews. What is public can be read off any view, the accounts, their names and roles, the papers,
+/// and which of them are accepted; and so can how many of the papers are the reader's own, how many
+/// bytes she has uploaded, and how many comments she has written.
 pub fn law_standing()
     ensures standing { StandingFromView }
     ensures public { (u : Option ℕ) (H : History) → PublicFactsFromView u H }
