@@ -1,0 +1,10 @@
+pub mod Complete
+pub mod FollowLaws
+pub mod ParseLaws
+pub mod PlaceLaws
+pub mod ReaderLaws
+pub mod RunLaws
+pub mod Sound
+pub mod StopLaws
+pub mod TermLaws
+pub mod TreeLaws

@@ -1,0 +1,85 @@
+-- What is found, and where a text stops being the beginning of a query, by what reading comes to.
+use Rattle.std.proofs.Common.{◌≡◌, inl, inr, ℕ, ◌≤◌, Bool, List, length, Option, Ok, Err, if◌then◌else◌, ap, sym, ◌∙◌, subst}
+use Rattle.std.proofs.lemmas.Bool.{le-ltb}
+use Rattle.cr_base.specs.Search.{Tree, all_steps, tree_of, IsSpelled}
+use Rattle.cr_base.specs.declared.search.Step.{Step}
+use Rattle.cr_search_parse.specs.Grammar.{symbols_of, IsQuery}
+use Rattle.cr_search_parse.specs.Outcome.{Parses}
+use Rattle.cr_search_parse.specs.Places.{most_bytes, IsPlace, Spells, IsBad}
+use Rattle.cr_search_parse.specs.Reading.{start, runs_read, text_read}
+use Rattle.cr_search_parse.specs.Runs.{Run, runs_of}
+use Rattle.cr_search_parse.specs.Stopping.{Gives, StopsAt, Reads, IsFound}
+use Rattle.cr_search_parse.specs.declared.parsing.ParseError.{ParseError}
+use Rattle.cr_search_parse.specs.declared.parsing.ParseError.TheVariants as told
+use Rattle.cr_search_parse.proofs.PlaceLaws.{stuck, short, one}
+use Rattle.cr_search_parse.proofs.Sound.{found}
+use Rattle.cr_search_parse.proofs.StopLaws.{gives-read, stops-read}
+use Rattle.cr_search_parse.proofs.TreeLaws.{tree_of-all_steps}
+
+-- the query whose steps these are
+pub record Found (runs : List Run) (steps : List Step) : Type 0 where
+  pub tree : Option Tree
+  pub spelled : steps ≡ all_steps tree
+  pub query : IsQuery (symbols_of runs) tree
+
+pub gives-found : (runs : List Run) (steps : List Step) → Gives runs steps → Found runs steps
+gives-found runs steps given =
+    let query = found (symbols_of runs) given.0 steps given.1 given.2 in
+    record { tree = query.0; spelled = query.1; query = query.2 }
+
+spelled-tree : (runs : List Run) (steps : List Step) (query : Found runs steps) → tree_of steps ≡ query.tree
+spelled-tree runs steps query = ap tree_of query.spelled ∙ tree_of-all_steps query.tree
+
+pub gives-spelled : (runs : List Run) (steps : List Step) → Gives runs steps → IsSpelled steps
+gives-spelled runs steps given =
+    let query = gives-found runs steps given in ap all_steps (spelled-tree runs steps query) ∙ sym query.spelled
+
+pub gives-spells : (text : List ℕ) (steps : List Step) → length text ≤ most_bytes → Gives (runs_of text) steps
+    → Spells text (tree_of steps)
+gives-spells text steps few given =
+    let query = gives-found (runs_of text) steps given in
+    let same = sym (spelled-tree (runs_of text) steps query) in
+    (few, subst (λ (tree : Option Tree). IsQuery (symbols_of (runs_of text)) tree) same query.query)
+
+pub gives-only : (runs : List Run) (steps : List Step) (t : Option Tree) → Gives runs steps → IsQuery (symbols_of runs) t
+    → steps ≡ all_steps t
+gives-only runs steps t given is =
+    let query = gives-found runs steps given in query.spelled ∙ ap all_steps (one (symbols_of runs) query.tree t query.query is)
+
+pub stops-no_query : (runs : List Run) (place : ℕ) → StopsAt runs place → (t : Option Tree) → IsQuery (symbols_of runs) t → ⊥
+stops-no_query runs place (inl stop) = (stuck runs stop.before stop.state stop.more stop.leads stop.stuck).1
+stops-no_query runs place (inr stop) = (short runs stop.state stop.leads stop.short).1
+
+pub stops-bad : (text : List ℕ) (place : ℕ) → length text ≤ most_bytes → StopsAt (runs_of text) place → IsBad text place
+stops-bad text place few stop = inr (few, stops-no_query (runs_of text) place stop, at stop)
+  where
+    at : StopsAt (runs_of text) place → IsPlace (runs_of text) place
+    at (inl stop) =
+        subst (IsPlace (runs_of text)) (sym stop.there) (stuck (runs_of text) stop.before stop.state stop.more stop.leads stop.stuck).0
+    at (inr stop) = subst (IsPlace (runs_of text)) (sym stop.there) (short (runs_of text) stop.state stop.leads stop.short).0
+
+-- ---- refusals
+
+pub not-found : (text : List ℕ) (error : ParseError) (t : Option Tree) → Reads (Err error) text
+    → IsQuery (symbols_of (runs_of text)) t → IsFound (Err error) (all_steps t)
+not-found text (told.BadQuery place) t stop query = stops-no_query (runs_of text) place stop t query
+not-found text told.OutOfMemory t stop query = tt
+
+pub told-bad : (text : List ℕ) (error : ParseError) (place : ℕ) → length text ≤ most_bytes → Reads (Err error) text
+    → error ≡ told.BadQuery place → IsBad text place
+told-bad text (told.BadQuery there) place few stop is =
+    let same : there ≡ place = cc in subst (IsBad text) same (stops-bad text there few stop)
+told-bad text told.OutOfMemory place few stop is = absurd cc
+
+-- ---- as a function of the text
+
+-- a text that isn't too long is read run by run
+few-read : (text : List ℕ) → length text ≤ most_bytes → text_read text ≡ runs_read (runs_of text) 0 start
+few-read text few = ap (λ (b : Bool). if b then Err most_bytes else runs_read (runs_of text) 0 start) (le-ltb most_bytes (length text) few)
+
+pub gives-exact : (text : List ℕ) (steps : List Step) → length text ≤ most_bytes → Gives (runs_of text) steps → text_read text ≡ Ok steps
+gives-exact text steps few given = few-read text few ∙ gives-read (runs_of text) steps given
+
+pub stops-exact : (text : List ℕ) (error : ParseError) → length text ≤ most_bytes → Reads (Err error) text → Parses (Err error) (text_read text)
+stops-exact text (told.BadQuery place) few stop = few-read text few ∙ stops-read (runs_of text) place stop
+stops-exact text told.OutOfMemory few stop = tt

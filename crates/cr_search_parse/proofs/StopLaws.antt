@@ -1,0 +1,133 @@
+-- How far a text is read, run by run.
+use Rattle.std.proofs.Common.{◌≡◌, inl, inr, ℕ, ◌+◌, List, [], ◌∷◌, ◌++◌, length, take, drop, Option, Some}
+use Rattle.std.proofs.Common.{None, Ok, Err, option_and_then, refl, ap, sym, ◌∙◌, append_assoc, append-nil, length-append, arith}
+use Rattle.std.proofs.lemmas.List.{take_at, flat_map_more, drop-drop}
+use Rattle.std.specs.Option.{option_map_or}
+use Rattle.std.proofs.lemmas.Option.{none-some}
+use Rattle.cr_base.specs.declared.search.Step.{Step}
+use Rattle.cr_search_parse.specs.Grammar.{run_symbols, symbols_of}
+use Rattle.cr_search_parse.specs.Reading.{State, start, after_symbols, ended_at, runs_read, steps_read}
+use Rattle.cr_search_parse.specs.Runs.{Run, runs_of, run_length, runs_length}
+use Rattle.cr_search_parse.specs.Standing.{Refuses}
+use Rattle.cr_search_parse.specs.Stopping.{LeadTo, StopsAt, Gives, Reads, stopped_at}
+use Rattle.cr_search_parse.specs.declared.reader.Stop.{Stop}
+use Rattle.cr_search_parse.specs.declared.reader.Stop.TheVariants as stop
+use Rattle.cr_search_parse.proofs.ReaderLaws.{after_symbols-append, after_row}
+
+-- a text is read up to a place: these runs were, and lead to a state
+pub record ReadTo (text : List ℕ) (at : ℕ) (s : State) : Type 0 where
+  pub runs : List Run
+  pub falls : runs_of text ≡ runs ++ runs_of (drop at text)
+  pub place : at ≡ runs_length runs
+  pub leads : LeadTo runs s
+
+pub read_nothing : (text : List ℕ) → ReadTo text 0 start
+read_nothing text = record { runs = []; falls = refl; place = refl; leads = refl }
+
+lengths-more : (runs : List Run) (run : Run) → runs_length (runs ++ (run ∷ [])) ≡ runs_length runs + run_length run
+lengths-more [] run = omega arith
+lengths-more (first ∷ runs) run = omega (arith, lengths-more runs run)
+
+symbols-more : (runs : List Run) (run : Run) → symbols_of (runs ++ (run ∷ [])) ≡ symbols_of runs ++ run_symbols run
+symbols-more runs run = sym (flat_map_more run_symbols [] runs run)
+
+-- one run more
+leads-more : (runs : List Run) (run : Run) (s : State) → LeadTo runs s
+    → after_symbols start (symbols_of (runs ++ (run ∷ []))) ≡ after_symbols s (run_symbols run)
+leads-more runs run s leads = rw (symbols-more runs run) (after_row start s (symbols_of runs) (run_symbols run) leads)
+
+pub read-more : (text : List ℕ) (at : ℕ) (s t : State) (run : Run) (after : ℕ) → ReadTo text at s
+    → runs_of (drop at text) ≡ run ∷ runs_of (drop after text) → after ≡ at + run_length run
+    → after_symbols s (run_symbols run) ≡ Some t → ReadTo text after t
+read-more text at s t run after so falls place leads = record {
+  runs = so.runs ++ (run ∷ []);
+  falls = so.falls ∙ ap (λ (runs : List Run). so.runs ++ runs) falls ∙ sym (append_assoc so.runs (run ∷ []) (runs_of (drop after text)));
+  place = omega (arith, lengths-more so.runs run, so.place);
+  leads = leads-more so.runs run s so.leads ∙ leads;
+}
+
+-- ---- the same as a function
+
+-- behind runs that are read
+read-front : (front rest : List Run) (place : ℕ) (s t : State) → after_symbols s (symbols_of front) ≡ Some t → runs_read (front ++ rest) place s ≡ runs_read rest (place + runs_length front) t
+read-front [] rest place s t leads =
+    ap (λ (o : Option State). option_map_or (runs_read rest place) o (Err place)) leads ∙ ap (λ (n : ℕ). runs_read rest n t) (omega arith)
+read-front (run ∷ front) rest place s t leads =
+    behind (after_symbols s (run_symbols run)) (sym (after_symbols-append s (run_symbols run) (symbols_of front)) ∙ leads) (λ u. read-front front rest (place + run_length run) u t)
+  where
+    behind : (o : Option State) → option_and_then (λ (u : State). after_symbols u (symbols_of front)) o ≡ Some t
+        → ((u : State) → after_symbols u (symbols_of front) ≡ Some t → runs_read (front ++ rest) (place + run_length run) u ≡ runs_read rest (place + run_length run + runs_length front) t)
+        → option_map_or (runs_read (front ++ rest) (place + run_length run)) o (Err place) ≡ runs_read rest (place + (run_length run + runs_length front)) t
+    behind None led more = absurd (none-some t led)
+    behind (Some u) led more = more u led ∙ ap (λ (n : ℕ). runs_read rest n t) (omega arith)
+
+-- all of them
+read-all : (runs : List Run) (s : State) → LeadTo runs s → runs_read runs 0 start ≡ ended_at (runs_length runs) (steps_read s)
+read-all runs s leads =
+    ap (λ (all : List Run). runs_read all 0 start) (sym (append-nil runs)) ∙ read-front runs [] 0 start s leads ∙ ap (λ (n : ℕ). ended_at n (steps_read s)) (omega arith)
+
+pub gives-read : (runs : List Run) (steps : List Step) → Gives runs steps → runs_read runs 0 start ≡ Ok steps
+gives-read runs steps given = read-all runs given.0 given.1 ∙ ap (ended_at (runs_length runs)) given.2
+
+pub stops-read : (runs : List Run) (place : ℕ) → StopsAt runs place → runs_read runs 0 start ≡ Err place
+stops-read runs place (inl stop) = stop.read
+stops-read runs place (inr stop) = read-all runs stop.state stop.leads ∙ ap (ended_at (runs_length runs)) stop.short ∙ ap (λ (n : ℕ). Err n) (sym stop.there)
+
+-- ---- stops
+
+-- the run that comes leads to no state
+pub stops-before : (text : List ℕ) (at : ℕ) (s : State) (run : Run) (rest : List Run) → ReadTo text at s
+    → runs_of (drop at text) ≡ run ∷ rest → after_symbols s (run_symbols run) ≡ None → StopsAt (runs_of text) at
+stops-before text at s run rest so falls stuck =
+    let all = so.falls ∙ ap (λ (runs : List Run). so.runs ++ runs) falls in
+    let more = all ∙ sym (append_assoc so.runs (run ∷ []) rest) in
+    let n = length so.runs in
+    let before : take n (runs_of text) ≡ so.runs = ap (take n) all ∙ take_at so.runs (run ∷ rest) n refl in
+    let with_it : take (n + 1) (runs_of text) ≡ so.runs ++ (run ∷ []) =
+    ap (take (n + 1)) more ∙ take_at (so.runs ++ (run ∷ [])) rest (n + 1) (length-append so.runs (run ∷ [])) in
+    inl (record {
+      before = n;
+      more = omega (arith, ap length all, length-append so.runs (run ∷ rest));
+      there = so.place ∙ ap runs_length (sym before);
+      state = s;
+      leads = ap (λ (runs : List Run). after_symbols start (symbols_of runs)) before ∙ so.leads;
+      stuck = ap (λ (runs : List Run). after_symbols start (symbols_of runs)) with_it ∙ (leads-more so.runs run s so.leads ∙ stuck);
+      read =
+          ap (λ (runs : List Run). runs_read runs 0 start) all ∙ read-front so.runs (run ∷ rest) 0 start s so.leads
+          ∙ ap (λ (o : Option State). option_map_or (runs_read rest (0 + runs_length so.runs + run_length run)) o (Err (0 + runs_length so.runs))) stuck
+          ∙ ap (λ (n : ℕ). Err n) (omega (arith, so.place));
+    })
+
+-- the whole text is read
+all-runs : (text : List ℕ) (at : ℕ) (s : State) (so : ReadTo text at s) → drop at text ≡ [] → runs_of text ≡ so.runs
+all-runs text at s so none = so.falls ∙ (ap (λ (rest : List ℕ). so.runs ++ runs_of rest) none ∙ append-nil so.runs)
+
+pub stops-short : (text : List ℕ) (at : ℕ) (s : State) → ReadTo text at s → drop at text ≡ [] → steps_read s ≡ None
+    → StopsAt (runs_of text) at
+stops-short text at s so none short =
+    let all = all-runs text at s so none in
+    inr (record {
+      there = so.place ∙ ap runs_length (sym all);
+      state = s;
+      leads = ap (λ (runs : List Run). after_symbols start (symbols_of runs)) all ∙ so.leads;
+      short = short;
+    })
+
+pub gives-steps : (text : List ℕ) (at : ℕ) (s : State) (steps : List Step) → ReadTo text at s → drop at text ≡ []
+    → steps_read s ≡ Some steps → Gives (runs_of text) steps
+gives-steps text at s steps so none read =
+    (s, ap (λ (runs : List Run). after_symbols start (symbols_of runs)) (all-runs text at s so none) ∙ so.leads, read)
+
+-- the same by how many bytes the run has
+pub read-run : (text : List ℕ) (at : ℕ) (s t : State) (run : Run) (n : ℕ) → ReadTo text at s
+    → runs_of (drop at text) ≡ run ∷ runs_of (drop (run_length run) (drop at text)) → n ≡ run_length run
+    → after_symbols s (run_symbols run) ≡ Some t → ReadTo text (at + n) t
+read-run text at s t run n so falls is leads =
+    let behind = drop-drop (run_length run) at text ∙ ap (λ (k : ℕ). drop (at + k) text) (sym is) in
+    read-more text at s t run (at + n) so (falls ∙ ap (λ (rest : List ℕ). run ∷ runs_of rest) behind) (ap (λ (k : ℕ). at + k) is) leads
+
+-- why reading stops at a run
+pub stop-reads : (text : List ℕ) (at : ℕ) (s : State) (run : Run) (rest : List Run) (why : Stop) → ReadTo text at s
+    → runs_of (drop at text) ≡ run ∷ rest → Refuses why (after_symbols s (run_symbols run)) → Reads (Err (stopped_at why at)) text
+stop-reads text at s run rest stop.Misplaced so falls stuck = stops-before text at s run rest so falls stuck
+stop-reads text at s run rest stop.OutOfMemory so falls stuck = tt

@@ -1,0 +1,9 @@
+pub mod Cutting
+pub mod Grammar
+pub mod Outcome
+pub mod Places
+pub mod Reading
+pub mod Runs
+pub mod Standing
+pub mod Stopping
+pub mod Terms

@@ -1,0 +1,81 @@
+-- How the code's reader stands for a state of reading.
+use Rattle.std.specs.declared.alloc.Global.{Global}
+use Rattle.std.specs.Prelude.{◌≡◌, ◌≤◌, ℕ, ◌+◌, List, [], ◌∷◌, ◌++◌, length, replicate, Option, Some, None, Result, Ok, Err, Vec, if◌then◌else◌, ◌==◌}
+use Rattle.cr_base.specs.declared.search.Step.{Step}
+use Rattle.cr_base.specs.declared.search.Step.TheVariants as step
+use Rattle.cr_search_parse.specs.Reading.{State, Level, Next, first, ended, wanted, touching, depth, levels_depth}
+use Rattle.cr_search_parse.specs.declared.reader.Level.{Level as Counts}
+use Rattle.cr_search_parse.specs.declared.reader.Next.{Next as Told}
+use Rattle.cr_search_parse.specs.declared.reader.Next.TheVariants as told
+use Rattle.cr_search_parse.specs.declared.reader.Reader.{Reader}
+use Rattle.cr_search_parse.specs.declared.reader.Stop.{Stop}
+use Rattle.cr_search_parse.specs.declared.reader.Stop.TheVariants as stop
+
+abbrev pub next_told : Told → Next
+next_told told.First = first
+next_told told.Ended = ended
+next_told told.Wanted = wanted
+next_told told.Touching = touching
+
+-- how many steps a level has
+abbrev pub counted : Level → Counts
+counted level = record { alternatives = length level.alternatives; items = length level.items; negations = level.negations }
+
+-- the same of more levels, the outermost first
+abbrev pub all_counted : List Level → List Counts
+all_counted [] = []
+all_counted (level ∷ levels) = all_counted levels ++ (counted level ∷ [])
+
+abbrev pub steps_of_levels : List Level → List Step
+steps_of_levels [] = []
+steps_of_levels (level ∷ levels) = steps_of_levels levels ++ (level.alternatives ++ level.items)
+
+pub record Stands (r : Reader) (s : State) : Type 0 where
+  pub steps : r.steps.items ≡ steps_of_levels (s.level ∷ s.around)
+  pub around : r.around.items ≡ all_counted s.around
+  pub level : r.level ≡ counted s.level
+  pub next : s.next ≡ next_told r.next
+  pub outside : r.outside ≡ levels_depth s.around
+  pub terms : r.terms ≡ s.terms
+  pub shallow : depth s ≤ 64
+
+abbrev pub StandsForOne : Reader → Type 0
+StandsForOne r = (s : State) × Stands r s
+
+-- what its steps and the negations that wait come to at most: it grows by two a symbol
+abbrev pub weight : Reader → ℕ
+weight r = length r.steps.items + (r.outside + r.level.negations)
+
+-- why a reader stopped: no state comes after, or memory ran out
+abbrev pub Refuses : Stop → Option State → Type 0
+Refuses stop.Misplaced after = after ≡ None
+Refuses stop.OutOfMemory after = Unit {0}
+
+-- A reader read what leads to this state, and then stands for it.
+abbrev pub Takes : {A : Type 0} → Result A Stop → Reader → Option State → Type 0
+Takes (Ok done) r after = (s : State) × (after ≡ Some s) × Stands r s
+Takes (Err why) r after = Refuses why after
+
+-- the same of the steps at the end
+abbrev pub TakesSteps : Result (Vec Step Global) Stop → Option (List Step) → Type 0
+TakesSteps (Ok steps) read = read ≡ Some steps.items
+TakesSteps (Err stop.Misplaced) read = read ≡ None
+TakesSteps (Err stop.OutOfMemory) read = Unit {0}
+
+-- the operation behind a second operand, where there is a first: so many steps they have
+abbrev pub operation_behind : ℕ → Step → List Step
+operation_behind count operation = if count == 0 then [] else operation ∷ []
+
+-- how many steps two operands have with their operation, or the second alone where there is no first
+abbrev pub count_behind : ℕ → ℕ → ℕ
+count_behind count second = if count == 0 then second else count + second + 1
+
+-- what is written behind an item of a level, which has so many steps
+abbrev pub behind_item : Counts → ℕ → List Step
+behind_item level count =
+    replicate level.negations step.Not ++ operation_behind level.items (step.And (count + level.negations))
+
+-- how many steps the level has then
+abbrev pub counts_behind_item : Counts → ℕ → Counts
+counts_behind_item level count =
+    record { alternatives = level.alternatives; items = count_behind level.items (count + level.negations); negations = 0 }

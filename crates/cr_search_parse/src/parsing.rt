@@ -1,0 +1,75 @@
+//! From the text of a search to its tree.
+ghost use Rattle.std.specs.Prelude.{◌≡◌, ◌≤◌, ℕ, length, Option, Err, IfOk};
+ghost use Rattle.cr_base.specs.Search.{Tree, all_steps, tree_of};
+ghost use Rattle.cr_search_parse.specs.Outcome.{Parses};
+ghost use Rattle.cr_search_parse.specs.Places.{most_bytes, Spells, IsBad};
+ghost use Rattle.cr_search_parse.specs.Reading.{text_read};
+ghost use Rattle.cr_search_parse.specs.Stopping.{IsFound, Reads, stopped_at};
+ghost use Rattle.cr_search_parse.specs.declared.parsing.ParseError.TheVariants.{BadQuery};
+
+use crate::reader::{Reader, Stop};
+use crate::runs::first_run;
+use cr_base::{Search, Step};
+use std::alloc::Global;
+
+/// How many bytes a query may have.
+const MOST_BYTES: usize = 1_024;
+
+/// Why a text is no search.
+#[derive(Drop, Debug)]
+pub enum ParseError {
+    /// It is none.
+    BadQuery {
+        /// Up to here it could still have become one.
+        place: usize,
+    },
+    /// Memory ran out.
+    OutOfMemory,
+}
+
+/// The error of a reader that stops at a place.
+fn error_at(stop: Stop, place: usize) -> ParseError
+    ensures { result ≡ stopped_at stop place }
+{
+    match stop {
+        Stop::Misplaced => ParseError::BadQuery { place },
+        Stop::OutOfMemory => ParseError::OutOfMemory,
+    }
+}
+
+/// The steps of a text, or where reading stops.
+fn read_steps(alloc: Global, text: &[u8]) -> Result<Vec<Step>, ParseError>
+    requires { length text.now ≤ 1024 }
+    ensures { Reads result text.now }
+{
+    let mut reader = Reader::new(alloc);
+    let mut at = 0;
+    while at < text.len() {
+        let run = first_run(&text[at..]);
+        match reader.read(&run) {
+            Ok(()) => at += run.len(),
+            Err(stop) => return Err(error_at(stop, at)),
+        }
+    }
+    match reader.finish() {
+        Ok(steps) => Ok(steps),
+        Err(stop) => Err(error_at(stop, at)),
+    }
+}
+
+/// The search that a text is, or where the text stops being the beginning of one. Memory is taken for steps and terms alone.
+pub fn parse(alloc: Global, text: &[u8]) -> Result<Search, ParseError>
+    ensures found { IfOk result (λ search. Spells text.now (tree_of search)) }
+    ensures only { (tree : Option Tree) → Spells text.now tree → IsFound result (all_steps tree) }
+    ensures bad { (place : ℕ) → result ≡ Err (BadQuery place) → IsBad text.now place }
+    // The same as a function of the text.
+    ensures exact { Parses result (text_read text.now) }
+{
+    if text.len() > MOST_BYTES {
+        return Err(ParseError::BadQuery { place: MOST_BYTES });
+    }
+    match read_steps(alloc, text) {
+        Ok(steps) => Ok(Search::from_steps(steps)),
+        Err(error) => Err(error),
+    }
+}

@@ -1,0 +1,389 @@
+//! A reader of searches: the steps are written as their operands end (Dijkstra's shunting-yard algorithm).
+ghost use Rattle.std.specs.Prelude.{◌≡◌, ◌≤◌, ◌<◌, ◌+◌, ◌*◌, ◌++◌, length, replicate, Some, IfOk, OnOk};
+ghost use Rattle.cr_base.specs.declared.search.Step.TheVariants as step;
+ghost use Rattle.cr_search_parse.specs.Grammar.{gap, opens, closes, chunk_symbols, run_symbols};
+ghost use Rattle.cr_search_parse.specs.Cutting.{run_told};
+ghost use Rattle.cr_search_parse.specs.Runs.{run_length};
+ghost use Rattle.cr_search_parse.specs.Reading.{State, start, one_negation_more, if_shallow, after_and, after_or, after_term};
+ghost use Rattle.cr_search_parse.specs.Reading.{after_word, after_symbol, after_symbols, steps_read};
+ghost use Rattle.cr_search_parse.specs.Standing.{Stands, StandsForOne, weight, Takes, TakesSteps, next_told};
+ghost use Rattle.cr_search_parse.specs.Standing.{operation_behind, count_behind, behind_item, counts_behind_item};
+ghost use Rattle.cr_search_parse.specs.Terms.{term_of};
+
+use crate::runs::Run;
+use crate::terms::{is_and, is_not, is_or, read_term};
+use cr_base::{Step, Term};
+use std::alloc::{AllocError, AllocFailed, Global};
+
+/// How many dashes, `NOT`s and parentheses an item may stand inside.
+const MOST_DEPTH: u16 = 64;
+
+/// How many terms a search may have.
+const MOST_TERMS: u16 = 128;
+
+/// Why a reader reads no further.
+#[derive(Drop)]
+pub(crate) enum Stop {
+    /// What comes can't stand here in a search.
+    Misplaced,
+    /// Memory ran out.
+    OutOfMemory,
+}
+
+impl From<AllocError> for Stop {
+    ghost use Rattle.std.specs.Prelude.{◌≡◌};
+    ghost use Rattle.cr_search_parse.specs.declared.reader.Stop.TheVariants.{OutOfMemory};
+
+    ghost from_gives = { λ _ e. e ≡ OutOfMemory };
+
+    fn from(_: AllocError) -> Stop {
+        Stop::OutOfMemory
+    }
+}
+
+impl<T: Drop> From<AllocFailed<T>> for Stop {
+    ghost use Rattle.std.specs.Prelude.{◌≡◌};
+    ghost use Rattle.cr_search_parse.specs.declared.reader.Stop.TheVariants.{OutOfMemory};
+
+    ghost from_gives = { λ _ e. e ≡ OutOfMemory };
+
+    fn from(_: AllocFailed<T>) -> Stop {
+        Stop::OutOfMemory
+    }
+}
+
+/// What may come.
+#[derive(Clone, Copy)]
+enum Next {
+    /// An item, or nothing where nothing is open: nothing has come yet.
+    First,
+    /// Anything: an item has ended.
+    Ended,
+    /// An item.
+    Wanted,
+    /// An item at once: a dash came.
+    Touching,
+}
+
+/// What was read between two parentheses, in steps of the reader's: those of the alternatives that have ended, and behind them those
+/// of the items that have.
+#[derive(Clone, Copy)]
+struct Level {
+    alternatives: u16,
+    items: u16,
+    /// How many negations wait for the item that comes.
+    negations: u16,
+}
+
+/// A reader. Its steps are those of its levels, the outermost first.
+#[derive(Drop)]
+pub(crate) struct Reader {
+    alloc: Global,
+    steps: Vec<Step>,
+    /// The levels around the one that is read, the outermost first.
+    around: Vec<Level>,
+    level: Level,
+    next: Next,
+    /// How many dashes, `NOT`s and parentheses the level that is read stands inside.
+    outside: u16,
+    terms: u16,
+}
+
+/// A level in which nothing was read.
+fn no_level() -> Level
+    ensures { result ≡ record { alternatives = 0; items = 0; negations = 0 } }
+{
+    Level {
+        alternatives: 0,
+        items: 0,
+        negations: 0,
+    }
+}
+
+/// Adds so many negations.
+fn push_negations(steps: &mut Vec<Step>, count: u16) -> Result<(), AllocError>
+    ensures { OnOk result (steps.new.items ≡ steps.old.items ++ replicate count step.Not) }
+{
+    for _ in 0..count {
+        steps.push(Step::Not)?;
+    }
+    Ok(())
+}
+
+/// Adds an operation behind its second operand, where there is a first one, which has so many steps.
+fn push_behind(steps: &mut Vec<Step>, first: u16, operation: Step) -> Result<(), AllocError>
+    ensures { OnOk result (steps.new.items ≡ steps.old.items ++ operation_behind first operation) }
+{
+    if first == 0 {
+        return Ok(());
+    }
+    steps.push(operation)?;
+    Ok(())
+}
+
+/// How many steps these two operands are with their operation.
+fn count_behind(first: u16, second: u16) -> u16
+    requires { first + second < 65535 }
+    ensures { result ≡ count_behind first second }
+{
+    if first == 0 {
+        return second;
+    }
+    first + second + 1
+}
+
+/// Ends a level, whose steps come last, and gives their number.
+fn end_level(steps: &mut Vec<Step>, level: Level) -> Result<u16, AllocError>
+    requires { level.alternatives + level.items < 65535 }
+    ensures steps { OnOk result (steps.new.items ≡ steps.old.items ++ operation_behind level.alternatives (step.Or level.items)) }
+    ensures count { IfOk result (λ count. count ≡ count_behind level.alternatives level.items) }
+{
+    push_behind(
+        steps,
+        level.alternatives,
+        Step::Or {
+            second: level.items,
+        },
+    )?;
+    Ok(count_behind(level.alternatives, level.items))
+}
+
+/// Ends an item of a level, which has so many steps, the last ones.
+fn end_item(steps: &mut Vec<Step>, level: Level, count: u16) -> Result<Level, AllocError>
+    requires { level.items + (count + level.negations) < 65535 }
+    ensures steps { OnOk result (steps.new.items ≡ steps.old.items ++ behind_item level count) }
+    ensures level { IfOk result (λ after. after ≡ counts_behind_item level count) }
+{
+    push_negations(steps, level.negations)?;
+    let second = count + level.negations;
+    push_behind(steps, level.items, Step::And { second })?;
+    Ok(Level {
+        alternatives: level.alternatives,
+        items: count_behind(level.items, second),
+        negations: 0,
+    })
+}
+
+impl Reader {
+    /// A reader that has read nothing; takes no memory.
+    pub(crate) fn new(alloc: Global) -> Reader
+        ensures stands { Stands result start }
+        ensures light { weight result ≡ 0 }
+    {
+        Reader {
+            alloc,
+            steps: Vec::new(alloc),
+            around: Vec::new(alloc),
+            level: no_level(),
+            next: Next::First,
+            outside: 0,
+            terms: 0,
+        }
+    }
+
+    /// Reads spaces.
+    fn gap(&mut self) -> Result<(), Stop>
+        requires stands { StandsForOne self.old }
+        requires light { weight self.old < 60000 }
+        ensures takes { (s : State) → Stands self.old s → Takes result self.new (after_symbol s gap) }
+        ensures grows { OnOk result (weight self.new ≤ weight self.old + 2) }
+    {
+        match self.next {
+            Next::Touching => Err(Stop::Misplaced),
+            _ => Ok(()),
+        }
+    }
+
+    /// Reads a parenthesis that opens.
+    fn open(&mut self) -> Result<(), Stop>
+        requires stands { StandsForOne self.old }
+        requires light { weight self.old < 60000 }
+        ensures takes { (s : State) → Stands self.old s → Takes result self.new (after_symbol s opens) }
+        ensures grows { OnOk result (weight self.new ≤ weight self.old + 2) }
+    {
+        if self.outside + self.level.negations >= MOST_DEPTH {
+            return Err(Stop::Misplaced);
+        }
+        self.around.push(self.level)?;
+        self.outside += self.level.negations + 1;
+        self.level = no_level();
+        self.next = Next::First;
+        Ok(())
+    }
+
+    /// Reads one that closes.
+    fn close(&mut self) -> Result<(), Stop>
+        requires stands { StandsForOne self.old }
+        requires light { weight self.old < 60000 }
+        ensures takes { (s : State) → Stands self.old s → Takes result self.new (after_symbol s closes) }
+        ensures grows { OnOk result (weight self.new ≤ weight self.old + 2) }
+    {
+        let Next::Ended = self.next else {
+            return Err(Stop::Misplaced);
+        };
+        let Some(around) = self.around.pop() else {
+            return Err(Stop::Misplaced);
+        };
+        let count = end_level(&mut self.steps, self.level)?;
+        self.level = end_item(&mut self.steps, around, count)?;
+        self.outside -= around.negations + 1;
+        Ok(())
+    }
+
+    /// Reads a negation: behind it comes this.
+    fn negation(&mut self, next: Next) -> Result<(), Stop>
+        requires stands { StandsForOne self.old }
+        requires light { weight self.old < 60000 }
+        ensures takes { (s : State) → Stands self.old s → Takes result self.new (if_shallow (one_negation_more (next_told next) s)) }
+        ensures grows { OnOk result (weight self.new ≤ weight self.old + 2) }
+    {
+        if self.outside + self.level.negations >= MOST_DEPTH {
+            return Err(Stop::Misplaced);
+        }
+        self.level.negations += 1;
+        self.next = next;
+        Ok(())
+    }
+
+    /// Reads an `AND`.
+    fn and(&mut self) -> Result<(), Stop>
+        requires stands { StandsForOne self.old }
+        requires light { weight self.old < 60000 }
+        ensures takes { (s : State) → Stands self.old s → Takes result self.new (after_and s s.next) }
+        ensures grows { OnOk result (weight self.new ≤ weight self.old + 2) }
+    {
+        let Next::Ended = self.next else {
+            return Err(Stop::Misplaced);
+        };
+        self.next = Next::Wanted;
+        Ok(())
+    }
+
+    /// Reads an `OR`.
+    fn or(&mut self) -> Result<(), Stop>
+        requires stands { StandsForOne self.old }
+        requires light { weight self.old < 60000 }
+        ensures takes { (s : State) → Stands self.old s → Takes result self.new (after_or s s.next) }
+        ensures grows { OnOk result (weight self.new ≤ weight self.old + 2) }
+    {
+        let Next::Ended = self.next else {
+            return Err(Stop::Misplaced);
+        };
+        let alternatives = end_level(&mut self.steps, self.level)?;
+        self.level = Level {
+            alternatives,
+            items: 0,
+            negations: 0,
+        };
+        self.next = Next::Wanted;
+        Ok(())
+    }
+
+    /// Reads a term.
+    fn term(&mut self, term: Term) -> Result<(), Stop>
+        requires stands { StandsForOne self.old }
+        requires light { weight self.old < 60000 }
+        ensures takes { (s : State) → Stands self.old s → Takes result self.new (after_term s (Some term)) }
+        ensures grows { OnOk result (weight self.new ≤ weight self.old + 2) }
+    {
+        if self.terms >= MOST_TERMS {
+            return Err(Stop::Misplaced);
+        }
+        self.steps.push(Step::Term(term))?;
+        self.level = end_item(&mut self.steps, self.level, 1)?;
+        self.next = Next::Ended;
+        self.terms += 1;
+        Ok(())
+    }
+
+    /// Reads what is a term, or none.
+    fn maybe_term(&mut self, text: &[u8]) -> Result<(), Stop>
+        requires stands { StandsForOne self.old }
+        requires light { weight self.old < 60000 }
+        ensures takes { (s : State) → Stands self.old s → Takes result self.new (after_term s (term_of text.now)) }
+        ensures grows { OnOk result (weight self.new ≤ weight self.old + 2) }
+    {
+        match read_term(self.alloc, text)? {
+            Some(term) => self.term(term),
+            None => Err(Stop::Misplaced),
+        }
+    }
+
+    /// Reads a word.
+    fn word(&mut self, text: &[u8]) -> Result<(), Stop>
+        requires stands { StandsForOne self.old }
+        requires light { weight self.old < 60000 }
+        ensures takes { (s : State) → Stands self.old s → Takes result self.new (after_word s text.now) }
+        ensures grows { OnOk result (weight self.new ≤ weight self.old + 2) }
+    {
+        if is_and(text) {
+            return self.and();
+        }
+        if is_or(text) {
+            return self.or();
+        }
+        if is_not(text) {
+            return self.negation(Next::Wanted);
+        }
+        self.maybe_term(text)
+    }
+
+    /// Reads a chunk.
+    fn chunk(&mut self, text: &[u8]) -> Result<(), Stop>
+        requires stands { StandsForOne self.old }
+        requires light { weight self.old + 2 * length text.now < 60000 }
+        ensures takes { (s : State) → Stands self.old s → Takes result self.new (after_symbols s (chunk_symbols text.now)) }
+        ensures grows { OnOk result (weight self.new ≤ weight self.old + 2 * length text.now) }
+    {
+        for (i, byte) in text.iter().enumerate() {
+            if *byte != b'-' {
+                return self.word(&text[i..]);
+            }
+            self.negation(Next::Touching)?;
+        }
+        Ok(())
+    }
+
+    /// Reads a run.
+    pub(crate) fn read(&mut self, run: &Run) -> Result<(), Stop>
+        requires stands { StandsForOne self.old }
+        requires light { weight self.old + 2 * run_length (run_told run.now) < 60000 }
+        ensures takes { (s : State) → Stands self.old s → Takes result self.new (after_symbols s (run_symbols (run_told run.now))) }
+        ensures grows { OnOk result (weight self.new ≤ weight self.old + 2 * run_length (run_told run.now)) }
+    {
+        match run {
+            Run::Spaces(_) => self.gap(),
+            Run::Opening => self.open(),
+            Run::Closing => self.close(),
+            Run::Chunk(text) => self.chunk(text),
+        }
+    }
+
+    /// The steps of what was read, where it may end so.
+    pub(crate) fn finish(self) -> Result<Vec<Step>, Stop>
+        requires stands { StandsForOne self }
+        requires light { weight self < 60000 }
+        ensures { (s : State) → Stands self s → TakesSteps result (steps_read s) }
+    {
+        let Reader {
+            alloc,
+            mut steps,
+            around,
+            level,
+            next,
+            outside: _,
+            terms: _,
+        } = self;
+        if !around.is_empty() {
+            return Err(Stop::Misplaced);
+        }
+        match next {
+            Next::First => Ok(Vec::new(alloc)),
+            Next::Ended => {
+                let _ = end_level(&mut steps, level)?;
+                Ok(steps)
+            }
+            _ => Err(Stop::Misplaced),
+        }
+    }
+}
