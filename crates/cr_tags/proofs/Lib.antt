@@ -1,1 +1,2 @@
+pub mod ForLaws
 pub mod PlaceLaws

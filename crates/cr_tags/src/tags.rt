@@ -1,5 +1,7 @@
 //! The tags that are on.
-ghost use Rattle.std.specs.Prelude.{◌≡◌, ◌≤◌, ◌<◌, ◌+◌, OnOk, IfOk, MatchResult, Some, true, false, length, map, is_some};
+ghost use Rattle.std.specs.Prelude.{◌≡◌, ◌≤◌, ◌<◌, ◌+◌, ◌&&◌, OnOk, IfOk, MatchResult, Some, true, false, length, map, is_some};
+ghost use Rattle.std.specs.Str.{bytes_eq};
+ghost use Rattle.std.specs.List.{list_any};
 ghost use Rattle.cr_base.specs.Checks.{judged, tag_checks};
 ghost use Rattle.cr_base.specs.Filed.{filed};
 ghost use Rattle.cr_base.specs.TagTexts.{is_for_chairs};
@@ -86,6 +88,22 @@ fn those_for(
         .collect(alloc)
 }
 
+/// Whether it is this tag, and is for this user.
+fn is_it_for(set: &SetTag, tag: &Tag, user: UserNo, chair: bool) -> bool
+    ensures { result ≡ (is_tag_for (Some user) chair set.now && bytes_eq tag.now set.now.tag) }
+{
+    is_for(set, user, chair) && tag.as_slice() == set.tag.as_slice()
+}
+
+/// Whether this tag is one of the tags, and is for this user. A walk over them up to it.
+fn has_it_for(filed: &[Filed<SetTag>], tag: &Tag, user: UserNo, chair: bool) -> bool
+    ensures { result ≡ list_any (λ x. is_tag_for (Some user) chair x.value && bytes_eq tag.now x.value.tag) filed.now }
+{
+    filed
+        .iter()
+        .any(|filed| is_it_for(&filed.value, tag, user, chair))
+}
+
 /// What is read.
 impl Tags {
     /// No tags; takes no memory.
@@ -149,6 +167,14 @@ impl Tags {
     {
         let tags = those_for(alloc, run_of(&self.tags, paper), user, chair)?;
         Ok(TagList::from_vec(tags))
+    }
+
+    /// Whether this tag is among those on the paper that are for this user, as `tags_for` tells them. Two binary
+    /// searches, and a walk over the paper's tags up to it; takes no memory.
+    pub fn has_for(&self, user: UserNo, paper: PaperNo, chair: bool, tag: &Tag) -> bool
+        ensures { result ≡ list_any (bytes_eq tag.now) (tags_in self.now.tags (Some user) chair paper) }
+    {
+        has_it_for(run_of(&self.tags, paper), tag, user, chair)
     }
 
     /// Where the tag stands, or else where it would stand.

@@ -3,6 +3,7 @@ pub mod AnswerLaws
 pub mod AssigningLaws
 pub mod CommentLaws
 pub mod ContentLaws
+pub mod FieldLaws
 pub mod FitLaws
 pub mod GroupLaws
 pub mod JudgeLaws

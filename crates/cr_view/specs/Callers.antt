@@ -15,7 +15,7 @@ abbrev pub HasFewAuthors : Command → Type 0
 HasFewAuthors (Submit title abstract authors) = length authors ≤ 19
 HasFewAuthors _ = Unit {0}
 
--- there is a caller, where the query is about herself: that nobody may ask for what is told of a paper is no concern of the
+-- there is a caller, where the query is about herself, and it is no search, which isn't answered here: that nobody may ask for what is told of a paper is no concern of the
 -- tables, which answer it for anybody
 abbrev pub HasAsker : Option ℕ → Query → Type 0
 HasAsker caller queries.Me = IsSome caller
@@ -27,3 +27,4 @@ HasAsker caller (queries.Content paper) = Unit {0}
 HasAsker caller (queries.Version paper version) = Unit {0}
 HasAsker caller (queries.Reviews paper) = Unit {0}
 HasAsker caller (queries.Comments paper) = Unit {0}
+HasAsker caller (queries.Search search only_count) = ⊥

@@ -3,6 +3,7 @@ pub mod ByTables
 pub mod Callers
 pub mod Comments
 pub mod Draws
+pub mod Fields
 pub mod Replies
 pub mod Reviews
 pub mod Seen

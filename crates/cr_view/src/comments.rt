@@ -3,6 +3,7 @@ ghost use Rattle.std.specs.Prelude.{◌≡◌, IfOk, map};
 ghost use Rattle.cr_base.specs.declared.command.Query.TheVariants as queries;
 ghost use Rattle.cr_base.specs.Accounts.{lines_of};
 ghost use Rattle.cr_base.specs.Answering.{answer_by_role, comment_line};
+ghost use Rattle.cr_base.specs.Checks.{judged, of_there, comments_checks};
 ghost use Rattle.cr_base.specs.Talk.{comment_as_told};
 ghost use Rattle.cr_view.specs.Replies.{AnswersAsDue, ShowsAsDue, reader_at};
 ghost use Rattle.cr_view.specs.Comments.{comments_at, comments_due, lines_told, writer_label, writer_name};
@@ -15,6 +16,23 @@ use cr_base::{
     Standing, UserNo,
 };
 use std::alloc::{AllocError, Global};
+
+/// Whether one who stands so to a paper, which is there or isn't, may ask for the comments on it, or the first broken rule.
+pub(crate) fn comments_rule(by: &Standing, there: bool) -> Result<(), Rule>
+    ensures { result ≡ judged (comments_checks by.now (of_there there)) tt }
+{
+    if !there {
+        return Err(Rule::NoPaper);
+    }
+    match by.may_handle() {
+        Ok(()) => {}
+        Err(rule) => return Err(rule),
+    }
+    if !by.phase.is_from(Phase::Discussion) {
+        return Err(Rule::WrongPhase);
+    }
+    Ok(())
+}
 
 /// Who is answered.
 impl Live {
@@ -63,18 +81,11 @@ impl Live {
     ) -> Result<Standing, Rule>
         ensures { result ≡ reader_at queries.Comments self.now.tables user.now paper.now }
     {
-        if !self.has_paper(paper) {
-            return Err(Rule::NoPaper);
-        }
         let by = self.standing(user, paper);
-        match by.may_handle() {
-            Ok(()) => {}
-            Err(rule) => return Err(rule),
+        match comments_rule(&by, self.has_paper(paper)) {
+            Ok(()) => Ok(by),
+            Err(rule) => Err(rule),
         }
-        if !by.phase.is_from(Phase::Discussion) {
-            return Err(Rule::WrongPhase);
-        }
-        Ok(by)
     }
 }
 

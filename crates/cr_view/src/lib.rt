@@ -9,6 +9,7 @@ mod commands;
 mod comments;
 mod content;
 mod draw;
+mod fields;
 mod group;
 mod lists;
 mod live;

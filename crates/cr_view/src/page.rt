@@ -170,6 +170,13 @@ pub(crate) fn shared_where(told: bool, text: Option<&Text>) -> Result<Option<Tex
     if !told {
         return Ok(None);
     }
+    shared(text)
+}
+
+/// The text, shared, where there is one; an error only for lack of memory.
+pub(crate) fn shared(text: Option<&Text>) -> Result<Option<Text>, AllocError>
+    ensures { IfOk result (λ copied. copied ≡ option_copied text.entry) }
+{
     match text {
         Some(text) => Ok(Some(text.copy()?)),
         None => Ok(None),

@@ -1,15 +1,13 @@
 //! What queries are answered by the tables.
-ghost use Rattle.std.specs.Prelude.{◌≡◌, ◌≢◌, IfOk, IsSome, IsTrue, OnErr, Some, if◌then◌else◌};
+ghost use Rattle.std.specs.Prelude.{◌≡◌, ◌≢◌, IfOk, IsSome, IsTrue, OnErr, Some};
 ghost use Rattle.cr_base.specs.Accounts.{lines_of};
 ghost use Rattle.cr_base.specs.Answering.{query_checks, answer_by_role};
 ghost use Rattle.cr_base.specs.Checks.{judged};
-ghost use Rattle.cr_base.specs.Decisions.{decision_in};
-ghost use Rattle.cr_base.specs.Page.{gets_decision, gets_tags, gets_versions, where_told};
+ghost use Rattle.cr_base.specs.Page.{gets_tags, gets_versions, where_told};
 ghost use Rattle.cr_base.specs.Sources.{facts_of_tables, shown_in_tables, has_paper};
 ghost use Rattle.cr_base.specs.Tags.{tags_in};
 ghost use Rattle.cr_base.specs.Words.{is_chair, is_member};
 ghost use Rattle.cr_base.specs.declared.command.Query.TheVariants as queries;
-ghost use Rattle.cr_base.specs.declared.words.Decision.TheVariants.{Accept};
 ghost use Rattle.cr_view.specs.Callers.{HasAsker};
 ghost use Rattle.cr_view.specs.Replies.{AnswersAsDue, ShowsAsDue, conference_at, names_of, page_at, page_due, reader_at, versions_at};
 
@@ -17,13 +15,12 @@ use crate::commands::maker;
 use crate::lists::push_some;
 use crate::live::Live;
 use crate::page::{
-    conflict_told, gets_abstract, gets_conflicts, gets_decision, gets_declared, gets_tags,
-    gets_title, gets_versions, last_alone, shared_where, withdrawn_told,
+    conflict_told, gets_conflicts, gets_declared, gets_tags, gets_versions, last_alone, shared,
 };
 use cr_anonymity::shows_author;
 use cr_base::{
-    AccountLines, Conference, Decision, Names, Page, PaperNo, Query, Reply, Rule, Standing,
-    TagList, Tie, UserNo, Versions,
+    AccountLines, Conference, Names, Page, PaperNo, Query, Reply, Rule, Standing, TagList, Tie,
+    UserNo, Versions,
 };
 use std::alloc::{AllocError, Global};
 
@@ -39,6 +36,7 @@ impl Live {
     {
         match query {
             Query::Me | Query::Accounts | Query::Phase | Query::AcceptedPapers => Ok(()),
+            Query::Search { .. } => Ok(()),
             Query::Page { paper } => self.reader(user, paper).and(Ok(())),
             Query::Content { paper } => self.may_read(user, paper, None),
             Query::Version { paper, version } => self.may_read(user, paper, Some(*version)),
@@ -96,7 +94,7 @@ impl From<AllocError> for AnswerError {
 impl Live {
     /// What the caller's query is answered, or the first broken rule of its kind; an error for want of
     /// memory only where no rule is broken, and never where the state of the conference is asked for.
-    /// There is a caller where the query is about herself. All accounts cost a walk over them; a page a few
+    /// There is a caller where the query is about herself. A search isn't answered here, see `cr_search_eval`. All accounts cost a walk over them; a page a few
     /// look-ups and one more for each name that is told, whatever the length of the texts, a step for each
     /// version and each tag that is told, and, where reviewers are told, one for each who was ever assigned, at
     /// most 26, and a walk over the paper's forms; what she is told of herself a walk over her own papers, over
@@ -126,6 +124,7 @@ impl Live {
             Query::Version { paper, version } => self.content_reply(caller, paper, Some(*version)),
             Query::Reviews { paper } => self.reviews_reply(alloc, caller, paper),
             Query::Comments { paper } => self.comments_reply(alloc, caller, paper),
+            Query::Search { .. } => unreachable!(),
         }
     }
 
@@ -181,11 +180,8 @@ impl Live {
         ensures { IfOk result (λ page. page ≡ page_at self.now.tables user.now by.now paper) }
     {
         let accepted = self.is_accepted(paper);
-        let title = shared_where(gets_title(by, accepted), self.papers.last_title(paper))?;
-        let abstract_ = shared_where(
-            gets_abstract(by, accepted),
-            self.papers.last_abstract(paper),
-        )?;
+        let title = shared(self.title_told(by, accepted, paper))?;
+        let abstract_ = shared(self.abstract_told(by, accepted, paper))?;
         let bids = self.bids_told(alloc, by, paper)?;
         let reviewers = self.reviewers_told(alloc, by, paper)?;
         let authors = self.names_where(
@@ -212,7 +208,7 @@ impl Live {
             tags,
             title,
             versions,
-            withdrawn: withdrawn_told(by, self.papers.is_withdrawn(paper)),
+            withdrawn: self.withdrawal_told(by, paper),
         })
     }
 
@@ -233,25 +229,6 @@ impl Live {
             return Ok(Some(self.papers.versions(alloc, paper)?));
         }
         Ok(Some(last_alone(alloc, self.papers.last_version(paper))?))
-    }
-
-    /// What was decided of the paper, which is accepted or isn't, where she is told it.
-    fn decision_told(
-        &self,
-        by: &Standing,
-        accepted: bool,
-        paper: PaperNo,
-    ) -> Option<Option<Decision>>
-        ensures { result ≡ where_told (gets_decision by.now accepted)
-            (Some (if accepted then Some Accept else decision_in self.now.tables.decisions paper)) }
-    {
-        if !gets_decision(by, accepted) {
-            return None;
-        }
-        if accepted {
-            return Some(Some(Decision::Accept));
-        }
-        Some(self.decisions.last(paper))
     }
 
     /// The tags that are on and for her, where she is told them.

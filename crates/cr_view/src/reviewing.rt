@@ -53,8 +53,8 @@ impl Live {
         }
     }
 
-    /// The ordinal of her label, where she is told it.
-    pub(crate) fn label_told(
+    /// The ordinal of her label, where she is told it. One binary search.
+    pub fn label_told(
         &self,
         user: &Option<UserNo>,
         by: &Standing,
@@ -150,9 +150,9 @@ impl Live {
         Ok(Reviewers::from_vec(reviewers))
     }
 
-    /// The name of who has this seat, where it is shown, unless she has left it. One read by number, where
-    /// it is.
-    fn reviewer_name(&self, by: &Standing, seat: &Tie<Seat>) -> Option<Short>
+    /// The name of who has this seat, where it is shown to who stands so to the seat's paper, unless the reviewer has
+    /// left it. One read by number, where it is.
+    pub fn reviewer_name(&self, by: &Standing, seat: &Tie<Seat>) -> Option<Short>
         ensures { result ≡ seat_name self.now.tables by.now seat.now }
     {
         if seat.value.vacated || !shows_reviewer(by) {

@@ -3,6 +3,7 @@ ghost use Rattle.std.specs.Prelude.{◌≡◌, ◌++◌, ◌==◌, IfOk, OnOk, m
 ghost use Rattle.std.specs.Option.{option_map, option_copied};
 ghost use Rattle.cr_base.specs.declared.command.Query.TheVariants as queries;
 ghost use Rattle.cr_base.specs.Answering.{answer_by_role, by_labels, most_labels};
+ghost use Rattle.cr_base.specs.Checks.{judged, of_there, reviews_checks};
 ghost use Rattle.cr_base.specs.Lists.{listed};
 ghost use Rattle.cr_base.specs.Page.{shows_reviewer};
 ghost use Rattle.cr_base.specs.Reviews.{written_told};
@@ -110,6 +111,34 @@ fn user_under(seats: &[Tie<Seat>], label: Ordinal) -> Option<UserNo>
     Some(seat.pair.user)
 }
 
+/// Whether one who stands so to a paper, which is there or isn't, may ask for its reviews, or the first broken rule.
+pub(crate) fn reviews_rule(by: &Standing, there: bool) -> Result<(), Rule>
+    ensures { result ≡ judged (reviews_checks by.now (of_there there)) tt }
+{
+    if !there {
+        return Err(Rule::NoPaper);
+    }
+    if by.author {
+        if !by.phase.is_from(Phase::Notification) {
+            return Err(Rule::WrongPhase);
+        }
+        return Ok(());
+    }
+    if !by.role.is_member() {
+        return Err(Rule::NotMember);
+    }
+    if by.conflicted {
+        return Err(Rule::Conflict);
+    }
+    if by.phase.is_from(Phase::Discussion) {
+        return Ok(());
+    }
+    if !(by.reviewer && by.phase.is(Phase::Reviewing)) {
+        return Err(Rule::WrongPhase);
+    }
+    Ok(())
+}
+
 /// Who is answered.
 impl Live {
     /// The reviews of a paper as a user, or nobody, is told them, or the first broken rule: `NoPaper` where
@@ -159,29 +188,11 @@ impl Live {
     ) -> Result<Standing, Rule>
         ensures { result ≡ reader_at queries.Reviews self.now.tables user.now paper.now }
     {
-        if !self.has_paper(paper) {
-            return Err(Rule::NoPaper);
-        }
         let by = self.standing(user, paper);
-        if by.author {
-            if !by.phase.is_from(Phase::Notification) {
-                return Err(Rule::WrongPhase);
-            }
-            return Ok(by);
+        match reviews_rule(&by, self.has_paper(paper)) {
+            Ok(()) => Ok(by),
+            Err(rule) => Err(rule),
         }
-        if !by.role.is_member() {
-            return Err(Rule::NotMember);
-        }
-        if by.conflicted {
-            return Err(Rule::Conflict);
-        }
-        if by.phase.is_from(Phase::Discussion) {
-            return Ok(by);
-        }
-        if !(by.reviewer && by.phase.is(Phase::Reviewing)) {
-            return Err(Rule::WrongPhase);
-        }
-        Ok(by)
     }
 }
 

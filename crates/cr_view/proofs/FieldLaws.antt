@@ -1,0 +1,183 @@
+-- What single fields tell of a paper, by reads of the tables.
+use Rattle.std.proofs.Common.{ℕ, Bool, true, false, cond, ◌≡◌, ◌<◌, ◌+◌, ◌-◌, ◌||◌, List, [], ◌∷◌, ◌++◌, refl, sym, ap, subst, ◌∙◌, arith, Option, Some, None, Result, Ok, Err, zero, suc}
+use Rattle.std.specs.Prelude.{map, filter, not, is_some, unwrap_or}
+use Rattle.std.specs.List.{flat_map}
+use Rattle.std.specs.Option.{option_map}
+use Rattle.std.proofs.lemmas.Bool.{true≢false}
+use Rattle.cr_base.specs.declared.reply.Reply.{Reply}
+use Rattle.cr_base.specs.declared.reply.Reply.TheVariants as replies
+use Rattle.cr_base.specs.declared.reply.Rule.{Rule}
+use Rattle.cr_base.specs.declared.review.ReviewLine.{ReviewLine}
+use Rattle.cr_base.specs.declared.review.WrittenForm.{WrittenForm}
+use Rattle.cr_base.specs.declared.standing.Standing.{Standing}
+use Rattle.cr_base.specs.declared.words.Phase.TheVariants.{Discussion}
+use Rattle.cr_base.specs.Accounts.{lines_of}
+use Rattle.cr_base.specs.Answering.{by_labels, most_labels, reply_or_rule, review_told, reviews_answered, uploads_told}
+use Rattle.cr_base.specs.Checks.{Check, judged}
+use Rattle.cr_base.specs.History.{FormTold, Upload}
+use Rattle.cr_base.specs.HistoryFacts.{assigned_under}
+use Rattle.cr_base.specs.Lists.{is_nothing, last, last_from, listed}
+use Rattle.cr_base.specs.Page.{shows_reviewer}
+use Rattle.cr_base.specs.Phases.{is_from}
+use Rattle.cr_base.specs.Reviews.{forms_discussed_in, forms_in, is_written_in, last_form_in, written_told}
+use Rattle.cr_base.specs.Seats.{seat_in, seats_in}
+use Rattle.cr_base.specs.Tables.{Tables}
+use Rattle.cr_view.specs.Fields.{some_label}
+use Rattle.cr_view.specs.Reviews.{reviews_at}
+use Rattle.cr_view.proofs.JudgeLaws.{made_of, judged-made, passed, refused}
+
+-- ---- rules
+
+-- how she stands, where the rules that are asked of that and of whether the paper is there aren't broken
+pub ruled : (checks : Standing → Bool → List Check) (by stands : Standing) (there here : Bool) (r : Result (Unit {0}) Rule)
+    → by ≡ stands → there ≡ here → r ≡ judged (checks by there) tt → made_of (λ (u : Unit {0}). by) r ≡ judged (checks stands here) stands
+ruled checks by stands there here r is same h =
+    judged-made (checks by there) (λ (u : Unit {0}). by) tt r h
+    ∙ ap (λ (s : Standing). judged (checks s there) s) is
+    ∙ ap (λ (b : Bool). judged (checks stands b) stands) same
+
+-- the lines where no rule is broken, and none where one is
+pub reviews-answered-all : (checks : List Check) (lines : List ReviewLine) → ◌≡◌ {A = Result (Unit {0}) Rule} (Ok tt) (judged checks tt)
+    → reviews_answered (reply_or_rule (judged checks (replies.Reviews lines))) ≡ lines
+reviews-answered-all checks lines h =
+    sym (ap (λ (r : Result Reply Rule). reviews_answered (reply_or_rule r)) (passed checks (λ (u : Unit {0}). replies.Reviews lines) tt tt h))
+
+pub reviews-answered-none : (checks : List Check) (lines : List ReviewLine) (rule : Rule) → ◌≡◌ {A = Result (Unit {0}) Rule} (Err rule) (judged checks tt)
+    → reviews_answered (reply_or_rule (judged checks (replies.Reviews lines))) ≡ []
+reviews-answered-none checks lines rule h =
+    sym (ap (λ (r : Result Reply Rule). reviews_answered (reply_or_rule r)) (refused checks tt (replies.Reviews lines) rule h))
+
+-- ---- lists with something in them
+
+pub some-map : {A B : Type 0} (f : A → B) (xs : List A) → not (is_nothing (map f xs)) ≡ not (is_nothing xs)
+some-map f [] = refl
+some-map f (x ∷ xs) = refl
+
+some-append : {A : Type 0} (xs ys : List A) → not (is_nothing (xs ++ ys)) ≡ (not (is_nothing xs) || not (is_nothing ys))
+some-append [] ys = refl
+some-append (x ∷ xs) ys = refl
+
+last-from : {A : Type 0} (x : A) (xs : List A) → is_some (last_from (Some x) xs) ≡ true
+last-from x [] = refl
+last-from x (y ∷ xs) = last-from y xs
+
+-- a list has a last value where it has one
+some-last : {A : Type 0} (xs : List A) → is_some (last xs) ≡ not (is_nothing xs)
+some-last [] = refl
+some-last (x ∷ xs) = last-from x xs
+
+some-listed : {A : Type 0} (o : Option A) → not (is_nothing (listed o)) ≡ is_some o
+some-listed None = refl
+some-listed (Some x) = refl
+
+some-option_map : {A B : Type 0} (f : A → B) (o : Option A) → is_some (option_map f o) ≡ is_some o
+some-option_map f None = refl
+some-option_map f (Some x) = refl
+
+or-true : (b : Bool) → (b || true) ≡ true
+or-true true = refl
+or-true false = refl
+
+-- ---- versions
+
+-- a version is told where there is one
+pub some-version : (author : Bool) (uploads : List Upload)
+    → is_some (option_map (λ (u : Upload). u.version) (last uploads)) ≡ not (is_nothing (map (λ (u : Upload). u.version) (uploads_told author uploads)))
+some-version author uploads =
+    some-option_map (λ (u : Upload). u.version) (last uploads)
+    ∙ told author
+    ∙ sym (some-map (λ (u : Upload). u.version) (uploads_told author uploads))
+  where
+    told : (b : Bool) → is_some (last uploads) ≡ not (is_nothing (uploads_told b uploads))
+    told true = some-last uploads
+    told false = sym (some-listed (last uploads))
+
+-- ---- labels
+
+-- one of them
+some-far : (written : ℕ → Bool) (n k m : ℕ) → m ≡ n + 1 + k → written (n + 1) ≡ true → some_label written m ≡ true
+some-far written n k zero is h = absurd (omega (arith, is))
+some-far written n zero (suc m) is h =
+    let same : n + 1 ≡ suc m = omega (arith, is) in
+    ap (λ (b : Bool). some_label written m || b) (subst (λ (o : ℕ). written o ≡ true) same h) ∙ or-true (some_label written m)
+some-far written n (suc k) (suc m) is h = ap (λ (b : Bool). b || written (suc m)) (some-far written n k m (omega (arith, is)) h)
+
+pub some-within : (written : ℕ → Bool) (n m : ℕ) → n < m → written (n + 1) ≡ true → some_label written m ≡ true
+some-within written n m within h = some-far written n (m - (n + 1)) m (omega (arith, within)) h
+
+-- none of those up to the next
+pub none-more : (written : ℕ → Bool) (n : ℕ) → some_label written n ≡ false → written (n + 1) ≡ false → some_label written (n + 1) ≡ false
+none-more written n before here =
+    let next : n + 1 ≡ suc n = omega arith in
+    subst (λ (k : ℕ). some_label written k ≡ false) (sym next)
+    (ap (λ (b : Bool). b || written (suc n)) before ∙ subst (λ (k : ℕ). written k ≡ false) next here)
+
+some-labels : {A : Type 0} (told : ℕ → List A) (written : ℕ → Bool) → ((o : ℕ) → not (is_nothing (told o)) ≡ written o) → (n : ℕ)
+    → not (is_nothing (by_labels told n)) ≡ some_label written n
+some-labels told written same zero = refl
+some-labels told written same (suc n) =
+    some-append (by_labels told n) (told (suc n))
+    ∙ ap (λ (b : Bool). b || not (is_nothing (told (suc n)))) (some-labels told written same n)
+    ∙ ap (λ (b : Bool). some_label written n || b) (same (suc n))
+
+-- ---- forms
+
+-- the last of the forms under a label, and those that are discussed, are there where there is one
+some-last-form : (forms : List WrittenForm) → not (is_nothing (listed (option_map written_told (last forms)))) ≡ not (is_nothing forms)
+some-last-form forms =
+    some-listed (option_map written_told (last forms)) ∙ some-option_map written_told (last forms) ∙ some-last forms
+
+abbrev discussed : List WrittenForm → List WrittenForm
+discussed forms =
+    listed (last (filter (λ (w : WrittenForm). not (is_from Discussion w.phase)) forms)) ++ filter (λ (w : WrittenForm). is_from Discussion w.phase) forms
+
+some-discussed : (forms : List WrittenForm) → not (is_nothing (discussed forms)) ≡ not (is_nothing forms)
+some-discussed [] = refl
+some-discussed (w ∷ forms) = by (is_from Discussion w.phase)
+  where
+    early : List WrittenForm
+    early = filter (λ (v : WrittenForm). not (is_from Discussion v.phase)) forms
+
+    late : List WrittenForm
+    late = filter (λ (v : WrittenForm). is_from Discussion v.phase) forms
+
+    by : (b : Bool) → not (is_nothing (listed (last (cond (not b) (w ∷ early) early)) ++ cond b (w ∷ late) late)) ≡ true
+    by true = some-append (listed (last early)) (w ∷ late) ∙ or-true (not (is_nothing (listed (last early))))
+    by false =
+        some-append (listed (last (w ∷ early))) late
+        ∙ ap (λ (b : Bool). b || not (is_nothing late)) (some-listed (last (w ∷ early)) ∙ some-last (w ∷ early))
+
+module _ (t : Tables) (user : Option ℕ) (by : Standing) (p : ℕ) where
+  abbrev written : ℕ → Bool
+  written o = is_written_in t.reviews p o
+
+  -- a form under a label as it is told
+  abbrev line : Bool → ℕ → FormTold → ReviewLine
+  line named o form = review_told by (lines_of t.accounts) named (assigned_under o (seats_in t.seats p)) o form
+
+  abbrev under : (ℕ → List FormTold) → ℕ → List ReviewLine
+  under forms o = map (line (shows_reviewer by) o) (forms o)
+
+  abbrev own : Option ℕ → List ReviewLine
+  own seat = map (line false (unwrap_or seat 0)) (flat_map (λ (o : ℕ). map written_told (forms_in t.reviews p o)) (listed seat))
+
+  -- what is told to authors, from the discussion on, and before it
+  abbrev told : Bool → Bool → List ReviewLine
+  told author late =
+      cond author (by_labels (under (λ (o : ℕ). listed (option_map written_told (last_form_in t.reviews p o)))) most_labels)
+      (cond late (by_labels (under (forms_discussed_in t.reviews p)) most_labels) (own (seat_in t.seats user p)))
+
+  some-under : (forms : ℕ → List FormTold) → ((o : ℕ) → not (is_nothing (forms o)) ≡ written o) → some_label written 26 ≡ not (is_nothing (by_labels (under forms) most_labels))
+  unfolding most_labels
+  some-under forms same = sym (some-labels (under forms) written (λ o. some-map (line (shows_reviewer by) o) (forms o) ∙ same o) 26)
+
+  some-all : (author late : Bool) → (author || late) ≡ true → some_label written 26 ≡ not (is_nothing (told author late))
+  some-all true late h = some-under (λ (o : ℕ). listed (option_map written_told (last_form_in t.reviews p o))) (λ o. some-last-form (forms_in t.reviews p o))
+  some-all false true h =
+      some-under (forms_discussed_in t.reviews p)
+      (λ o. some-map written_told (discussed (forms_in t.reviews p o)) ∙ some-discussed (forms_in t.reviews p o))
+  some-all false false h = absurd (true≢false (sym h))
+
+  -- to authors, and from the discussion on, something is told where there is a form
+  pub some-reviews : (by.author || is_from Discussion by.phase) ≡ true → some_label written 26 ≡ not (is_nothing (reviews_at t user by p))
+  some-reviews h = some-all by.author (is_from Discussion by.phase) h

@@ -1,0 +1,42 @@
+-- What single fields tell of a paper, by the tables.
+use Rattle.std.specs.Prelude.{ℕ, Bool, false, not, ◌||◌, zero, suc, List, [], Option, Some, None, unwrap_or}
+use Rattle.std.specs.Option.{option_map_or}
+use Rattle.cr_base.specs.declared.comment.CommentLine.{CommentLine}
+use Rattle.cr_base.specs.declared.reply.Reply.TheVariants as replies
+use Rattle.cr_base.specs.declared.review.ReviewLine.{ReviewLine}
+use Rattle.cr_base.specs.declared.standing.Standing.{Standing}
+use Rattle.cr_base.specs.Accounts.{lines_of}
+use Rattle.cr_base.specs.Answering.{comments_answered, reply_or_rule, reviews_answered}
+use Rattle.cr_base.specs.Checks.{comments_checks, judged, of_there, reviews_checks}
+use Rattle.cr_base.specs.Lists.{is_nothing}
+use Rattle.cr_base.specs.Page.{shows_author, where_told}
+use Rattle.cr_base.specs.Sources.{facts_of_tables, has_paper, names_in}
+use Rattle.cr_base.specs.Tables.{Tables}
+use Rattle.cr_base.specs.Ties.{authors_in}
+use Rattle.cr_view.specs.Comments.{comments_at}
+use Rattle.cr_view.specs.Reviews.{reviews_at}
+
+-- there is a list, and something in it
+abbrev pub tells_some : {A : Type 0} → Option (List A) → Bool
+tells_some told = option_map_or (λ xs. not (is_nothing xs)) told false
+
+-- the names of a paper's authors, where they are told, to one who stands so to it; it is accepted or isn't
+abbrev pub authors_named : Tables → Standing → Bool → ℕ → List (List ℕ)
+authors_named t by accepted p =
+    unwrap_or (where_told (shows_author by accepted) (Some (names_in (lines_of t.accounts) (authors_in t.ties p)))) []
+
+-- something is written under one of the first labels
+abbrev pub some_label : (ℕ → Bool) → ℕ → Bool
+some_label written zero = false
+some_label written (suc n) = some_label written n || written (suc n)
+
+-- the reviews, and the comments, that a user is answered who stands so to a paper: none where a rule is broken
+abbrev pub reviews_told : Tables → Option ℕ → Standing → ℕ → List ReviewLine
+reviews_told t user by p =
+    let there = has_paper (facts_of_tables t None) (Some p) in
+    reviews_answered (reply_or_rule (judged (reviews_checks by (of_there there)) (replies.Reviews (reviews_at t user by p))))
+
+abbrev pub comments_told : Tables → Standing → ℕ → List CommentLine
+comments_told t by p =
+    let there = has_paper (facts_of_tables t None) (Some p) in
+    comments_answered (reply_or_rule (judged (comments_checks by (of_there there)) (replies.Comments (comments_at t None by p))))
