@@ -1,0 +1,4 @@
+pub mod EvaluateLaws
+pub mod FoundLaws
+pub mod TermLaws
+pub mod TextLaws

@@ -1,0 +1,19 @@
+use Rattle.std.proofs.Common.{ℕ, List, ◌∙◌, ap}
+use Rattle.std.specs.List.{list_any}
+use Rattle.cr_base.specs.Accounts.{lines_of}
+use Rattle.cr_base.specs.Page.{shows_author}
+use Rattle.cr_base.specs.Searching.{contains}
+use Rattle.cr_base.specs.Sources.{names_in}
+use Rattle.cr_base.specs.Ties.{authors_in}
+use Rattle.cr_search_eval.proofs.TermLaws.{tied-has, told-has}
+use Rattle.cr_search_eval.proofs.terms.in_author.Goals as goal
+
+pub returns : goal.returns
+returns c =
+    let t = c.args.live.now.tables in
+    let asked = c.args.asked.now in
+    let value : List ℕ = c.args.value.now in
+    c.some_tied_has.ensures
+    ∙ tied-has t value c.authors_told-ties.result.now
+    ∙ ap (list_any (contains value)) c.authors_told-ties.ensures
+    ∙ told-has value (shows_author asked.by asked.accepted) (names_in (lines_of t.accounts) (authors_in t.ties asked.paper))

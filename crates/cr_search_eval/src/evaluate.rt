@@ -1,0 +1,51 @@
+//! A search at one paper, by its steps.
+ghost use Rattle.std.specs.Prelude.{◌≡◌, ◌≤◌, ◌<◌, ◌+◌, ◌-◌, drop, length, take};
+ghost use Rattle.cr_base.specs.Search.{Tree, steps_of};
+ghost use Rattle.cr_base.specs.Searching.{search_holds, term_holds, tree_holds};
+ghost use Rattle.cr_search_eval.specs.Asked.{told_at};
+ghost use Rattle.cr_search_eval.specs.Spelled.{Spelled};
+
+use crate::asked::Asked;
+use crate::terms::term_holds;
+use cr_base::{Search, Step};
+use cr_view::Live;
+
+/// Whether the search holds of the paper; the empty one does. A term is tried where the truth isn't known by those before it;
+/// takes no memory.
+pub(crate) fn search_holds(live: &Live, asked: &Asked, search: &Search) -> bool
+    ensures { result ≡ search_holds (term_holds (told_at live.now.tables asked.now)) search.now }
+{
+    let steps = search.steps();
+    steps.is_empty() || steps_hold(live, asked, steps)
+}
+
+/// The steps of the two operands of the last step: those of the second one, so many, stand right before it.
+fn operands(steps: &[Step], second: u16) -> (&[Step], &[Step])
+    requires { second + 1 ≤ length steps.now }
+    ensures first { result.0.now ≡ take (length steps.now - 1 - second) (take (length steps.now - 1) steps.now) }
+    ensures second { result.1.now ≡ drop (length steps.now - 1 - second) (take (length steps.now - 1) steps.now) }
+    ensures first_shorter { length result.0.now < length steps.now }
+    ensures second_shorter { length result.1.now < length steps.now }
+{
+    let before = steps.len() - 1;
+    steps[..before].split_at(before - usize::from(second))
+}
+
+/// Whether the search that these steps spell holds: the last one is its operation, behind its operands.
+fn steps_hold(live: &Live, asked: &Asked, steps: &[Step]) -> bool
+    requires { Spelled steps.now }
+    ensures { (t : Tree) → steps.now ≡ steps_of t → result ≡ tree_holds (term_holds (told_at live.now.tables asked.now)) t }
+{
+    match &steps[steps.len() - 1] {
+        Step::Term(term) => term_holds(live, asked, term),
+        Step::Not => !steps_hold(live, asked, &steps[..steps.len() - 1]),
+        Step::And { second } => {
+            let (first, second) = operands(steps, *second);
+            steps_hold(live, asked, first) && steps_hold(live, asked, second)
+        }
+        Step::Or { second } => {
+            let (first, second) = operands(steps, *second);
+            steps_hold(live, asked, first) || steps_hold(live, asked, second)
+        }
+    }
+}

@@ -1,0 +1,184 @@
+//! One term of a search at one paper.
+ghost use Rattle.std.specs.Prelude.{◌≡◌, false, if◌then◌else◌, not};
+ghost use Rattle.std.specs.List.{list_any};
+ghost use Rattle.std.specs.Option.{option_copied, option_map, option_map_or};
+ghost use Rattle.cr_base.specs.Accounts.{account_at};
+ghost use Rattle.cr_base.specs.Searching.{has_decision, has_feature, name_has, number_decided, reviewer_has, stands_so, term_holds, text_has};
+ghost use Rattle.cr_base.specs.declared.search.Feature.TheVariants as features;
+ghost use Rattle.cr_search_eval.specs.Asked.{told_at};
+ghost use Rattle.cr_view.specs.Replies.{seat_name};
+
+use crate::asked::Asked;
+use crate::text::contains;
+use cr_base::{Blob, Decision, Feature, Seat, Short, Standing, Status, Term, Text, Tie};
+use cr_view::Live;
+
+/// Whether the term holds of the paper. It costs the one read that the field which it names does (see `Live`), and a look at
+/// each byte of the texts that it looks into; takes no memory.
+pub(crate) fn term_holds(live: &Live, asked: &Asked, term: &Term) -> bool
+    ensures { result ≡ term_holds (told_at live.now.tables asked.now) term.now }
+{
+    match term {
+        Term::Plain(value) => in_title(live, asked, value) || in_abstract(live, asked, value),
+        Term::Title(value) => in_title(live, asked, value),
+        Term::Abstract(value) => in_abstract(live, asked, value),
+        Term::Author(value) => in_author(live, asked, value),
+        Term::Reviewer(value) => in_reviewer(live, asked, value),
+        Term::Tag(tag) => live.tells_tag(asked.user, &asked.by, asked.paper, tag),
+        Term::Decision(decision) => is_decided(live, asked, decision),
+        Term::Status(status) => stands_so(live, asked, *status),
+        Term::Has(feature) => has_feature(live, asked, *feature),
+    }
+}
+
+/// Whether the title has the value.
+fn in_title(live: &Live, asked: &Asked, value: &Blob) -> bool
+    ensures { result ≡ text_has value.now (told_at live.now.tables asked.now).page.title }
+{
+    text_has(
+        value,
+        live.title_told(&asked.by, asked.accepted, asked.paper),
+    )
+}
+
+/// Whether the abstract has it.
+fn in_abstract(live: &Live, asked: &Asked, value: &Blob) -> bool
+    ensures { result ≡ text_has value.now (told_at live.now.tables asked.now).page.abstract_ }
+{
+    text_has(
+        value,
+        live.abstract_told(&asked.by, asked.accepted, asked.paper),
+    )
+}
+
+/// Whether the name of an author has it.
+fn in_author(live: &Live, asked: &Asked, value: &Blob) -> bool
+    ensures { result ≡ name_has value.now (told_at live.now.tables asked.now).page.authors }
+{
+    let ties = live.authors_told(&asked.by, asked.accepted, asked.paper);
+    some_tied_has(live, value, ties)
+}
+
+/// Whether the name of a reviewer has it.
+fn in_reviewer(live: &Live, asked: &Asked, value: &Blob) -> bool
+    ensures { result ≡ reviewer_has value.now (told_at live.now.tables asked.now).page.reviewers }
+{
+    let seats = live.seats_told(&asked.by, asked.paper);
+    some_seated_has(live, &asked.by, value, seats)
+}
+
+/// Whether a text that is there has the value.
+fn text_has(value: &Blob, text: Option<&Text>) -> bool
+    ensures { result ≡ text_has value.now (option_copied text.entry) }
+{
+    match text {
+        Some(text) => contains(value.as_slice(), text.as_str().as_bytes()),
+        None => false,
+    }
+}
+
+/// Whether a name that is there has it.
+fn name_has(value: &Blob, name: &Option<Short>) -> bool
+    ensures { result ≡ text_has value.now name.now }
+{
+    match name {
+        Some(name) => contains(value.as_slice(), name.as_slice()),
+        None => false,
+    }
+}
+
+/// Whether the name of who is tied so has it. A read by number.
+fn tied_has(live: &Live, value: &Blob, tie: &Tie<()>) -> bool
+    ensures { result ≡ text_has value.now (option_map (λ a. a.name) (account_at live.now.tables.accounts tie.now.pair.user)) }
+{
+    name_has(value, &live.name_of(tie.pair.user))
+}
+
+/// Whether one of the names of those who are tied so has it. A read by number for each.
+fn some_tied_has(live: &Live, value: &Blob, ties: &[Tie<()>]) -> bool
+    ensures { result
+        ≡ list_any (λ tie. text_has value.now (option_map (λ a. a.name) (account_at live.now.tables.accounts tie.pair.user))) ties.now }
+{
+    ties.iter().any(|tie| tied_has(live, value, tie))
+}
+
+/// Whether the name of who has the seat has it, where it is told. A read by number.
+fn seated_has(live: &Live, by: &Standing, value: &Blob, seat: &Tie<Seat>) -> bool
+    ensures { result ≡ text_has value.now (seat_name live.now.tables by.now seat.now) }
+{
+    name_has(value, &live.reviewer_name(by, seat))
+}
+
+/// Whether one of the names of those who have these seats has it, where it is told. A read by number for each.
+fn some_seated_has(live: &Live, by: &Standing, value: &Blob, seats: &[Tie<Seat>]) -> bool
+    ensures { result ≡ list_any (λ seat. text_has value.now (seat_name live.now.tables by.now seat)) seats.now }
+{
+    seats.iter().any(|seat| seated_has(live, by, value, seat))
+}
+
+/// Whether the decision is this one, or none was made, as is told.
+fn is_decided(live: &Live, asked: &Asked, decision: &Option<Decision>) -> bool
+    ensures { result ≡ has_decision decision.now (told_at live.now.tables asked.now).page.decision }
+{
+    match live.decision_told(&asked.by, asked.accepted, asked.paper) {
+        Some(told) => number_decided(&told) == number_decided(decision),
+        None => false,
+    }
+}
+
+/// Its number in rows, and 0 where none was made.
+fn number_decided(decision: &Option<Decision>) -> u64
+    ensures { result ≡ number_decided decision.now }
+{
+    match decision {
+        Some(decision) => decision.number(),
+        None => 0,
+    }
+}
+
+/// Whether the paper stands so.
+fn stands_so(live: &Live, asked: &Asked, status: Status) -> bool
+    ensures { result ≡ stands_so status (told_at live.now.tables asked.now) }
+{
+    match status {
+        Status::Active => is_told(live.withdrawal_told(&asked.by, asked.paper), false),
+        Status::Withdrawn => is_told(live.withdrawal_told(&asked.by, asked.paper), true),
+        Status::Accepted => asked.accepted,
+    }
+}
+
+/// Whether it is told, and is so.
+fn is_told(told: Option<bool>, so: bool) -> bool
+    ensures { result ≡ option_map_or (λ b. if so then b else not b) told false }
+{
+    match told {
+        Some(told) => told == so,
+        None => false,
+    }
+}
+
+/// Whether the paper has that.
+fn has_feature(live: &Live, asked: &Asked, feature: Feature) -> bool
+    ensures { result ≡ has_feature feature (told_at live.now.tables asked.now) }
+{
+    match feature {
+        Feature::Content => live.tells_version(&asked.by, asked.accepted, asked.paper),
+        Feature::Review => live.tells_review(&Some(asked.user), &asked.by, asked.paper),
+        Feature::Comment => live.tells_comment(&asked.by, asked.paper),
+        Feature::Decision => tells_decision(live, asked),
+        Feature::Conflict => asked.by.conflicted,
+        Feature::Mine => live
+            .label_told(&Some(asked.user), &asked.by, asked.paper)
+            .is_some(),
+    }
+}
+
+/// Whether a decision is told.
+fn tells_decision(live: &Live, asked: &Asked) -> bool
+    ensures { result ≡ has_feature features.Decision (told_at live.now.tables asked.now) }
+{
+    match live.decision_told(&asked.by, asked.accepted, asked.paper) {
+        Some(told) => told.is_some(),
+        None => false,
+    }
+}
