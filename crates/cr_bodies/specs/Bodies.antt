@@ -72,6 +72,7 @@ command_in asks.Comments paper d = None
 command_in asks.Tag paper d = None
 command_in asks.Untag paper d = None
 command_in asks.Me paper d = None
+command_in asks.Search paper d = None
 
 -- the same of a body's bytes
 abbrev pub command_read : Ask → Option ℕ → List ℕ → Option Command

@@ -195,7 +195,7 @@ fn command_in(
             Ok(Command::Decide { paper, decision })
         }
         Ask::Accounts | Ask::Phase | Ask::AcceptedPapers => Err(BodyError::Bad),
-        Ask::Page | Ask::Me => Err(BodyError::Bad),
+        Ask::Page | Ask::Me | Ask::Search => Err(BodyError::Bad),
         Ask::Withdraw | Ask::Content | Ask::Upload | Ask::Version => Err(BodyError::Bad),
         Ask::Unassign | Ask::Reviews | Ask::Comments => Err(BodyError::Bad),
         Ask::Tag | Ask::Untag => Err(BodyError::Bad),

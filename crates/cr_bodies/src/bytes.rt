@@ -28,7 +28,7 @@ pub fn before_first(byte: u8, text: &[u8]) -> &[u8]
 }
 
 /// The bytes behind the first such byte, none where there is none. One walk up to the byte; takes no memory.
-pub(crate) fn after_first(byte: u8, text: &[u8]) -> &[u8]
+pub fn after_first(byte: u8, text: &[u8]) -> &[u8]
     ensures { result.now ≡ back (λ b. b == byte) text.now }
 {
     let index = index_of(byte, text);

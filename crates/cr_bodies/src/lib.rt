@@ -8,6 +8,6 @@ mod field;
 mod secret;
 
 pub use body::{BodyError, read_command};
-pub use bytes::before_first;
+pub use bytes::{after_first, before_first};
 pub use credentials::{Credentials, read_credentials};
 pub use field::name_in;

@@ -36,6 +36,7 @@ route_at at.Tag Put = Some asks.Tag
 route_at at.Tag Delete = Some asks.Untag
 route_at at.Decision Put = Some asks.Decide
 route_at at.Me Get = Some asks.Me
+route_at at.Search Get = Some asks.Search
 route_at _ _ = None
 
 -- HEAD asks for what GET does

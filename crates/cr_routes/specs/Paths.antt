@@ -1,7 +1,7 @@
 -- The paths of the server.
 use Rattle.std.specs.Prelude.{ℕ, List, [], ◌∷◌, codes}
 use Rattle.cr_routes.specs.declared.place.Place.{Place}
-use Rattle.cr_routes.specs.declared.place.Place.TheVariants.{Register, Accepted, Accounts, Members, Mode, Phase, Me}
+use Rattle.cr_routes.specs.declared.place.Place.TheVariants.{Register, Accepted, Accounts, Members, Mode, Phase, Me, Search}
 use Rattle.cr_routes.specs.declared.place.Place.TheVariants.{Papers, Paper, Content, Version, Conflicts, Bid, Reviewers, Reviewer}
 use Rattle.cr_routes.specs.declared.place.Place.TheVariants.{Review, Reviews, Comments, Tag, Decision}
 
@@ -28,4 +28,5 @@ paths =
     (codes "/papers/{p}", Paper) ∷
     (codes "/papers", Papers) ∷
     (codes "/phase", Phase) ∷
-    (codes "/register", Register) ∷ []
+    (codes "/register", Register) ∷
+    (codes "/search", Search) ∷ []

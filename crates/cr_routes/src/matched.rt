@@ -20,8 +20,10 @@ pub struct Matched<'p> {
 /// What the first two parameters of a match took.
 pub(crate) fn taken<'p>(params: &Params<'_, 'p>) -> (Option<&'p str>, Option<&'p str>)
     requires { AreTexts (walked params.now.pattern.now params.now.text.now params.now.path.now params.now.names.now) }
-    ensures first { option_map (λ t. t.now) result.0 ≡ first_of (walked params.now.pattern.now params.now.text.now params.now.path.now params.now.names.now) }
-    ensures second { option_map (λ t. t.now) result.1 ≡ second_of (walked params.now.pattern.now params.now.text.now params.now.path.now params.now.names.now) }
+    ensures first { option_map (λ t. t.now) result.0
+        ≡ first_of (walked params.now.pattern.now params.now.text.now params.now.path.now params.now.names.now) }
+    ensures second { option_map (λ t. t.now) result.1
+        ≡ second_of (walked params.now.pattern.now params.now.text.now params.now.path.now params.now.names.now) }
 {
     let mut parts = params.iter();
     let Some((_, first)) = parts.next() else {

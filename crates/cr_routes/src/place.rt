@@ -47,6 +47,8 @@ pub enum Place {
     Decision,
     /// `/me`
     Me,
+    /// `/search`
+    Search,
 }
 
 impl Place {
@@ -83,6 +85,7 @@ impl Place {
             (Place::Tag, Method::Delete) => Some(Ask::Untag),
             (Place::Decision, Method::Put) => Some(Ask::Decide),
             (Place::Me, Method::Get | Method::Head) => Some(Ask::Me),
+            (Place::Search, Method::Get | Method::Head) => Some(Ask::Search),
             _ => None,
         }
     }
@@ -100,7 +103,7 @@ impl Place {
             Place::Reviewer => "DELETE",
             Place::Tag => "DELETE, PUT",
             Place::Accepted | Place::Accounts | Place::Me => "GET, HEAD",
-            Place::Version | Place::Reviews => "GET, HEAD",
+            Place::Version | Place::Reviews | Place::Search => "GET, HEAD",
             Place::Paper => "DELETE, GET, HEAD, PUT",
             Place::Content => "GET, HEAD, PUT",
             Place::Phase | Place::Comments => "GET, HEAD, POST",

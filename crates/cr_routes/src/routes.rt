@@ -9,7 +9,7 @@ use matchit::{InsertError, Router};
 use std::alloc::{AllocError, Global};
 
 /// As `paths` lists them.
-static PATHS: [(&str, Place); 20] = [
+static PATHS: [(&str, Place); 21] = [
     ("/accepted", Place::Accepted),
     ("/accounts", Place::Accounts),
     ("/members", Place::Members),
@@ -30,6 +30,7 @@ static PATHS: [(&str, Place); 20] = [
     ("/papers", Place::Papers),
     ("/phase", Place::Phase),
     ("/register", Place::Register),
+    ("/search", Place::Search),
 ];
 
 /// Adds a path that conflicts with none of the router's.

@@ -1,19 +1,21 @@
 -- What a wish asks for is what its request does, whatever the body tells.
-use Rattle.std.proofs.Common.{◌≡◌, ℕ, List, Bool, true, false, Option, Some, None, option_map, IsTrue, refl, ap}
+use Rattle.std.proofs.Common.{◌≡◌, ℕ, List, Bool, true, false, Option, Some, None, option_map, Result, Ok, Err, IsTrue, refl, ap}
 use Rattle.std.specs.Prelude.{codes}
 use Rattle.cr_base.specs.Logins.{command_ask}
 use Rattle.cr_base.specs.declared.ask.Ask.{Ask}
 use Rattle.cr_base.specs.declared.ask.Ask.TheVariants as asks
 use Rattle.cr_base.specs.declared.command.Command.{Command}
 use Rattle.cr_base.specs.declared.command.Command.TheVariants as commands
+use Rattle.cr_base.specs.declared.search.Step.{Step}
 use Rattle.cr_bodies.specs.Bodies.{command_in, command_read}
 use Rattle.cr_bodies.specs.Field.{◌>>=◌, abstract_under, bid_under, comment_under, decision_under, digest_under, flag_under, grade_under, kind_under}
 use Rattle.cr_bodies.specs.Field.{mode_under, name_under, names_under, phase_under, review_text_under, role_under, title_under, user_under}
 use Rattle.cr_bodies.specs.Json.{json_of}
 use Rattle.cr_routes.specs.Parts.{FoundPath}
-use Rattle.cr_wire.specs.Asked.{LooksAtBody, ask_has_body, asked, command_of, commanded, tagged}
+use Rattle.cr_wire.specs.Asked.{LooksBehindPath, ask_has_body, asked, command_of, commanded, tagged}
 use Rattle.cr_wire.specs.Caller.{ask_of}
 use Rattle.cr_wire.specs.Paper.{paper_of, tag_of}
+use Rattle.cr_wire.specs.Query.{asks_count, search_read, search_text, searched}
 
 -- what a body tells, if it tells anything, is given by this request
 abbrev GivenBy : Ask → Option Command → Type 0
@@ -90,23 +92,29 @@ by_tag ask found on each = by (tag_of found)
     by None = refl
     by (Some tag) = ap (λ (a : Ask). Some a) (each tag)
 
-pub ask_by_ask : (ask : Ask) (found : FoundPath) (body : List ℕ) → ask_of (asked ask found body) ≡ Some ask
-ask_by_ask asks.Register found body = by_body asks.Register found body
-ask_by_ask asks.Name found body = by_body asks.Name found body
-ask_by_ask asks.SetMode found body = by_body asks.SetMode found body
-ask_by_ask asks.SetPhase found body = by_body asks.SetPhase found body
-ask_by_ask asks.Submit found body = by_body asks.Submit found body
-ask_by_ask asks.Revise found body = by_body asks.Revise found body
-ask_by_ask asks.SetConflict found body = by_body asks.SetConflict found body
-ask_by_ask asks.Bid found body = by_body asks.Bid found body
-ask_by_ask asks.Assign found body = by_body asks.Assign found body
-ask_by_ask asks.Review found body = by_body asks.Review found body
-ask_by_ask asks.Comment found body = by_body asks.Comment found body
-ask_by_ask asks.Decide found body = by_body asks.Decide found body
-ask_by_ask asks.Tag found body = by_tag asks.Tag found true (λ tag. refl)
-ask_by_ask asks.Untag found body = by_tag asks.Untag found false (λ tag. refl)
-ask_by_ask ask found body = refl
+-- so is what a query string tells
+by_query : (only_count : Bool) (read : Result (List Step) ℕ) → ask_of (searched only_count read) ≡ Some asks.Search
+by_query only_count (Err place) = refl
+by_query only_count (Ok steps) = refl
+
+pub ask_by_ask : (ask : Ask) (found : FoundPath) (query body : List ℕ) → ask_of (asked ask found query body) ≡ Some ask
+ask_by_ask asks.Register found query body = by_body asks.Register found body
+ask_by_ask asks.Name found query body = by_body asks.Name found body
+ask_by_ask asks.SetMode found query body = by_body asks.SetMode found body
+ask_by_ask asks.SetPhase found query body = by_body asks.SetPhase found body
+ask_by_ask asks.Submit found query body = by_body asks.Submit found body
+ask_by_ask asks.Revise found query body = by_body asks.Revise found body
+ask_by_ask asks.SetConflict found query body = by_body asks.SetConflict found body
+ask_by_ask asks.Bid found query body = by_body asks.Bid found body
+ask_by_ask asks.Assign found query body = by_body asks.Assign found body
+ask_by_ask asks.Review found query body = by_body asks.Review found body
+ask_by_ask asks.Comment found query body = by_body asks.Comment found body
+ask_by_ask asks.Decide found query body = by_body asks.Decide found body
+ask_by_ask asks.Tag found query body = by_tag asks.Tag found true (λ tag. refl)
+ask_by_ask asks.Untag found query body = by_tag asks.Untag found false (λ tag. refl)
+ask_by_ask asks.Search found query body = by_query (asks_count query) (search_read (search_text query))
+ask_by_ask ask found query body = refl
 
 -- what is told by a body looks at it, whatever it tells
-pub looked : (ask : Ask) (found : FoundPath) (body : List ℕ) → IsTrue (ask_has_body ask) → LooksAtBody (commanded ask found body)
-looked ask found body has = rw (by_body ask found body) has
+pub looked : (ask : Ask) (found : FoundPath) (body : List ℕ) → IsTrue (ask_has_body ask) → LooksBehindPath (commanded ask found body)
+looked ask found body has = rw (by_body ask found body, has) refl

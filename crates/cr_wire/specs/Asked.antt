@@ -1,5 +1,5 @@
--- What a request wishes, by its method, its target and its body.
-use Rattle.std.specs.Prelude.{ℕ, List, Bool, true, false, IsTrue, ◌==◌, Option, Some, None, option_and_then, option_map, if◌then◌else◌}
+-- What a request wishes, by its method, its target and its body: of its query string only searches are told.
+use Rattle.std.specs.Prelude.{ℕ, List, Bool, true, false, IsTrue, ◌==◌, ◌||◌, Option, Some, None, option_and_then, option_map, if◌then◌else◌}
 use Rattle.std.specs.Option.{option_map_or}
 use Rattle.std.specs.List.{before_first}
 use Rattle.std.specs.Str.{is_utf8}
@@ -14,6 +14,7 @@ use Rattle.cr_base.specs.declared.ask.Ask.{Ask}
 use Rattle.cr_base.specs.declared.ask.Ask.TheVariants as asks
 use Rattle.cr_wire.specs.Caller.{ask_of}
 use Rattle.cr_wire.specs.Paper.{paper_of, tag_of, user_of, version_of}
+use Rattle.cr_wire.specs.Query.{query_of, search_in}
 use Rattle.cr_wire.specs.declared.what.What.{What}
 use Rattle.cr_wire.specs.declared.what.What.TheVariants.{NoRoute, WrongMethod, BadBody, Command as Commands, Query as Queries}
 
@@ -39,44 +40,45 @@ abbrev pub tagged : Ask → FoundPath → Bool → What
 tagged ask found on = command_of ask (option_map (λ tag. commands.Tag (paper_of found) tag on) (tag_of found))
 
 -- one line for each thing that can be asked for; an upload's body is the content
-abbrev pub asked : Ask → FoundPath → List ℕ → What
-asked asks.Register found body = commanded asks.Register found body
-asked asks.Accounts found body = Queries queries.Accounts
-asked asks.Name found body = commanded asks.Name found body
-asked asks.SetMode found body = commanded asks.SetMode found body
-asked asks.Phase found body = Queries queries.Phase
-asked asks.SetPhase found body = commanded asks.SetPhase found body
-asked asks.Submit found body = commanded asks.Submit found body
-asked asks.Page found body = Queries (queries.Page (paper_of found))
-asked asks.Revise found body = commanded asks.Revise found body
-asked asks.Withdraw found body = Commands (commands.Withdraw (paper_of found))
-asked asks.Content found body = Queries (queries.Content (paper_of found))
-asked asks.Upload found body = Commands (commands.Upload (paper_of found) body)
-asked asks.Version found body = Queries (queries.Version (paper_of found) (version_of found))
-asked asks.SetConflict found body = commanded asks.SetConflict found body
-asked asks.Bid found body = commanded asks.Bid found body
-asked asks.Assign found body = commanded asks.Assign found body
-asked asks.Unassign found body = Commands (commands.Unassign (paper_of found) (user_of found))
-asked asks.Review found body = commanded asks.Review found body
-asked asks.Reviews found body = Queries (queries.Reviews (paper_of found))
-asked asks.Comment found body = commanded asks.Comment found body
-asked asks.Comments found body = Queries (queries.Comments (paper_of found))
-asked asks.Tag found body = tagged asks.Tag found true
-asked asks.Untag found body = tagged asks.Untag found false
-asked asks.Decide found body = commanded asks.Decide found body
-asked asks.AcceptedPapers found body = Queries queries.AcceptedPapers
-asked asks.Me found body = Queries queries.Me
+abbrev pub asked : Ask → FoundPath → List ℕ → List ℕ → What
+asked asks.Register found query body = commanded asks.Register found body
+asked asks.Accounts found query body = Queries queries.Accounts
+asked asks.Name found query body = commanded asks.Name found body
+asked asks.SetMode found query body = commanded asks.SetMode found body
+asked asks.Phase found query body = Queries queries.Phase
+asked asks.SetPhase found query body = commanded asks.SetPhase found body
+asked asks.Submit found query body = commanded asks.Submit found body
+asked asks.Page found query body = Queries (queries.Page (paper_of found))
+asked asks.Revise found query body = commanded asks.Revise found body
+asked asks.Withdraw found query body = Commands (commands.Withdraw (paper_of found))
+asked asks.Content found query body = Queries (queries.Content (paper_of found))
+asked asks.Upload found query body = Commands (commands.Upload (paper_of found) body)
+asked asks.Version found query body = Queries (queries.Version (paper_of found) (version_of found))
+asked asks.SetConflict found query body = commanded asks.SetConflict found body
+asked asks.Bid found query body = commanded asks.Bid found body
+asked asks.Assign found query body = commanded asks.Assign found body
+asked asks.Unassign found query body = Commands (commands.Unassign (paper_of found) (user_of found))
+asked asks.Review found query body = commanded asks.Review found body
+asked asks.Reviews found query body = Queries (queries.Reviews (paper_of found))
+asked asks.Comment found query body = commanded asks.Comment found body
+asked asks.Comments found query body = Queries (queries.Comments (paper_of found))
+asked asks.Tag found query body = tagged asks.Tag found true
+asked asks.Untag found query body = tagged asks.Untag found false
+asked asks.Decide found query body = commanded asks.Decide found body
+asked asks.AcceptedPapers found query body = Queries queries.AcceptedPapers
+asked asks.Me found query body = Queries queries.Me
+asked asks.Search found query body = search_in query
 
-abbrev pub with_ask : FoundPath → Option Ask → List ℕ → What
-with_ask found None body = WrongMethod found.place
-with_ask found (Some ask) body = asked ask found body
+abbrev pub with_ask : FoundPath → Option Ask → List ℕ → List ℕ → What
+with_ask found None query body = WrongMethod found.place
+with_ask found (Some ask) query body = asked ask found query body
 
-abbrev pub with_found : Option FoundPath → List ℕ → List ℕ → What
-with_found None method body = NoRoute
-with_found (Some found) method body = with_ask found (option_and_then (ask_at found.place) (method_of method)) body
+abbrev pub with_found : Option FoundPath → List ℕ → List ℕ → List ℕ → What
+with_found None method query body = NoRoute
+with_found (Some found) method query body = with_ask found (option_and_then (ask_at found.place) (method_of method)) query body
 
 abbrev pub what_of : List ℕ → List ℕ → List ℕ → What
-what_of method target body = with_found (find_at (path_of target)) method body
+what_of method target body = with_found (find_at (path_of target)) method (query_of target) body
 
 -- whether what is asked for is told by a body: all commands are but tags and those by which something is taken away
 abbrev pub ask_has_body : Ask → Bool
@@ -106,7 +108,13 @@ ask_has_body asks.Untag = false
 ask_has_body asks.Decide = true
 ask_has_body asks.AcceptedPapers = false
 ask_has_body asks.Me = false
+ask_has_body asks.Search = false
 
--- a body was looked at, which alone takes memory: this goes by what is asked for
-abbrev pub LooksAtBody : What → Type 0
-LooksAtBody what = IsTrue (option_map_or ask_has_body (ask_of what) false)
+-- whether it is told by the query string
+abbrev pub ask_has_query : Ask → Bool
+ask_has_query asks.Search = true
+ask_has_query ask = false
+
+-- what stands behind the path was looked at, a body or a query string, which alone takes memory: this goes by what is asked for
+abbrev pub LooksBehindPath : What → Type 0
+LooksBehindPath what = IsTrue (option_map_or (λ ask. ask_has_body ask || ask_has_query ask) (ask_of what) false)

@@ -2,12 +2,13 @@
 use Rattle.std.specs.Prelude.{ℕ, Bool, false, Option, Some, None, if◌then◌else◌}
 use Rattle.std.specs.Option.{option_map_or}
 use Rattle.cr_base.specs.declared.ask.Ask.{Ask}
+use Rattle.cr_base.specs.declared.ask.Ask.TheVariants as asks
 use Rattle.cr_base.specs.History.{History}
 use Rattle.cr_base.specs.HistoryFacts.{caller_of}
 use Rattle.cr_base.specs.Logins.{ask_reads_credentials, ask_wants_login, command_ask, query_ask}
 use Rattle.cr_bodies.specs.declared.credentials.Credentials.{Credentials}
 use Rattle.cr_wire.specs.declared.what.What.{What}
-use Rattle.cr_wire.specs.declared.what.What.TheVariants.{NoRoute, WrongMethod, BadBody, Command as Commands, Query as Queries}
+use Rattle.cr_wire.specs.declared.what.What.TheVariants.{NoRoute, WrongMethod, BadBody, BadQuery, Command as Commands, Query as Queries}
 use Rattle.cr_wire.specs.declared.what.Wish.{Wish}
 
 -- what a wish's request asks for; None where it is no request of the server's
@@ -15,11 +16,12 @@ abbrev pub ask_of : What → Option Ask
 ask_of NoRoute = None
 ask_of (WrongMethod place) = None
 ask_of (BadBody ask) = Some ask
+ask_of (BadQuery place) = Some asks.Search
 ask_of (Commands command) = Some (command_ask command)
 ask_of (Queries query) = Some (query_ask query)
 
--- whether a login is wanted, also where the body is a bad one, by what is asked for alone; what is no request of the server's
--- is refused alike to everybody
+-- whether a login is wanted, also where the body or the query string is a bad one, by what is asked for alone; what is no request of
+-- the server's is refused alike to everybody
 abbrev pub wants_login : What → Bool
 wants_login what = option_map_or ask_wants_login (ask_of what) false
 

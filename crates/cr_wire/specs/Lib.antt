@@ -1,6 +1,7 @@
 pub mod Connection
 pub mod Outcome
 pub mod Paper
+pub mod Query
 pub mod Asked
 pub mod Bounds
 pub mod Caller

@@ -1,4 +1,4 @@
-//! From a path, a method and a body to what is wished.
+//! From a path, a method, and a query string or a body to what is wished.
 ghost use Rattle.std.specs.Prelude.{◌≡◌, option_and_then, option_map, IfOk, IsTrue, OnErr};
 ghost use Rattle.cr_routes.specs.Asks.{ask_at as ask_of_place};
 ghost use Rattle.cr_routes.specs.Methods.{method_of};
@@ -6,8 +6,10 @@ ghost use Rattle.cr_routes.specs.Parts.{seen};
 ghost use Rattle.cr_wire.specs.Asked as spec;
 ghost use Rattle.cr_wire.specs.Bounds.{IsBoundedWhat};
 ghost use Rattle.cr_wire.specs.Outcome.{Gives};
+ghost use Rattle.cr_wire.specs.Query.{query_of};
 
 use crate::paper::{paper_of, tag_of, user_of, version_of};
+use crate::query::search_in;
 use crate::what::What;
 use cr_base::{Ask, Command, PaperNo, Query};
 use cr_bodies::{BodyError, before_first, read_command};
@@ -38,7 +40,7 @@ fn command(alloc: Global, ask: Ask, found: Matched<'_>, body: &[u8]) -> Result<W
     requires { IsTrue (spec.ask_has_body ask) }
     ensures told { Gives result (spec.commanded ask (seen found.entry) body.now) }
     ensures bounded { IfOk result IsBoundedWhat }
-    ensures sure { OnErr result (spec.LooksAtBody (spec.commanded ask (seen found.entry) body.now)) }
+    ensures sure { OnErr result (spec.LooksBehindPath (spec.commanded ask (seen found.entry) body.now)) }
 {
     match read_command(alloc, ask, paper_of(found), body) {
         Ok(command) => Ok(What::Command(command)),
@@ -71,11 +73,17 @@ fn tagged(ask: Ask, found: Matched<'_>, on: bool) -> What
     }
 }
 
-/// What is asked for, by its path and its body too.
-fn asked(alloc: Global, ask: Ask, found: Matched<'_>, body: &Body<'_>) -> Result<What, AllocError>
-    ensures told { Gives result (spec.asked ask (seen found.entry) body.now) }
+/// What is asked for, by its path, and by its query string or its body too.
+fn asked(
+    alloc: Global,
+    ask: Ask,
+    found: Matched<'_>,
+    target: &[u8],
+    body: &Body<'_>,
+) -> Result<What, AllocError>
+    ensures told { Gives result (spec.asked ask (seen found.entry) (query_of target.now) body.now) }
     ensures bounded { IfOk result IsBoundedWhat }
-    ensures sure { OnErr result (spec.LooksAtBody (spec.asked ask (seen found.entry) body.now)) }
+    ensures sure { OnErr result (spec.LooksBehindPath (spec.asked ask (seen found.entry) (query_of target.now) body.now)) }
 {
     let paper = paper_of(found);
     match ask {
@@ -89,6 +97,7 @@ fn asked(alloc: Global, ask: Ask, found: Matched<'_>, body: &Body<'_>) -> Result
             version: version_of(found),
         })),
         Ask::Me => Ok(What::Query(Query::Me)),
+        Ask::Search => search_in(alloc, target),
         Ask::Withdraw => Ok(What::Command(Command::Withdraw { paper })),
         Ask::Unassign => Ok(What::Command(Command::Unassign {
             paper,
@@ -112,7 +121,7 @@ fn asked(alloc: Global, ask: Ask, found: Matched<'_>, body: &Body<'_>) -> Result
 }
 
 /// What a request of this method, this target and this body wishes. Fails only for lack of memory, which the reading of
-/// a JSON body and the keeping of an upload alone take.
+/// a JSON body or of a search and the keeping of an upload alone take.
 pub(crate) fn what_of(
     alloc: Global,
     routes: &Routes,
@@ -122,7 +131,7 @@ pub(crate) fn what_of(
 ) -> Result<What, AllocError>
     ensures told { Gives result (spec.what_of method.now target.now body.now) }
     ensures bounded { IfOk result IsBoundedWhat }
-    ensures sure { OnErr result (spec.LooksAtBody (spec.what_of method.now target.now body.now)) }
+    ensures sure { OnErr result (spec.LooksBehindPath (spec.what_of method.now target.now body.now)) }
 {
     let path = before_first(b'?', target);
     let Some(found) = find(routes, path) else {
@@ -131,5 +140,5 @@ pub(crate) fn what_of(
     let Some(ask) = ask_at(found.place, method) else {
         return Ok(What::WrongMethod(found.place));
     };
-    asked(alloc, ask, found, body)
+    asked(alloc, ask, found, target, body)
 }

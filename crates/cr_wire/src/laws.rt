@@ -10,10 +10,11 @@ ghost use Rattle.cr_wire.specs.declared.what.Wish.{Wish};
 
 use cr_http::law_one_reading;
 
-/// What a wish asks for is told by path and method alone: no body, be it a good or a bad one, changes it. So none changes
+/// What a wish asks for is told by path and method alone: no body and no query string, be it a good or a bad one,
+/// changes it. So none changes
 /// whether a login is wanted or whether the field Authorization is read, since both go by what is asked for.
 pub fn law_one_ask()
-    ensures { (ask : Ask) (found : FoundPath) (body : List ℕ) → ask_of (asked ask found body) ≡ Some ask }
+    ensures { (ask : Ask) (found : FoundPath) (query body : List ℕ) → ask_of (asked ask found query body) ≡ Some ask }
 {}
 
 /// A text spells one list of wishes, and has one end.

@@ -7,6 +7,7 @@ mod asked;
 mod connection;
 mod laws;
 mod paper;
+mod query;
 mod what;
 mod wish;
 

@@ -5,7 +5,7 @@ use cr_base::{Ask, Command, Query};
 use cr_bodies::Credentials;
 use cr_routes::Place;
 
-/// What a whole request wishes, by its path, its method and its body.
+/// What a whole request wishes, by its path, its method and its body, or its query string.
 #[derive(Drop, Debug)]
 pub enum What {
     /// The path is none of the server's: answered `no_route`.
@@ -14,6 +14,12 @@ pub enum What {
     WrongMethod(Place),
     /// The body, or the tag in the path, isn't what the request needs: answered `bad_body`.
     BadBody(Ask),
+    /// The query string tells no search: answered `bad_query`.
+    BadQuery {
+        /// The last place in the search's text, in bytes, up to which that can be the beginning of a search; 0 where there
+        /// is no text.
+        place: usize,
+    },
     /// To change something.
     Command(Command),
     /// To be told something.
@@ -44,16 +50,17 @@ impl What {
         match self {
             What::NoRoute | What::WrongMethod(_) => None,
             What::BadBody(ask) => Some(*ask),
+            What::BadQuery { .. } => Some(Ask::Search),
             What::Command(command) => Some(command.ask()),
             What::Query(query) => Some(query.ask()),
         }
     }
 
     /// Whether a login is wanted, so that nobody is answered `unauthorized`: by each command but a registration, also
-    /// where its body is a bad one, by a paper's page, content, reviews and comments, and by what the caller is told of
-    /// herself. Registration, the list of accounts, the state of the conference and the accepted papers want none, and what
-    /// is no request of these is refused alike to everybody. That a published paper's page and content are served to nobody
-    /// too isn't looked at here: the request doesn't tell which papers are.
+    /// where its body is a bad one, by a paper's page, content, reviews and comments, by searches, also by bad ones, and by
+    /// what the caller is told of herself. Registration, the list of accounts, the state of the conference and the accepted
+    /// papers want none, and what is no request of these is refused alike to everybody. That a published paper's page and
+    /// content are served to nobody too isn't looked at here: the request doesn't tell which papers are.
     pub fn wants_login(&self) -> bool
         ensures { result ≡ wants_login self.now }
     {

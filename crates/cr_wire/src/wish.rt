@@ -2,7 +2,7 @@
 ghost use Rattle.std.specs.Prelude.{◌≡◌, codes, IfOk, OnErr};
 ghost use Rattle.std.specs.List.{list_any};
 ghost use Rattle.cr_http.specs.Head.{values_of};
-ghost use Rattle.cr_wire.specs.Asked.{LooksAtBody, what_of as what_text};
+ghost use Rattle.cr_wire.specs.Asked.{LooksBehindPath, what_of as what_text};
 ghost use Rattle.cr_wire.specs.Bounds.{IsBoundedWhat};
 ghost use Rattle.cr_wire.specs.Connection.{has_close as has_close_element};
 ghost use Rattle.cr_wire.specs.Outcome.{Gives};
@@ -57,10 +57,10 @@ fn asks_close(head: &Head<'_>) -> bool
     head.version() == Version::Http10 || field_asks_close(head)
 }
 
-/// The wish of a request, by its head and its body. Fails only for lack of memory, which the reading of a JSON body and
-/// the keeping of an upload alone take. Reads the target, the fields' names and the field Connection once, the body only where the method and the
-/// path want one, and the field Authorization only where `reads_credentials` says so. A command that is wished is within
-/// the bounds on commands.
+/// The wish of a request, by its head and its body. Fails only for lack of memory, which the reading of a JSON body or of a
+/// search and the keeping of an upload alone take. Reads the target's path, the fields' names and the field Connection once,
+/// the body and the query string only where the method and the path want them, and the field Authorization only where
+/// `reads_credentials` says so. A command that is wished is within the bounds on commands.
 pub fn wish_of(
     alloc: Global,
     routes: &Routes,
@@ -69,7 +69,7 @@ pub fn wish_of(
 ) -> Result<Wish, AllocError>
     ensures told { Gives result (wish_text (record { head = head.now; body = body.entry })) }
     ensures bounded { IfOk result (λ wish. IsBoundedWhat wish.what) }
-    ensures sure { OnErr result (LooksAtBody (what_text head.now.method head.now.target body.entry)) }
+    ensures sure { OnErr result (LooksBehindPath (what_text head.now.method head.now.target body.entry)) }
 {
     let what = match what_of(alloc, routes, head.method(), head.target(), &body) {
         Ok(what) => what,
