@@ -2,6 +2,7 @@
 use Rattle.std.specs.Prelude.{ℕ, List, [], ◌++◌, Bool, true, if◌then◌else◌, codes, length, map}
 use Rattle.cr_base.specs.declared.accepted.AcceptedPaper.{AcceptedPaper}
 use Rattle.cr_base.specs.declared.comment.CommentLine.{CommentLine}
+use Rattle.cr_base.specs.declared.found.FoundPaper.{FoundPaper}
 use Rattle.cr_base.specs.declared.me.Me.{Me}
 use Rattle.cr_base.specs.declared.page.Page.{Page}
 use Rattle.cr_base.specs.declared.reply.AccountLine.{AccountLine}
@@ -29,6 +30,7 @@ use Rattle.cr_print.specs.Accounts.{account_text}
 use Rattle.cr_print.specs.Accepted.{accepted_text}
 use Rattle.cr_print.specs.Reviews.{review_text}
 use Rattle.cr_print.specs.Comments.{comment_text}
+use Rattle.cr_print.specs.Found.{found_content, count_content}
 use Rattle.cr_print.specs.Page.{page_content}
 use Rattle.cr_print.specs.Me.{me_content}
 
@@ -81,6 +83,13 @@ reviews_text reviews form = list_text (codes "reviews") (map review_text reviews
 unfoldable pub comments_text : List CommentLine → Form → List ℕ
 comments_text comments form = list_text (codes "comments") (map comment_text comments) form
 
+-- the papers that a search finds, or how many they are
+unfoldable pub found_text : List FoundPaper → Form → List ℕ
+found_text papers form = served_text (found_content papers) form
+
+unfoldable pub count_text : ℕ → Form → List ℕ
+count_text n form = served_text (count_content n) form
+
 -- a paper's page
 unfoldable pub page_text : Page → Form → List ℕ
 page_text page form = served_text (page_content page) form
@@ -105,6 +114,8 @@ front_text form (replies.Accounts accounts) = accounts_text accounts form
 front_text form (replies.AcceptedPapers papers) = papers_text papers form
 front_text form (replies.Reviews reviews) = reviews_text reviews form
 front_text form (replies.Comments comments) = comments_text comments form
+front_text form (replies.Found papers) = found_text papers form
+front_text form (replies.Count n) = count_text n form
 front_text form (replies.Conference conference) = conference_text conference form
 front_text form (replies.Page page) = page_text page form
 front_text form (replies.Me me) = me_text me form
@@ -131,6 +142,8 @@ IsBrief (replies.Accounts accounts) = ⊥
 IsBrief (replies.AcceptedPapers papers) = ⊥
 IsBrief (replies.Reviews reviews) = ⊥
 IsBrief (replies.Comments comments) = ⊥
+IsBrief (replies.Found papers) = ⊥
+IsBrief (replies.Count n) = Unit {0}
 IsBrief (replies.Conference conference) = Unit {0}
 IsBrief (replies.Page page) = ⊥
 IsBrief (replies.Me me) = ⊥

@@ -10,6 +10,7 @@ pub mod Accepted
 pub mod Reviewers
 pub mod Reviews
 pub mod Comments
+pub mod Found
 pub mod Page
 pub mod Me
 pub mod Answers

@@ -1,5 +1,5 @@
 -- The name, the status and the content of each refusal.
-use Rattle.std.specs.Prelude.{ℕ, List, Some, codes}
+use Rattle.std.specs.Prelude.{ℕ, List, [], ◌++◌, Some, codes, decimal}
 use Rattle.json.specs.Print.{quoted}
 use Rattle.cr_base.specs.declared.reply.Rule.{Rule as BaseRule}
 use Rattle.cr_base.specs.declared.reply.Rule.TheVariants.{NameTaken, FullAccounts, NotChair, WrongPhase, FullPapers, QuotaPapers, NoPaper}
@@ -9,7 +9,7 @@ use Rattle.cr_base.specs.declared.reply.Rule.TheVariants.{HasReview, NotReviewer
 use Rattle.cr_http.specs.declared.refusal.Refusal.{Refusal}
 use Rattle.cr_http.specs.declared.refusal.Refusal.TheVariants.{HeadTooLarge, BadHttp, NoHost, LengthRequired, BadLength, TooLarge}
 use Rattle.cr_print.specs.declared.refused.Refused.{Refused}
-use Rattle.cr_print.specs.declared.refused.Refused.TheVariants.{Closing, NoRoute, WrongMethod, Unauthorized, BadBody, Rule, KeeperFault, NoMemory}
+use Rattle.cr_print.specs.declared.refused.Refused.TheVariants.{Closing, NoRoute, WrongMethod, Unauthorized, BadBody, BadQuery, Rule, KeeperFault, NoMemory}
 use Rattle.cr_print.specs.declared.head.Extra.{Extra}
 use Rattle.cr_print.specs.declared.head.Extra.TheVariants.{Nothing, Challenge, Allow}
 use Rattle.cr_print.specs.declared.status.Status.{Status}
@@ -56,6 +56,7 @@ refused_name NoRoute = codes "no_route"
 refused_name (WrongMethod place) = codes "wrong_method"
 refused_name Unauthorized = codes "unauthorized"
 refused_name BadBody = codes "bad_body"
+refused_name (BadQuery place) = codes "bad_query"
 refused_name (Rule rule) = rule_name rule
 refused_name KeeperFault = codes "keeper_fault"
 refused_name NoMemory = codes "no_memory"
@@ -100,6 +101,7 @@ refused_status NoRoute = statuses.NotFound
 refused_status (WrongMethod place) = statuses.MethodNotAllowed
 refused_status Unauthorized = statuses.Unauthorized
 refused_status BadBody = statuses.BadRequest
+refused_status (BadQuery place) = statuses.BadRequest
 refused_status (Rule rule) = rule_status rule
 refused_status KeeperFault = statuses.ServiceUnavailable
 refused_status NoMemory = statuses.InsufficientStorage
@@ -111,13 +113,26 @@ extra_of NoRoute = Nothing
 extra_of (WrongMethod place) = Allow place
 extra_of Unauthorized = Challenge
 extra_of BadBody = Nothing
+extra_of (BadQuery place) = Nothing
 extra_of (Rule rule) = Nothing
 extra_of KeeperFault = Nothing
 extra_of NoMemory = Nothing
 
--- why it was refused, before all else that it may tell
+-- what a refusal tells beside why: of a search where it is wrong
+unfoldable pub further_members : Refused → List Member
+further_members (Closing refusal) = []
+further_members NoRoute = []
+further_members (WrongMethod place) = []
+further_members Unauthorized = []
+further_members BadBody = []
+further_members (BadQuery place) = member_of (codes "place") (Some (decimal place))
+further_members (Rule rule) = []
+further_members KeeperFault = []
+further_members NoMemory = []
+
+-- why it was refused, before all else that it tells
 unfoldable pub refusal_members : Refused → List Member
-refusal_members refused = member_of (codes "error") (Some (quoted (refused_name refused)))
+refusal_members refused = member_of (codes "error") (Some (quoted (refused_name refused))) ++ further_members refused
 
 unfoldable pub refusal_content : Refused → List ℕ
 refusal_content refused = object_text (refusal_members refused)

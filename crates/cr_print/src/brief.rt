@@ -12,7 +12,7 @@ use arrayvec::ArrayVec;
 /// name of 34 bytes that are all written as six.
 const CONTENT_ROOM: usize = 288;
 
-/// Bytes that suffice for the answer of any refusal, any receipt and the conference: 512, which are 224
+/// Bytes that suffice for the answer of any refusal, any receipt, the conference and a count: 512, which are 224
 /// for the head and 288 for the content.
 pub const ANSWER_ROOM: usize = HEAD_ROOM + CONTENT_ROOM;
 

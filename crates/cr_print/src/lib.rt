@@ -14,6 +14,7 @@ mod brief;
 mod comments;
 mod conference;
 mod form;
+mod found;
 mod head;
 mod list;
 mod me;

@@ -1,7 +1,8 @@
 //! Refusals, which are written without memory.
 ghost use Rattle.std.specs.Prelude.{◌≡◌, ◌≤◌, length};
 ghost use Rattle.cr_print.specs.Put.{Appends, HasRoom, Puts, Takes};
-ghost use Rattle.cr_print.specs.Refused.{closing_name, rule_name, refused_name, closing_status, rule_status, refused_status, extra_of, refusal_content};
+ghost use Rattle.cr_print.specs.Json.{AddsMembers};
+ghost use Rattle.cr_print.specs.Refused.{closing_name, rule_name, refused_name, closing_status, rule_status, refused_status, extra_of, further_members, refusal_content};
 ghost use Rattle.cr_print.specs.Answers.{refusal_text};
 
 use crate::brief::print_brief;
@@ -28,6 +29,11 @@ pub enum Refused {
     Unauthorized,
     /// The body doesn't spell what the request asks for (400).
     BadBody,
+    /// The search spells nothing that can be searched for (400); the answer tells where.
+    BadQuery {
+        /// The byte at which what is wrong begins.
+        place: usize,
+    },
     /// A rule of the conference is broken.
     Rule(Rule),
     /// What was accepted couldn't be kept (503).
@@ -95,6 +101,7 @@ fn name(refused: Refused) -> &'static str
         Refused::WrongMethod(_) => "wrong_method",
         Refused::Unauthorized => "unauthorized",
         Refused::BadBody => "bad_body",
+        Refused::BadQuery { .. } => "bad_query",
         Refused::Rule(rule) => rule_name(rule),
         Refused::KeeperFault => "keeper_fault",
         Refused::NoMemory => "no_memory",
@@ -149,7 +156,7 @@ fn status(refused: Refused) -> Status
         Refused::NoRoute => Status::NotFound,
         Refused::WrongMethod(_) => Status::MethodNotAllowed,
         Refused::Unauthorized => Status::Unauthorized,
-        Refused::BadBody => Status::BadRequest,
+        Refused::BadBody | Refused::BadQuery { .. } => Status::BadRequest,
         Refused::Rule(rule) => rule_status(rule),
         Refused::KeeperFault => Status::ServiceUnavailable,
         Refused::NoMemory => Status::InsufficientStorage,
@@ -167,6 +174,18 @@ fn extra(refused: Refused) -> Extra
     }
 }
 
+/// Writes what a refusal tells beside why.
+#[tactic(auto, unfolding(crate::specs::Refused::further_members))]
+fn add_further(object: &mut Object, into: &mut Vec<u8>, refused: Refused) -> Result<(), AllocError>
+    ensures adds { AddsMembers result into.old into.new object.old.is_first object.new.is_first (further_members refused) }
+    ensures room { Takes result into.old into.new 29 }
+{
+    match refused {
+        Refused::BadQuery { place } => object.number(into, "place", place as u64),
+        _ => Ok(()),
+    }
+}
+
 /// Appends what a refusal tells: why, before all else.
 fn append_refusal(into: &mut Vec<u8>, refused: Refused) -> Result<(), AllocError>
     ensures text { Appends result into.old into.new (refusal_content refused) }
@@ -174,6 +193,7 @@ fn append_refusal(into: &mut Vec<u8>, refused: Refused) -> Result<(), AllocError
 {
     let mut object = Object::open(into)?;
     object.string(into, "error", name(refused).as_bytes())?;
+    add_further(&mut object, into, refused)?;
     object.close(into)
 }
 

@@ -1,11 +1,12 @@
 //! Replies.
 ghost use Rattle.std.specs.Prelude.{◌≡◌, OnErr, map};
 ghost use Rattle.cr_print.specs.Put.{HasRoom, Prints, Puts};
-ghost use Rattle.cr_print.specs.Answers.{bytes_head, content_front, served_text, list_text, papers_text, page_text, me_text, front_text, block_text, IsBrief};
+ghost use Rattle.cr_print.specs.Answers.{bytes_head, content_front, served_text, list_text, papers_text, found_text, page_text, me_text, front_text, block_text, IsBrief};
 
 use crate::brief::ANSWER_ROOM;
 use crate::conference::print_conference;
 use crate::form::Form;
+use crate::found::{append_found, print_count};
 use crate::head::{AnswerHead, Extra, HEAD_ROOM, MediaType, json, print_head};
 use crate::me::append_me;
 use crate::object::append_list_alone;
@@ -15,7 +16,7 @@ use crate::receipt::print_receipt;
 use crate::refused::{Refused, print_refusal};
 use crate::status::Status;
 use crate::value::Value;
-use cr_base::{AcceptedPapers, Me, Page, Reply};
+use cr_base::{AcceptedPapers, FoundPapers, Me, Page, Reply};
 use std::alloc::AllocError;
 
 /// Appends the answer that has this content, whatever its length.
@@ -57,6 +58,15 @@ fn print_accepted(into: &mut Vec<u8>, papers: &AcceptedPapers, form: Form) -> Re
     ensures { Prints result into.old into.new (papers_text papers.now form) }
 {
     print_list(into, "papers", papers.as_slice(), form)
+}
+
+#[tactic(auto, unfolding(crate::specs::Answers::found_text))]
+fn print_found(into: &mut Vec<u8>, papers: &FoundPapers, form: Form) -> Result<(), AllocError>
+    ensures { Prints result into.old into.new (found_text papers.now form) }
+{
+    let mut content = Vec::new(*into.allocator());
+    append_found(&mut content, papers)?;
+    print_content(into, content.as_slice(), form)
 }
 
 #[tactic(auto, unfolding(crate::specs::Answers::page_text))]
@@ -101,8 +111,8 @@ fn print_front(into: &mut Vec<u8>, length: usize, form: Form)
 /// is appended. Every other answer is appended whole.
 ///
 /// An error comes only for lack of memory, and `into` then has the bytes that it had; its room may
-/// have grown. It never comes for a receipt, a refusal, the conference or a content where room for 512 bytes is
-/// there. The content of a list, a page or what one is told of oneself is made in a vector of its
+/// have grown. It never comes for a receipt, a refusal, the conference, a count or a content where room for 512 bytes is
+/// there. The content of a list, a page, what was found or what one is told of oneself is made in a vector of its
 /// own, to HEAD too, and copied once.
 #[tactic(auto, unfolding(crate::specs::Answers::accounts_text, crate::specs::Answers::reviews_text, crate::specs::Answers::comments_text))]
 pub fn print_reply(into: &mut Vec<u8>, reply: &Reply, form: Form) -> Result<(), AllocError>
@@ -124,6 +134,12 @@ pub fn print_reply(into: &mut Vec<u8>, reply: &Reply, form: Form) -> Result<(), 
         Reply::AcceptedPapers(papers) => print_accepted(into, papers, form),
         Reply::Reviews(reviews) => print_list(into, "reviews", reviews.as_slice(), form),
         Reply::Comments(comments) => print_list(into, "comments", comments.as_slice(), form),
+        Reply::Found(papers) => print_found(into, papers, form),
+        Reply::Count(count) => {
+            into.reserve(ANSWER_ROOM)?;
+            print_count(into, *count, form);
+            Ok(())
+        }
         Reply::Page(page) => print_page(into, page, form),
         Reply::Me(me) => print_me(into, me, form),
         Reply::Conference(conference) => {

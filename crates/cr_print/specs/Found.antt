@@ -1,0 +1,30 @@
+-- The papers that a search finds, and how many they are.
+use Rattle.std.specs.Prelude.{ℕ, List, ◌++◌, Some, codes, decimal, length, map}
+use Rattle.json.specs.Print.{quoted}
+use Rattle.cr_base.specs.declared.found.FoundPaper.{FoundPaper}
+use Rattle.cr_print.specs.Json.{Member, array_text, member_of, object_text}
+
+-- the keys of a paper that was found in the order of their bytes
+unfoldable pub found_paper_members : FoundPaper → List Member
+found_paper_members paper =
+    member_of (codes "paper") (Some (decimal paper.paper))
+    ++ member_of (codes "title") (Some (quoted paper.title))
+
+abbrev pub found_paper_text : FoundPaper → List ℕ
+found_paper_text paper = object_text (found_paper_members paper)
+
+-- the keys of the answer in the order of their bytes
+unfoldable pub found_members : List FoundPaper → List Member
+found_members papers =
+    member_of (codes "count") (Some (decimal (length papers)))
+    ++ member_of (codes "papers") (Some (array_text (map found_paper_text papers)))
+
+unfoldable pub found_content : List FoundPaper → List ℕ
+found_content papers = object_text (found_members papers)
+
+-- the number alone
+unfoldable pub count_members : ℕ → List Member
+count_members n = member_of (codes "count") (Some (decimal n))
+
+unfoldable pub count_content : ℕ → List ℕ
+count_content n = object_text (count_members n)

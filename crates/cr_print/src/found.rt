@@ -1,0 +1,58 @@
+//! The papers that a search finds, and how many they are.
+ghost use Rattle.cr_print.specs.Put.{Appends, HasRoom, Puts, Takes};
+ghost use Rattle.cr_print.specs.Found.{count_content, found_content};
+ghost use Rattle.cr_print.specs.Answers.{count_text};
+
+use crate::brief::print_brief;
+use crate::form::Form;
+use crate::head::{Extra, json};
+use crate::object::Object;
+use crate::status::Status;
+use crate::value::Value;
+use cr_base::{FoundPaper, FoundPapers};
+use std::alloc::AllocError;
+
+/// A paper that a search finds.
+impl Value for FoundPaper {
+    ghost use Rattle.cr_print.specs.Found.{found_paper_text};
+
+    ghost text = { found_paper_text };
+
+    fn append_to(&self, into: &mut Vec<u8>) -> Result<(), AllocError> {
+        let mut object = Object::open(into)?;
+        object.number(into, "paper", self.paper.number())?;
+        object.string(into, "title", self.title.as_str().as_bytes())?;
+        object.close(into)
+    }
+}
+
+/// Appends the content that tells which papers were found, and how many they are.
+pub(crate) fn append_found(into: &mut Vec<u8>, papers: &FoundPapers) -> Result<(), AllocError>
+    ensures { Appends result into.old into.new (found_content papers.now) }
+{
+    let papers = papers.as_slice();
+    let mut object = Object::open(into)?;
+    object.number(into, "count", papers.len() as u64)?;
+    object.list(into, "papers", papers)?;
+    object.close(into)
+}
+
+fn append_count(into: &mut Vec<u8>, count: u64) -> Result<(), AllocError>
+    ensures text { Appends result into.old into.new (count_content count) }
+    ensures room { Takes result into.old into.new 288 }
+{
+    let mut object = Object::open(into)?;
+    object.number(into, "count", count)?;
+    object.close(into)
+}
+
+/// Appends how many papers were found, which can't fail and takes no memory: `into` has room for 512 bytes.
+#[tactic(auto, unfolding(crate::specs::Answers::count_text))]
+pub(crate) fn print_count(into: &mut Vec<u8>, count: u64, form: Form)
+    requires { HasRoom into.old 512 }
+    ensures { Puts into.old into.new (count_text count form) 512 }
+{
+    let start = into.len();
+    append_count(into, count).unwrap();
+    print_brief(into, start, json(Status::Okay, Extra::Nothing), form);
+}
