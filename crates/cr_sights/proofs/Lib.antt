@@ -2,4 +2,5 @@ pub mod Around
 pub mod MatterLaws
 pub mod PlaceLaws
 pub mod PositionLaws
+pub mod Shown
 pub mod WalkLaws

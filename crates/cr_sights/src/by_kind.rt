@@ -8,13 +8,14 @@ ghost use Rattle.cr_sights.specs.Readers.{reader_in};
 use crate::decisions::decision;
 use crate::papers::{coauthor, revision, submission, upload, withdrawal};
 use crate::position::Position;
+use crate::public::{mode_set, naming, phase_set, registration};
 use crate::reviews::review;
 use crate::seats::{assignment, unassignment};
-use crate::sighting::{Sighting, blank};
+use crate::sighting::Sighting;
 use crate::tags::tagging;
 use crate::talk::comment;
 use crate::ties::{bid, conflict};
-use cr_base::{Entry, EntryKind, Stamped, UserNo};
+use cr_base::{Entry, Stamped, UserNo};
 use cr_view::Live;
 
 /// What an entry shows a user by the tables of the whole history, and none where it shows her nothing. `position`
@@ -28,27 +29,11 @@ pub fn sight<'a>(
     ensures { (at : Around) → position_of at stamped.now.entry ≡ position
         → listed result ≡ sight_at (reader_in live.now.tables (Some reader)) at stamped.now }
 {
-    let mine = reader == stamped.maker;
     match &stamped.entry {
-        Entry::Registered { user, name, digest } => Some(Sighting {
-            user: Some(*user),
-            name: Some(name),
-            digest: mine.then_some(digest),
-            ..blank(EntryKind::Registered, mine)
-        }),
-        Entry::Named { user, role } => Some(Sighting {
-            user: Some(*user),
-            role: Some(*role),
-            ..blank(EntryKind::Named, mine)
-        }),
-        Entry::PhaseSet { phase } => Some(Sighting {
-            phase: Some(*phase),
-            ..blank(EntryKind::PhaseSet, mine)
-        }),
-        Entry::ModeSet { mode } => Some(Sighting {
-            mode: Some(*mode),
-            ..blank(EntryKind::ModeSet, mine)
-        }),
+        Entry::Registered { .. } => registration(reader, stamped),
+        Entry::Named { .. } => naming(reader, stamped),
+        Entry::PhaseSet { .. } => phase_set(reader, stamped),
+        Entry::ModeSet { .. } => mode_set(reader, stamped),
         Entry::Submitted { .. } => submission(live, reader, stamped, position.last),
         Entry::Coauthor { .. } => coauthor(live, reader, stamped),
         Entry::Revised { .. } => revision(live, reader, stamped, position.last),

@@ -17,15 +17,22 @@ use cr_view::Live;
 
 /// Whether a decision is what became of her paper: for its authors the last one is, from the notification.
 fn is_outcome(by: &Standing, is_last: bool) -> bool
-    ensures { result ≡ (is_last && (by.now.author && is_from phases.Notification by.now.phase)) }
+    ensures { result ≡ (is_last && by.now.author && is_from phases.Notification by.now.phase) }
 {
     is_last && by.author && by.phase.is_from(Phase::Notification)
+}
+
+/// Whether everyone is told of a decision: of the last on an accepted paper.
+fn is_announced(is_last: bool, accepted: bool) -> bool
+    ensures { result ≡ (is_last && accepted) }
+{
+    is_last && accepted
 }
 
 /// Whether she is shown what was decided: who discusses the paper is, whose paper it became of, and who decided.
 fn shows_decision(by: &Standing, is_last: bool, mine: bool) -> bool
     ensures { result ≡ ((is_clear_member by.now && is_from phases.Discussion by.now.phase)
-        || ((is_last && (by.now.author && is_from phases.Notification by.now.phase)) || mine)) }
+        || ((is_last && by.now.author && is_from phases.Notification by.now.phase) || mine)) }
 {
     discusses(by) || is_outcome(by, is_last) || mine
 }
@@ -33,9 +40,9 @@ fn shows_decision(by: &Standing, is_last: bool, mine: bool) -> bool
 /// Whether she is told of a decision: who is shown what was decided is, and of the last on an accepted paper everyone.
 fn tells_decision(by: &Standing, is_last: bool, accepted: bool, mine: bool) -> bool
     ensures { result ≡ ((is_clear_member by.now && is_from phases.Discussion by.now.phase)
-        || ((is_last && (by.now.author && is_from phases.Notification by.now.phase)) || ((is_last && accepted) || mine))) }
+        || ((is_last && by.now.author && is_from phases.Notification by.now.phase) || ((is_last && accepted) || mine))) }
 {
-    shows_decision(by, is_last, mine) || is_last && accepted
+    shows_decision(by, is_last, mine) || is_announced(is_last, accepted)
 }
 
 /// What a decision shows her: its paper, what was decided where she may know that, and that it is what became of her paper,
@@ -59,11 +66,10 @@ pub(crate) fn decision<'a>(
     if !tells_decision(&by, is_last, accepted, mine) {
         return None;
     }
-    Some(Sighting {
-        paper: Some(*paper),
-        decision: shows_decision(&by, is_last, mine).then_some(*decision),
-        outcome: is_outcome(&by, is_last).then_some(true),
-        accepted: (is_last && accepted).then_some(true),
-        ..blank(EntryKind::Decided, mine)
-    })
+    let mut sighting = blank(EntryKind::Decided, mine);
+    sighting.paper = Some(*paper);
+    sighting.decision = shows_decision(&by, is_last, mine).then_some(*decision);
+    sighting.outcome = is_outcome(&by, is_last).then_some(true);
+    sighting.accepted = is_announced(is_last, accepted).then_some(true);
+    Some(sighting)
 }

@@ -14,6 +14,7 @@ mod papers;
 mod places;
 mod position;
 mod positions;
+mod public;
 mod reviews;
 mod seats;
 mod sighting;

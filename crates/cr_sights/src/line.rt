@@ -4,7 +4,8 @@ ghost use Rattle.std.specs.Option.{option_copied};
 ghost use Rattle.cr_base.specs.Lists.{listed};
 ghost use Rattle.cr_print.specs.Json.{AddsMembers};
 ghost use Rattle.cr_print.specs.Put.{Appends};
-ghost use Rattle.cr_sights.specs.Lines.{by_told, first_members, fourth_members, last_members, line_text, lines_text, second_members, third_members, user_told, writer_told};
+ghost use Rattle.cr_sights.specs.Lines.{by_told, line_text, lines_text, user_told, writer_told};
+ghost use Rattle.cr_sights.specs.Lines.{first_members, second_members, third_members, fourth_members, last_members};
 
 use crate::members::add;
 use crate::sighting::Sighting;

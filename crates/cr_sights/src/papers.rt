@@ -44,7 +44,8 @@ fn shows_title(by: &Standing, mine: bool, is_last: bool, accepted: bool) -> bool
 /// Whether she is shown the abstract of a submission or a revision.
 fn shows_abstract(by: &Standing, mine: bool, is_last: bool, accepted: bool) -> bool
     ensures { result ≡ (by.now.author
-        || ((is_last && is_clear_member by.now && is_from phases.Bidding by.now.phase) || ((is_last && is_published by.now.phase accepted) || mine))) }
+        || ((is_last && is_clear_member by.now && is_from phases.Bidding by.now.phase)
+        || ((is_last && is_published by.now.phase accepted) || mine))) }
 {
     let published = is_last && is_published(by, accepted);
     by.author || is_last && by.is_clear_member() && is_bidding(by) || published || mine
@@ -55,7 +56,8 @@ fn shows_abstract(by: &Standing, mine: bool, is_last: bool, accepted: bool) -> b
 fn tells_coauthor(live: &Live, reader: UserNo, maker: UserNo, paper: PaperNo) -> bool
     ensures { let r = reader_in live.now.tables (Some reader) in
         result ≡ (authors r paper || ((is_clear_chair (standing_to r paper) && is_from phases.Bidding r.now)
-        || ((is_clear_member (standing_to r paper) && unless_anonymous r && is_from phases.Bidding r.now) || (r.accepted paper || user_named r maker)))) }
+        || ((is_clear_member (standing_to r paper) && unless_anonymous r && is_from phases.Bidding r.now)
+        || (r.accepted paper || user_named r maker)))) }
 {
     let by = live.standing(&Some(reader), &Some(paper));
     shows_maker(&by, live.is_accepted(paper)) || maker == reader
@@ -117,13 +119,12 @@ pub(crate) fn submission<'a>(
     let mine = reader == stamped.maker;
     let by = live.standing(&Some(reader), &Some(*paper));
     let accepted = live.is_accepted(*paper);
-    Some(Sighting {
-        paper: Some(*paper),
-        by: shows_maker(&by, accepted).then_some(stamped.maker),
-        title: shows_title(&by, mine, is_last, accepted).then_some(title),
-        abstract_: shows_abstract(&by, mine, is_last, accepted).then_some(abstract_),
-        ..blank(EntryKind::Submitted, mine)
-    })
+    let mut sighting = blank(EntryKind::Submitted, mine);
+    sighting.paper = Some(*paper);
+    sighting.by = shows_maker(&by, accepted).then_some(stamped.maker);
+    sighting.title = shows_title(&by, mine, is_last, accepted).then_some(title);
+    sighting.abstract_ = shows_abstract(&by, mine, is_last, accepted).then_some(abstract_);
+    Some(sighting)
 }
 
 /// What a co-author shows her: all of it, or nothing where she isn't told of it.
@@ -141,11 +142,10 @@ pub(crate) fn coauthor<'a>(
     if !tells_coauthor(live, reader, stamped.maker, *paper) {
         return None;
     }
-    Some(Sighting {
-        paper: Some(*paper),
-        user: Some(*user),
-        ..blank(EntryKind::Coauthor, reader == stamped.maker)
-    })
+    let mut sighting = blank(EntryKind::Coauthor, reader == stamped.maker);
+    sighting.paper = Some(*paper);
+    sighting.user = Some(*user);
+    Some(sighting)
 }
 
 /// What a revision shows her: its paper, its title and its abstract where she may know them, or
@@ -174,12 +174,11 @@ pub(crate) fn revision<'a>(
     let mine = reader == stamped.maker;
     let by = live.standing(&Some(reader), &Some(*paper));
     let accepted = live.is_accepted(*paper);
-    Some(Sighting {
-        paper: Some(*paper),
-        title: shows_title(&by, mine, is_last, accepted).then_some(title),
-        abstract_: shows_abstract(&by, mine, is_last, accepted).then_some(abstract_),
-        ..blank(EntryKind::Revised, mine)
-    })
+    let mut sighting = blank(EntryKind::Revised, mine);
+    sighting.paper = Some(*paper);
+    sighting.title = shows_title(&by, mine, is_last, accepted).then_some(title);
+    sighting.abstract_ = shows_abstract(&by, mine, is_last, accepted).then_some(abstract_);
+    Some(sighting)
 }
 
 /// What an upload shows her: all of it, or nothing where she isn't told of it.
@@ -204,12 +203,11 @@ pub(crate) fn upload<'a>(
     if !tells_upload(live, reader, stamped.maker, is_last, *paper) {
         return None;
     }
-    Some(Sighting {
-        paper: Some(*paper),
-        version: Some(*version),
-        content: Some(content),
-        ..blank(EntryKind::Uploaded, reader == stamped.maker)
-    })
+    let mut sighting = blank(EntryKind::Uploaded, reader == stamped.maker);
+    sighting.paper = Some(*paper);
+    sighting.version = Some(*version);
+    sighting.content = Some(content);
+    Some(sighting)
 }
 
 /// What the withdrawal of this paper shows her: the paper, or nothing where she isn't told of it.
@@ -227,8 +225,7 @@ pub(crate) fn withdrawal<'a>(
     if !tells_withdrawal(live, reader, stamped.maker, *paper) {
         return None;
     }
-    Some(Sighting {
-        paper: Some(*paper),
-        ..blank(EntryKind::Withdrawn, reader == stamped.maker)
-    })
+    let mut sighting = blank(EntryKind::Withdrawn, reader == stamped.maker);
+    sighting.paper = Some(*paper);
+    Some(sighting)
 }

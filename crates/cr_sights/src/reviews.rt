@@ -86,15 +86,14 @@ pub(crate) fn review<'a>(
     }
     let all = shows_all(&by, position, mine);
     let grades = shows_grades(&by, position, mine);
-    Some(Sighting {
-        paper: Some(*paper),
-        version: all.then_some(*version),
-        ordinal: Some(ordinal.number()),
-        score: grades.then_some(form.score),
-        confidence: grades.then_some(form.confidence),
-        to_authors: grades.then_some(&form.to_authors),
-        to_pc: all.then_some(&form.to_pc),
-        done: is_done_for(&by, position).then_some(true),
-        ..blank(EntryKind::Reviewed, mine)
-    })
+    let mut sighting = blank(EntryKind::Reviewed, mine);
+    sighting.paper = Some(*paper);
+    sighting.version = all.then_some(*version);
+    sighting.ordinal = Some(ordinal.number());
+    sighting.score = grades.then_some(form.score);
+    sighting.confidence = grades.then_some(form.confidence);
+    sighting.to_authors = grades.then_some(&form.to_authors);
+    sighting.to_pc = all.then_some(&form.to_pc);
+    sighting.done = is_done_for(&by, position).then_some(true);
+    Some(sighting)
 }

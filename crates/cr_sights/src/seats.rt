@@ -107,13 +107,12 @@ pub(crate) fn assignment<'a>(
         return None;
     };
     let parts = seat_parts(live, reader, stamped.maker, *paper, *user)?;
-    Some(Sighting {
-        paper: Some(*paper),
-        user: parts.user.then_some(*user),
-        seat: parts.kind.then_some(*kind),
-        ordinal: parts.ordinal.then_some(ordinal.number()),
-        ..blank(EntryKind::Assigned, reader == stamped.maker)
-    })
+    let mut sighting = blank(EntryKind::Assigned, reader == stamped.maker);
+    sighting.paper = Some(*paper);
+    sighting.user = parts.user.then_some(*user);
+    sighting.seat = parts.kind.then_some(*kind);
+    sighting.ordinal = parts.ordinal.then_some(ordinal.number());
+    Some(sighting)
 }
 
 /// What the end of an assignment shows her, the same way.
@@ -134,10 +133,9 @@ pub(crate) fn unassignment<'a>(
         return None;
     };
     let parts = seat_parts(live, reader, stamped.maker, *paper, *user)?;
-    Some(Sighting {
-        paper: Some(*paper),
-        user: parts.user.then_some(*user),
-        ordinal: parts.ordinal.then_some(ordinal.number()),
-        ..blank(EntryKind::Unassigned, reader == stamped.maker)
-    })
+    let mut sighting = blank(EntryKind::Unassigned, reader == stamped.maker);
+    sighting.paper = Some(*paper);
+    sighting.user = parts.user.then_some(*user);
+    sighting.ordinal = parts.ordinal.then_some(ordinal.number());
+    Some(sighting)
 }

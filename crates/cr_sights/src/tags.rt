@@ -47,10 +47,9 @@ pub(crate) fn tagging<'a>(live: &Live, reader: UserNo, stamped: &'a Stamped) -> 
     if !tells_tag(live, reader, stamped.maker, *paper, tag) {
         return None;
     }
-    Some(Sighting {
-        paper: Some(*paper),
-        on: Some(*on),
-        tag: Some(tag),
-        ..blank(EntryKind::Tagged, reader == stamped.maker)
-    })
+    let mut sighting = blank(EntryKind::Tagged, reader == stamped.maker);
+    sighting.paper = Some(*paper);
+    sighting.on = Some(*on);
+    sighting.tag = Some(tag);
+    Some(sighting)
 }

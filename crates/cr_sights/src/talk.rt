@@ -76,13 +76,13 @@ pub(crate) fn comment<'a>(live: &Live, reader: UserNo, stamped: &'a Stamped) -> 
     if !tells_comment(live, reader, stamped.maker, *paper) {
         return None;
     }
+    let mine = reader == stamped.maker;
     let label = shows_label(live, reader, stamped.maker, *paper);
-    Some(Sighting {
-        paper: Some(*paper),
-        by: shows_writer(live, reader, *paper).then_some(stamped.maker),
-        n: Some(*n),
-        ordinal: label.then_some(label_number(ordinal)),
-        text: Some(text),
-        ..blank(EntryKind::Commented, reader == stamped.maker)
-    })
+    let mut sighting = blank(EntryKind::Commented, mine);
+    sighting.paper = Some(*paper);
+    sighting.by = shows_writer(live, reader, *paper).then_some(stamped.maker);
+    sighting.n = Some(*n);
+    sighting.ordinal = label.then_some(label_number(ordinal));
+    sighting.text = Some(text);
+    Some(sighting)
 }

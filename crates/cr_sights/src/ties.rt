@@ -51,12 +51,11 @@ pub(crate) fn conflict<'a>(
     if !tells_conflict(live, reader, stamped.maker, *user, *paper) {
         return None;
     }
-    Some(Sighting {
-        paper: Some(*paper),
-        user: Some(*user),
-        on: Some(*on),
-        ..blank(EntryKind::Conflict, reader == stamped.maker)
-    })
+    let mut sighting = blank(EntryKind::Conflict, reader == stamped.maker);
+    sighting.paper = Some(*paper);
+    sighting.user = Some(*user);
+    sighting.on = Some(*on);
+    Some(sighting)
 }
 
 /// What a bid shows her: how much is wanted, and by whom where she oversees the paper; or nothing where
@@ -72,10 +71,9 @@ pub(crate) fn bid<'a>(live: &Live, reader: UserNo, stamped: &'a Stamped) -> Opti
         return None;
     }
     let by = live.standing(&Some(reader), &Some(*paper));
-    Some(Sighting {
-        paper: Some(*paper),
-        by: oversees(&by).then_some(stamped.maker),
-        value: Some(*value),
-        ..blank(EntryKind::Bid, reader == stamped.maker)
-    })
+    let mut sighting = blank(EntryKind::Bid, reader == stamped.maker);
+    sighting.paper = Some(*paper);
+    sighting.by = oversees(&by).then_some(stamped.maker);
+    sighting.value = Some(*value);
+    Some(sighting)
 }

@@ -7,7 +7,11 @@ use Rattle.cr_sights.proofs.line.append_line.Goals as goal
 pub returns : goal.returns
 unfolding line_text
 returns c =
-    let members = c.in_ok-add_first.ensures then c.in_ok-add_second.ensures then c.in_ok-add_third.ensures then c.in_ok-add_fourth.ensures then c.in_ok-add_last.ensures in
-    let whole : c.close.new.into.items ≡ c.args.into.now.items ++ object_text (sighting_members c.args.sighting.now) =
-    closed {E = Unit {0}} (Ok tt) c.args.into.now c.open.new.into c.add_last.new.into c.close.new.into _ _ _ c.in_ok-object.ensures.text c.in_ok-object.ensures.first members c.in_ok-close.ensures.text in
-    c.in_ok-push.ensures.items ∙ ap (λ b. b ++ codes "\n") whole ∙ append_assoc c.args.into.now.items (object_text (sighting_members c.args.sighting.now)) (codes "\n")
+    let before = c.args.into.now in
+    let object = object_text (sighting_members c.args.sighting.now) in
+    let members = c.in_ok-add_first.ensures then c.in_ok-add_second.ensures then c.in_ok-add_third.ensures in
+    let all = members then c.in_ok-add_fourth.ensures then c.in_ok-add_last.ensures in
+    let whole : c.close.new.into.items ≡ before.items ++ object =
+    closed {E = Unit {0}} (Ok tt) before c.open.new.into c.add_last.new.into c.close.new.into _ _ _
+    c.in_ok-object.ensures.text c.in_ok-object.ensures.first all c.in_ok-close.ensures.text in
+    c.in_ok-push.ensures.items ∙ ap (λ b. b ++ codes "\n") whole ∙ append_assoc before.items object (codes "\n")

@@ -1,0 +1,33 @@
+use Rattle.std.proofs.Common.{◌≡◌, ◌∙◌, List, [], ◌∷◌, refl, sym, ap, Some, Bor}
+use Rattle.std.specs.Option.{option_map}
+use Rattle.cr_base.specs.declared.entry.Entry.{Entry}
+use Rattle.cr_base.specs.declared.entry.Entry.TheVariants.{Submitted}
+use Rattle.cr_base.specs.declared.texts.Text.{Text}
+use Rattle.cr_policy.specs.Sighting.{Sighting}
+use Rattle.cr_policy.specs.Triggers.{none_alike, user_named}
+use Rattle.cr_sights.specs.Readers.{reader_in}
+use Rattle.cr_sights.proofs.Shown.{last-row, part-shown, lent-shown, seen-shown}
+use Rattle.cr_sights.proofs.papers.submission.Goals as goal
+
+pub returns : goal.returns
+returns c at last =
+    let r = reader_in c.args.live.now.tables (Some c.args.reader) in
+    let e = c.args.stamped.now in
+    let x : Entry = Submitted c.in-Submitted.paper c.in-Submitted.title c.in-Submitted.abstract_ in
+    let here : none_alike x at.after ≡ c.args.is_last = sym (ap (λ (y : Entry). none_alike y at.after) c.in-Submitted.is) ∙ last in
+    let mine = c.eq-mine.ensures in
+    let mine' = mine ∙ last-row (user_named r e.maker) in
+    let by = rw (c.standing-by.ensures, c.is_accepted-accepted.ensures ∙ last-row _) at c.shows_maker.ensures in
+    let title = rw (c.standing-by.ensures, c.is_accepted-accepted.ensures, mine', ← here) at c.shows_title.ensures in
+    let abstract = rw (c.standing-by.ensures, c.is_accepted-accepted.ensures, mine', ← here) at c.shows_abstract.ensures in
+    let made = part-shown _ _ _ _ c.then_some-sighting-inside.ensures by in
+    let titled = lent-shown (λ (text : Bor Text). text.now) _ _ _ _ c.then_some-sighting-inside-2.ensures title in
+    let told = lent-shown (λ (text : Bor Text). text.now) _ _ _ _ c.then_some-sighting-inside-3.ensures abstract in
+    let parts : Sighting → List Sighting = λ s.
+    record s {
+      paper = Some c.in-Submitted.paper;
+      by = c.then_some-sighting-inside.result;
+      title = option_map (λ (text : Bor Text). text.now) c.then_some-sighting-inside-2.result;
+      abstract = option_map (λ (text : Bor Text). text.now) c.then_some-sighting-inside-3.result;
+    } ∷ [] in
+    ap parts (c.sighting.view_is ∙ c.blank-sighting.ensures) ∙ rw (made, titled, told, mine) (seen-shown r at e x c.in-Submitted.is refl)

@@ -1,0 +1,68 @@
+//! What entries of which everyone is told, on accounts, roles, the phase and the mode, show a reader.
+ghost use Rattle.std.specs.Prelude.{◌≡◌, Some};
+ghost use Rattle.cr_base.specs.declared.entry.EntryKind.TheVariants as kinds;
+ghost use Rattle.cr_base.specs.Lists.{listed};
+ghost use Rattle.cr_base.specs.Rows.{kind_of};
+ghost use Rattle.cr_base.specs.Tables.{Tables};
+ghost use Rattle.cr_policy.specs.Triggers.{Around};
+ghost use Rattle.cr_policy.specs.View.{sight as sight_at};
+ghost use Rattle.cr_sights.specs.Readers.{reader_in};
+
+use crate::sighting::{Sighting, blank};
+use cr_base::{Entry, EntryKind, Stamped, UserNo};
+
+/// What a registration shows her: the user and her name, and the digest where it is her own.
+pub(crate) fn registration<'a>(reader: UserNo, stamped: &'a Stamped) -> Option<Sighting<'a>>
+    requires { kind_of stamped.now.entry ≡ kinds.Registered }
+    ensures { (t : Tables) (at : Around) → listed result ≡ sight_at (reader_in t (Some reader)) at stamped.now }
+{
+    let Entry::Registered { user, name, digest } = &stamped.entry else {
+        return None;
+    };
+    let mine = reader == stamped.maker;
+    let mut sighting = blank(EntryKind::Registered, mine);
+    sighting.user = Some(*user);
+    sighting.name = Some(name);
+    sighting.digest = mine.then_some(digest);
+    Some(sighting)
+}
+
+/// What a naming shows her: all of it.
+pub(crate) fn naming<'a>(reader: UserNo, stamped: &'a Stamped) -> Option<Sighting<'a>>
+    requires { kind_of stamped.now.entry ≡ kinds.Named }
+    ensures { (t : Tables) (at : Around) → listed result ≡ sight_at (reader_in t (Some reader)) at stamped.now }
+{
+    let Entry::Named { user, role } = &stamped.entry else {
+        return None;
+    };
+    let mut sighting = blank(EntryKind::Named, reader == stamped.maker);
+    sighting.user = Some(*user);
+    sighting.role = Some(*role);
+    Some(sighting)
+}
+
+/// What another phase shows her: all of it.
+pub(crate) fn phase_set<'a>(reader: UserNo, stamped: &'a Stamped) -> Option<Sighting<'a>>
+    requires { kind_of stamped.now.entry ≡ kinds.PhaseSet }
+    ensures { (t : Tables) (at : Around) → listed result ≡ sight_at (reader_in t (Some reader)) at stamped.now }
+{
+    let Entry::PhaseSet { phase } = &stamped.entry else {
+        return None;
+    };
+    let mut sighting = blank(EntryKind::PhaseSet, reader == stamped.maker);
+    sighting.phase = Some(*phase);
+    Some(sighting)
+}
+
+/// What another mode shows her: all of it.
+pub(crate) fn mode_set<'a>(reader: UserNo, stamped: &'a Stamped) -> Option<Sighting<'a>>
+    requires { kind_of stamped.now.entry ≡ kinds.ModeSet }
+    ensures { (t : Tables) (at : Around) → listed result ≡ sight_at (reader_in t (Some reader)) at stamped.now }
+{
+    let Entry::ModeSet { mode } = &stamped.entry else {
+        return None;
+    };
+    let mut sighting = blank(EntryKind::ModeSet, reader == stamped.maker);
+    sighting.mode = Some(*mode);
+    Some(sighting)
+}
