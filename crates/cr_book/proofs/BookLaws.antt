@@ -1,5 +1,5 @@
 -- What stays true of a book when its history grows.
-use Rattle.std.proofs.Common.{ℕ, ◌≡◌, List, ◌++◌, refl, sym, ap, subst, ◌∙◌, Option, Some, None, Result, IfSome}
+use Rattle.std.proofs.Common.{ℕ, ◌≡◌, ◌≢◌, Bool, true, false, List, ◌++◌, refl, sym, ap, subst, ◌∙◌, Option, Some, None, Result, IfSome, IsSome}
 use Rattle.cr_base.specs.declared.command.Command.{Command}
 use Rattle.cr_base.specs.declared.reply.Rule.{Rule}
 use Rattle.cr_base.specs.declared.row.Row.{Row}
@@ -8,6 +8,7 @@ use Rattle.cr_base.specs.Accounts.{number_at, caller_at}
 use Rattle.cr_base.specs.HistoryFacts.{number_of, caller_of}
 use Rattle.cr_base.specs.declared.command.Query.{Query}
 use Rattle.cr_base.specs.declared.command.Query.TheVariants as queries
+use Rattle.cr_base.specs.declared.search.Step.{Step}
 use Rattle.cr_base.specs.Answering.{answer_by_role, login_wanted}
 use Rattle.cr_base.specs.Drawn.{Drawn}
 use Rattle.cr_base.specs.Judging.{judge_by_role}
@@ -21,20 +22,38 @@ use Rattle.cr_policy.proofs.LegalLaws.{Legal-judge, Legal-answer, Legal-needs_lo
 use Rattle.cr_history.proofs.TableTies.{tables_of-append, rows_of-append}
 use Rattle.cr_ports.specs.Keeping.{and_rows}
 use Rattle.cr_view.specs.Callers.{HasAsker}
+use Rattle.cr_view.specs.Replies.{IsNoRefusal}
 use Rattle.cr_book.specs.Sound.{IsSound}
 
+-- it is no search, which the tables alone don't answer
+abbrev pub IsNoSearch : Query → Type 0
+IsNoSearch query = (search : List Step) (only_count : Bool) → query ≢ queries.Search search only_count
+
 -- whoever may ask what only a user is told is there
-pub asker-there : (h : History) (caller : Option ℕ) (query : Query) → MayAsk h (needs_login (view None h) query) caller → HasAsker caller query
-asker-there h caller queries.Accounts may = tt
-asker-there h caller queries.Phase may = tt
-asker-there h caller queries.AcceptedPapers may = tt
-asker-there h caller (queries.Page paper) may = tt
-asker-there h caller (queries.Content paper) may = tt
-asker-there h caller (queries.Version paper version) may = tt
-asker-there h caller (queries.Reviews paper) may = tt
-asker-there h caller (queries.Comments paper) may = tt
-asker-there h None queries.Me may = cc
-asker-there h (Some u) queries.Me may = refl
+pub asker-there : (h : History) (caller : Option ℕ) (query : Query) → IsNoSearch query → MayAsk h (needs_login (view None h) query) caller → HasAsker caller query
+asker-there h caller queries.Accounts other may = tt
+asker-there h caller queries.Phase other may = tt
+asker-there h caller queries.AcceptedPapers other may = tt
+asker-there h caller (queries.Page paper) other may = tt
+asker-there h caller (queries.Content paper) other may = tt
+asker-there h caller (queries.Version paper version) other may = tt
+asker-there h caller (queries.Reviews paper) other may = tt
+asker-there h caller (queries.Comments paper) other may = tt
+asker-there h None queries.Me other may = cc
+asker-there h (Some u) queries.Me other may = refl
+asker-there h caller (queries.Search search only_count) other may = absurd (other search only_count refl)
+
+-- whoever may search has registered
+pub searcher-there : (h : History) (caller : Option ℕ) (search : List Step) (only_count : Bool)
+    → MayAsk h (needs_login (view None h) (queries.Search search only_count)) caller → IsSome caller
+searcher-there h None search only_count may = cc
+searcher-there h (Some u) search only_count may = refl
+
+-- what a search is told is no refusal
+pub searched-no_refusal : (t : Tables) (caller : Option ℕ) (search : List Step) (only_count : Bool)
+    → IsNoRefusal (answer_by_role t caller (queries.Search search only_count))
+searched-no_refusal t caller search true = λ rule e. absurd (cc)
+searched-no_refusal t caller search false = λ rule e. absurd (cc)
 
 -- ---- one judgement, by the tables and by the view
 

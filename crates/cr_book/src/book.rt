@@ -1,5 +1,6 @@
 //! The book: one history, its tables and its keeper.
-ghost use Rattle.std.specs.Prelude.{◌≡◌, ◌≤◌, ◌++◌, ℕ, length, IfOk, IfErr, IsOk, OnOk, OnErr, IfSome, Ok, Err, None, Some, ◌≢◌};
+ghost use Rattle.std.specs.Prelude.{◌≡◌, ◌≢◌, ◌≤◌, ◌++◌, ℕ, length};
+ghost use Rattle.std.specs.Prelude.{IfOk, IfErr, IsOk, OnOk, OnErr, IfSome, Ok, Err, None, Some};
 ghost use Rattle.cr_base.specs.declared.reply.Rule.{Rule};
 ghost use Rattle.cr_base.specs.HistoryFacts.{number_of, caller_of};
 ghost use Rattle.cr_base.specs.Tables.{tables_of, FitInTurn};
@@ -18,7 +19,7 @@ ghost use Rattle.cr_book.specs.Sound.{IsKept, Accepts};
 
 use crate::opening::{OpenError, read_all};
 use crate::rows::{copies_of, rows_of};
-use cr_base::{Command, Digest, Query, Receipt, Reply, Rule, Short, Stamped, UserNo};
+use cr_base::{Command, Digest, Query, Receipt, Reply, Rule, Search, Short, Stamped, UserNo};
 use cr_lock::Stands;
 use cr_ports::{Keeper, KeeperError, Sink};
 use cr_sights::{ViewError, view_len, write_view};
@@ -122,8 +123,10 @@ impl<K: Keeper> Book<K> {
         ensures accepted { IfOk result (λ receipt. Accepts self.old.log self.new.log caller.now command receipt) }
 
         // A rule is told exactly where Judge gives it, and then nothing changes.
-        ensures rule { (rule : Rule) → judge caller.now (view caller.now self.old.log) command ≡ Err rule → result ≡ Err (BookError.Rule rule) }
-        ensures only_rule { (rule : Rule) → result ≡ Err (BookError.Rule rule) → judge caller.now (view caller.now self.old.log) command ≡ Err rule }
+        ensures rule { (rule : Rule) → judge caller.now (view caller.now self.old.log) command ≡ Err rule
+            → result ≡ Err (BookError.Rule rule) }
+        ensures only_rule { (rule : Rule) → result ≡ Err (BookError.Rule rule)
+            → judge caller.now (view caller.now self.old.log) command ≡ Err rule }
         ensures rule_stays { (rule : Rule) → result ≡ Err (BookError.Rule rule) → self.new ≡ self.old }
 
         // The other errors come only where Judge accepts the command.
@@ -194,14 +197,34 @@ impl<K: Keeper> Book<K> {
     /// reviewers are told, a walk over the paper's forms, `Query::Me` a walk over her own papers, conflicts and
     /// assignments, `Query::Reviews` at most three walks over the paper's forms for each of its labels, of which
     /// there are at most 26, `Query::Comments` a walk over the comments on the paper with a look-up each,
-    /// `Query::Content` and `Query::Version` one look-up, `Query::Phase` nothing that grows. The length of texts
-    /// and contents makes no difference.
+    /// `Query::Content` and `Query::Version` one look-up, `Query::Search` a walk over all papers, which costs each
+    /// what `matches` of `cr_search_eval` does, `Query::Phase` nothing that grows. But for a search, the length of
+    /// texts and contents makes no difference.
     pub fn answer(&self, caller: &Option<UserNo>, query: &Query) -> Result<Reply, AnswerError>
         requires { MayAsk self.now.log (needs_login (view None self.now.log) query.now) caller.now }
         ensures answered { AnswersAsDue result (answer caller.now (view caller.now self.now.log) query.now) }
         ensures sure { OnErr result (query.now ≢ queries.Phase) }
     {
-        self.live.answer(self.alloc, caller, query)
+        match query {
+            Query::Search { search, only_count } => self.answer_search(caller, search, *only_count),
+            _ => self.live.answer(self.alloc, caller, query),
+        }
+    }
+
+    /// The answer to a search, which no rule stands in the way of; an error only for lack of memory.
+    fn answer_search(
+        &self,
+        caller: &Option<UserNo>,
+        search: &Search,
+        only_count: bool,
+    ) -> Result<Reply, AnswerError>
+        requires { MayAsk self.now.log (needs_login (view None self.now.log) (queries.Search search.now only_count)) caller.now }
+        ensures { AnswersAsDue result (answer caller.now (view caller.now self.now.log) (queries.Search search.now only_count)) }
+    {
+        match cr_search_eval::answer(self.alloc, &self.live, caller, search, only_count) {
+            Ok(reply) => Ok(reply),
+            Err(_) => Err(AnswerError::OutOfMemory),
+        }
     }
 
     /// The user whose registration has this name and this digest, and none exactly where nobody's has
@@ -244,7 +267,8 @@ impl<K: Keeper> Book<K> {
     /// sink's count of faults rose, or stands at its last value; else the count is as it was, and `OutOfMemory` comes
     /// for lack of memory alone. No view is made in memory: see `write_view` for the cost.
     pub fn view_lines<O: Sink>(&self, user: UserNo, sink: &mut O) -> Result<(), ViewError>
-        ensures { WritesView result (lines_text (view (Some user) self.now.log)) (outlet_of O.taken O.faults sink.old) (outlet_of O.taken O.faults sink.new) }
+        ensures { let outlet = outlet_of O.taken O.faults in
+            WritesView result (lines_text (view (Some user) self.now.log)) (outlet sink.old) (outlet sink.new) }
     {
         write_view(self.alloc, &self.live, &self.log, user, sink)
     }

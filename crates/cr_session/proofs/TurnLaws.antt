@@ -94,6 +94,10 @@ pub bad_body : (w : Wish) (u : Option ℕ) (b : Ledger) (ask : Ask) → w.what �
     → is_unauthorized u (view u b.history) (whats.BadBody ask) ≡ false → AnswersWish (turns.Refused refused.BadBody) w b b
 bad_body w u b ask is by may = refused-turn refused.BadBody w u (whats.BadBody ask) b is by may (λ close. refl) refl
 
+pub bad_query : (w : Wish) (u : Option ℕ) (b : Ledger) (place : ℕ) → w.what ≡ whats.BadQuery place → u ≡ caller b.history w
+    → is_unauthorized u (view u b.history) (whats.BadQuery place) ≡ false → AnswersWish (turns.Refused (refused.BadQuery place)) w b b
+bad_query w u b place is by may = refused-turn (refused.BadQuery place) w u (whats.BadQuery place) b is by may (λ close. refl) refl
+
 -- ---- commands
 
 told-command : (H : History) (w : Wish) (u : Option ℕ) (command : Command) (r : Result Drawn Rule) (close : Bool) → w.what ≡ whats.Command command
@@ -124,6 +128,7 @@ command-turn (turns.Refused refused.NoRoute) w u command b b' is by may j = absu
 command-turn (turns.Refused (refused.WrongMethod place)) w u command b b' is by may j = absurd j
 command-turn (turns.Refused refused.Unauthorized) w u command b b' is by may j = absurd j
 command-turn (turns.Refused refused.BadBody) w u command b b' is by may j = absurd j
+command-turn (turns.Refused (refused.BadQuery place)) w u command b b' is by may j = absurd j
 command-turn (turns.Refused refused.KeeperFault) w u command b b' is by may j = absurd j
 command-turn (turns.Refused refused.NoMemory) w u command b b' is by may j = absurd j
 command-turn (turns.Accepted receipt) w u command b b' is by may j = record {

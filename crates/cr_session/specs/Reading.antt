@@ -8,7 +8,7 @@ use Rattle.cr_http.specs.Requests.{RequestText}
 use Rattle.cr_http.specs.ToHead.{IsToHead}
 use Rattle.cr_wire.specs.declared.what.Wish.{Wish}
 use Rattle.cr_http.specs.Head.{is_head_method}
-use Rattle.cr_wire.specs.Asked.{LooksAtBody}
+use Rattle.cr_wire.specs.Asked.{LooksBehindPath}
 use Rattle.cr_wire.specs.Bounds.{IsBoundedWhat}
 use Rattle.cr_wire.specs.Wish.{wish_text}
 use Rattle.cr_session.specs.declared.reading.WishRead.{WishRead}
@@ -24,9 +24,9 @@ pub record StandsWish (text : List ℕ) (w : Wish) (rest : List ℕ) : Type 0 wh
 abbrev pub IsUnfinished : List ℕ → Type 0
 IsUnfinished text = StandsAt text clean ⊎ StandsAt text cut
 
--- memory may run out in reading on: for more bytes, or for the body of the request at the front
+-- memory may run out in reading on: for more bytes, or for the body or the search of the request at the front
 abbrev pub MayWantToRead : List ℕ → Type 0
-MayWantToRead text = IsUnfinished text ⊎ ((w : Wish) × (rest : List ℕ) × StandsWish text w rest × LooksAtBody w.what)
+MayWantToRead text = IsUnfinished text ⊎ ((w : Wish) × (rest : List ℕ) × StandsWish text w rest × LooksBehindPath w.what)
 
 -- what the answer says of the text that came so far, and what of it is kept
 abbrev pub Says : WishRead → List ℕ → List ℕ → Type 0
@@ -55,11 +55,11 @@ IsBoundedRead reads.Cut = Unit {0}
 IsBoundedRead reads.ReadFault = Unit {0}
 IsBoundedRead (reads.OutOfMemory head) = Unit {0}
 
--- the wish of the request at hand, or memory ran out where its body was looked at, told to HEAD exactly where the request
+-- the wish of the request at hand, or memory ran out where its body or its search was looked at, told to HEAD exactly where the request
 -- is one to HEAD
 abbrev pub IsAtHand : WishRead → Option RequestText → Type 0
 IsAtHand (reads.Wish w) request = IfSome request (λ r. w ≡ wish_text r)
-IsAtHand (reads.OutOfMemory head) request = IfSome request (λ r. (head ≡ is_head_method r.head) × LooksAtBody (wish_text r).what)
+IsAtHand (reads.OutOfMemory head) request = IfSome request (λ r. (head ≡ is_head_method r.head) × LooksBehindPath (wish_text r).what)
 IsAtHand (reads.Malformed why head) request = ⊥
 IsAtHand reads.Clean request = ⊥
 IsAtHand reads.Cut request = ⊥

@@ -12,7 +12,7 @@ use Rattle.cr_print.specs.declared.form.Form.{Form}
 use Rattle.cr_print.specs.declared.refused.Refused.TheVariants as refused
 use Rattle.cr_print.specs.Answers.{refusal_text, reply_text}
 use Rattle.cr_wire.specs.declared.what.What.{What}
-use Rattle.cr_wire.specs.declared.what.What.TheVariants.{NoRoute, WrongMethod, BadBody, Command, Query}
+use Rattle.cr_wire.specs.declared.what.What.TheVariants.{NoRoute, WrongMethod, BadBody, BadQuery, Command, Query}
 use Rattle.cr_wire.specs.declared.what.Wish.{Wish}
 use Rattle.cr_wire.specs.Caller.{caller, wants_login}
 
@@ -38,6 +38,7 @@ abbrev pub served_to : Option ℕ → View → Form → What → List ℕ
 served_to u V form NoRoute = refusal_text refused.NoRoute form
 served_to u V form (WrongMethod place) = refusal_text (refused.WrongMethod place) form
 served_to u V form (BadBody ask) = refusal_text refused.BadBody form
+served_to u V form (BadQuery place) = refusal_text (refused.BadQuery place) form
 served_to u V form (Command command) = reply_text (reply_of (judge u V command)) form
 served_to u V form (Query query) = reply_text (answer u V query) form
 
@@ -66,6 +67,7 @@ abbrev pub drawn_of : Option ℕ → View → What → Option Drawn
 drawn_of u V NoRoute = None
 drawn_of u V (WrongMethod place) = None
 drawn_of u V (BadBody ask) = None
+drawn_of u V (BadQuery place) = None
 drawn_of u V (Command command) = accepted (judge u V command)
 drawn_of u V (Query query) = None
 

@@ -53,6 +53,7 @@ abbrev pub WantsRoom : Option ℕ → View → What → Type 0
 WantsRoom u V whats.NoRoute = ⊥
 WantsRoom u V (whats.WrongMethod place) = ⊥
 WantsRoom u V (whats.BadBody ask) = ⊥
+WantsRoom u V (whats.BadQuery place) = ⊥
 WantsRoom u V (whats.Command command) = IsOk (judge u V command)
 WantsRoom u V (whats.Query query) = (rule : Rule) → answer u V query ≢ replies.Refused rule
 

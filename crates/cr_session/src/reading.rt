@@ -71,8 +71,8 @@ pub enum WishRead {
 /// Nothing is read ahead: each read is made only where neither a whole request nor a refusal stands in
 /// what has come. `ReadFault` comes only where the source's count of faults rose, or stands at its last
 /// value, and with every other answer that count is as it was. `OutOfMemory` comes for lack of memory
-/// alone, and only where more bytes are needed or a body is looked at. Costs the reads, a few looks at
-/// each byte of the head, and one reading of a JSON body where one is wanted.
+/// alone, and only where more bytes are needed, or a body or a search is looked at. Costs the reads, a few looks at
+/// each byte of the head, and one reading of a JSON body or of a search where one is wanted.
 pub fn read_wish<S: Source>(alloc: Global, source: &mut S, inbox: &mut RoutedInbox) -> WishRead
     ensures reads { ReadsWish S.left S.read_gives source.old source.new inbox.old inbox.new result }
     ensures bounded { IsBoundedRead result }

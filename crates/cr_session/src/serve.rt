@@ -197,7 +197,7 @@ fn serve_next<R: Wait, K: Keeper, S: Source, O: Sink>(
 ///
 /// `OutOfMemory` comes for lack of memory alone. The room for answers is made at the beginning: where it
 /// can't be had, the connection ends before anything is read. Later, memory may run out for more bytes,
-/// for reading a body, for an accepted command and for a query that isn't refused, and for nothing else.
+/// for reading a body or a search, for an accepted command and for a query that isn't refused, and for nothing else.
 pub fn serve_connection<R: Wait, K: Keeper, S: Source, O: Sink>(
     rt: &R,
     alloc: Global,

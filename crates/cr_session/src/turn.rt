@@ -71,6 +71,7 @@ pub(crate) fn take_turn<K: Keeper>(book: &mut Book<K>, wish: Wish) -> TurnResult
         What::NoRoute => TurnResult::Refused(Refused::NoRoute),
         What::WrongMethod(place) => TurnResult::Refused(Refused::WrongMethod(place)),
         What::BadBody(_) => TurnResult::Refused(Refused::BadBody),
+        What::BadQuery { place } => TurnResult::Refused(Refused::BadQuery { place }),
         What::Command(command) => judge(book, &caller, command),
         What::Query(query) => answer(book, &caller, &query),
     }

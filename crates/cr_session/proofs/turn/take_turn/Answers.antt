@@ -4,7 +4,7 @@ use Rattle.cr_wire.specs.Bounds.{IsBoundedWhat}
 use Rattle.cr_wire.specs.declared.what.What.{What}
 use Rattle.cr_session.specs.Replay.{ledger_of}
 use Rattle.cr_session.specs.Told.{is_unauthorized}
-use Rattle.cr_session.proofs.TurnLaws.{unauthorized, no_route, wrong_method, bad_body, command-turn, query-turn, caller-command, may-query}
+use Rattle.cr_session.proofs.TurnLaws.{unauthorized, no_route, wrong_method, bad_body, bad_query, command-turn, query-turn, caller-command, may-query}
 use Rattle.cr_session.proofs.turn.take_turn.Goals as goal
 
 pub returns-then-is_unauthorized : goal.returns-then-is_unauthorized
@@ -25,6 +25,11 @@ pub returns-in-BadBody : goal.returns-in-BadBody
 returns-in-BadBody g c =
     bad_body c.args.wish _ (ledger_of g.K.Keeper.faults c.args.book.now) _ c.in-BadBody.is c.caller_of-caller.ensures
     (ap (λ (x : What). is_unauthorized c.caller_of-caller.result (view c.caller_of-caller.result c.args.book.now.log) x) (sym c.in-BadBody.is) ∙ sym c.is_unauthorized.ensures ∙ c.if-is_unauthorized.false)
+
+pub returns-in-BadQuery : goal.returns-in-BadQuery
+returns-in-BadQuery g c =
+    bad_query c.args.wish _ (ledger_of g.K.Keeper.faults c.args.book.now) _ c.in-BadQuery.is c.caller_of-caller.ensures
+    (ap (λ (x : What). is_unauthorized c.caller_of-caller.result (view c.caller_of-caller.result c.args.book.now.log) x) (sym c.in-BadQuery.is) ∙ sym c.is_unauthorized.ensures ∙ c.if-is_unauthorized.false)
 
 pub judge-requires : goal.judge-requires
 judge-requires g c =

@@ -1,4 +1,5 @@
 use Rattle.std.proofs.Common.{◌∙◌, ap, sym, subst, None}
+use Rattle.cr_base.specs.declared.command.Query.{Query}
 use Rattle.cr_base.specs.declared.reply.Reply.{Reply}
 use Rattle.cr_base.specs.History.{History}
 use Rattle.cr_policy.specs.Judge.{answer, needs_login}
@@ -9,15 +10,25 @@ use Rattle.cr_book.specs.Seen.{SeenBook}
 use Rattle.cr_book.proofs.BookLaws.{answered-by_view, asker-there}
 use Rattle.cr_book.proofs.book.Book.answer.Goals as goal
 
+pub answer_search-requires : goal.answer_search-requires
+answer_search-requires g c =
+    subst (λ (q : Query). MayAsk c.args.self.now.log (needs_login (view None c.args.self.now.log) q) c.args.caller.now) c.in-Search.is c.requires
+
 pub answer-requires : goal.answer-requires
 answer-requires g c =
     let u = c.args.caller.now in
     let q = c.args.query.now in
     let same = ap (λ (v : SeenBook g.row.K.Denot). v.log) c.self.view_is in
-    record { caller = asker-there c.self.inside.log.items u q (subst (λ (h : History). MayAsk h (needs_login (view None h) q) u) (sym same) c.requires) }
+    let may = subst (λ (h : History). MayAsk h (needs_login (view None h) q) u) (sym same) c.requires in
+    record { caller = asker-there c.self.inside.log.items u q c.in_default.not-Search may }
 
-pub returns-clause-answered : goal.returns-clause-answered
-returns-clause-answered g c =
+pub returns-in-Search-clause-answered : goal.returns-in-Search-clause-answered
+returns-in-Search-clause-answered g c =
+    subst (λ (q : Query). AnswersAsDue c.answer_search.result (answer c.args.caller.now (view c.args.caller.now c.args.self.now.log) q))
+    (sym c.in-Search.is) c.answer_search.ensures
+
+pub returns-in_default-clause-answered : goal.returns-in_default-clause-answered
+returns-in_default-clause-answered g c =
     let u = c.args.caller.now in
     let q = c.args.query.now in
     let same = ap (λ (v : SeenBook g.row.K.Denot). v.log) c.self.view_is in
