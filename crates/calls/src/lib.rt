@@ -1,15 +1,14 @@
-//! Each call that may run out of memory, once with ample memory, and what no clause says: tables, requests and answers, and
-//! gates. A digest by its public example, and the answer to a lack of memory.
+//! Each call of ports, locks and sockets that may run out of memory, once with ample memory, and what no clause says: what
+//! adapters do over streams that fail, and 64 threads on one history.
 //!
-//! These tests of many crates stand in three, `calls`, `calls_of_books` and `calls_of_stores`, since a crate with tests is
-//! proved a second time with them, and three are proved side by side. Whole runs are cases of the program `conformance`.
+//! The tests of the crates stand in three, `calls`, `calls_of_books` and `calls_of_stores`, since a crate with tests is
+//! proved a second time with them, and three are proved side by side. Whole runs are cases of the program `conformance`,
+//! and what a case shows has no test.
 #![tactic(auto)]
 
 #[cfg(test)]
-mod bytes;
+mod locks;
 #[cfg(test)]
-mod gates;
-#[cfg(test)]
-mod tables;
+mod ports;
 #[cfg(test)]
 mod tcp;

@@ -1,12 +1,14 @@
-//! Each call of books, connections and workers that may run out of memory, once with ample memory, and what no clause says:
-//! the rows of a conference, and two workers at once.
+//! Each call of books, connections and workers that may run out of memory and that no case of `conformance` shows, once with
+//! ample memory; and what no clause says: two workers at once, the statuses by their numbers, and the answer to a lack of memory.
 #![tactic(auto)]
 
 #[cfg(test)]
 mod book;
 #[cfg(test)]
-mod rows;
+mod exits;
 #[cfg(test)]
-mod words;
+mod no_memory;
+#[cfg(test)]
+mod passes;
 #[cfg(test)]
 mod workers;

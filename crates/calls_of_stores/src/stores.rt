@@ -1,18 +1,17 @@
 //! What no clause says: that rows come back as they were from a store that was closed, and what a
 //! reason's text is. `checks/store.py` tries bad stores, on real files.
 ghost use Rattle.std.specs.Prelude.{◌≡◌, IsTrue, IfSome, None};
-ghost use Rattle.sqlite_disk.specs.Memory.{memory_is_usable};
 
 use cr_base::{Blob, Row};
 use cr_ports::Keeper;
 use cr_sqlite::{Reason, SqliteKeeper};
 use sqlite::{Alter, Connection, Error, ErrorCode, File, FileStore, Files, Options};
-use sqlite_disk::Memory;
+use sqlite_disk::{Disk, Memory};
 use std::alloc::{AllocError, Global};
 use std::test::Fail;
 
-// Each step is a function that gives plain values back: a proof that carries the
-// clauses of several calls, and the ways in which what is open is dropped, takes many minutes.
+// Each step is a function over any disk that gives plain values back, and the tests alone name the disk: a proof that carries
+// the clauses of several calls, and the ways in which what is open is dropped, takes many minutes.
 
 fn must_send<T: Send>(_: &T) {}
 
@@ -93,8 +92,8 @@ fn is_same(one: &Row, other: &Row) -> bool {
     one.b2.as_slice() == other.b2.as_slice()
 }
 
-fn open(alloc: Global, log: Memory, db: Memory) -> Option<Connection<FileStore<Memory>>>
-    requires { IsTrue (memory_is_usable log) × IsTrue (memory_is_usable db) }
+fn open<D: Disk + Drop>(alloc: Global, log: D, db: D) -> Option<Connection<FileStore<D>>>
+    requires { IsTrue (D.Disk.is_usable log) × IsTrue (D.Disk.is_usable db) }
 {
     match Connection::open_files(alloc, Files { log, db }, Options::new(1)) {
         Ok(conn) => Some(conn),
@@ -109,8 +108,8 @@ fn adopt<S: Alter + Drop>(alloc: Global, conn: Connection<S>) -> Option<SqliteKe
     }
 }
 
-fn close(conn: Connection<FileStore<Memory>>) -> Option<Memory>
-    ensures { IfSome result (λ db. IsTrue (memory_is_usable db)) }
+fn close<D: Disk + Drop>(conn: Connection<FileStore<D>>) -> Option<D>
+    ensures { IfSome result (λ db. IsTrue (D.Disk.is_usable db)) }
 {
     match conn.close_files() {
         Ok(Files { log: _, db }) => Some(db),
@@ -118,35 +117,21 @@ fn close(conn: Connection<FileStore<Memory>>) -> Option<Memory>
     }
 }
 
-fn none_of(_: Error) -> Option<Memory>
+fn none_of<D>(_: Error) -> Option<D>
     ensures { result ≡ None }
 {
     None
 }
 
-/// The connection, in whose database the rows are kept.
-fn keep<S: Alter + Drop>(mut keeper: SqliteKeeper<S>, rows: &[Row]) -> Option<Connection<S>> {
-    match keeper.append_all(rows) {
-        Ok(()) => Some(keeper.release()),
-        Err(_) => None,
-    }
-}
-
-fn keep_in<S: Alter + Drop>(
-    alloc: Global,
-    conn: Connection<S>,
-    rows: &[Row],
-) -> Option<Connection<S>> {
-    keep(adopt(alloc, conn)?, rows)
-}
-
-/// The database, closed, in which the rows are kept.
-fn write(alloc: Global, log: Memory, db: Memory, rows: &[Row]) -> Option<Memory>
-    requires { IsTrue (memory_is_usable log) × IsTrue (memory_is_usable db) }
-    ensures { IfSome result (λ db. IsTrue (memory_is_usable db)) }
-{
-    let conn = open(alloc, log, db)?;
-    close(keep_in(alloc, conn, rows)?)
+/// What is done in a store that is open.
+#[derive(Clone, Copy)]
+enum Task<'a> {
+    /// These rows are kept.
+    Keep(&'a [Row]),
+    /// Its rows are looked at, and are these.
+    Find(&'a [Row]),
+    /// Rows are kept, of which some are of a kind that no store takes.
+    Refuse,
 }
 
 fn reads<S: Alter>(keeper: &mut SqliteKeeper<S>, at: u64, wanted: &Row) -> bool {
@@ -164,53 +149,6 @@ fn reads_all<S: Alter>(keeper: &mut SqliteKeeper<S>, rows: &[Row]) -> bool {
         }
     }
     keeper.len() == Ok(rows.len() as u64)
-}
-
-fn has<S: Alter + Drop>(alloc: Global, conn: Connection<S>, rows: &[Row]) -> bool {
-    match adopt(alloc, conn) {
-        Some(mut keeper) => reads_all(&mut keeper, rows),
-        None => false,
-    }
-}
-
-/// Whether the database, opened again, has these rows.
-fn finds(alloc: Global, log: Memory, db: Memory, rows: &[Row]) -> bool
-    requires { IsTrue (memory_is_usable log) × IsTrue (memory_is_usable db) }
-{
-    match open(alloc, log, db) {
-        Some(conn) => has(alloc, conn, rows),
-        None => false,
-    }
-}
-
-fn come_back(alloc: Global, rows: &[Row]) -> bool {
-    match write(alloc, Memory::new(alloc), Memory::new(alloc), rows) {
-        Some(db) => finds(alloc, Memory::new(alloc), db, rows),
-        None => false,
-    }
-}
-
-#[test]
-fn rows_outlive_the_connection(rt: HostRuntime) -> Result<(), Fail> {
-    let rows = [registered(rt.alloc())?, named()];
-    assert!(rt; come_back(rt.alloc(), rows.as_slice()));
-    Ok(())
-}
-
-/// A row of each kind that a store takes, the last one first.
-fn of_each_kind(alloc: Global) -> Result<Vec<Row>, AllocError> {
-    let mut rows = Vec::new(alloc);
-    for kind in (1..18).rev() {
-        rows.push(of_kind(kind))?;
-    }
-    Ok(rows)
-}
-
-#[test]
-fn rows_of_each_kind_come_back(rt: HostRuntime) -> Result<(), Fail> {
-    let rows = of_each_kind(rt.alloc())?;
-    assert!(rt; come_back(rt.alloc(), rows.as_slice()));
-    Ok(())
 }
 
 fn appends<S: Alter>(keeper: &mut SqliteKeeper<S>, rows: &[Row]) -> bool {
@@ -232,22 +170,86 @@ fn appended<S: Alter>(keeper: &mut SqliteKeeper<S>) -> [(bool, Option<u64>); 3] 
     ]
 }
 
-fn appended_in<S: Alter + Drop>(
-    alloc: Global,
-    conn: Connection<S>,
-) -> Option<[(bool, Option<u64>); 3]> {
-    let mut keeper = adopt(alloc, conn)?;
-    Some(appended(&mut keeper))
+fn is_done<S: Alter>(keeper: &mut SqliteKeeper<S>, task: Task<'_>) -> bool {
+    match task {
+        Task::Keep(rows) => appends(keeper, rows),
+        Task::Find(rows) => reads_all(keeper, rows),
+        Task::Refuse => appended(keeper) == [(true, Some(0)), (false, Some(0)), (true, Some(1))],
+    }
 }
 
-fn appended_to_memory(alloc: Global) -> Option<[(bool, Option<u64>); 3]> {
-    appended_in(alloc, open(alloc, Memory::new(alloc), Memory::new(alloc))?)
+/// The connection, where the task is done in its database.
+fn done_in<S: Alter + Drop>(
+    alloc: Global,
+    conn: Connection<S>,
+    task: Task<'_>,
+) -> Option<Connection<S>> {
+    let mut keeper = adopt(alloc, conn)?;
+    if !is_done(&mut keeper, task) {
+        return None;
+    }
+    Some(keeper.release())
+}
+
+/// The database, closed again, where the task is done in it.
+fn visited<D: Disk + Drop>(alloc: Global, log: D, db: D, task: Task<'_>) -> Option<D>
+    requires { IsTrue (D.Disk.is_usable log) × IsTrue (D.Disk.is_usable db) }
+    ensures { IfSome result (λ db. IsTrue (D.Disk.is_usable db)) }
+{
+    let conn = open(alloc, log, db)?;
+    close(done_in(alloc, conn, task)?)
+}
+
+/// Whether rows that are kept in a database come back, once it was closed, with another log.
+fn come_back<D: Disk + Drop>(alloc: Global, log: D, other: D, db: D, rows: &[Row]) -> bool
+    requires { IsTrue (D.Disk.is_usable log) × IsTrue (D.Disk.is_usable other) × IsTrue (D.Disk.is_usable db) }
+{
+    match visited(alloc, log, db, Task::Keep(rows)) {
+        Some(db) => visited(alloc, other, db, Task::Find(rows)).is_some(),
+        None => false,
+    }
+}
+
+/// Adds the rows of a first registration, and a row of each kind that a store takes, the last one first.
+fn add_each_kind(alloc: Global, rows: &mut Vec<Row>) -> Result<(), AllocError> {
+    rows.push(registered(alloc)?)?;
+    rows.push(named())?;
+    for kind in (1..18).rev() {
+        rows.push(of_kind(kind))?;
+    }
+    Ok(())
+}
+
+fn of_each_kind(alloc: Global) -> Result<Vec<Row>, AllocError> {
+    let mut rows = Vec::new(alloc);
+    add_each_kind(alloc, &mut rows)?;
+    Ok(rows)
+}
+
+fn come_back_in_memory(alloc: Global, rows: &[Row]) -> bool {
+    come_back(
+        alloc,
+        Memory::new(alloc),
+        Memory::new(alloc),
+        Memory::new(alloc),
+        rows,
+    )
+}
+
+#[test]
+fn rows_outlive_the_connection(rt: HostRuntime) -> Result<(), Fail> {
+    let rows = of_each_kind(rt.alloc())?;
+    assert!(rt; come_back_in_memory(rt.alloc(), rows.as_slice()));
+    Ok(())
+}
+
+fn is_refused_in_memory(alloc: Global) -> bool {
+    visited(alloc, Memory::new(alloc), Memory::new(alloc), Task::Refuse).is_some()
 }
 
 #[test]
 fn a_row_of_no_kind_keeps_nothing(rt: HostRuntime) {
-    let told = [(true, Some(0)), (false, Some(0)), (true, Some(1))];
-    assert!(rt; appended_to_memory(rt.alloc()) == Some(told));
+    assert!(rt; is_refused_in_memory(rt.alloc()));
 }
 
 fn is_told(alloc: Global, reason: Reason, text: &str) -> bool {

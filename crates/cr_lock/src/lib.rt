@@ -52,8 +52,6 @@ mod pass_state;
 mod rule;
 mod stands;
 mod steps;
-#[cfg(test)]
-mod tests;
 
 pub use lock::{HistoryLock, SplitError};
 pub use pass::Pass;

@@ -42,6 +42,3 @@ pub use source::{ReadStep, Source};
 pub use sources::{MemSource, PlainSource};
 pub use streams::{ReadSource, WriteSink};
 pub use writing::{WriteFault, write_all};
-
-#[cfg(test)]
-mod tests;

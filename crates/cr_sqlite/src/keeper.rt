@@ -162,6 +162,21 @@ impl<S: Alter> SqliteKeeper<S> {
         conn
     }
 
+    /// The connection, how many calls have failed, and what the last fault was.
+    pub(crate) fn into_parts(self) -> (Connection<S>, u64, Option<Reason>)
+        ensures { result.1 ≡ self }
+    {
+        let SqliteKeeper {
+            conn,
+            lanes: _,
+            len: _,
+            next: _,
+            faults,
+            reason,
+        } = self;
+        (conn, faults, reason)
+    }
+
     /// How many calls have failed.
     pub fn faults(&self) -> u64
         ensures { result ≡ self.now }

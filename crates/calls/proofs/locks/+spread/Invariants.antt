@@ -1,4 +1,4 @@
-use Rattle.cr_lock.proofs.tests.+spread.Given as goal
+use Rattle.calls.proofs.locks.+spread.Given as goal
 
 abbrev pub decreases-spread : goal.decreases-spread
 decreases-spread l = l.pass.share

@@ -1,5 +1,5 @@
 use Rattle.std.proofs.Common.{◌+◌, ◌*◌}
-use Rattle.cr_lock.proofs.tests.+crowd.Given as goal
+use Rattle.calls.proofs.locks.+crowd.Given as goal
 
 abbrev pub decreases-act_in_crowd : goal.decreases-act_in_crowd
 decreases-act_in_crowd g l = 2 * l.pass.share

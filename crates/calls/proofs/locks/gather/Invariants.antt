@@ -1,5 +1,5 @@
 use Rattle.std.proofs.Common.{◌≡◌, ◌+◌, length, All}
-use Rattle.cr_lock.proofs.tests.gather.Given as goal
+use Rattle.calls.proofs.locks.gather.Given as goal
 
 abbrev pub invariant-loop-pass : goal.invariant-loop-pass
 invariant-loop-pass l = (l.all.lock ≡ l.lock.lock) × (l.all.share + length l.passes.items ≡ length l.fn.passes.items)

@@ -1,11 +1,9 @@
-//! Splits down to the last share, and 64 threads.
+//! A lock's passes: splits down to the last share, and 64 threads.
 ghost use Rattle.std.specs.Prelude.{◌≡◌, ℕ, List, [], ◌∷◌, ◌++◌, ◌+◌, ◌<◌, ◌≤◌, ◌^◌, length, vec_len, All, OnOk, IfOk, IfSome, MatchResult};
 ghost use Rattle.std.specs.Thread.{IsSync};
 ghost use Rattle.cr_lock.specs.Turns.{groups_of};
 
-use crate::lock::{HistoryLock, SplitError};
-use crate::pass::Pass;
-use crate::stands::Stands;
+use cr_lock::{HistoryLock, Pass, SplitError, Stands};
 use std::alloc::{AllocError, Global};
 use std::sync::Wait;
 use std::test::Fail;
@@ -43,8 +41,17 @@ impl Acts {
     fn record(&mut self, act: Act) -> Result<(), AllocError>
         ensures { MatchResult result (λ _. self.new.log.items ≡ self.old.log.items ++ act ∷ []) (λ _. self.new.log.items ≡ self.old.log.items) }
     {
-        self.log.push(act).map_err(|_| AllocError)
+        self.log.push(act)?;
+        Ok(())
     }
+}
+
+/// Puts a pass behind the others.
+fn keep(passes: &mut Vec<Pass<Acts>>, pass: Pass<Acts>) -> Result<(), AllocError>
+    ensures { OnOk result (passes.new.items ≡ passes.old.items ++ pass ∷ []) }
+{
+    passes.push(pass)?;
+    Ok(())
 }
 
 /// Splits the pass until each part has share 1, and puts the parts behind the others.
@@ -63,7 +70,7 @@ fn spread(
             spread(lock, larger, passes)?;
             spread(lock, smaller, passes)
         }
-        Err((_, pass)) => passes.push(pass).map_err(|_| AllocError),
+        Err((_, pass)) => keep(passes, pass),
     }
 }
 

@@ -1,0 +1,252 @@
+//! Sources, sinks, keepers and shelves in memory, and the adapters over streams, through their bounds.
+
+use cr_base::{Blob, Row};
+use cr_ports::{
+    Keeper, KeeperError, MemKeeper, MemShelf, MemSink, MemSource, PlainKeeper, PlainSource,
+    ReadSource, ReadStep, Shelf, Sink, Source, WriteSink, WriteStep,
+};
+use std::alloc::{AllocError, Global};
+use std::io::{self, Cursor, Read, Write};
+use std::test::Fail;
+
+/// Three reads of at most four bytes each.
+fn reads<S: Source>(source: &mut S) -> [ReadStep; 3] {
+    let mut buf = [0; 4];
+    [
+        source.read(&mut buf),
+        source.read(&mut buf),
+        source.read(&mut buf),
+    ]
+}
+
+/// Three writes.
+fn writes<S: Sink>(sink: &mut S, pieces: [&[u8]; 3]) -> [WriteStep; 3] {
+    let [first, second, third] = pieces;
+    [sink.write(first), sink.write(second), sink.write(third)]
+}
+
+/// Gives one byte a call, and fails at its second call.
+#[derive(Drop)]
+struct FailingReader {
+    calls: u64,
+}
+
+impl Read for FailingReader {
+    fn read(&mut self, buf: &mut [u8]) -> io::Result<usize> {
+        self.calls = self.calls.saturating_add(1);
+        if self.calls == 2 {
+            return Err(io::Error::from(io::ErrorKind::Other));
+        }
+        if buf.is_empty() {
+            return Ok(0);
+        }
+        buf[0] = b'a';
+        Ok(1)
+    }
+}
+
+/// Takes two bytes a call, and fails at its second flush.
+#[derive(Drop)]
+struct FailingFlush {
+    flushes: u64,
+}
+
+impl Write for FailingFlush {
+    fn write(&mut self, buf: &[u8]) -> io::Result<usize> {
+        Ok(buf.len().min(2))
+    }
+
+    fn flush(&mut self) -> io::Result<()> {
+        self.flushes = self.flushes.saturating_add(1);
+        if self.flushes == 2 {
+            return Err(io::Error::from(io::ErrorKind::Other));
+        }
+        Ok(())
+    }
+}
+
+/// Gives pieces of one byte and of as many as are asked for; its second and its fourth call fail.
+fn scripted_source(alloc: Global) -> Result<MemSource, AllocError> {
+    let bytes = b"0123456".as_slice().to_vec(alloc)?;
+    let pieces = [1, 0, 9].as_slice().to_vec(alloc)?;
+    let failing = [1, 3].as_slice().to_vec(alloc)?;
+    Ok(MemSource::new(bytes, pieces, failing))
+}
+
+/// What it gives at six reads.
+fn scripted_reads(alloc: Global) -> Result<[[ReadStep; 3]; 2], AllocError> {
+    let mut source = scripted_source(alloc)?;
+    Ok([reads(&mut source), reads(&mut source)])
+}
+
+/// What the seven bytes give that no list cuts.
+fn plain_reads(alloc: Global) -> Result<[ReadStep; 3], AllocError> {
+    let mut source = PlainSource::new(b"0123456".as_slice().to_vec(alloc)?);
+    Ok(reads(&mut source))
+}
+
+#[test]
+fn sources(rt: HostRuntime) -> Result<(), Fail> {
+    let scripted = scripted_reads(rt.alloc())?;
+    let plain = plain_reads(rt.alloc())?;
+    assert!(rt; scripted[0] == [ReadStep::Got(1), ReadStep::Failed, ReadStep::Got(4)]);
+    assert!(rt; scripted[1] == [ReadStep::Failed, ReadStep::Got(2), ReadStep::End]);
+    assert!(rt; plain == [ReadStep::Got(4), ReadStep::Got(3), ReadStep::End]);
+    Ok(())
+}
+
+#[test]
+fn readers(rt: HostRuntime) {
+    let whole = reads(&mut ReadSource::new(Cursor::new(b"0123456".as_slice())));
+    let failing = reads(&mut ReadSource::new(FailingReader { calls: 0 }));
+    assert!(rt; whole == [ReadStep::Got(4), ReadStep::Got(3), ReadStep::End]);
+    assert!(rt; failing == [ReadStep::Got(1), ReadStep::Failed, ReadStep::Got(1)]);
+}
+
+/// Takes six bytes, in pieces of one, three, and as many as there are; its second call fails.
+fn scripted_sink(alloc: Global) -> Result<MemSink, AllocError> {
+    let pieces = [1, 0, 3].as_slice().to_vec(alloc)?;
+    let failing = [1].as_slice().to_vec(alloc)?;
+    MemSink::new(alloc, 6, pieces, failing)
+}
+
+/// What it answers to six writes, and whether it has the six bytes then.
+fn scripted_writes(alloc: Global) -> Result<([[WriteStep; 3]; 2], bool), AllocError> {
+    let mut sink = scripted_sink(alloc)?;
+    let steps = [
+        writes(&mut sink, [b"0123".as_slice(), b"1234", b"1234"]),
+        writes(&mut sink, [b"4567".as_slice(), b"67", b""]),
+    ];
+    Ok((steps, sink.taken() == b"012345".as_slice()))
+}
+
+#[test]
+fn sinks(rt: HostRuntime) -> Result<(), Fail> {
+    let (steps, is_whole) = scripted_writes(rt.alloc())?;
+    assert!(rt; steps[0] == [WriteStep::Took(1), WriteStep::Failed, WriteStep::Took(3)]);
+    assert!(rt; steps[1] == [WriteStep::Took(2), WriteStep::Failed, WriteStep::Took(0)]);
+    assert!(rt; is_whole);
+    Ok(())
+}
+
+#[test]
+fn writers(rt: HostRuntime) {
+    let pieces = [b"0123".as_slice(), b"0123", b"0123"];
+    let mut short = [0; 6];
+    let full = writes(&mut WriteSink::new(short.as_mut_slice()), pieces);
+    let failing = writes(&mut WriteSink::new(FailingFlush { flushes: 0 }), pieces);
+    assert!(rt; full == [WriteStep::Took(4), WriteStep::Took(2), WriteStep::Failed]);
+    assert!(rt; failing == [WriteStep::Took(2), WriteStep::Failed, WriteStep::Took(2)]);
+}
+
+/// A row of this kind and nothing else.
+fn row_of(kind: u64) -> Row {
+    Row {
+        kind,
+        maker: 0,
+        more: 0,
+        n1: 0,
+        n2: 0,
+        n3: 0,
+        n4: 0,
+        n5: 0,
+        b1: Blob::empty(),
+        b2: Blob::empty(),
+    }
+}
+
+/// Keeps two rows, and tells how many are kept.
+fn keep<K: Keeper>(keeper: &mut K) -> Result<u64, KeeperError> {
+    keeper.append_all([row_of(7), row_of(8)].as_slice())?;
+    keeper.len()
+}
+
+/// The kind of the second row, where there is one.
+fn second<K: Keeper>(keeper: &mut K) -> Result<u64, KeeperError> {
+    if keeper.len()? < 2 {
+        return Ok(0);
+    }
+    Ok(keeper.row(1)?.kind)
+}
+
+/// Its second append fails, and so do the second and the third of its other calls.
+fn scripted_keeper(alloc: Global) -> Result<MemKeeper, AllocError> {
+    let failing_appends = [1].as_slice().to_vec(alloc)?;
+    let failing_reads = [1, 2].as_slice().to_vec(alloc)?;
+    Ok(MemKeeper::new(alloc, failing_appends, failing_reads))
+}
+
+/// What becomes of three appends of two rows, how many are told then, twice, and the second row's kind.
+fn kept_by<K: Keeper>(keeper: &mut K) -> [Result<u64, KeeperError>; 6] {
+    [
+        keep(keeper),
+        keep(keeper),
+        keep(keeper),
+        keeper.len(),
+        keeper.len(),
+        second(keeper),
+    ]
+}
+
+fn kept_by_script(alloc: Global) -> Result<[Result<u64, KeeperError>; 6], AllocError> {
+    Ok(kept_by(&mut scripted_keeper(alloc)?))
+}
+
+#[test]
+fn keepers(rt: HostRuntime) -> Result<(), Fail> {
+    let failed = Err(KeeperError::Failed);
+    let scripted = kept_by_script(rt.alloc())?;
+    let plain = kept_by(&mut PlainKeeper::new(rt.alloc()));
+    assert!(rt; scripted == [Ok(2), failed, failed, failed, Ok(4), Ok(8)]);
+    assert!(rt; plain == [Ok(2), Ok(4), Ok(6), Ok(6), Ok(6), Ok(8)]);
+    Ok(())
+}
+
+/// How many rows stand at the path.
+fn count_at<S: Shelf>(shelf: &mut S, path: &str) -> Result<u64, KeeperError> {
+    let mut keeper = shelf.open(path)?;
+    let count = keeper.len();
+    shelf.shut(path, keeper);
+    count
+}
+
+/// Keeps two more rows at the path.
+fn keep_at<S: Shelf>(shelf: &mut S, path: &str) -> Result<u64, KeeperError> {
+    let mut keeper = shelf.open(path)?;
+    let kept = keep(&mut keeper);
+    shelf.shut(path, keeper);
+    kept
+}
+
+/// What becomes of two appends of two rows at one path, how many stand there then, twice, and at another.
+fn kept_at<S: Shelf>(shelf: &mut S) -> [Result<u64, KeeperError>; 5] {
+    [
+        keep_at(shelf, "f"),
+        keep_at(shelf, "f"),
+        count_at(shelf, "f"),
+        count_at(shelf, "f"),
+        count_at(shelf, "g"),
+    ]
+}
+
+/// Its third open fails, and so does the second append of each keeper.
+fn scripted_shelf(alloc: Global) -> Result<MemShelf, AllocError> {
+    let failing_opens = [2].as_slice().to_vec(alloc)?;
+    let failing_appends = [1].as_slice().to_vec(alloc)?;
+    Ok(MemShelf::new(alloc, failing_opens, failing_appends, Vec::new(alloc)))
+}
+
+/// What it tells, and how many rows stand at the first path.
+fn kept_on_a_shelf(alloc: Global) -> Result<([Result<u64, KeeperError>; 5], usize), AllocError> {
+    let mut shelf = scripted_shelf(alloc)?;
+    let told = kept_at(&mut shelf);
+    Ok((told, shelf.rows_at("f").len()))
+}
+
+#[test]
+fn shelves(rt: HostRuntime) -> Result<(), Fail> {
+    let (told, count) = kept_on_a_shelf(rt.alloc())?;
+    assert!(rt; told == [Ok(2), Ok(4), Err(KeeperError::Failed), Ok(4), Ok(0)]);
+    assert_eq!(rt; count, 4);
+    Ok(())
+}
