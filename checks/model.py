@@ -8,6 +8,9 @@ well formed; what is wrong with a body or a head stands in cases. Below, `u` and
 import hashlib
 import json
 import re
+import urllib.parse
+
+import searches
 
 PHASES = ["setup", "submission", "bidding", "reviewing", "discussion", "notification", "closed"]
 
@@ -188,6 +191,8 @@ class Conference:
             return self.member(u, body)
         if path == "/me":
             return self.me(u)
+        if path.split("?")[0] == "/search":
+            return self.search(u, path.partition("?")[2])
         if path == "/papers":
             return self.submit(u, body)
         p, rest = self.paper_told(parts[1]), parts[2:]
@@ -474,6 +479,29 @@ class Conference:
             "bytes": sum(len(f[2]) for m, f in self.entries_of("uploaded") if m == u), "comments": self.own_comments(u),
             "conflicts": [p for p in ps if self.conflicted(u, p) and u not in self.authors(p)], "name": self.name_of(u),
             "papers": [p for p in ps if u in self.authors(p)], "role": self.role_of(u), "user": u})
+
+    def told(self, u, p):
+        """What a user is told of a paper, as the terms of a search ask: by her page and by what she is answered of reviews and comments."""
+
+        def listed(answer, key):
+            return json.loads(answer[1])[key] if answer[0] == 200 else []
+
+        code, page = self.page(u, p)
+        return {
+            "page": json.loads(page) if code == 200 else {}, "accepted": self.accepted(p), "conflicted": self.conflicted(u, p),
+            "reviews": listed(self.reviews(u, p), "reviews"), "comments": listed(self.comments_page(u, p), "comments")}
+
+    def search(self, u, query):
+        pairs = urllib.parse.parse_qsl(query, keep_blank_values=True, errors="replace")
+        text = next((value for name, value in pairs if name == "q"), None)
+        tree = 0 if text is None else searches.read(text.encode())
+        if isinstance(tree, int):
+            return 400, dump({"error": "bad_query", "place": tree})
+        told = {p: self.told(u, p) for p in self.papers()}
+        found = [p for p in told if "title" in told[p]["page"] and searches.holds(tree, told[p])]
+        if ("only", "count") in pairs:
+            return 200, dump({"count": len(found)})
+        return 200, dump({"count": len(found), "papers": [{"paper": p, "title": told[p]["page"]["title"]} for p in found]})
 
     def page(self, u, p):
         author = p in self.papers() and u in self.authors(p)

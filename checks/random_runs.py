@@ -13,6 +13,7 @@ import random
 import subprocess
 import sys
 import tempfile
+import urllib.parse
 
 from model import Conference, PHASES, dump, view_lines
 
@@ -90,9 +91,28 @@ class Run:
     def author(self, paper):
         return self.caller(lambda user: paper.isdigit() and user in self.model.authors(int(paper)))
 
+    def term(self):
+        """A term of a search: each key with each of its values; now and then one that is none."""
+        choose = self.random
+        value = choose.choice(["pro", "Ove", '"a paper"', '"two\n"', "x", "übung", "ÜBUNG", "in"])
+        terms = [value, f"ti:{value}", f"ab:{value}"] * 2 + [f"{key}:{part}" for key in ("au", "re") for part in (choose.choice(NAMES), choose.choice(NAMES)[1:3])] * 3
+        terms += [f"#{tag}" for tag in ("hot", "a-1", "~hot", "~mine", "~~hot", "~~chairs")]
+        terms += [f"dec:{word}" for word in ("accept", "reject", "none")] * 2 + [f"status:{word}" for word in ("active", "withdrawn", "accepted")] * 2
+        terms += [f"has:{word}" for word in ("content", "review", "comment", "decision", "conflict", "mine")] * 2
+        return choose.choice(terms) if choose.random() < 0.98 else choose.choice(["dec:maybe", "re:", "AND", '"x', "has:mine:"])
+
+    def search(self, depth=3):
+        """A search, mostly well formed."""
+        choose = self.random
+        if depth == 0 or choose.random() < 0.5:
+            return self.term()
+        parts = [self.search(depth - 1) for _ in range(choose.choice([1, 2, 2, 3]))]
+        form = choose.choice(["({})", "({})", "-({})", "NOT ({})", "{}"])
+        return form.format(choose.choice([" ", " ", " AND ", " OR ", " OR ", "  "]).join(parts)).replace(") (", choose.choice([") (", ")("]))
+
     def deeds(self):
         """What is asked for, as often as the phase suggests."""
-        asked = ["page"] * 6 + ["reviews", "comments"] * 3
+        asked = ["page"] * 6 + ["reviews", "comments"] * 3 + ["search"] * 6
         asked += ["me", "conflict", "content", "version", "member", "accounts", "phase", "back", "tag", "decide", "accepted"]
         if self.model.phase == "submission":
             return asked + ["submit"] * 6 + ["upload", "revise", "conflict"] * 3 + ["withdraw", "bid", "assign", "unassign"]
@@ -115,6 +135,9 @@ class Run:
             self.ask(self.reader(), read, f"/papers/{p}")
         elif deed == "me":
             self.ask(anybody, "GET", "/me")
+        elif deed == "search":
+            only = choose.choice(["", "", "", "&only=count", "&only=other", "&q=x"])
+            self.ask(anybody, read, f"/search?{choose.choice(['q', 'q', 'q', 'q', 'p'])}={urllib.parse.quote_plus(self.search())}{only}")
         elif deed == "bid":
             self.ask(anybody, "PUT", f"/papers/{p}/bid", {"bid": choose.randint(-20, 20)})
         elif deed == "assign":
