@@ -184,4 +184,5 @@ def main():
     print(f"{SUBMISSIONS:,} abstracts of 5,000 bytes: {most / 1e6:.1f} MB at most, {most / texts:.2f} times the texts")
 
 
-main()
+if __name__ == "__main__":
+    main()
