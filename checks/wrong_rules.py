@@ -25,6 +25,7 @@ STANDING, SEATING, SHOWN = "crates/cr_base/src/standing.rt", "crates/cr_assign/s
 ASK, PAGE, TURN = "crates/cr_base/src/ask.rt", VIEW + "/page.rt", "crates/cr_session/src/turn.rt"
 DECISIONS, ACCEPTED = "crates/cr_decisions/src/decisions.rt", VIEW + "/accepted.rt"
 TOLD, SHOWN_PAPERS = "crates/cr_sights/src/decisions.rt", "crates/cr_sights/src/papers.rt"
+FINDING, READER = "crates/cr_search_eval/src", "crates/cr_search_parse/src/reader.rt"
 
 PLANTS = [
     ("any user may ask for a page", "order", VIEW + "/queries.rt", "return Err(Rule::NotMember);", "return Ok(by);"),
@@ -133,6 +134,20 @@ PLANTS = [
     ("views tell everyone what was decided", "decision_views_blind_notification", TOLD, "decision: shows_decision(&by, is_last, mine).then_some(*decision),", "decision: (shows_decision(&by, is_last, mine) || accepted).then_some(*decision),"),
     ("views tell each decision on an accepted paper", "decision_views_blind_notification", TOLD, "shows_decision(by, is_last, mine) || is_last && accepted", "shows_decision(by, is_last, mine) || accepted"),
     ("views tell abstracts of accepted papers", "decision_views_blind_notification", SHOWN_PAPERS, "    accepted && by.phase.is_from(Phase::Closed)", "    accepted && by.phase.is_from(Phase::Notification)"),
+    ("a search tests hidden authors", "search_examples", FINDING + "/terms.rt", "live.authors_told(&asked.by, asked.accepted, asked.paper)", "live.authors_told(&asked.by, true, asked.paper)"),
+    ("a search tests reviewers who were taken off", "search_examples", FINDING + "/terms.rt", "name_has(value, &live.reviewer_name(by, seat))", "name_has(value, &live.name_of(seat.pair.user))"),
+    ("a search tells of reviews before the discussion", "search_terms_blind", FINDING + "/terms.rt",
+     "live.tells_review(&Some(asked.user), &asked.by, asked.paper)", "live.tells_review(&Some(asked.user), &Standing { phase: cr_base::Phase::Discussion, ..asked.by }, asked.paper)"),
+    ("a search takes what isn't told of a withdrawal for the contrary", "search_terms_blind", FINDING + "/terms.rt", "        Some(told) => told == so,\n        None => false,", "        Some(told) => told == so,\n        None => !so,"),
+    ("a search takes what isn't told of a decision for none", "search_terms_blind", FINDING + "/terms.rt",
+     "        Some(told) => number_decided(&told) == number_decided(decision),\n        None => false,", "        Some(told) => number_decided(&told) == number_decided(decision),\n        None => decision.is_none(),"),
+    ("a search takes a decision to accept for an accepted paper", "search_terms_blind", FINDING + "/terms.rt", "Status::Accepted => asked.accepted,", "Status::Accepted => is_decided(live, asked, &Some(Decision::Accept)),"),
+    ("a search goes by upper and lower case", "search_texts", FINDING + "/text.rt", "if !value[at].eq_ignore_ascii_case(&text[at]) {", "if value[at] != text[at] {"),
+    ("a search takes a gap for an OR", "search_texts", READER, "push_behind(steps, level.items, Step::And { second })?;", "push_behind(steps, level.items, Step::Or { second })?;"),
+    ("a search tells its place one too late", "search_texts", "crates/cr_search_parse/src/parsing.rt", "Err(stop) => return Err(error_at(stop, at)),", "Err(stop) => return Err(error_at(stop, at + run.len())),"),
+    ("a search of 129 terms", "search_texts", READER, "const MOST_TERMS: u16 = 128;", "const MOST_TERMS: u16 = 129;"),
+    ("a search of 65 parentheses", "search_texts", READER, "const MOST_DEPTH: u16 = 64;", "const MOST_DEPTH: u16 = 65;"),
+    ("a search counts where anything is only", "search_queries", "crates/cr_wire/src/query.rt", "stands_for(alloc, b\"count\", value)", "Ok(true)"),
 ]
 
 
