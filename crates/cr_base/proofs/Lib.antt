@@ -14,6 +14,7 @@ pub mod RoleLaws
 pub mod RowLaws
 pub mod SeatLaws
 pub mod SortedLists
+pub mod SpeltLaws
 pub mod TagLaws
 pub mod TargetLaws
 pub mod TextLaws

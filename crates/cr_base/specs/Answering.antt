@@ -1,5 +1,5 @@
 -- The one answer to queries: filled with the facts of a view it is Answer, filled with those of the tables it is RoleAnswer.
-use Rattle.std.specs.Prelude.{ℕ, Bool, true, false, not, ◌&&◌, ◌==◌, zero, suc, List, [], ◌++◌, length, map, Option, Some, None, is_some, filter, find, unwrap_or, Result, Ok, Err, if◌then◌else◌}
+use Rattle.std.specs.Prelude.{ℕ, Bool, true, false, not, ◌&&◌, ◌==◌, List, [], ◌++◌, length, map, Option, Some, None, is_some, filter, find, unwrap_or, Result, Ok, Err, if◌then◌else◌}
 use Rattle.std.specs.Option.{option_map, option_and_then}
 use Rattle.std.specs.List.{flat_map}
 use Rattle.cr_base.specs.declared.accepted.AcceptedPaper.{AcceptedPaper}
@@ -18,18 +18,18 @@ use Rattle.cr_base.specs.declared.reply.Rule.{Rule}
 use Rattle.cr_base.specs.declared.review.ReviewLine.{ReviewLine}
 use Rattle.cr_base.specs.declared.search.Step.{Step}
 use Rattle.cr_base.specs.declared.standing.Standing.{Standing}
-use Rattle.cr_base.specs.declared.words.Decision.{Decision}
-use Rattle.cr_base.specs.declared.words.Decision.TheVariants.{Accept}
 use Rattle.cr_base.specs.declared.words.Phase.TheVariants.{Discussion}
 use Rattle.cr_base.specs.Checks.{Check, judged, of_there, page_checks, content_checks, reviews_checks, comments_checks}
 use Rattle.cr_base.specs.History.{Upload, BidTold, SeatTold, FormTold, CommentTold}
 use Rattle.cr_base.specs.Decisions.{is_published}
+use Rattle.cr_base.specs.Labels.{by_labels, most_labels}
 use Rattle.cr_base.specs.Lists.{listed, last, at_some}
 use Rattle.cr_base.specs.Logins.{query_wants_login}
 use Rattle.cr_base.specs.Page.{is_clear_member, is_clear_chair, shows_reviewer, shows_writer, where_told, page_of}
 use Rattle.cr_base.specs.Phases.{is_from}
+use Rattle.cr_base.specs.Reports.{report_checks, report_told}
 use Rattle.cr_base.specs.Searching.{Told, is_found, found_paper}
-use Rattle.cr_base.specs.Sources.{Facts, Shown, names_in, name_in, has_paper, maker_of, facts_of_tables, shown_in_tables}
+use Rattle.cr_base.specs.Sources.{Facts, Shown, decision_by, names_in, name_in, has_paper, maker_of, facts_of_tables, shown_in_tables}
 use Rattle.cr_base.specs.Tables.{Tables}
 use Rattle.cr_base.specs.Words.{is_chair}
 
@@ -80,6 +80,7 @@ query_checks facts shown (queries.Content paper) = content_asked facts shown pap
 query_checks facts shown (queries.Version paper version) = content_asked facts shown paper (Some version)
 query_checks facts shown (queries.Reviews paper) = reviews_checks (facts.standing paper) (of_there (has_paper facts paper))
 query_checks facts shown (queries.Comments paper) = comments_checks (facts.standing paper) (of_there (has_paper facts paper))
+query_checks facts shown (queries.Report report) = report_checks facts report
 
 -- a bid with the name of whose it is, where she has one
 abbrev pub bidder_told : List AccountLine → BidTold → Option Bidder
@@ -93,10 +94,6 @@ reviewer_told by accounts written seat = record {
   label = seat.ordinal;
   user = where_told (shows_reviewer by) (option_and_then (name_in accounts) seat.user);
 }
-
--- the decision on a paper: to accept it, where it is accepted, as everyone is told; else the last one that is shown
-abbrev pub decision_by : Facts → Shown → ℕ → Option Decision
-decision_by facts shown p = if facts.accepted p then Some Accept else shown.decision p
 
 -- the page of a paper that is there
 abbrev pub page_by : Facts → Shown → Option ℕ → ℕ → Page
@@ -118,15 +115,6 @@ page_by facts shown caller p =
     })
 
 -- ---- reviews and comments
-
--- the most labels that a paper's reviewers are given
-unfoldable pub most_labels : ℕ
-most_labels = 26
-
--- what is told of each of the first labels, in their order
-abbrev pub by_labels : {A : Type 0} → (ℕ → List A) → ℕ → List A
-by_labels told zero = []
-by_labels told (suc n) = by_labels told n ++ told (suc n)
 
 -- a form under a label, as one who stands so to the paper is told of it: `user` wrote it. Members read all of it; authors neither
 -- which version it is nor what is for the committee
@@ -241,6 +229,7 @@ told_by facts shown caller (queries.Version paper version) = replies.Content (un
 told_by facts shown caller (queries.Reviews paper) = replies.Reviews (reviews_by facts shown (unwrap_or paper 0))
 told_by facts shown caller (queries.Comments paper) = replies.Comments (comments_by facts shown (unwrap_or paper 0))
 told_by facts shown caller (queries.Search search only_count) = search_told facts shown caller search only_count
+told_by facts shown caller (queries.Report report) = replies.Report (report_told facts shown report)
 
 -- the answer to a query: the first broken rule of its list, or what is told
 abbrev pub answer_by : Facts → Shown → Option ℕ → Query → Reply

@@ -1,6 +1,7 @@
 pub mod Accounts
 pub mod Answering
 pub mod Bounds
+pub mod Bulk
 pub mod Checks
 pub mod Decisions
 pub mod Drawn
@@ -8,12 +9,14 @@ pub mod Filed
 pub mod History
 pub mod HistoryFacts
 pub mod Judging
+pub mod Labels
 pub mod Lists
 pub mod Logins
 pub mod Page
 pub mod Pairs
 pub mod Papers
 pub mod Phases
+pub mod Reports
 pub mod Reviews
 pub mod Rows
 pub mod Search
@@ -22,6 +25,7 @@ pub mod Seats
 pub mod Shapes
 pub mod Short
 pub mod Sources
+pub mod Spelt
 pub mod Stage
 pub mod Tables
 pub mod TagTexts

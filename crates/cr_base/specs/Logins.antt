@@ -6,6 +6,8 @@ use Rattle.cr_base.specs.declared.command.Command.{Command}
 use Rattle.cr_base.specs.declared.command.Command.TheVariants as commands
 use Rattle.cr_base.specs.declared.command.Query.{Query}
 use Rattle.cr_base.specs.declared.command.Query.TheVariants as queries
+use Rattle.cr_base.specs.declared.report.Report.{Report}
+use Rattle.cr_base.specs.declared.report.Report.TheVariants as reports
 
 -- ---- the two tables
 
@@ -39,6 +41,12 @@ ask_wants_login asks.Untag = true
 ask_wants_login asks.Decide = true
 ask_wants_login asks.Me = true
 ask_wants_login asks.Search = true
+ask_wants_login asks.Bulk = true
+ask_wants_login asks.PapersReport = true
+ask_wants_login asks.ScoresReport = true
+ask_wants_login asks.LoadReport = true
+ask_wants_login asks.DecisionsReport = true
+ask_wants_login asks.Letter = true
 
 -- whether a request for this reads the field Authorization: a table of its own, since a request may be told who calls
 -- though it wants no login, as those for published papers are
@@ -70,6 +78,12 @@ ask_reads_credentials asks.Untag = true
 ask_reads_credentials asks.Decide = true
 ask_reads_credentials asks.Me = true
 ask_reads_credentials asks.Search = true
+ask_reads_credentials asks.Bulk = true
+ask_reads_credentials asks.PapersReport = true
+ask_reads_credentials asks.ScoresReport = true
+ask_reads_credentials asks.LoadReport = true
+ask_reads_credentials asks.DecisionsReport = true
+ask_reads_credentials asks.Letter = true
 
 -- ---- commands and queries
 
@@ -93,6 +107,13 @@ command_ask (commands.Tag paper tag true) = asks.Tag
 command_ask (commands.Tag paper tag false) = asks.Untag
 command_ask (commands.Decide paper decision) = asks.Decide
 
+abbrev pub report_ask : Report → Ask
+report_ask reports.Papers = asks.PapersReport
+report_ask reports.Scores = asks.ScoresReport
+report_ask reports.Load = asks.LoadReport
+report_ask reports.Decisions = asks.DecisionsReport
+report_ask (reports.Letter paper) = asks.Letter
+
 abbrev pub query_ask : Query → Ask
 query_ask queries.Me = asks.Me
 query_ask queries.Accounts = asks.Accounts
@@ -104,6 +125,7 @@ query_ask (queries.Version paper version) = asks.Version
 query_ask (queries.Reviews paper) = asks.Reviews
 query_ask (queries.Comments paper) = asks.Comments
 query_ask (queries.Search search only_count) = asks.Search
+query_ask (queries.Report report) = report_ask report
 
 -- each wants the login that its request does
 abbrev pub command_wants_login : Command → Bool

@@ -1,6 +1,6 @@
 -- What rules and answers read, over a record of facts and one of what is shown of a paper: filled by a view they make
 -- Judge and Answer, filled by the tables they make RoleAnswer.
-use Rattle.std.specs.Prelude.{ℕ, Bool, ◌||◌, ◌==◌, List, Option, is_some, find, map, unwrap_or}
+use Rattle.std.specs.Prelude.{ℕ, Bool, ◌||◌, ◌==◌, List, Option, Some, is_some, find, map, unwrap_or, if◌then◌else◌}
 use Rattle.std.specs.Option.{option_map, option_and_then}
 use Rattle.std.specs.List.{flat_map, list_any}
 use Rattle.std.specs.Str.{bytes_eq}
@@ -8,6 +8,7 @@ use Rattle.cr_base.specs.declared.reply.AccountLine.{AccountLine}
 use Rattle.cr_base.specs.declared.standing.Standing.{Standing}
 use Rattle.cr_base.specs.declared.target.Target.{Target}
 use Rattle.cr_base.specs.declared.words.Decision.{Decision}
+use Rattle.cr_base.specs.declared.words.Decision.TheVariants.{Accept}
 use Rattle.cr_base.specs.declared.words.Role.{Role}
 use Rattle.cr_base.specs.Accounts.{lines_of, role_in}
 use Rattle.cr_base.specs.Checks.{NamedPaper}
@@ -164,3 +165,7 @@ target_named facts shown caller paper user =
     option_map
     (λ (role : Role). record { role = role; herself = is_number user (maker_of caller); author = wrote; conflicted = wrote || declared; reviewer = reviews })
     (role_among facts.accounts user)
+
+-- the decision on a paper: to accept it, where it is accepted, as everyone is told; else the last one that is shown
+abbrev pub decision_by : Facts → Shown → ℕ → Option Decision
+decision_by facts shown p = if facts.accepted p then Some Accept else shown.decision p

@@ -59,11 +59,23 @@ pub enum Ask {
     Me,
     /// The papers that a search finds: GET or HEAD of `/search`.
     Search,
+    /// Many changes to who reviews, to conflicts and to tags at once: POST of `/assign`.
+    Bulk,
+    /// The report of all papers: GET or HEAD of `/reports/papers`.
+    PapersReport,
+    /// The report of scores: GET or HEAD of `/reports/scores`.
+    ScoresReport,
+    /// The report of who reviews how much: GET or HEAD of `/reports/load`.
+    LoadReport,
+    /// The report of decisions: GET or HEAD of `/reports/decisions`.
+    DecisionsReport,
+    /// The letter to a paper's authors: GET or HEAD of `/reports/letter/{p}`.
+    Letter,
 }
 
 impl Ask {
-    /// Whether it is a registered user's, so that nobody is answered `unauthorized`: every command but a registration, a
-    /// paper's page, content, reviews and comments, searches, and what the caller is to the conference. Page and content of a
+    /// Whether it is a registered user's, so that nobody is answered `unauthorized`: every command but a registration, a bulk, a
+    /// paper's page, content, reviews and comments, searches, reports, and what the caller is to the conference. Page and content of a
     /// published paper want none, which only the history tells.
     pub fn wants_login(self) -> bool
         ensures { result ≡ ask_wants_login self }
@@ -76,6 +88,8 @@ impl Ask {
             Ask::Review | Ask::Comment | Ask::Tag | Ask::Untag | Ask::Decide => true,
             Ask::Me | Ask::Page | Ask::Content | Ask::Version => true,
             Ask::Reviews | Ask::Comments | Ask::Search => true,
+            Ask::Bulk | Ask::PapersReport | Ask::ScoresReport | Ask::LoadReport => true,
+            Ask::DecisionsReport | Ask::Letter => true,
         }
     }
 
@@ -92,6 +106,8 @@ impl Ask {
             Ask::Bid | Ask::Assign | Ask::Unassign => true,
             Ask::Review | Ask::Comment | Ask::Tag | Ask::Untag | Ask::Decide => true,
             Ask::Reviews | Ask::Comments | Ask::Search => true,
+            Ask::Bulk | Ask::PapersReport | Ask::ScoresReport | Ask::LoadReport => true,
+            Ask::DecisionsReport | Ask::Letter => true,
         }
     }
 }

@@ -7,6 +7,7 @@ use crate::bid::Bid;
 use crate::entry::Digest;
 use crate::form::Form;
 use crate::numbers::PaperNo;
+use crate::report::Report;
 use crate::search::Search;
 use crate::tag::Tag;
 use crate::texts::{Blob, Short, Text};
@@ -180,6 +181,11 @@ pub enum Query {
         /// How many they are is asked for, and not which.
         only_count: bool,
     },
+    /// A report.
+    Report {
+        /// Which one.
+        report: Report,
+    },
 }
 
 impl Command {
@@ -246,6 +252,7 @@ impl Query {
             Query::Reviews { .. } => Ask::Reviews,
             Query::Comments { .. } => Ask::Comments,
             Query::Search { .. } => Ask::Search,
+            Query::Report { report } => report.ask(),
         }
     }
 

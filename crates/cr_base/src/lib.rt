@@ -5,8 +5,10 @@
 mod accepted;
 mod ask;
 mod bid;
+mod bulk;
 mod command;
 mod comment;
+mod digits;
 mod entry;
 mod filed;
 mod form;
@@ -18,12 +20,14 @@ mod page;
 mod pairs;
 mod paper;
 mod reply;
+mod report;
 mod review;
 mod row;
 mod search;
 mod seat;
 mod shape;
 mod spelling;
+mod spelt;
 mod standing;
 mod tag;
 mod target;
@@ -34,8 +38,10 @@ mod words;
 pub use accepted::{AcceptedPaper, AcceptedPapers};
 pub use ask::Ask;
 pub use bid::Bid;
+pub use bulk::{Broken, BulkRow, BulkRows, MOST_ROWS};
 pub use command::{Command, Query};
 pub use comment::{Comment, CommentLine, CommentLines};
+pub use digits::{all_digits, decimal_value};
 pub use entry::{Account, Digest, Entry, EntryKind, Stamped};
 pub use filed::Filed;
 pub use form::Form;
@@ -47,15 +53,18 @@ pub use page::{Bidder, Bids, Names, Page, Reviewer, Reviewers, TagList, Versions
 pub use pairs::{Order, Pair, Tie};
 pub use paper::Paper;
 pub use reply::{AccountLine, AccountLines, Conference, Receipt, Reply, Rule};
+pub use report::Report;
 pub use review::{ReviewLine, ReviewLines, WrittenForm};
 pub use row::Row;
 pub use search::{Feature, Search, Status, Step, Term};
 pub use seat::Seat;
+pub use spelt::{name_spelt, paper_spelt};
 pub use standing::Standing;
 pub use tag::{SetTag, Tag};
 pub use target::Target;
 pub use texts::{
-    Blob, Short, Text, is_abstract, is_comment, is_content, is_name, is_review_text, is_title,
+    Blob, Short, Text, is_abstract, is_comment, is_content, is_name, is_review_text, is_text,
+    is_title,
 };
 pub use told::{Coauthors, MOST_COAUTHORS, ToldNames};
 pub use words::{Decision, Kind, Mode, Phase, Role};

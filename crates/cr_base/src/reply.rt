@@ -65,6 +65,12 @@ pub enum Rule {
     NotReviewer,
     /// The caller has written 1,000 comments.
     QuotaComments,
+    /// A row of a bulk tells an action that there isn't.
+    BadAction,
+    /// A row of a bulk tells a tag that is none.
+    BadTag,
+    /// A row of a bulk turns a conflict of the caller's own on or off.
+    BulkSelf,
 }
 
 /// What an accepted command is answered.
@@ -123,6 +129,11 @@ pub enum Receipt {
         /// Its number among those on the paper.
         n: u64,
     },
+    /// The bulk accepted.
+    Rows {
+        /// How many rows it has, 0 to 512.
+        rows: u64,
+    },
 }
 
 /// One account, as everyone sees it.
@@ -157,6 +168,13 @@ pub enum Reply {
     Accepted(Receipt),
     /// A rule is broken.
     Refused(Rule),
+    /// A row of a bulk breaks a rule, so that all of it is refused.
+    RowRefused {
+        /// The first row that does, 1 to 512.
+        row: u64,
+        /// The rule.
+        rule: Rule,
+    },
     /// The answer to `Query::Accounts`.
     Accounts(AccountLines),
     /// The answer to `Query::Phase`.
@@ -177,4 +195,6 @@ pub enum Reply {
     Found(FoundPapers),
     /// The answer to `Query::Search` where their number alone is asked for.
     Count(u64),
+    /// The answer to `Query::Report`: its text, in UTF-8.
+    Report(Blob),
 }

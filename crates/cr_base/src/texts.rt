@@ -277,8 +277,8 @@ pub fn is_name(bytes: &[u8]) -> bool
     !bytes.is_empty() && bytes.len() <= 32 && all_name_bytes(bytes)
 }
 
-/// Whether these bytes are UTF-8.
-fn is_text(bytes: &[u8]) -> bool
+/// Whether these bytes are UTF-8. One walk over them; takes no memory.
+pub fn is_text(bytes: &[u8]) -> bool
     ensures { result ≡ is_utf8 bytes.now }
 {
     match str::from_utf8(bytes) {

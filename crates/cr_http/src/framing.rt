@@ -5,10 +5,10 @@ ghost use Rattle.std.specs.List.{list_all};
 ghost use Rattle.cr_http.specs.Head.{framing_by_length, framing_of, has_hosts, is_length, IsShort};
 ghost use Rattle.cr_http.specs.Values.{AreValues};
 
-use crate::digits::{all_digits, decimal_value};
 use crate::head::{Head, Version};
 use crate::refusal::Refusal;
 use crate::values::Values;
+use cr_base::{all_digits, decimal_value};
 
 /// The longest body that is read, in bytes.
 pub const MAX_BODY: usize = 4_194_304;

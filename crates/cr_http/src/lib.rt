@@ -12,7 +12,6 @@
 
 mod body;
 mod buffer;
-mod digits;
 mod fill;
 mod fill_body;
 mod framing;
@@ -26,7 +25,6 @@ mod refusal;
 mod values;
 
 pub use body::Body;
-pub use digits::{all_digits, decimal_value};
 pub use fill_body::LARGE_BODY;
 pub use framing::MAX_BODY;
 pub use head::{Head, MAX_FIELDS, Version};

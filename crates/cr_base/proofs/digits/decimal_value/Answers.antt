@@ -1,6 +1,6 @@
 use Rattle.std.proofs.Common.{ℕ, ◌<◌, ◌≤◌, ◌^◌, arith, length, lit<}
 use Rattle.std.proofs.Math.Nat.{pow-le-pow_right}
-use Rattle.cr_http.proofs.digits.decimal_value.Goals as goal
+use Rattle.cr_base.proofs.digits.decimal_value.Goals as goal
 
 small : (number index len : ℕ) → number < 10 ^ index → index < len → len ≤ 18 → number < 10 ^ 17
 small number index len lt at le =

@@ -1,0 +1,174 @@
+-- Bulk assignment: what a row asks for, and how the rows of a file are judged, each behind those before it (the HotCRP manual's bulk
+-- assignment files; their actions and columns here are the server's own).
+use Rattle.std.specs.Prelude.{ℕ, Bool, true, false, not, ◌+◌, ◌==◌, ◌≤◌, ◌&&◌, List, [], ◌∷◌, ◌++◌, map, length, Option, Some, None, Result, Ok, Err, if◌then◌else◌, codes}
+use Rattle.std.specs.Str.{bytes_eq}
+use Rattle.cr_base.specs.declared.bulk.Broken.{Broken}
+use Rattle.cr_base.specs.declared.bulk.Broken.TheVariants as broken
+use Rattle.cr_base.specs.declared.bulk.BulkRow.{BulkRow}
+use Rattle.cr_base.specs.declared.command.Command.{Command}
+use Rattle.cr_base.specs.declared.command.Command.TheVariants as commands
+use Rattle.cr_base.specs.declared.entry.Entry.{Entry}
+use Rattle.cr_base.specs.declared.entry.Entry.TheVariants.{Conflict, Assigned, Unassigned, Tagged}
+use Rattle.cr_base.specs.declared.entry.Stamped.{Stamped}
+use Rattle.cr_base.specs.declared.reply.Receipt.TheVariants as receipts
+use Rattle.cr_base.specs.declared.reply.Rule.{Rule}
+use Rattle.cr_base.specs.declared.reply.Rule.TheVariants as rules
+use Rattle.cr_base.specs.declared.standing.Standing.{Standing}
+use Rattle.cr_base.specs.declared.words.Kind.{Kind}
+use Rattle.cr_base.specs.declared.words.Kind.TheVariants.{Primary, Secondary, Pc}
+use Rattle.cr_base.specs.Checks.{Check, ◌breaks◌, judged, is_in_committee}
+use Rattle.cr_base.specs.Drawn.{Drawn, grouped}
+use Rattle.cr_base.specs.History.{History}
+use Rattle.cr_base.specs.Judging.{judge_by}
+use Rattle.cr_base.specs.Lists.{is_number}
+use Rattle.cr_base.specs.Sources.{Facts, Shown, user_among, facts_of_tables, shown_in_tables}
+use Rattle.cr_base.specs.Spelt.{paper_spelt, name_spelt}
+use Rattle.cr_base.specs.Tables.{Tables, tables_from}
+use Rattle.cr_base.specs.TagTexts.{is_tag}
+use Rattle.cr_base.specs.Words.{is_chair}
+
+-- ---- what a row asks for
+
+-- what a row does, by the word in its column `action`
+pub data Action : Type 0 where
+  assigns : Kind → Action
+  unassigns : Action
+  turns_conflict : Bool → Action
+  turns_tag : Bool → Action
+
+-- the words, in the order in which the server's documents list them
+abbrev pub action_of : List ℕ → Option Action
+action_of word =
+    if bytes_eq word (codes "primary") then Some (assigns Primary)
+    else (if bytes_eq word (codes "secondary") then Some (assigns Secondary)
+    else (if bytes_eq word (codes "pcreview") then Some (assigns Pc)
+    else (if bytes_eq word (codes "clearreview") then Some unassigns
+    else (if bytes_eq word (codes "conflict") then Some (turns_conflict true)
+    else (if bytes_eq word (codes "clearconflict") then Some (turns_conflict false)
+    else (if bytes_eq word (codes "tag") then Some (turns_tag true)
+    else (if bytes_eq word (codes "cleartag") then Some (turns_tag false)
+    else None)))))))
+
+-- the command of a row with this action: a tag's row reads the column `tag`, all others `user`
+abbrev pub command_by : Action → BulkRow → Result Command Rule
+command_by (assigns kind) row = Ok (commands.Assign (paper_spelt row.paper) (name_spelt row.user) kind)
+command_by unassigns row = Ok (commands.Unassign (paper_spelt row.paper) (name_spelt row.user))
+command_by (turns_conflict on) row = Ok (commands.SetConflict (paper_spelt row.paper) (name_spelt row.user) on)
+command_by (turns_tag on) row = if is_tag row.tag then Ok (commands.Tag (paper_spelt row.paper) row.tag on) else Err rules.BadTag
+
+abbrev pub command_told_by : Option Action → BulkRow → Result Command Rule
+command_told_by None row = Err rules.BadAction
+command_told_by (Some action) row = command_by action row
+
+-- the command that a row tells, or why it tells none
+unfoldable pub row_command : BulkRow → Result Command Rule
+row_command row = command_told_by (action_of row.action) row
+
+-- the command is one that a row may tell
+abbrev pub IsRowCommand : Command → Type 0
+IsRowCommand (commands.SetConflict paper name on) = Unit {0}
+IsRowCommand (commands.Assign paper name kind) = Unit {0}
+IsRowCommand (commands.Unassign paper name) = Unit {0}
+IsRowCommand (commands.Tag paper tag on) = Unit {0}
+IsRowCommand command = ⊥
+
+-- the entry is of a kind that a row draws: it changes ties, seats or tags
+abbrev pub IsRowEntry : Entry → Type 0
+IsRowEntry (Conflict paper user on) = Unit {0}
+IsRowEntry (Assigned paper user kind ordinal) = Unit {0}
+IsRowEntry (Unassigned paper user ordinal) = Unit {0}
+IsRowEntry (Tagged paper tag on) = Unit {0}
+IsRowEntry entry = ⊥
+
+-- ---- one row
+
+-- the command turns a conflict of the caller's own on or off, which a bulk may not: so no row changes what the caller of its bulk is to a
+-- paper
+abbrev pub turns_own_conflict : Facts → ℕ → Command → Bool
+turns_own_conflict facts user (commands.SetConflict paper name on) = is_number (user_among facts.accounts name) user
+turns_own_conflict facts user _ = false
+
+-- what the command of a row draws
+abbrev pub row_judged_by : Facts → Shown → ℕ → Command → Result Drawn Rule
+row_judged_by facts shown user command =
+    if turns_own_conflict facts user command then Err rules.BulkSelf else judge_by facts shown (Some user) command
+
+abbrev pub row_told_judged : Facts → Shown → ℕ → Result Command Rule → Result Drawn Rule
+row_told_judged facts shown user (Err rule) = Err rule
+row_told_judged facts shown user (Ok command) = row_judged_by facts shown user command
+
+-- what a row draws: BadAction, BadTag, BulkSelf, then the rules of its command
+abbrev pub row_judged : Facts → Shown → ℕ → BulkRow → Result Drawn Rule
+row_judged facts shown user row = row_told_judged facts shown user (row_command row)
+
+-- ---- all rows
+
+-- what rows are judged on: what is told there, and what it is behind further entries of the caller's
+pub record Basis (S : Type 0) : Type 0 where
+  pub facts : S → Facts
+  pub shown : S → Shown
+  pub behind : S → History → S
+
+-- the entries alone
+abbrev pub entries_of : History → List Entry
+entries_of group = map (λ (e : Stamped). e.entry) group
+
+-- what the further rows add, behind what was added before
+abbrev pub and_rows : List Entry → Result (List Entry) Broken → Result (List Entry) Broken
+and_rows entries (Ok more) = Ok (entries ++ more)
+and_rows entries (Err refusal) = Err refusal
+
+-- what a row adds, and what those behind it do; or that it is the one, of this number, that breaks a rule
+abbrev pub and_behind : ℕ → Result Drawn Rule → (History → Result (List Entry) Broken) → Result (List Entry) Broken
+and_behind n (Err rule) behind = Err (broken.Row n rule)
+and_behind n (Ok drawn) behind = and_rows (entries_of drawn.group) (behind drawn.group)
+
+-- the entries that the rows add, each judged behind those before it, or the first row that breaks a rule, where the first of them
+-- has this number
+abbrev pub rows_judged : {S : Type 0} → Basis S → ℕ → S → ℕ → List BulkRow → Result (List Entry) Broken
+rows_judged basis user s n [] = Ok []
+rows_judged basis user s n (row ∷ rows) =
+    and_behind n (row_judged (basis.facts s) (basis.shown s) user row) (λ group. rows_judged basis user (basis.behind s group) (n + 1) rows)
+
+-- ---- the bulk
+
+-- chairs alone, from bidding to discussion
+abbrev pub bulk_checks : Standing → List Check
+bulk_checks by =
+    not (is_chair by.role) breaks rules.NotChair
+    ∷ not (is_in_committee by.phase) breaks rules.WrongPhase
+    ∷ []
+
+-- the group of a bulk's entries, one for each of so many rows
+abbrev pub bulk_drawn : ℕ → ℕ → List Entry → Drawn
+bulk_drawn user count entries = record { group = grouped user entries; receipt = receipts.Rows count }
+
+abbrev pub bulk_of_rows : ℕ → ℕ → Result (List Entry) Broken → Result Drawn Broken
+bulk_of_rows user count (Ok entries) = Ok (bulk_drawn user count entries)
+bulk_of_rows user count (Err refusal) = Err refusal
+
+abbrev pub bulk_behind : {S : Type 0} → Basis S → ℕ → S → List BulkRow → Result (Unit {0}) Rule → Result Drawn Broken
+bulk_behind basis user s rows (Err rule) = Err (broken.Rule rule)
+bulk_behind basis user s rows (Ok done) = bulk_of_rows user (length rows) (rows_judged basis user s 1 rows)
+
+-- what a bulk adds and its receipt, or the first rule that it breaks as a whole, or the first row that breaks one
+abbrev pub bulk_judged : {S : Type 0} → Basis S → ℕ → S → List BulkRow → Result Drawn Broken
+bulk_judged basis user s rows = bulk_behind basis user s rows (judged (bulk_checks ((basis.facts s).standing None)) tt)
+
+-- by the tables
+abbrev pub tables_basis : ℕ → Basis Tables
+tables_basis user = record {
+  facts = λ t. facts_of_tables t (Some user);
+  shown = λ t. shown_in_tables t;
+  behind = λ t group. tables_from t group;
+}
+
+-- RoleAnswer of a bulk: the same by checks on the tables
+abbrev pub bulk_by_role : Tables → ℕ → List BulkRow → Result Drawn Broken
+bulk_by_role t user rows = bulk_judged (tables_basis user) user t rows
+
+-- ---- the bounds of a bulk
+
+-- so many rows at most
+abbrev pub IsBoundedBulk : List BulkRow → Type 0
+IsBoundedBulk rows = length rows ≤ 512

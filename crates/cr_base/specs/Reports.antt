@@ -1,0 +1,234 @@
+-- Reports: plain text of what is told of each paper. Their lines are the server's own.
+use Rattle.std.specs.Prelude.{ℕ, Bool, true, false, not, ◌+◌, ◌-◌, ◌*◌, ◌/◌, ◌%◌, ◌&&◌, ◌==◌, List, [], ◌∷◌, ◌++◌, length, map, filter, replicate, decimal, codes}
+use Rattle.std.specs.Prelude.{Option, Some, None, unwrap_or, if◌then◌else◌}
+use Rattle.std.specs.Option.{option_map, option_map_or, option_and_then}
+use Rattle.std.specs.List.{flat_map}
+use Rattle.cr_base.specs.declared.reply.AccountLine.{AccountLine}
+use Rattle.cr_base.specs.declared.reply.Rule.TheVariants as rules
+use Rattle.cr_base.specs.declared.report.Report.{Report}
+use Rattle.cr_base.specs.declared.report.Report.TheVariants as reports
+use Rattle.cr_base.specs.declared.standing.Standing.{Standing}
+use Rattle.cr_base.specs.declared.words.Decision.{Decision}
+use Rattle.cr_base.specs.declared.words.Decision.TheVariants.{Accept, Reject}
+use Rattle.cr_base.specs.declared.words.Kind.{Kind}
+use Rattle.cr_base.specs.declared.words.Kind.TheVariants.{Primary, Secondary, Pc}
+use Rattle.cr_base.specs.declared.words.Phase.{Phase}
+use Rattle.cr_base.specs.declared.words.Phase.TheVariants.{Bidding, Discussion, Notification}
+use Rattle.cr_base.specs.Checks.{Check, ◌breaks◌}
+use Rattle.cr_base.specs.History.{SeatTold, FormTold}
+use Rattle.cr_base.specs.Labels.{by_labels, most_labels}
+use Rattle.cr_base.specs.Lists.{listed, last, is_number, total}
+use Rattle.cr_base.specs.Page.{shows_reviewer}
+use Rattle.cr_base.specs.Phases.{is_from}
+use Rattle.cr_base.specs.Sources.{Facts, Shown, decision_by, name_in, has_paper}
+use Rattle.cr_base.specs.Words.{is_member, is_chair, decision_name, seat_number}
+
+-- ---- who may have which
+
+-- members from a phase on, and chairs
+abbrev pub members_report : Standing → Phase → List Check
+members_report by first =
+    not (is_member by.role) breaks rules.NotMember
+    ∷ not (is_from first by.phase) breaks rules.WrongPhase
+    ∷ []
+
+abbrev pub chairs_report : Standing → Phase → List Check
+chairs_report by first =
+    not (is_chair by.role) breaks rules.NotChair
+    ∷ not (is_from first by.phase) breaks rules.WrongPhase
+    ∷ []
+
+-- the letter: a paper's authors, from the notification on
+abbrev pub letter_checks : Standing → Bool → List Check
+letter_checks by there =
+    not there breaks rules.NoPaper
+    ∷ not by.author breaks rules.NotAuthor
+    ∷ not (is_from Notification by.phase) breaks rules.WrongPhase
+    ∷ []
+
+abbrev pub report_checks : Facts → Report → List Check
+report_checks facts reports.Papers = members_report (facts.standing None) Bidding
+report_checks facts reports.Scores = members_report (facts.standing None) Discussion
+report_checks facts reports.Load = chairs_report (facts.standing None) Bidding
+report_checks facts reports.Decisions = members_report (facts.standing None) Discussion
+report_checks facts (reports.Letter paper) = letter_checks (facts.standing paper) (has_paper facts paper)
+
+-- ---- columns
+
+unfoldable pub space : List ℕ
+space = codes " "
+
+unfoldable pub line_end : List ℕ
+line_end = codes "\n"
+
+-- a text filled with spaces to this width: at its left, and at its right
+abbrev pub to_right : ℕ → List ℕ → List ℕ
+to_right width text = replicate (width - length text) 32 ++ text
+
+abbrev pub to_left : ℕ → List ℕ → List ℕ
+to_left width text = text ++ replicate (width - length text) 32
+
+-- a number in a column of four, and of two
+abbrev pub in_four : ℕ → List ℕ
+in_four n = to_right 4 (decimal n)
+
+abbrev pub in_two : ℕ → List ℕ
+in_two n = to_right 2 (decimal n)
+
+-- ---- what a report lists
+
+-- the caller is in no conflict with the paper
+abbrev pub is_clear_of : Facts → ℕ → Bool
+is_clear_of facts p = not (facts.standing (Some p)).conflicted
+
+-- the papers that she is in no conflict with, and those of them that aren't withdrawn
+abbrev pub clear_papers : Facts → List ℕ
+clear_papers facts = filter (is_clear_of facts) facts.papers
+
+abbrev pub open_papers : Facts → Shown → List ℕ
+open_papers facts shown = filter (λ (p : ℕ). not (shown.withdrawn p)) (clear_papers facts)
+
+-- a paper's title, where it is told
+abbrev pub title_by : Shown → ℕ → List ℕ
+title_by shown p = unwrap_or (shown.title p) []
+
+-- ---- all papers
+
+-- a paper's mark: whether it is withdrawn, or the caller in conflict with it
+unfoldable pub paper_mark : Bool → Bool → List ℕ
+paper_mark withdrawn conflicted = if withdrawn then codes "W" else (if conflicted then codes "C" else codes "-")
+
+abbrev pub paper_line : Facts → Shown → ℕ → List ℕ
+paper_line facts shown p =
+    in_four p ++ space ++ paper_mark (shown.withdrawn p) (facts.standing (Some p)).conflicted ++ space ++ title_by shown p ++ line_end
+
+unfoldable pub papers_end : ℕ → List ℕ
+papers_end count = decimal count ++ codes " papers" ++ line_end
+
+abbrev pub papers_told : Facts → Shown → List ℕ
+papers_told facts shown = flat_map (paper_line facts shown) facts.papers ++ papers_end (length facts.papers)
+
+-- ---- scores
+
+-- the score of the last form under each label that the committee discusses, in the order of the labels
+abbrev pub last_scores : Shown → ℕ → List ℕ
+last_scores shown p = by_labels (λ (o : ℕ). map (λ (form : FormTold). form.score) (listed (last (shown.forms_discussed p o)))) most_labels
+
+-- the mean of n scores with this sum, in hundredths, to the nearest one, and up where two are as near
+abbrev pub hundredths : ℕ → ℕ → ℕ
+hundredths sum n = (200 * sum + n) / (2 * n)
+
+-- hundredths as a number with two places
+unfoldable pub two_places : ℕ → List ℕ
+two_places h = decimal (h / 100) ++ codes "." ++ decimal (h % 100 / 10) ++ decimal (h % 10)
+
+-- the line of a paper with these scores, where it has any
+abbrev pub scores_line : ℕ → List ℕ → List ℕ → List ℕ
+scores_line p [] title = []
+scores_line p (score ∷ scores) title =
+    let n = length (score ∷ scores) in
+    in_four p ++ space ++ in_two n ++ space ++ two_places (hundredths (total (score ∷ scores)) n) ++ space ++ title ++ line_end
+
+abbrev pub scores_told : Facts → Shown → List ℕ
+scores_told facts shown = flat_map (λ (p : ℕ). scores_line p (last_scores shown p) (title_by shown p)) (open_papers facts shown)
+
+-- ---- who reviews how much
+
+-- of the assignments on the papers that the caller is in no conflict with, those that are the user's and pass a test
+abbrev pub held : Facts → Shown → ℕ → (ℕ → SeatTold → Bool) → ℕ
+held facts shown user test =
+    total (map (λ (p : ℕ). length (filter (λ (seat : SeatTold). is_number seat.user user && test p seat) (shown.reviewers p))) (clear_papers facts))
+
+-- the assignment is of this kind
+abbrev pub is_of_kind : Kind → SeatTold → Bool
+is_of_kind kind seat = option_map_or (λ (k : Kind). seat_number k == seat_number kind) seat.kind false
+
+-- a member's line: how many papers she reviews as primary, as secondary, and otherwise, and of how many she has written a form
+abbrev pub load_line : Facts → Shown → AccountLine → List ℕ
+load_line facts shown a =
+    to_left 32 a.name
+    ++ space ++ in_four (held facts shown a.user (λ p seat. is_of_kind Primary seat))
+    ++ space ++ in_four (held facts shown a.user (λ p seat. is_of_kind Secondary seat))
+    ++ space ++ in_four (held facts shown a.user (λ p seat. is_of_kind Pc seat))
+    ++ space ++ in_four (held facts shown a.user (λ p seat. shown.written p seat.ordinal))
+    ++ line_end
+
+-- by user number
+abbrev pub load_told : Facts → Shown → List ℕ
+load_told facts shown = flat_map (load_line facts shown) (filter (λ (a : AccountLine). is_member a.role) facts.accounts)
+
+-- ---- decisions
+
+-- a decision by its word
+abbrev pub decision_word : Option Decision → List ℕ
+decision_word decision = option_map_or decision_name decision (codes "none")
+
+abbrev pub decision_line : Facts → Shown → ℕ → List ℕ
+decision_line facts shown p = in_four p ++ space ++ to_left 6 (decision_word (decision_by facts shown p)) ++ space ++ title_by shown p ++ line_end
+
+-- which decision it is
+abbrev pub is_accepting : Option Decision → Bool
+is_accepting None = false
+is_accepting (Some Accept) = true
+is_accepting (Some Reject) = false
+
+abbrev pub is_rejecting : Option Decision → Bool
+is_rejecting None = false
+is_rejecting (Some Accept) = false
+is_rejecting (Some Reject) = true
+
+abbrev pub is_undecided : Option Decision → Bool
+is_undecided None = true
+is_undecided (Some decision) = false
+
+-- of the papers that the report lists, those of whose decision this holds
+abbrev pub decided : Facts → Shown → (Option Decision → Bool) → ℕ
+decided facts shown test = length (filter (λ (p : ℕ). test (decision_by facts shown p)) (open_papers facts shown))
+
+unfoldable pub decisions_end : ℕ → ℕ → ℕ → List ℕ
+decisions_end accepted rejected undecided =
+    codes "accept " ++ decimal accepted ++ codes ", reject " ++ decimal rejected ++ codes ", none " ++ decimal undecided ++ line_end
+
+abbrev pub decisions_told : Facts → Shown → List ℕ
+decisions_told facts shown =
+    flat_map (decision_line facts shown) (open_papers facts shown)
+    ++ decisions_end (decided facts shown is_accepting) (decided facts shown is_rejecting) (decided facts shown is_undecided)
+
+-- ---- the letter
+
+unfoldable pub paper_named_line : ℕ → List ℕ → List ℕ
+paper_named_line p title = codes "Paper " ++ decimal p ++ codes ": " ++ title ++ line_end
+
+unfoldable pub decision_named_line : List ℕ → List ℕ
+decision_named_line word = codes "Decision: " ++ word ++ line_end
+
+-- who wrote a review, where that is told
+unfoldable pub writer_named : Option (List ℕ) → List ℕ
+writer_named writer = option_map_or (λ (name : List ℕ). codes " by " ++ name) writer []
+
+-- a form: an empty line, its label, its grades, and what it tells authors
+unfoldable pub letter_form : ℕ → Option (List ℕ) → FormTold → List ℕ
+letter_form ordinal writer form =
+    line_end
+    ++ codes "Review " ++ ((64 + ordinal) ∷ []) ++ writer_named writer ++ line_end
+    ++ codes "Score " ++ decimal form.score ++ codes ", confidence " ++ decimal form.confidence ++ line_end
+    ++ form.to_authors ++ line_end
+
+-- the last form under each label, by the label, and in the open mode by its writer
+abbrev pub letter_forms : Facts → Shown → ℕ → List ℕ
+letter_forms facts shown p =
+    let writer = λ (o : ℕ). if shows_reviewer (facts.standing (Some p)) then option_and_then (name_in facts.accounts) (shown.assigned p o) else None in
+    by_labels (λ (o : ℕ). flat_map (letter_form o (writer o)) (listed (shown.last_form p o))) most_labels
+
+abbrev pub letter_told : Facts → Shown → ℕ → List ℕ
+letter_told facts shown p =
+    paper_named_line p (title_by shown p) ++ decision_named_line (decision_word (decision_by facts shown p)) ++ letter_forms facts shown p
+
+-- ---- what a report tells
+
+abbrev pub report_told : Facts → Shown → Report → List ℕ
+report_told facts shown reports.Papers = papers_told facts shown
+report_told facts shown reports.Scores = scores_told facts shown
+report_told facts shown reports.Load = load_told facts shown
+report_told facts shown reports.Decisions = decisions_told facts shown
+report_told facts shown (reports.Letter paper) = letter_told facts shown (unwrap_or paper 0)
