@@ -1,5 +1,5 @@
 -- The decisions that a history tells are those that the table of decisions has.
-use Rattle.std.proofs.Common.{ℕ, Bool, ◌≡◌, List, ◌++◌, append_assoc, append-nil, eqb, refl, sym, ap, ◌∙◌, Option}
+use Rattle.std.proofs.Common.{ℕ, Bool, ◌≡◌, List, ◌++◌, append_assoc, append-nil, sym, ap, ◌∙◌, Option}
 use Rattle.cr_base.specs.declared.entry.Entry.{Entry}
 use Rattle.cr_base.specs.declared.entry.Entry.TheVariants.{Decided}
 use Rattle.cr_base.specs.declared.entry.Stamped.{Stamped}
@@ -7,8 +7,8 @@ use Rattle.cr_base.specs.declared.words.Decision.{Decision}
 use Rattle.cr_base.specs.declared.words.Phase.{Phase}
 use Rattle.cr_base.specs.Decisions.{DecisionsState, decisions_after, decision_in, is_accepted_when}
 use Rattle.cr_base.specs.Filed.{filed, filed_of}
-use Rattle.cr_base.specs.History.{History, all_told, decision_told}
-use Rattle.cr_base.specs.HistoryFacts.{phase_of, is_withdrawn, decision_of, is_accepted}
+use Rattle.cr_base.specs.History.{History, decision_told}
+use Rattle.cr_base.specs.HistoryFacts.{is_withdrawn, decision_of, is_accepted}
 use Rattle.cr_base.specs.Lists.{given, last}
 use Rattle.cr_base.specs.Papers.{is_withdrawn_at}
 use Rattle.cr_base.specs.Sources.{is_accepted_in}

@@ -37,7 +37,7 @@ use Rattle.cr_base.specs.Talk.{comments_in, comment_as_told}
 use Rattle.cr_base.specs.Words.{phase_number, mode_number, role_number, seat_number, decision_number}
 use Rattle.cr_base.proofs.AccountLaws.{length-lines_of}
 use Rattle.cr_base.proofs.ListLaws.{length-numbers_from, list_any-numbers_from}
-use Rattle.cr_history.specs.Groups.{IsRuled, Adds, single, submitted, first_user}
+use Rattle.cr_history.specs.Groups.{IsRuled, Adds, single, submitted, first_user, Grows, adds, goes_on}
 use Rattle.cr_history.specs.Invariants.{IsRegistered, IsMadeByUser, HasNextNumber, HasNewName, IsAboutThose, IsSubmitted, InTurn}
 use Rattle.cr_history.proofs.CallerLaws.{registered-from}
 use Rattle.cr_history.proofs.SizeTies.{IsSized, sized-tables}
@@ -281,7 +281,7 @@ in_turn-all : (Q : Stamped → Type 0) (before g : History) → InTurn (λ _ e. 
 in_turn-all Q before [] all = tt
 in_turn-all Q before (e ∷ g) all = (all.0, in_turn-all Q (before ++ e ∷ []) g all.1)
 
-pub added-bounded : (H : History) → FitInTurn no_tables H → (g : History) → Adds H g → FitInTurn (tables_of H) g → All IsBoundedEntry g
+added-bounded : (H : History) → FitInTurn no_tables H → (g : History) → Adds H g → FitInTurn (tables_of H) g → All IsBoundedEntry g
 added-bounded H fits g (single maker e made alone ruled) fit = All-from_recursion IsBoundedEntry (grouped maker (e ∷ [])) (bounded-entry H fits maker false e made ruled fit.0, tt)
 added-bounded H fits g (submitted maker paper title abstract users made ruled registered) fit =
     All-from_recursion IsBoundedEntry (grouped maker (submission maker paper title abstract users))
@@ -292,3 +292,8 @@ added-bounded H fits g (first_user user name digest is texts) fit =
     let ruled : IsRuled H user (Registered user name digest) = record { phase = tt; chair = tt; role = tt; member = tt; right = tt; seat = tt; texts = texts } in
     All-from_recursion IsBoundedEntry (grouped user (Registered user name digest ∷ Named user role.Chair ∷ []))
     (bounded-entry H fits user true (Registered user name digest) refl ruled fit.0, (bounded_chair H fits user is, tt))
+
+pub grown-bounded : (H : History) → FitInTurn no_tables H → (g : History) → Grows H g → FitInTurn (tables_of H) g → All IsBoundedEntry g
+grown-bounded H fits g (adds same added) fit = added-bounded H fits g added fit
+grown-bounded H fits g (goes_on maker e made goes ruled) fit =
+    All-from_recursion IsBoundedEntry (stamp maker true e ∷ []) (bounded-entry H fits maker true e made ruled fit.0, tt)

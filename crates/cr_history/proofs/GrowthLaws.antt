@@ -9,7 +9,7 @@ use Rattle.cr_history.specs.Laws.{TablesTell, GrowthKeeps}
 use Rattle.cr_history.proofs.BidTies.{bid_of-tables}
 use Rattle.cr_history.proofs.ConflictTies.{is_conflict_on-tables, declared_by_authors-tables}
 use Rattle.cr_history.proofs.DecisionTies.{decision_of-tables, is_accepted-tables}
-use Rattle.cr_history.proofs.GroupLaws.{added-bounded}
+use Rattle.cr_history.proofs.GroupLaws.{grown-bounded}
 use Rattle.cr_history.proofs.InOrder.{in_order-append, whole-added}
 use Rattle.cr_history.proofs.InTime.{in_time-nil, in_time-append, discussed-append}
 use Rattle.cr_history.proofs.LineTies.{accounts_of-tables}
@@ -53,17 +53,17 @@ tables_tell H fits first = record {
 
 pub growth_keeps : GrowthKeeps
 growth_keeps = record {
-  first = record { bounded = All-nil IsBoundedEntry; spelled = λ k d within. stamped-row_of _ (All-nil IsBoundedEntry k d within); fits = tt; in_order = tt; whole = tt; in_time = in_time-nil; discussed = refl; stay = All-nil _ };
-  more = λ H g kept adds fits.
-      let all : All IsBoundedEntry (H ++ g) = All-append IsBoundedEntry H g kept.bounded (added-bounded H kept.fits g adds fits) in
+  first = record { bounded = All-nil IsBoundedEntry; spelled = λ k d within. stamped-row_of _ (All-nil IsBoundedEntry k d within); fits = tt; in_order = tt; in_time = in_time-nil; discussed = refl; stay = All-nil _ };
+  more = λ H g kept grows fits.
+      let all : All IsBoundedEntry (H ++ g) = All-append IsBoundedEntry H g kept.bounded (grown-bounded H kept.fits g grows fits) in
       record {
         bounded = all;
         spelled = λ k d within. stamped-row_of _ (all k d within);
         fits = FitInTurn-append no_tables H g kept.fits fits;
-        in_order = in_order-append H g kept.fits adds fits kept.in_order;
-        whole = whole-added H g adds kept.whole;
-        in_time = in_time-append H g adds kept.in_time;
-        discussed = discussed-append H g adds kept.discussed;
-        stay = stay-append H g adds kept.stay;
+        in_order = in_order-append H g kept.fits grows fits kept.in_order;
+        in_time = in_time-append H g grows kept.in_time;
+        discussed = discussed-append H g grows kept.discussed;
+        stay = stay-append H g grows kept.stay;
       };
+  whole = whole-added;
 }

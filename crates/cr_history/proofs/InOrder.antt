@@ -1,17 +1,18 @@
 -- Each entry of a legal history is in order on the history before it, and no command's entries are cut off.
-use Rattle.std.proofs.Common.{ℕ, Bool, false, ◌≡◌, List, [], ◌∷◌, ◌++◌, length, refl, sym, subst, ◌∙◌, arith, append_assoc, append-nil}
+use Rattle.std.proofs.Common.{ℕ, Bool, true, false, ◌≡◌, List, [], ◌∷◌, ◌++◌, length, refl, sym, subst, ◌∙◌, arith, append_assoc, append-nil}
 use Rattle.std.proofs.lemmas.Bool.{false≢true}
 use Rattle.cr_base.specs.declared.entry.Entry.{Entry}
-use Rattle.cr_base.specs.declared.entry.Entry.TheVariants.{Registered, Named, Submitted, Coauthor}
+use Rattle.cr_base.specs.declared.entry.Entry.TheVariants.{Registered, Named, Submitted, Coauthor, Conflict, Assigned, Unassigned, Tagged}
 use Rattle.cr_base.specs.declared.entry.Stamped.{Stamped}
 use Rattle.cr_base.specs.declared.words.Role.TheVariants.{Chair}
 use Rattle.cr_base.specs.HistoryFacts.{accounts_of}
 use Rattle.cr_base.specs.History.{History}
 use Rattle.cr_base.specs.Drawn.{grouped, submission}
 use Rattle.cr_base.specs.Tables.{no_tables, tables_of, Fits, FitInTurn}
-use Rattle.cr_history.specs.Invariants.{IsMarked, ComesFirst, IsInOrder, InTurn, IsWhole}
+use Rattle.cr_base.specs.Bulk.{IsRowEntry}
+use Rattle.cr_history.specs.Invariants.{IsMadeByUser, IsMarked, ComesFirst, IsInOrder, InTurn, IsWhole}
 use Rattle.cr_history.proofs.GroupLaws.{accounts-counted, fits-number, fits-name, fits-about}
-use Rattle.cr_history.specs.Groups.{StandsAlone, Adds, single, submitted, first_user}
+use Rattle.cr_history.specs.Groups.{IsRuled, StandsAlone, Adds, single, submitted, first_user, Grows, adds, goes_on}
 use Rattle.cr_history.proofs.ConflictTies.{TellFirst}
 use Rattle.cr_history.proofs.Grouped.{grouped-whole}
 use Rattle.cr_history.proofs.LineTies.{stamp}
@@ -46,11 +47,27 @@ alone-marked : (e : Entry) → StandsAlone e → IsMarked false e
 alone-marked (Registered user name digest) alone = sym alone
 alone-marked (Submitted paper title abstract) alone = tt
 alone-marked (Coauthor paper user) alone = tt
+alone-marked (Conflict paper user on) alone = tt
+alone-marked (Assigned paper user kind ordinal) alone = tt
+alone-marked (Unassigned paper user ordinal) alone = tt
+alone-marked (Tagged paper tag on) alone = tt
 alone-marked e alone = refl
 
 alone-first : (H : History) (e : Entry) → StandsAlone e → ComesFirst H e
 alone-first H (Coauthor paper user) alone = absurd alone
 alone-first H e alone = tt
+
+-- an entry behind which another of its bulk stands is no co-author either
+going-marked : (e : Entry) → IsRowEntry e → IsMarked true e
+going-marked (Conflict paper user on) goes = tt
+going-marked (Assigned paper user kind ordinal) goes = tt
+going-marked (Unassigned paper user ordinal) goes = tt
+going-marked (Tagged paper tag on) goes = tt
+going-marked e goes = absurd goes
+
+going-first : (H : History) (e : Entry) → IsRowEntry e → ComesFirst H e
+going-first H (Coauthor paper user) goes = absurd goes
+going-first H e goes = tt
 
 -- a co-author behind her paper
 coauthor-in_order : (maker paper : ℕ) (H : History) (more : Bool) (user : ℕ) → IsSubmitting maker paper H
@@ -70,25 +87,28 @@ coauthor-in_order maker paper H more user before fit = record {
   first = before.first;
 }
 
+-- an entry that the rules allow and that fits
+ruled-in_order : (H : History) → FitInTurn no_tables H → (maker : ℕ) (more : Bool) (e : Entry) → IsMadeByUser H maker e → IsRuled H maker e
+    → Fits (tables_of H) (stamp maker more e) → IsMarked more e → ComesFirst H e → IsInOrder H (stamp maker more e)
+ruled-in_order H fits maker more e made ruled fit marked first = record {
+  maker = made;
+  mark = marked;
+  number = fits-number H fits maker more e fit;
+  name = fits-name H fits maker more e fit;
+  about = fits-about H fits maker more e fit;
+  phase = ruled.phase;
+  chair = ruled.chair;
+  role = ruled.role;
+  member = ruled.member;
+  right = ruled.right;
+  seat = ruled.seat;
+  first = first;
+}
+
 -- what is added to a history in order is in order
 added-in_order : (H g : History) → FitInTurn no_tables H → InTurn IsInOrder [] H → Adds H g → FitInTurn (tables_of H) g → InTurn IsInOrder H g
-added-in_order H g fits kept (single maker e made alone ruled) fit = (
-  record {
-    maker = made;
-    mark = alone-marked e alone;
-    number = fits-number H fits maker false e fit.0;
-    name = fits-name H fits maker false e fit.0;
-    about = fits-about H fits maker false e fit.0;
-    phase = ruled.phase;
-    chair = ruled.chair;
-    role = ruled.role;
-    member = ruled.member;
-    right = ruled.right;
-    seat = ruled.seat;
-    first = alone-first H e alone;
-  },
-  tt,
-)
+added-in_order H g fits kept (single maker e made alone ruled) fit =
+    (ruled-in_order H fits maker false e made ruled fit.0 (alone-marked e alone) (alone-first H e alone), tt)
 added-in_order H g fits kept (submitted maker paper title abstract users made ruled registered) fit =
     submission-in_turn maker paper IsInOrder (coauthor-in_order maker paper) H title abstract users fits made ruled.phase
     (λ more fit. record {
@@ -111,6 +131,12 @@ added-in_order H g fits kept (first_user user name digest is texts) fit =
     let none : H ≡ [] = nothing_before H kept (omega (arith, next, count, is)) in
     subst (λ (G : History). InTurn IsInOrder G (first_group user name digest)) (sym none)
     (subst (λ (n : ℕ). InTurn IsInOrder [] (first_group n name digest)) (sym is) (first-in_order name digest))
+
+-- and so is what it grows by
+grown-in_order : (H g : History) → FitInTurn no_tables H → InTurn IsInOrder [] H → Grows H g → FitInTurn (tables_of H) g → InTurn IsInOrder H g
+grown-in_order H g fits kept (adds same added) fit = added-in_order H g fits kept added fit
+grown-in_order H g fits kept (goes_on maker e made goes ruled) fit =
+    (ruled-in_order H fits maker true e made ruled fit.0 (going-marked e goes) (going-first H e goes), tt)
 
 added-whole : (H g : History) → Adds H g → IsWhole g
 added-whole H g (single maker e made alone ruled) = refl
@@ -141,8 +167,8 @@ whole-append (e ∷ next ∷ H) g h then = (h.0, whole-append (next ∷ H) g h.1
 -- ---- the step
 
 -- what is so of a history is so with a group behind it that the rules allow and that fits
-pub in_order-append : (H g : History) → FitInTurn no_tables H → Adds H g → FitInTurn (tables_of H) g → InTurn IsInOrder [] H → InTurn IsInOrder [] (H ++ g)
-in_order-append H g fits adds fit kept = in_turn-append IsInOrder [] H g kept (added-in_order H g fits kept adds fit)
+pub in_order-append : (H g : History) → FitInTurn no_tables H → Grows H g → FitInTurn (tables_of H) g → InTurn IsInOrder [] H → InTurn IsInOrder [] (H ++ g)
+in_order-append H g fits grows fit kept = in_turn-append IsInOrder [] H g kept (grown-in_order H g fits kept grows fit)
 
-pub whole-added : (H g : History) → Adds H g → IsWhole H → IsWhole (H ++ g)
-whole-added H g adds kept = whole-append H g kept (added-whole H g adds)
+pub whole-added : (H g : History) → IsWhole H → Adds H g → IsWhole (H ++ g)
+whole-added H g kept added = whole-append H g kept (added-whole H g added)

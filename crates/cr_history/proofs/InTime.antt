@@ -15,12 +15,13 @@ use Rattle.cr_base.specs.Lists.{last_or, is_number, until, since}
 use Rattle.cr_base.specs.History.{History, all_told, opens, phase_told, author_told}
 use Rattle.cr_base.specs.HistoryFacts.{phase_of, authors_of, is_author}
 use Rattle.cr_base.specs.Phases.{phase_place, is_from, is_phase}
-use Rattle.cr_base.specs.Drawn.{grouped, submission}
+use Rattle.cr_base.specs.Drawn.{submission}
 use Rattle.cr_history.proofs.Folds.{last_or-append}
 use Rattle.cr_history.specs.Invariants.{is_opening, ByAuthor, ByHerselfOrOther, Early, Late, DeclaresInTime, IsDiscussedInTime, IsInPhase, IsByRight}
 use Rattle.cr_history.proofs.ListCuts.{AllByRecursion-append, AllByRecursion-map, AllByRecursion-until, until-none, since-none, until-append, since-append, until-before, since-before}
-use Rattle.cr_history.specs.Groups.{IsRuled, Adds, single, submitted, first_user}
+use Rattle.cr_history.specs.Groups.{IsRuled, Adds, single, submitted, first_user, Grows, adds, goes_on}
 use Rattle.cr_history.proofs.Grouped.{grouped-each, submission-each, all-silent}
+use Rattle.cr_history.proofs.LineTies.{stamp}
 
 -- ---- what the rules say of one group
 
@@ -49,20 +50,29 @@ added-allowed H g (first_user user name digest is texts) = (tt, (tt, tt))
 
 -- a group moves the phase on and does nothing else, or leaves the phase
 data Moves (H : History) : History → Type 0 where
-  moved : (maker : ℕ) (to : Phase) → phase_place to ≡ phase_place (phase_of H) + 1 → Moves H (grouped maker (PhaseSet to ∷ []))
+  moved : (maker : ℕ) (more : Bool) (to : Phase) → phase_place to ≡ phase_place (phase_of H) + 1 → Moves H (stamp maker more (PhaseSet to) ∷ [])
   stayed : (g : History) → all_told phase_told g ≡ [] → Moves H g
 
-ruled-moves : (H : History) (maker : ℕ) (e : Entry) → IsRuled H maker e → Moves H (grouped maker (e ∷ []))
-ruled-moves H maker (PhaseSet to) ruled = moved maker to (eqb-true (phase_place to) (phase_place (phase_of H) + 1) ruled.phase)
-ruled-moves H maker e ruled = stayed _ refl
+ruled-moves : (H : History) (maker : ℕ) (more : Bool) (e : Entry) → IsRuled H maker e → Moves H (stamp maker more e ∷ [])
+ruled-moves H maker more (PhaseSet to) ruled = moved maker more to (eqb-true (phase_place to) (phase_place (phase_of H) + 1) ruled.phase)
+ruled-moves H maker more e ruled = stayed _ refl
 
 added-moves : (H g : History) → Adds H g → Moves H g
-added-moves H g (single maker e made marked ruled) = ruled-moves H maker e ruled
+added-moves H g (single maker e made marked ruled) = ruled-moves H maker false e ruled
 added-moves H g (submitted maker paper title abstract users made ruled registered) =
     stayed _ (all-silent (λ (e : Stamped). phase_told e.entry) _
     (grouped-each maker (λ (e : Stamped). phase_told e.entry ≡ []) (submission maker paper title abstract users)
     (submission-each (λ (e : Entry). (more : Bool) → phase_told e ≡ []) maker paper title abstract users (λ more. refl) (λ user more. refl))))
 added-moves H g (first_user user name digest is texts) = stayed _ refl
+
+-- and so of all by which a history grows
+grown-allowed : (H g : History) → Grows H g → AllByRecursion (Allowed H) g
+grown-allowed H g (adds same added) = added-allowed H g added
+grown-allowed H g (goes_on maker e made goes ruled) = (ruled-allowed H maker e ruled, tt)
+
+grown-moves : (H g : History) → Grows H g → Moves H g
+grown-moves H g (adds same added) = added-moves H g added
+grown-moves H g (goes_on maker e made goes ruled) = ruled-moves H maker true e ruled
 
 -- ---- authors of more entries
 
@@ -129,8 +139,8 @@ phase-append H g =
 pub phase_stays : (H g : History) → all_told phase_told g ≡ [] → phase_of (H ++ g) ≡ phase_of H
 phase_stays H g h = phase-append H g ∙ ap (last_or (phase_of H)) h
 
-phase_moves : (H : History) (maker : ℕ) (to : Phase) → phase_of (H ++ grouped maker (PhaseSet to ∷ [])) ≡ to
-phase_moves H maker to = phase-append H (grouped maker (PhaseSet to ∷ []))
+phase_moves : (H : History) (maker : ℕ) (more : Bool) (to : Phase) → phase_of (H ++ stamp maker more (PhaseSet to) ∷ []) ≡ to
+phase_moves H maker more to = phase-append H (stamp maker more (PhaseSet to) ∷ [])
 
 empty_parts : {A : Type 0} (xs ys : List A) → xs ++ ys ≡ [] → (xs ≡ []) × (ys ≡ [])
 empty_parts [] ys h = (refl, h)
@@ -166,7 +176,7 @@ module _ (first : Phase) where
 
   -- nothing stands behind the opening in its group
   group_since : (H g : History) → Moves H g → since opens_first g ≡ []
-  group_since H g (moved maker to h) = by (is_phase to first)
+  group_since H g (moved maker more to h) = by (is_phase to first)
     where
       by : (b : Bool) → cond {A = History} b [] [] ≡ []
       by true = refl
@@ -184,10 +194,10 @@ module _ (first : Phase) where
     where
       by : (H g : History) → Moves H g → (opened : Bool) → is_from first (phase_of H) ≡ opened
           → (opened || list_any opens_first g) ≡ is_from first (phase_of (H ++ g))
-      by H g (moved maker to e) true h =
-          still_open (phase_place first) (phase_place (phase_of H)) (phase_place to) e h ∙ ap (is_from first) (sym (phase_moves H maker to))
-      by H g (moved maker to e) false h =
-          opens_now (phase_place first) (phase_place (phase_of H)) (phase_place to) e h ∙ ap (is_from first) (sym (phase_moves H maker to))
+      by H g (moved maker more to e) true h =
+          still_open (phase_place first) (phase_place (phase_of H)) (phase_place to) e h ∙ ap (is_from first) (sym (phase_moves H maker more to))
+      by H g (moved maker more to e) false h =
+          opens_now (phase_place first) (phase_place (phase_of H)) (phase_place to) e h ∙ ap (is_from first) (sym (phase_moves H maker more to))
       by H g (stayed k e) true h = sym (ap (is_from first) (phase_stays H g e) ∙ h)
       by H g (stayed k e) false h = no_opening g e ∙ sym (ap (is_from first) (phase_stays H g e) ∙ h)
 
@@ -197,14 +207,14 @@ pub in_time-nil : DeclaresInTime []
 in_time-nil = record { early = tt; late = tt; begun = refl }
 
 -- what is so of a history is so with a group behind it that the rules allow
-pub in_time-append : (H g : History) → Adds H g → DeclaresInTime H → DeclaresInTime (H ++ g)
-in_time-append H g adds kept = by (list_any is_opening H) refl
+pub in_time-append : (H g : History) → Grows H g → DeclaresInTime H → DeclaresInTime (H ++ g)
+in_time-append H g grows kept = by (list_any is_opening H) refl
   where
     entries : AllByRecursion (Allowed H) g
-    entries = added-allowed H g adds
+    entries = grown-allowed H g grows
 
     moves : Moves H g
-    moves = added-moves H g adds
+    moves = grown-moves H g grows
 
     by : (b : Bool) → list_any is_opening H ≡ b → DeclaresInTime (H ++ g)
     by true h =
@@ -231,5 +241,5 @@ in_time-append H g adds kept = by (list_any is_opening H) refl
         }
 
 -- and the discussion is opened in time
-pub discussed-append : (H g : History) → Adds H g → IsDiscussedInTime H → IsDiscussedInTime (H ++ g)
-discussed-append H g adds kept = in_time-after Discussion H g (added-moves H g adds) kept
+pub discussed-append : (H g : History) → Grows H g → IsDiscussedInTime H → IsDiscussedInTime (H ++ g)
+discussed-append H g grows kept = in_time-after Discussion H g (grown-moves H g grows) kept

@@ -8,14 +8,15 @@ use Rattle.std.proofs.lemmas.List.Elements.{All-from_recursion, recursion_from_A
 use Rattle.cr_base.specs.declared.entry.Entry.{Entry}
 use Rattle.cr_base.specs.declared.entry.Entry.TheVariants.{Assigned, Unassigned, Reviewed}
 use Rattle.cr_base.specs.declared.entry.Stamped.{Stamped}
-use Rattle.cr_base.specs.Drawn.{grouped, submission}
+use Rattle.cr_base.specs.Drawn.{submission}
 use Rattle.cr_base.specs.History.{History, all_told, seat_told, form_told, whole_form}
 use Rattle.cr_base.specs.HistoryFacts.{seat_of, forms_of, is_written}
 use Rattle.cr_base.specs.Lists.{given, is_nothing, last_or}
-use Rattle.cr_history.specs.Groups.{IsRuled, Adds, single, submitted, first_user}
+use Rattle.cr_history.specs.Groups.{IsRuled, Adds, single, submitted, first_user, Grows, adds, goes_on}
 use Rattle.cr_history.specs.Invariants.{IsHeld, ReviewersStay}
 use Rattle.cr_history.proofs.Folds.{last_or-append}
 use Rattle.cr_history.proofs.Grouped.{grouped-each, submission-each, all-silent}
+use Rattle.cr_history.proofs.LineTies.{stamp}
 use Rattle.cr_history.proofs.ListCuts.{AllByRecursion-append, AllByRecursion-map, AllByRecursion-both}
 
 -- ---- labels with forms
@@ -58,8 +59,8 @@ abbrev LeavesSeats : History → History → Type 0
 LeavesSeats H g = (user paper ordinal : ℕ) → seat_of (Some user) paper H ≡ Some ordinal → is_written paper ordinal H ≡ true
     → all_told (seat_told (Some user) paper) g ≡ []
 
-ruled-leaves : (H : History) (maker : ℕ) (e : Entry) → IsRuled H maker e → LeavesSeats H (grouped maker (e ∷ []))
-ruled-leaves H maker (Assigned paper' user' kind ordinal') ruled user paper ordinal held written = by (eqb paper' paper) (eqb user user') refl refl
+ruled-leaves : (H : History) (maker : ℕ) (more : Bool) (e : Entry) → IsRuled H maker e → LeavesSeats H (stamp maker more e ∷ [])
+ruled-leaves H maker more (Assigned paper' user' kind ordinal') ruled user paper ordinal held written = by (eqb paper' paper) (eqb user user') refl refl
   where
     by : (b c : Bool) → eqb paper' paper ≡ b → eqb user user' ≡ c → given (b && c) (Some ordinal') ++ [] ≡ []
     by true true same is =
@@ -71,7 +72,7 @@ ruled-leaves H maker (Assigned paper' user' kind ordinal') ruled user paper ordi
         filled h = cc
     by true false same is = refl
     by false c same is = refl
-ruled-leaves H maker (Unassigned paper' user' ordinal') ruled user paper ordinal held written = by (eqb paper' paper) (eqb user user') refl refl
+ruled-leaves H maker more (Unassigned paper' user' ordinal') ruled user paper ordinal held written = by (eqb paper' paper) (eqb user user') refl refl
   where
     by : (b c : Bool) → eqb paper' paper ≡ b → eqb user user' ≡ c → given {A = Option ℕ} (b && c) None ++ [] ≡ []
     by true true same is =
@@ -86,15 +87,19 @@ ruled-leaves H maker (Unassigned paper' user' ordinal') ruled user paper ordinal
         same_some h = cc
     by true false same is = refl
     by false c same is = refl
-ruled-leaves H maker e ruled user paper ordinal held written = refl
+ruled-leaves H maker more e ruled user paper ordinal held written = refl
 
 added-leaves : (H g : History) → Adds H g → LeavesSeats H g
-added-leaves H g (single maker e made alone ruled) user paper ordinal held written = ruled-leaves H maker e ruled user paper ordinal held written
+added-leaves H g (single maker e made alone ruled) user paper ordinal held written = ruled-leaves H maker false e ruled user paper ordinal held written
 added-leaves H g (submitted maker p title abstract users made ruled registered) user paper ordinal held written =
     all-silent (λ (e : Stamped). seat_told (Some user) paper e.entry) _
     (grouped-each maker (λ (e : Stamped). seat_told (Some user) paper e.entry ≡ []) (submission maker p title abstract users)
     (submission-each (λ (e : Entry). (more : Bool) → seat_told (Some user) paper e ≡ []) maker p title abstract users (λ more. refl) (λ user more. refl)))
 added-leaves H g (first_user n name digest is texts) user paper ordinal held written = refl
+
+grown-leaves : (H g : History) → Grows H g → LeavesSeats H g
+grown-leaves H g (adds same added) = added-leaves H g added
+grown-leaves H g (goes_on maker e made goes ruled) = ruled-leaves H maker true e ruled
 
 -- a group that tells of no seat of hers leaves it
 seat-stays : (u : Option ℕ) (p : ℕ) (H g : History) → all_told (seat_told u p) g ≡ [] → seat_of u p (H ++ g) ≡ seat_of u p H
@@ -104,17 +109,21 @@ seat-stays u p H g none =
     ∙ ap (last_or (seat_of u p H)) none
 
 -- a form in it is under its maker's own label
-ruled-held : (H : History) (maker : ℕ) (e : Entry) → IsRuled H maker e → IsHeld (H ++ grouped maker (e ∷ [])) maker e
-ruled-held H maker (Reviewed paper ordinal version form) ruled =
-    seat-stays (Some maker) paper H (grouped maker (Reviewed paper ordinal version form ∷ [])) refl ∙ ruled.seat
-ruled-held H maker e ruled = tt
+ruled-held : (H : History) (maker : ℕ) (more : Bool) (e : Entry) → IsRuled H maker e → IsHeld (H ++ stamp maker more e ∷ []) maker e
+ruled-held H maker more (Reviewed paper ordinal version form) ruled =
+    seat-stays (Some maker) paper H (stamp maker more (Reviewed paper ordinal version form) ∷ []) refl ∙ ruled.seat
+ruled-held H maker more e ruled = tt
 
 added-held : (H g : History) → Adds H g → AllByRecursion (λ (e : Stamped). IsHeld (H ++ g) e.maker e.entry) g
-added-held H g (single maker e made alone ruled) = (ruled-held H maker e ruled, tt)
+added-held H g (single maker e made alone ruled) = (ruled-held H maker false e ruled, tt)
 added-held H g (submitted maker p title abstract users made ruled registered) =
     grouped-each maker (λ (e : Stamped). IsHeld (H ++ g) e.maker e.entry) (submission maker p title abstract users)
     (submission-each (λ (e : Entry). (more : Bool) → IsHeld (H ++ g) maker e) maker p title abstract users (λ more. tt) (λ user more. tt))
 added-held H g (first_user n name digest is texts) = (tt, (tt, tt))
+
+grown-held : (H g : History) → Grows H g → AllByRecursion (λ (e : Stamped). IsHeld (H ++ g) e.maker e.entry) g
+grown-held H g (adds same added) = added-held H g added
+grown-held H g (goes_on maker e made goes ruled) = (ruled-held H maker true e ruled, tt)
 
 -- ---- the step
 
@@ -123,12 +132,12 @@ held-more H g leaves maker (Reviewed paper ordinal version form) written held =
     seat-stays (Some maker) paper H g (leaves maker paper ordinal held written) ∙ held
 held-more H g leaves maker e written held = tt
 
-pub stay-append : (H g : History) → Adds H g → ReviewersStay H → ReviewersStay (H ++ g)
-stay-append H g adds kept =
+pub stay-append : (H g : History) → Grows H g → ReviewersStay H → ReviewersStay (H ++ g)
+stay-append H g grows kept =
     let Held : History → Stamped → Type 0 = λ G e. IsHeld G e.maker e.entry in
     All-from_recursion (Held (H ++ g)) (H ++ g)
     (AllByRecursion-append (Held (H ++ g)) H g
     (AllByRecursion-map (λ (e : Stamped). HasForm H e.entry × Held H e) (Held (H ++ g))
-    (λ e h. held-more H g (added-leaves H g adds) e.maker e.entry h.0 h.1) H
+    (λ e h. held-more H g (grown-leaves H g grows) e.maker e.entry h.0 h.1) H
     (AllByRecursion-both (λ (e : Stamped). HasForm H e.entry) (Held H) H (has_forms H) (recursion_from_All (Held H) H kept)))
-    (added-held H g adds))
+    (grown-held H g grows))

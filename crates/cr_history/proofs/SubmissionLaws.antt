@@ -54,7 +54,7 @@ no_conflict-from p t (s ∷ H) fits h =
 
 -- ---- one entry behind another
 
-registered-append : (H g : History) (user : ℕ) → IsRegistered H user → IsRegistered (H ++ g) user
+pub registered-append : (H g : History) (user : ℕ) → IsRegistered H user → IsRegistered (H ++ g) user
 registered-append H g user h =
     let test : Registration → Bool = λ (r : Registration). eqb r.user user in
     ap (list_any test) (flat_map-append (λ (e : Stamped). registration_told e.entry) H g)

@@ -31,6 +31,11 @@ pub FitInTurn-append : (t : Tables) (H g : History) → FitInTurn t H → FitInT
 FitInTurn-append t [] g first then = then
 FitInTurn-append t (s ∷ H) g first then = (first.0, FitInTurn-append (tables_after t s) H g first.1 then)
 
+-- the later ones of those that fit in their turn fit behind the earlier ones
+pub FitInTurn-behind : (t : Tables) (H g : History) → FitInTurn t (H ++ g) → FitInTurn (tables_from t H) g
+FitInTurn-behind t [] g fits = fits
+FitInTurn-behind t (s ∷ H) g fits = FitInTurn-behind (tables_after t s) H g fits.1
+
 -- ---- the facts
 
 -- how a user stands by a history is how she stands by its tables

@@ -1,13 +1,14 @@
--- What an accepted command may add to a history, by the rules on it.
-use Rattle.std.specs.Prelude.{ℕ, ◌≡◌, ◌≤◌, ◌==◌, List, [], ◌∷◌, length, IsTrue, IsFalse}
+-- What an accepted command may add to a history, and a row of an accepted bulk, by the rules on it.
+use Rattle.std.specs.Prelude.{ℕ, true, ◌≡◌, ◌≤◌, ◌==◌, List, [], ◌∷◌, length, IsTrue, IsFalse}
 use Rattle.std.specs.List.{AllByRecursion}
 use Rattle.cr_base.specs.declared.entry.Entry.{Entry}
 use Rattle.cr_base.specs.declared.entry.Entry.TheVariants.{Registered, Named, Submitted, Coauthor, Revised, Uploaded, Bid}
-use Rattle.cr_base.specs.declared.entry.Entry.TheVariants.{Reviewed, Commented, Tagged}
+use Rattle.cr_base.specs.declared.entry.Entry.TheVariants.{Conflict, Assigned, Unassigned, Reviewed, Commented, Tagged}
 use Rattle.cr_base.specs.declared.words.Role.TheVariants.{Chair}
 use Rattle.cr_base.specs.History.{History}
 use Rattle.cr_base.specs.Drawn.{grouped, submission}
 use Rattle.cr_base.specs.Bounds.{IsForm}
+use Rattle.cr_base.specs.Bulk.{IsRowEntry}
 use Rattle.cr_base.specs.TagTexts.{is_tag}
 use Rattle.cr_base.specs.Texts.{IsName, IsTitle, IsAbstract, IsContent, IsCommentText}
 use Rattle.cr_history.specs.Invariants.{IsRegistered, IsMadeByUser, IsInPhase, IsByChair, RaisesRole, IsOfMember, IsByRight, IsSeated}
@@ -49,3 +50,9 @@ pub data Adds (H : History) : History → Type 0 where
       → Adds H (grouped maker (submission maker paper title abstract users))
   first_user : (user : ℕ) (name digest : List ℕ) → user ≡ 1 → HasTexts (Registered user name digest)
       → Adds H (grouped user (Registered user name digest ∷ Named user Chair ∷ []))
+
+-- how a history grows: by all that a command adds, or by the entry of a bulk's row with the mark that another's follows
+pub data Grows (H : History) : History → Type 0 where
+  adds : (g : History) → Adds H g → Grows H g
+  goes_on : (maker : ℕ) (e : Entry) → IsMadeByUser H maker e → IsRowEntry e → IsRuled H maker e
+      → Grows H (record { maker = maker; more = true; entry = e } ∷ [])

@@ -44,12 +44,16 @@ IsMadeByUser H maker (Commented paper n ordinal text) = IsRegistered H maker
 IsMadeByUser H maker (Tagged paper tag on) = IsRegistered H maker
 IsMadeByUser H maker (Decided paper decision) = IsRegistered H maker
 
--- of the entries that commands add, the first user's registration has another of its command behind it, and a submission
--- and its co-authors may have one
+-- of the entries that commands add, the first user's registration has another of its command behind it; a submission, its
+-- co-authors and the entries of a bulk may have one
 abbrev pub IsMarked : Bool → Entry → Type 0
 IsMarked more (Registered user name digest) = more ≡ (user == 1)
 IsMarked more (Submitted paper title abstract) = Unit {0}
 IsMarked more (Coauthor paper user) = Unit {0}
+IsMarked more (Conflict paper user on) = Unit {0}
+IsMarked more (Assigned paper user kind ordinal) = Unit {0}
+IsMarked more (Unassigned paper user ordinal) = Unit {0}
+IsMarked more (Tagged paper tag on) = Unit {0}
 IsMarked more _ = IsFalse more
 
 -- users are numbered from 1 as they register, papers as they are submitted, the versions of each paper as they are uploaded,
@@ -260,15 +264,14 @@ ReviewersStay H = All (λ (e : Stamped). IsHeld H e.maker e.entry) H
 abbrev pub IsSpelled : Stamped → Type 0
 IsSpelled e = stamped (kind_of e.entry) (row_of e) ≡ e
 
--- what every legal history keeps. Each entry is within its bounds, so that its row spells it; it fits the tables of what
--- stands before it; and it is in order there. No command's entries are cut off, conflicts are declared in time, the discussion is
--- opened once, and whoever has written a form stays a reviewer
+-- what every legal history keeps, and what of a bulk's entries stands behind one. Each entry is within its bounds, so that its row
+-- spells it; it fits the tables of what stands before it; and it is in order there. Conflicts are declared in time, the discussion is
+-- opened once, and whoever has written a form stays a reviewer. That no command's entries are cut off, too, is said apart (`IsWhole`)
 pub record Invariants (H : History) : Type 0 where
   pub bounded : All IsBoundedEntry H
   pub spelled : All IsSpelled H
   pub fits : FitInTurn no_tables H
   pub in_order : InTurn IsInOrder [] H
-  pub whole : IsWhole H
   pub in_time : DeclaresInTime H
   pub discussed : IsDiscussedInTime H
   pub stay : ReviewersStay H

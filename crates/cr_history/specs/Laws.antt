@@ -17,8 +17,8 @@ use Rattle.cr_base.specs.Tables.{no_tables, tables_of, FitInTurn}
 use Rattle.cr_base.specs.Seats.{labels_in, reviewers_in, seat_in, seats_in}
 use Rattle.cr_base.specs.Talk.{comments_in, comment_as_told, own_comments_in}
 use Rattle.cr_base.specs.Ties.{pair_of, authors_in, is_conflict_on_in, bid_in}
-use Rattle.cr_history.specs.Groups.{Adds}
-use Rattle.cr_history.specs.Invariants.{Invariants, InTurn, ComesFirst}
+use Rattle.cr_history.specs.Groups.{Adds, Grows}
+use Rattle.cr_history.specs.Invariants.{Invariants, InTurn, ComesFirst, IsWhole}
 
 -- what a history tells is what its tables have
 pub record AreTold (H : History) : Type 0 where
@@ -62,7 +62,9 @@ pub record AreFormsTold (H : History) : Type 0 where
 abbrev pub FormsTell : Type 0
 FormsTell = (H : History) → Invariants H → AreFormsTold H
 
--- GrowthKeeps: histories that grow by what the rules let commands add and the tables take keep the invariants
+-- GrowthKeeps: histories that grow by what the rules let commands and the rows of bulks add, and the tables take, keep the invariants; and
+-- where a command adds it, nothing is cut off that wasn't
 pub record GrowthKeeps : Type 0 where
   pub first : Invariants []
-  pub more : (H g : History) → Invariants H → Adds H g → FitInTurn (tables_of H) g → Invariants (H ++ g)
+  pub more : (H g : History) → Invariants H → Grows H g → FitInTurn (tables_of H) g → Invariants (H ++ g)
+  pub whole : (H g : History) → IsWhole H → Adds H g → IsWhole (H ++ g)

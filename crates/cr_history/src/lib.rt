@@ -24,7 +24,8 @@ pub fn law_forms()
 {}
 
 /// The empty history keeps the invariants; and so does a history that keeps them with a group behind it that the rules let a
-/// command add, its texts within their bounds, and that fits the tables in its turn.
+/// command add, or with an entry that they let the row of a bulk add, its texts within their bounds, and that fits the tables in
+/// its turn. What a command adds is never cut off.
 pub fn law_growth()
     ensures { GrowthKeeps }
 {}

@@ -1,12 +1,19 @@
--- Judge and Answer: a command's judgement and a query's answer, computed from the caller's view alone.
-use Rattle.std.specs.Prelude.{ℕ, Bool, Option, None, Result}
+-- Judge and Answer: a command's and a bulk's judgement and a query's answer, computed from the caller's view alone.
+use Rattle.std.specs.Prelude.{ℕ, Bool, true, List, ◌++◌, map, Option, Some, None, Result}
+use Rattle.cr_base.specs.declared.bulk.Broken.{Broken}
+use Rattle.cr_base.specs.declared.bulk.BulkRow.{BulkRow}
 use Rattle.cr_base.specs.declared.command.Command.{Command}
 use Rattle.cr_base.specs.declared.command.Query.{Query}
+use Rattle.cr_base.specs.declared.entry.Stamped.{Stamped}
 use Rattle.cr_base.specs.declared.reply.Reply.{Reply}
 use Rattle.cr_base.specs.declared.reply.Rule.{Rule}
 use Rattle.cr_base.specs.Answering.{answer_by, login_wanted}
+use Rattle.cr_base.specs.Bulk.{Basis, row_judged, bulk_judged}
 use Rattle.cr_base.specs.Drawn.{Drawn}
+use Rattle.cr_base.specs.History.{History}
 use Rattle.cr_base.specs.Judging.{judge_by}
+use Rattle.cr_policy.specs.Part.{whole}
+use Rattle.cr_policy.specs.Sighting.{sighting}
 use Rattle.cr_policy.specs.View.{View}
 use Rattle.cr_policy.specs.ViewFacts.{facts_in_view, shown_in_view}
 
@@ -21,3 +28,25 @@ answer u V query = answer_by (facts_in_view u V) (shown_in_view u V) u query
 -- whether a login is wanted for the query, as nobody's view tells: everyone is served what is published
 abbrev pub needs_login : View → Query → Bool
 needs_login V query = login_wanted (facts_in_view None V) query
+
+-- ---- bulks
+
+-- what entries of her own show their maker: they are whole, and hers
+abbrev pub own_sightings : History → View
+own_sightings group = map (λ (e : Stamped). sighting whole true e) group
+
+-- what the rows of a bulk are judged on: its caller's view, and behind it the bulk's own earlier entries
+abbrev pub view_basis : ℕ → Basis View
+view_basis user = record {
+  facts = λ V. facts_in_view (Some user) V;
+  shown = λ V. shown_in_view (Some user) V;
+  behind = λ V group. V ++ own_sightings group;
+}
+
+-- Judge of one row
+abbrev pub judge_row : ℕ → View → BulkRow → Result Drawn Rule
+judge_row user V row = row_judged (facts_in_view (Some user) V) (shown_in_view (Some user) V) user row
+
+-- Judge of a bulk: the first rule that it breaks as a whole, or the first row that breaks one, or the entries of all rows and the receipt
+abbrev pub judge_bulk : ℕ → View → List BulkRow → Result Drawn Broken
+judge_bulk user V rows = bulk_judged (view_basis user) user V rows

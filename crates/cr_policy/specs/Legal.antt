@@ -1,14 +1,15 @@
 -- Legal: which histories come of commands.
 use Rattle.std.specs.Prelude.{ℕ, Bool, true, false, ◌≡◌, List, [], ◌∷◌, ◌++◌, Option, Some, None, Result, Ok, Err, IsFalse}
+use Rattle.cr_base.specs.declared.bulk.BulkRow.{BulkRow}
 use Rattle.cr_base.specs.declared.command.Command.{Command}
-use Rattle.cr_base.specs.declared.reply.Rule.{Rule}
 use Rattle.cr_base.specs.History.{History}
 use Rattle.cr_base.specs.Drawn.{Drawn}
 use Rattle.cr_base.specs.Logins.{command_wants_login}
 use Rattle.cr_base.specs.Bounds.{IsBoundedCommand}
+use Rattle.cr_base.specs.Bulk.{IsBoundedBulk}
 use Rattle.cr_history.specs.Invariants.{IsRegistered}
 use Rattle.cr_policy.specs.View.{view}
-use Rattle.cr_policy.specs.Judge.{judge}
+use Rattle.cr_policy.specs.Judge.{judge, judge_bulk}
 
 -- ---- who calls
 
@@ -44,21 +45,51 @@ pub record IsAllowed (H : History) (call : Call) : Type 0 where
   pub bounded : IsBoundedCommand call.command
 
 -- a history, and behind it the group that is drawn; as it is where a rule is broken
-abbrev pub followed_by : History → Result Drawn Rule → History
+abbrev pub followed_by : {E : Type 0} → History → Result Drawn E → History
 followed_by H (Ok drawn) = H ++ drawn.group
-followed_by H (Err rule) = H
+followed_by H (Err refusal) = H
 
 -- Step: the history after the call, by what Judge gives on the caller's view
 abbrev pub step : History → Call → History
 step H call = followed_by H (judge call.caller (view call.caller H) call.command)
 
+-- ---- one bulk
+
+-- the rows of a bulk and who gives it
+pub record BulkCall : Type 0 where
+  pub user : ℕ
+  pub rows : List BulkRow
+
+-- she is a user who has registered, and there are no more rows than a bulk may have
+pub record IsBulkAllowed (H : History) (bulk : BulkCall) : Type 0 where
+  pub caller : IsRegistered H bulk.user
+  pub bounded : IsBoundedBulk bulk.rows
+
+-- Step of a bulk: the history behind it, by what Judge gives on the caller's view
+abbrev pub bulk_step : History → BulkCall → History
+bulk_step H bulk = followed_by H (judge_bulk bulk.user (view (Some bulk.user) H) bulk.rows)
+
 -- ---- many calls
 
--- each call is allowed when its turn comes, and they lead from one history to the other
-abbrev pub LeadsTo : History → List Call → History → Type 0
-LeadsTo from [] to = from ≡ to
-LeadsTo from (call ∷ calls) to = IsAllowed from call × LeadsTo (step from call) calls to
+-- what leads on: a command or a bulk
+pub data Move : Type 0 where
+  calls : Call → Move
+  bulks : BulkCall → Move
 
--- Legal: allowed calls lead from the empty history to this one
+-- it is allowed when its turn comes, and what history it leads to
+abbrev pub IsMoveAllowed : History → Move → Type 0
+IsMoveAllowed H (calls call) = IsAllowed H call
+IsMoveAllowed H (bulks bulk) = IsBulkAllowed H bulk
+
+abbrev pub moved : History → Move → History
+moved H (calls call) = step H call
+moved H (bulks bulk) = bulk_step H bulk
+
+-- each move is allowed when its turn comes, and they lead from one history to the other
+abbrev pub LeadsTo : History → List Move → History → Type 0
+LeadsTo from [] to = from ≡ to
+LeadsTo from (move ∷ moves) to = IsMoveAllowed from move × LeadsTo (moved from move) moves to
+
+-- Legal: allowed moves lead from the empty history to this one
 abbrev pub Legal : History → Type 0
-Legal H = (calls : List Call) × LeadsTo [] calls H
+Legal H = (moves : List Move) × LeadsTo [] moves H

@@ -1,0 +1,229 @@
+-- What a user sees behind an entry of her own that the row of a bulk added: what she saw before it, and all of the entry.
+use Rattle.std.proofs.Common.{ℕ, Bool, true, false, ◌≡◌, List, [], ◌∷◌, ◌++◌, eqb, refl, sym, ap, ◌∙◌, ◌||◌, ◌&&◌, append_assoc, append-nil, Some}
+use Rattle.std.specs.Prelude.{not, IsFalse}
+use Rattle.std.specs.List.{flat_map, list_any}
+use Rattle.std.proofs.lemmas.Bool.{eq-eqb, or_right}
+use Rattle.std.proofs.lemmas.List.Concat.{flat_map-append}
+use Rattle.cr_base.specs.declared.entry.Entry.{Entry}
+use Rattle.cr_base.specs.declared.entry.Entry.TheVariants.{Registered, Named, PhaseSet, ModeSet, Submitted, Coauthor, Revised, Uploaded, Withdrawn}
+use Rattle.cr_base.specs.declared.entry.Entry.TheVariants.{Conflict, Assigned, Unassigned, Reviewed, Tagged, Decided}
+use Rattle.cr_base.specs.declared.entry.Stamped.{Stamped}
+use Rattle.cr_base.specs.declared.words.Mode.TheVariants.{Blind}
+use Rattle.cr_base.specs.declared.words.Phase.TheVariants.{Setup, Discussion}
+use Rattle.cr_base.specs.declared.words.Role.TheVariants.{Account}
+use Rattle.cr_base.specs.Decisions.{is_accepted_when}
+use Rattle.cr_base.specs.History.{History, phase_told, mode_told, role_told, author_told, conflict_told, withdrawal_told, decision_told, registration_told}
+use Rattle.cr_base.specs.History.{title_told, upload_told, form_told, opens, opens_discussion}
+use Rattle.cr_base.specs.Lists.{given, last, last_or, is_nothing, is_number, until}
+use Rattle.cr_base.proofs.ListLaws.{turned}
+use Rattle.cr_base.specs.Bulk.{IsRowEntry}
+use Rattle.cr_history.specs.Invariants.{IsRegistered}
+use Rattle.cr_history.proofs.LineTies.{stamp}
+use Rattle.cr_history.proofs.ListCuts.{until-none, until-append, until-before}
+use Rattle.cr_policy.specs.Part.{Part, whole}
+use Rattle.cr_policy.specs.Sighting.{Sighting, entire, masked, sighting}
+use Rattle.cr_policy.specs.Triggers.{Reader, Around, Position, position_of, reader, none_alike, TriggerRow, ◌see◌, rows, user_named, applies_any, shows}
+use Rattle.cr_policy.specs.View.{sight, sights, view}
+
+-- ---- the entries of rows
+
+-- the row of a bulk may add the entry, and it turns no conflict of this user's on or off
+abbrev pub IsOfRow : ℕ → Entry → Type 0
+IsOfRow user (Conflict paper other on) = IsFalse (eqb other user)
+IsOfRow user (Assigned paper other kind ordinal) = Unit {0}
+IsOfRow user (Unassigned paper other ordinal) = Unit {0}
+IsOfRow user (Tagged paper tag on) = Unit {0}
+IsOfRow user _ = ⊥
+
+module _ (user : ℕ) where
+  pub row-goes : (e : Entry) → IsOfRow user e → IsRowEntry e
+  row-goes (Conflict paper other on) row = tt
+  row-goes (Assigned paper other kind ordinal) row = tt
+  row-goes (Unassigned paper other ordinal) row = tt
+  row-goes (Tagged paper tag on) row = tt
+  row-goes e row = absurd row
+
+  -- it tells nothing of what the table asks, and is of the matter of no other entry
+  no_phase : (e : Entry) → IsOfRow user e → phase_told e ≡ []
+  no_phase (PhaseSet phase) row = absurd row
+  no_phase e row = refl
+
+  no_mode : (e : Entry) → IsOfRow user e → mode_told e ≡ []
+  no_mode (ModeSet mode) row = absurd row
+  no_mode e row = refl
+
+  no_role : (e : Entry) → IsOfRow user e → role_told (Some user) e ≡ []
+  no_role (Named other role) row = absurd row
+  no_role e row = refl
+
+  no_author : (e : Entry) → IsOfRow user e → (p : ℕ) → author_told p user e ≡ []
+  no_author (Submitted paper title abstract) row p = absurd row
+  no_author (Coauthor paper other) row p = absurd row
+  no_author e row p = refl
+
+  no_own_conflict : (e : Entry) → IsOfRow user e → (p : ℕ) → conflict_told (Some user) p e ≡ []
+  no_own_conflict (Conflict paper other on) row p = by (eqb paper p) (eqb user other) (turned user other ∙ row)
+    where
+      by : (b own : Bool) → own ≡ false → given (b && own) on ≡ []
+      by true own h = ap (λ (b : Bool). given b on) h
+      by false own h = refl
+  no_own_conflict e row p = refl
+
+  no_withdrawal : (e : Entry) → IsOfRow user e → (p : ℕ) → withdrawal_told p e ≡ []
+  no_withdrawal (Withdrawn paper) row p = absurd row
+  no_withdrawal e row p = refl
+
+  no_decision : (e : Entry) → IsOfRow user e → (p : ℕ) → decision_told p e ≡ []
+  no_decision (Decided paper decision) row p = absurd row
+  no_decision e row p = refl
+
+  no_registration : (e : Entry) → IsOfRow user e → registration_told e ≡ []
+  no_registration (Registered other name digest) row = absurd row
+  no_registration e row = refl
+
+  no_title : (e : Entry) → IsOfRow user e → (p : ℕ) → title_told p e ≡ []
+  no_title (Submitted paper title abstract) row p = absurd row
+  no_title (Revised paper title abstract) row p = absurd row
+  no_title e row p = refl
+
+  no_upload : (e : Entry) → IsOfRow user e → (p : ℕ) → upload_told p e ≡ []
+  no_upload (Uploaded paper version content) row p = absurd row
+  no_upload e row p = refl
+
+  no_form : (e : Entry) → IsOfRow user e → (p o : ℕ) → form_told p o e ≡ []
+  no_form (Reviewed paper ordinal version form) row p o = absurd row
+  no_form e row p o = refl
+
+  no_opening : (e : Entry) → IsOfRow user e → opens Discussion e ≡ false
+  no_opening (PhaseSet phase) row = absurd row
+  no_opening e row = refl
+
+-- what an entry that tells nothing leaves
+behind-silent : {A : Type 0} (told : Stamped → List A) (H : History) (s : Stamped) → told s ≡ [] → flat_map told (H ++ s ∷ []) ≡ flat_map told H
+behind-silent told H s none =
+    flat_map-append told H (s ∷ []) ∙ ap (λ xs. flat_map told H ++ (xs ++ [])) none ∙ append-nil (flat_map told H)
+
+-- ---- a row of one's own
+
+-- whatever the rows before it, the last one applies, and shows all that belongs to the whole
+last-seen : (rs : List TriggerRow) → applies_any (rs ++ true see whole ∷ []) ≡ true
+last-seen [] = refl
+last-seen (r ∷ rs) = or_right r.applies (applies_any (rs ++ true see whole ∷ [])) (last-seen rs)
+
+last-shows : (rs : List TriggerRow) (p : Part) → whole p ≡ true → shows (rs ++ true see whole ∷ []) p ≡ true
+last-shows [] p is = ap (λ b. (b && true) || false) is
+last-shows (r ∷ rs) p is = or_right (r.parts p && r.applies) (shows (rs ++ true see whole ∷ []) p) (last-shows rs p is)
+
+-- the parts that belong to the whole of an entry, where all of those are shown
+module _ (user : ℕ) (f : Part → Bool) (all : (p : Part) → whole p ≡ true → f p ≡ true) where
+  only-whole : (λ (p : Part). whole p && f p) ≡ whole
+  only-whole = λ i p. by p (whole p) refl i
+    where
+      by : (p : Part) (b : Bool) → whole p ≡ b → (b && f p) ≡ b
+      by p true is = all p is
+      by p false is = refl
+
+  -- an entry of a row has no others
+  own-masked : (e : Entry) → IsOfRow user e → masked f true (entire user e) ≡ masked whole true (entire user e)
+  own-masked (Conflict paper other on) row = ap (λ (g : Part → Bool). masked g true (entire user (Conflict paper other on))) only-whole
+  own-masked (Assigned paper other kind ordinal) row = ap (λ (g : Part → Bool). masked g true (entire user (Assigned paper other kind ordinal))) only-whole
+  own-masked (Unassigned paper other ordinal) row = ap (λ (g : Part → Bool). masked g true (entire user (Unassigned paper other ordinal))) only-whole
+  own-masked (Tagged paper tag on) row = ap (λ (g : Part → Bool). masked g true (entire user (Tagged paper tag on))) only-whole
+  own-masked e row = absurd row
+
+-- ---- behind such an entry
+
+module _ (user : ℕ) (more : Bool) (e : Entry) (row : IsOfRow user e) where
+  abbrev s : Stamped
+  s = stamp user more e
+
+  -- she stands as before to the conference and to each paper, as far as the table asks
+  reader-behind : (H : History) → reader (Some user) (H ++ s ∷ []) ≡ reader (Some user) H
+  reader-behind H =
+      let phases = behind-silent (λ (x : Stamped). phase_told x.entry) H s (no_phase user e row) in
+      let modes = behind-silent (λ (x : Stamped). mode_told x.entry) H s (no_mode user e row) in
+      let roles = behind-silent (λ (x : Stamped). role_told (Some user) x.entry) H s (no_role user e row) in
+      let authors = λ (p : ℕ). behind-silent (λ (x : Stamped). author_told p x.maker x.entry) H s (no_author user e row p) in
+      let conflicts = λ (p : ℕ). behind-silent (λ (x : Stamped). conflict_told (Some user) p x.entry) H s (no_own_conflict user e row p) in
+      let withdrawals = λ (p : ℕ). behind-silent (λ (x : Stamped). withdrawal_told p x.entry) H s (no_withdrawal user e row p) in
+      let decisions = λ (p : ℕ). behind-silent (λ (x : Stamped). decision_told p x.entry) H s (no_decision user e row p) in
+      λ i. record {
+        number = Some user;
+        now = last_or Setup (phases i);
+        mode = last_or Blind (modes i);
+        rank = last_or Account (roles i);
+        author = λ p. list_any (is_number (Some user)) (authors p i);
+        conflicted = λ p. list_any (is_number (Some user)) (authors p i) || last_or false (conflicts p i);
+        wrote = λ v p. list_any (is_number (Some v)) (authors p i);
+        accepted = λ p. is_accepted_when (last_or Setup (phases i)) (last_or false (withdrawals p i)) (last (decisions p i));
+      }
+
+  -- and has registered as before
+  pub registered-behind : (H : History) (v : ℕ) → IsRegistered H v → IsRegistered (H ++ s ∷ []) v
+  registered-behind H v registered =
+      ap (list_any (λ r. eqb r.user v)) (behind-silent (λ (x : Stamped). registration_told x.entry) H s (no_registration user e row)) ∙ registered
+
+  -- each entry before it stands where it stood among those of its matter
+  alike-behind : (x : Entry) (G : History) → none_alike x (G ++ s ∷ []) ≡ none_alike x G
+  alike-behind (Submitted paper title abstract) G = ap is_nothing (behind-silent (λ (x : Stamped). title_told paper x.entry) G s (no_title user e row paper))
+  alike-behind (Revised paper title abstract) G = ap is_nothing (behind-silent (λ (x : Stamped). title_told paper x.entry) G s (no_title user e row paper))
+  alike-behind (Uploaded paper version content) G = ap is_nothing (behind-silent (λ (x : Stamped). upload_told paper x.entry) G s (no_upload user e row paper))
+  alike-behind (Reviewed paper ordinal version form) G =
+      ap is_nothing (behind-silent (λ (x : Stamped). form_told paper ordinal x.entry) G s (no_form user e row paper ordinal))
+  alike-behind (Decided paper decision) G = ap is_nothing (behind-silent (λ (x : Stamped). decision_told paper x.entry) G s (no_decision user e row paper))
+  alike-behind x G = refl
+
+  alike-until : (x : Entry) (G : History) → none_alike x (until opens_discussion (G ++ s ∷ [])) ≡ none_alike x (until opens_discussion G)
+  alike-until x G = by (list_any opens_discussion G) refl
+    where
+      alone : until opens_discussion (s ∷ []) ≡ s ∷ []
+      alone = until-none opens_discussion (s ∷ []) (ap (λ b. b || false) (no_opening user e row))
+
+      by : (b : Bool) → list_any opens_discussion G ≡ b → none_alike x (until opens_discussion (G ++ s ∷ [])) ≡ none_alike x (until opens_discussion G)
+      by true is = ap (none_alike x) (until-before opens_discussion G (s ∷ []) is)
+      by false is =
+          ap (none_alike x) (until-append opens_discussion G (s ∷ []) is ∙ ap (λ (g : History). G ++ g) alone)
+          ∙ alike-behind x G
+          ∙ ap (none_alike x) (sym (until-none opens_discussion G is))
+
+  position-behind : (before after : History) (x : Entry)
+      → position_of (record { before = before; after = after ++ s ∷ [] }) x ≡ position_of (record { before = before; after = after }) x
+  position-behind before after x =
+      let lasts = alike-behind x after in
+      let untils = alike-until x after in
+      λ i. record {
+        first = none_alike x before;
+        last = lasts i;
+        last_before_discussion = not (list_any opens_discussion before) && untils i;
+        from_discussion = list_any opens_discussion before;
+      }
+
+  -- so all before it shows what it showed
+  abbrev sight_at : Reader → Stamped → Position → List Sighting
+  sight_at r x position =
+      let rs = rows r position x.maker x.entry ++ user_named r x.maker see whole ∷ [] in
+      given (applies_any rs) (sighting (shows rs) (user_named r x.maker) x)
+
+  sights-behind : (r : Reader) → ((at : Around) → sight r at s ≡ sighting whole true s ∷ []) → (before H : History)
+      → sights r before (H ++ s ∷ []) ≡ sights r before H ++ sighting whole true s ∷ []
+  sights-behind r own before [] = ap (λ (xs : List Sighting). xs ++ []) (own (record { before = before; after = [] }))
+  sights-behind r own before (x ∷ after) =
+      let shown : List Sighting = sight r (record { before = before; after = after }) x in
+      ap (λ (position : Position). sight_at r x position ++ sights r (before ++ x ∷ []) (after ++ s ∷ [])) (position-behind before after x.entry)
+      ∙ ap (λ (xs : List Sighting). shown ++ xs) (sights-behind r own (before ++ x ∷ []) after)
+      ∙ sym (append_assoc shown (sights r (before ++ x ∷ []) after) (sighting whole true s ∷ []))
+
+  -- and it shows her all of itself
+  own-sight : (r : Reader) → user_named r user ≡ true → (at : Around) → sight r at s ≡ sighting whole true s ∷ []
+  own-sight r mine at =
+      let rs : List TriggerRow = rows r (position_of at e) user e in
+      let all : List TriggerRow = rs ++ true see whole ∷ [] in
+      ap (λ (b : Bool). given (applies_any (rs ++ b see whole ∷ [])) (sighting (shows (rs ++ b see whole ∷ [])) b s)) mine
+      ∙ ap (λ (b : Bool). given b (sighting (shows all) true s)) (last-seen rs)
+      ∙ ap (λ (shown : Sighting). shown ∷ []) (own-masked user (shows all) (last-shows rs) e row)
+
+  -- her view goes on with it
+  pub view-behind : (H : History) → view (Some user) (H ++ s ∷ []) ≡ view (Some user) H ++ sighting whole true s ∷ []
+  view-behind H =
+      ap (λ (r : Reader). sights r [] (H ++ s ∷ [])) (reader-behind H)
+      ∙ sights-behind (reader (Some user) H) (own-sight (reader (Some user) H) (eq-eqb user user refl)) [] H
