@@ -1,11 +1,12 @@
 -- What an accepted command adds: by the rules and the bounds, and as the tables take it.
-use Rattle.std.proofs.Common.{ℕ, Bool, true, false, ◌≡◌, List, ◌||◌, ◌&&◌, eqb, refl, sym, ap, ◌∙◌, arith, Option, Some, None, Ok}
+use Rattle.std.proofs.Common.{ℕ, Bool, true, false, ◌≡◌, List, [], ◌∷◌, ◌++◌, ◌||◌, ◌&&◌, eqb, refl, sym, ap, ◌∙◌, arith, Option, Some, None, Ok}
 use Rattle.std.specs.Prelude.{map}
 use Rattle.std.specs.List.{list_any}
 use Rattle.std.proofs.lemmas.Bool.{and_parts, eqb-true}
 use Rattle.std.proofs.lemmas.Map.Views.{any-filter_same}
 use Rattle.cr_base.specs.declared.command.Command.{Command}
 use Rattle.cr_base.specs.declared.command.Command.TheVariants.{Register, Tag}
+use Rattle.cr_base.specs.declared.entry.Stamped.{Stamped}
 use Rattle.cr_base.specs.declared.reply.AccountLine.{AccountLine}
 use Rattle.cr_base.specs.Bounds.{IsBoundedCommand}
 use Rattle.cr_base.specs.Drawn.{Drawn}
@@ -20,7 +21,8 @@ use Rattle.cr_base.proofs.FitLaws.{judged-fits}
 use Rattle.cr_base.proofs.ListLaws.{turned}
 use Rattle.cr_history.specs.Groups.{Adds}
 use Rattle.cr_history.specs.Laws.{AreTold, AreFormsTold}
-use Rattle.cr_history.specs.Invariants.{IsRegistered, Invariants}
+use Rattle.cr_history.specs.Invariants.{IsRegistered, Invariants, InTurn, IsInOrder, ComesFirst}
+use Rattle.cr_history.proofs.GrowthLaws.{tables_tell}
 use Rattle.cr_history.proofs.RuleLaws.{facts_of, is_told_all, TellsSeats, registration-adds, command-adds}
 use Rattle.cr_history.proofs.SizeTies.{sized-tables}
 use Rattle.cr_policy.specs.Judge.{judge}
@@ -34,6 +36,19 @@ use Rattle.cr_policy.proofs.PageTells.{authors-seen, conflicts-seen}
 use Rattle.cr_policy.proofs.ReviewerTells.{seat-seen_by_chair, labels-seen}
 use Rattle.cr_policy.proofs.ReviewTells.{own_forms-seen, written-seen}
 use Rattle.cr_policy.proofs.StandingLaws.{standing_from_view, accounts-seen, papers-seen, own_papers-seen, own_bytes-seen, own_bid-seen, seat-seen, own_comments-seen}
+
+-- ---- what a history that keeps the invariants tells
+
+-- a paper's co-authors come before any conflict with it, where each entry is in order
+comes-first : (before H : History) → InTurn IsInOrder before H → InTurn (λ (before : History) (e : Stamped). ComesFirst before e.entry) before H
+comes-first before [] kept = tt
+comes-first before (e ∷ after) kept = (kept.0.first, comes-first (before ++ e ∷ []) after kept.1)
+
+-- so the tables tell what it tells
+pub Kept-told : (H : History) → Invariants H → AreTold H
+Kept-told H kept = tables_tell H kept.fits (comes-first [] H kept.in_order)
+
+-- ---- what any user's view tells
 
 -- any user's view tells the facts of a history
 facts-seen : (u : Option ℕ) (H : History) → facts_in_view u (view u H) ≡ facts_of u H

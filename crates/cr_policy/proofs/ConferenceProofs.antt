@@ -26,22 +26,22 @@ use Rattle.cr_policy.specs.Conference.{first_form, second_form, last_form, alice
 use Rattle.cr_policy.specs.Conference.{registered, opened, submitted, before_bidding, having_tags, in_bidding, in_reviewing, having_comments}
 use Rattle.cr_policy.specs.Conference.{Verdicts, verdicts, in_discussion, at_notification, at_close}
 use Rattle.cr_policy.specs.ConferenceLaws.{IsReviewed, IsDecided, ConferenceLegal}
-use Rattle.cr_policy.specs.Legal.{CallsAs, Call, step, LeadsTo, Legal}
+use Rattle.cr_policy.specs.Legal.{CallsAs, Call, step, Move, calls, LeadsTo, Legal}
 use Rattle.cr_policy.proofs.LegalLaws.{LeadsTo-append}
 use Rattle.cr_policy.proofs.WitnessLaws.{register, ascii-utf8}
 
 -- ---- calls
 
 -- a call that is within its bounds
-record Turn : Type 0 where
-  call : Call
-  bounded : IsBoundedCommand call.command
+pub record Turn : Type 0 where
+  pub call : Call
+  pub bounded : IsBoundedCommand call.command
 
-abbrev calls_of : List Turn → List Call
-calls_of turns = map (λ (turn : Turn). turn.call) turns
+abbrev pub calls_of : List Turn → List Move
+calls_of turns = map (λ (turn : Turn). calls turn.call) turns
 
 -- who calls may do so, as a test
-abbrev calls_as : History → Bool → Option ℕ → Bool
+abbrev pub calls_as : History → Bool → Option ℕ → Bool
 calls_as H false None = true
 calls_as H false (Some user) = false
 calls_as H true None = false
@@ -54,7 +54,7 @@ calls_as-so H true None h = absurd (true≢false (sym h))
 calls_as-so H true (Some user) h = h
 
 -- the history to which the turns lead, where each is taken by who may
-abbrev reached : History → List Turn → Option History
+abbrev pub reached : History → List Turn → Option History
 reached H [] = Some H
 reached H (turn ∷ turns) = if calls_as H (command_wants_login turn.call.command) turn.call.caller then reached (step H turn.call) turns else None
 
@@ -66,30 +66,30 @@ reached-leads from to (turn ∷ turns) h =
   where
     called : (may : Bool) → calls_as from (command_wants_login turn.call.command) turn.call.caller ≡ may
         → (reached (step from turn.call) turns ≡ Some to → LeadsTo (step from turn.call) (calls_of turns) to)
-        → (if may then reached (step from turn.call) turns else None) ≡ Some to → LeadsTo from (turn.call ∷ calls_of turns) to
+        → (if may then reached (step from turn.call) turns else None) ≡ Some to → LeadsTo from (calls turn.call ∷ calls_of turns) to
     called false is rest h = absurd (none-some to h)
     called true is rest h =
         (record { caller = calls_as-so from (command_wants_login turn.call.command) turn.call.caller is; bounded = turn.bounded }, rest h)
 
 -- a legal history goes on by turns
-goes_on : (from to : History) (turns : List Turn) → reached from turns ≡ Some to → Legal from → Legal to
+pub goes_on : (from to : History) (turns : List Turn) → reached from turns ≡ Some to → Legal from → Legal to
 goes_on from to turns leads legal =
     (legal.0 ++ calls_of turns, LeadsTo-append [] from to legal.0 (calls_of turns) legal.1 (reached-leads from to turns leads))
 
 -- a user's command
-abbrev by : (user : ℕ) (command : Command) → IsBoundedCommand command → Turn
+abbrev pub by : (user : ℕ) (command : Command) → IsBoundedCommand command → Turn
 by user command bounded = record { call = record { caller = Some user; command = command }; bounded = bounded }
 
 -- ---- bounds, by computing
 
-is_name-bounded : (name : List ℕ) → is_name name ≡ true → IsName name
+pub is_name-bounded : (name : List ℕ) → is_name name ≡ true → IsName name
 is_name-bounded name h =
     let bytes = and_parts (nat_le 1 (length name) && nat_le (length name) 32) (list_all is_name_byte name) h in
     let sized = and_parts (nat_le 1 (length name)) (nat_le (length name) 32) bytes.0 in
     record { some = leb-true 1 (length name) sized.0; few = leb-true (length name) 32 sized.1; bytes = bytes.1 }
 
 -- of texts whose bytes are below 128
-ascii-title : (text : List ℕ)
+pub ascii-title : (text : List ℕ)
     → (nat_le 1 (length text) && nat_le (length text) 200 && list_all is_title_byte text && list_all (λ b. nat_le b 127) text) ≡ true
     → IsTitle text
 ascii-title text h =
@@ -98,22 +98,22 @@ ascii-title text h =
     let sized = and_parts (nat_le 1 (length text)) (nat_le (length text) 200) q.0 in
     record { some = leb-true 1 (length text) sized.0; few = leb-true (length text) 200 sized.1; bytes = q.1; utf8 = ascii-utf8 text p.1 }
 
-few-ascii : (limit : ℕ) (text : List ℕ) → (nat_le (length text) limit && list_all (λ b. nat_le b 127) text) ≡ true
+pub few-ascii : (limit : ℕ) (text : List ℕ) → (nat_le (length text) limit && list_all (λ b. nat_le b 127) text) ≡ true
     → (length text ≤ limit) × IsTrue (is_utf8 text)
 few-ascii limit text h =
     let p = and_parts (nat_le (length text) limit) (list_all (λ b. nat_le b 127) text) h in (leb-true (length text) limit p.0, ascii-utf8 text p.1)
 
-ascii-abstract : (text : List ℕ) → (nat_le (length text) 5000 && list_all (λ b. nat_le b 127) text) ≡ true → IsAbstract text
+pub ascii-abstract : (text : List ℕ) → (nat_le (length text) 5000 && list_all (λ b. nat_le b 127) text) ≡ true → IsAbstract text
 ascii-abstract text h = let p = few-ascii 5000 text h in record { few = p.0; utf8 = p.1 }
 
-ascii-review : (text : List ℕ) → (nat_le (length text) 20000 && list_all (λ b. nat_le b 127) text) ≡ true → IsReviewText text
+pub ascii-review : (text : List ℕ) → (nat_le (length text) 20000 && list_all (λ b. nat_le b 127) text) ≡ true → IsReviewText text
 ascii-review text h = let p = few-ascii 20000 text h in record { few = p.0; utf8 = p.1 }
 
-agreed-bounded : IsCommentText agreed
+pub agreed-bounded : IsCommentText agreed
 agreed-bounded = let p = few-ascii 10000 agreed refl in record { some = omega arith; few = p.0; utf8 = p.1 }
 
 -- of forms whose text to the committee is
-bounded-form : (form : Form) → (nat_le 1 form.score && nat_le form.score 5) ≡ true → (nat_le 1 form.confidence && nat_le form.confidence 5) ≡ true
+pub bounded-form : (form : Form) → (nat_le 1 form.score && nat_le form.score 5) ≡ true → (nat_le 1 form.confidence && nat_le form.confidence 5) ≡ true
     → (nat_le (length form.to_authors) 20000 && list_all (λ b. nat_le b 127) form.to_authors) ≡ true → IsReviewText form.to_pc → IsForm form
 bounded-form form score confidence to_authors to_pc = record {
   score = grade form.score score;
@@ -128,10 +128,10 @@ bounded-form form score confidence to_authors to_pc = record {
 -- ---- before the bidding
 
 -- anybody may register
-abbrev joins : (name digest : List ℕ) → is_name name ≡ true → length digest ≡ 32 → Turn
+abbrev pub joins : (name digest : List ℕ) → is_name name ≡ true → length digest ≡ 32 → Turn
 joins name digest named digested = record { call = register name digest; bounded = (is_name-bounded name named, digested) }
 
-registered-legal : (d : Digests) → AreDigests d → Legal (registered d)
+pub registered-legal : (d : Digests) → AreDigests d → Legal (registered d)
 registered-legal d are =
     goes_on [] (registered d)
     (
@@ -147,7 +147,7 @@ registered-legal d are =
     )
     refl ([], refl)
 
-opened-legal : (d : Digests) (mode : Mode) → Legal (registered d) → Legal (opened d mode)
+pub opened-legal : (d : Digests) (mode : Mode) → Legal (registered d) → Legal (opened d mode)
 opened-legal d mode =
     goes_on (registered d) (opened d mode)
     (
@@ -161,7 +161,7 @@ opened-legal d mode =
     )
     refl
 
-submitted-legal : (d : Digests) (mode : Mode) → Legal (opened d mode) → Legal (submitted d mode)
+pub submitted-legal : (d : Digests) (mode : Mode) → Legal (opened d mode) → Legal (submitted d mode)
 submitted-legal d mode =
     goes_on (opened d mode) (submitted d mode)
     (

@@ -1,6 +1,8 @@
 -- Where the tables tell what a history tells, what rules and answers read in a view is what they read in the tables.
-use Rattle.std.proofs.Common.{ℕ, Bool, true, false, ◌≡◌, length, sym, ap, ◌∙◌, Option, Some}
+use Rattle.std.proofs.Common.{ℕ, Bool, true, false, ◌≡◌, length, refl, sym, ap, ◌∙◌, Option, Some}
+use Rattle.std.specs.Prelude.{if◌then◌else◌}
 use Rattle.cr_base.specs.declared.standing.Standing.{Standing}
+use Rattle.cr_base.specs.declared.words.Decision.TheVariants.{Accept}
 use Rattle.cr_base.specs.Answering.{uploads_told}
 use Rattle.cr_base.specs.History.{History}
 use Rattle.cr_base.specs.HistoryFacts.{standing_of, is_author, uploads_of, is_accepted}
@@ -10,11 +12,11 @@ use Rattle.cr_base.specs.Papers.{title_at, abstract_at, uploads_at, is_withdrawn
 use Rattle.cr_base.specs.Seats.{seat_in, labels_in}
 use Rattle.cr_base.specs.Ties.{authors_in}
 use Rattle.cr_base.specs.Tables.{tables_of}
-use Rattle.cr_base.specs.Sources.{standing_at, is_accepted_in, facts_of_tables}
+use Rattle.cr_base.specs.Sources.{standing_at, is_accepted_in, decision_by, facts_of_tables, shown_in_tables}
 use Rattle.cr_history.specs.Laws.{AreTold, AreFormsTold}
 use Rattle.cr_policy.specs.View.{view}
 use Rattle.cr_policy.specs.ViewFacts.{title_in_view, abstract_in_view, authors_in_view, uploads_in_view, is_withdrawn_in_view, decision_in_view}
-use Rattle.cr_policy.specs.ViewFacts.{seat_in_view, seats_in_view, facts_in_view}
+use Rattle.cr_policy.specs.ViewFacts.{seat_in_view, seats_in_view, facts_in_view, shown_in_view}
 use Rattle.cr_policy.proofs.DecisionTells.{accepted-seen, decision-seen}
 use Rattle.cr_policy.proofs.StandingLaws.{standing_from_view, accounts-seen, papers-seen, own_papers-seen, own_bytes-seen, own_comments-seen, own_bid-seen, seat-seen}
 use Rattle.cr_policy.proofs.ReviewerTells.{seat-seen_by_chair, labels-seen}
@@ -70,6 +72,16 @@ module _ (u : Option ℕ) (H : History) (told : AreTold H) (p : ℕ) where
   -- what was decided of it
   pub decision-tables : gets_decision by false ≡ true → decision_in_view p (view u H) ≡ decision_in (tables_of H).decisions p
   decision-tables may = decision-seen u p H (ap (λ (s : Standing). gets_decision s false) (told.standing u (Some p)) ∙ may) ∙ told.decision p
+
+  -- that it is accepted everyone is told
+  pub decision_by-tables : gets_decision by accepted ≡ true
+      → decision_by (facts_of_tables (tables_of H) u) (shown_in_view u (view u H)) p ≡ decision_by (facts_of_tables (tables_of H) u) (shown_in_tables (tables_of H)) p
+  decision_by-tables may = of accepted may
+    where
+      of : (b : Bool) → gets_decision by b ≡ true
+          → (if b then Some Accept else decision_in_view p (view u H)) ≡ (if b then Some Accept else decision_in (tables_of H).decisions p)
+      of true may = refl
+      of false may = decision-tables may
 
   -- whether it is withdrawn
   pub withdrawn-tables : gets_withdrawn by ≡ true → is_withdrawn_in_view p (view u H) ≡ is_withdrawn_at (tables_of H).papers p

@@ -1,5 +1,7 @@
--- Histories that grow by allowed calls.
+-- Histories that grow by allowed calls and bulks.
 use Rattle.std.proofs.Common.{ℕ, ◌≡◌, List, [], ◌∷◌, ◌++◌, refl, sym, ap, subst, Option, Some, None, Result, Ok, Err}
+use Rattle.cr_base.specs.declared.bulk.Broken.{Broken}
+use Rattle.cr_base.specs.declared.bulk.BulkRow.{BulkRow}
 use Rattle.cr_base.specs.declared.command.Command.{Command}
 use Rattle.cr_base.specs.declared.command.Query.{Query}
 use Rattle.cr_base.specs.declared.reply.Rule.{Rule}
@@ -7,38 +9,47 @@ use Rattle.cr_base.specs.Accounts.{number_at, caller_at}
 use Rattle.cr_base.specs.HistoryFacts.{number_of, caller_of}
 use Rattle.cr_base.specs.History.{History}
 use Rattle.cr_base.specs.Answering.{answer_by_role, login_wanted}
-use Rattle.cr_base.specs.declared.entry.Stamped.{Stamped}
-use Rattle.cr_base.specs.Drawn.{Drawn}
+use Rattle.cr_base.specs.Drawn.{Drawn, grouped}
+use Rattle.cr_base.specs.Bulk.{bulk_by_role}
 use Rattle.cr_base.specs.Judging.{judge_by_role}
 use Rattle.cr_base.specs.Sources.{Facts, facts_of_tables}
 use Rattle.cr_base.specs.Tables.{no_tables, tables_of, FitInTurn}
-use Rattle.cr_history.specs.Invariants.{Invariants, InTurn, IsInOrder, ComesFirst, DeclaresInTime}
+use Rattle.cr_history.specs.Groups.{Adds, adds}
+use Rattle.cr_history.specs.Invariants.{IsRegistered, Invariants, IsWhole, DeclaresInTime}
 use Rattle.cr_history.specs.Laws.{AreTold}
 use Rattle.cr_history.proofs.CallerLaws.{caller-registered}
 use Rattle.cr_history.proofs.FormTies.{forms_tell}
-use Rattle.cr_history.proofs.GrowthLaws.{growth_keeps, tables_tell}
+use Rattle.cr_history.proofs.Grouped.{grouped-whole}
+use Rattle.cr_history.proofs.GrowthLaws.{growth_keeps}
+use Rattle.cr_history.proofs.InOrder.{whole-append}
+use Rattle.cr_history.proofs.TableTies.{FitInTurn-behind}
 use Rattle.cr_policy.specs.View.{view}
-use Rattle.cr_policy.specs.Judge.{judge, answer, needs_login}
-use Rattle.cr_policy.specs.Legal.{Call, IsUser, IsAllowed, followed_by, step, LeadsTo, Legal}
-use Rattle.cr_policy.specs.Laws.{ViewSuffices, DeclaredFromView, LegalKeeps, DigestsAreOwn}
+use Rattle.cr_policy.specs.Judge.{judge, judge_bulk, answer, needs_login}
+use Rattle.cr_policy.specs.Legal.{Call, IsUser, IsAllowed, followed_by, step, BulkCall, IsBulkAllowed, Move, calls, bulks, IsMoveAllowed, moved, LeadsTo, Legal}
+use Rattle.cr_policy.specs.Laws.{ViewSuffices, DeclaredFromView, IsKept, LegalKeeps, DigestsAreOwn}
 use Rattle.cr_policy.specs.Triggers.{reader}
-use Rattle.cr_policy.proofs.AcceptedLaws.{accepted-adds, accepted-fits}
+use Rattle.cr_policy.proofs.AcceptedLaws.{Kept-told, accepted-adds, accepted-fits}
+use Rattle.cr_policy.proofs.BulkLaws.{bulk-same, bulk-draws, rows-keep}
 use Rattle.cr_policy.proofs.DeclaredLaws.{declared-seen_by_author}
 use Rattle.cr_policy.proofs.DigestLaws.{own_digests}
 use Rattle.cr_policy.proofs.FactTies.{facts_in_view-tables}
 use Rattle.cr_policy.proofs.JudgeTies.{judge-tables}
 use Rattle.cr_policy.proofs.PageTies.{answer-tables}
 
--- ---- calls one after another
+-- ---- moves one after another
 
--- calls that lead on from where others led
-pub LeadsTo-append : (from mid to : History) (calls more : List Call) → LeadsTo from calls mid → LeadsTo mid more to → LeadsTo from (calls ++ more) to
+-- moves that lead on from where others led
+pub LeadsTo-append : (from mid to : History) (moves more : List Move) → LeadsTo from moves mid → LeadsTo mid more to → LeadsTo from (moves ++ more) to
 LeadsTo-append from mid to [] more first then = subst (λ (H : History). LeadsTo H more to) (sym first) then
-LeadsTo-append from mid to (call ∷ calls) more first then = (first.0, LeadsTo-append (step from call) mid to calls more first.1 then)
+LeadsTo-append from mid to (move ∷ moves) more first then = (first.0, LeadsTo-append (moved from move) mid to moves more first.1 then)
 
--- an allowed call leads from a legal history to a legal one
+-- an allowed move leads from a legal history to a legal one
+pub Legal-moved : (H : History) (move : Move) → Legal H → IsMoveAllowed H move → Legal (moved H move)
+Legal-moved H move legal allowed = (legal.0 ++ move ∷ [], LeadsTo-append [] H (moved H move) legal.0 (move ∷ []) legal.1 (allowed, refl))
+
+-- so does an allowed call
 pub Legal-step : (H : History) (call : Call) → Legal H → IsAllowed H call → Legal (step H call)
-Legal-step H call legal allowed = (legal.0 ++ call ∷ [], LeadsTo-append [] H (step H call) legal.0 (call ∷ []) legal.1 (allowed, refl))
+Legal-step H call legal allowed = Legal-moved H (calls call) legal allowed
 
 -- what is accepted goes behind the history
 pub step-Ok : (H : History) (call : Call) (drawn : Drawn) → judge call.caller (view call.caller H) call.command ≡ Ok drawn → step H call ≡ H ++ drawn.group
@@ -51,32 +62,60 @@ Legal-accepted H caller command drawn legal allowed accepted =
     let call : Call = record { caller = caller; command = command } in
     subst (λ (G : History). Legal G) (step-Ok H call drawn accepted) (Legal-step H call legal allowed)
 
+-- and so does that of an accepted bulk
+pub Legal-bulk_accepted : (H : History) (bulk : BulkCall) (drawn : Drawn) → Legal H → IsBulkAllowed H bulk
+    → judge_bulk bulk.user (view (Some bulk.user) H) bulk.rows ≡ Ok drawn → Legal (H ++ drawn.group)
+Legal-bulk_accepted H bulk drawn legal allowed accepted =
+    subst (λ (G : History). Legal G) (ap (followed_by H) accepted) (Legal-moved H (bulks bulk) legal allowed)
+
 -- ---- what a legal history keeps
 
--- a paper's co-authors come before any conflict with it, where each entry is in order
-comes-first : (before H : History) → InTurn IsInOrder before H → InTurn (λ (before : History) (e : Stamped). ComesFirst before e.entry) before H
-comes-first before [] kept = tt
-comes-first before (e ∷ after) kept = (kept.0.first, comes-first (before ++ e ∷ []) after kept.1)
+-- a history that a command follows keeps them
+call-keeps : (H : History) (call : Call) → IsKept H → IsAllowed H call → (r : Result Drawn Rule)
+    → judge call.caller (view call.caller H) call.command ≡ r → IsKept (followed_by H r)
+call-keeps H call kept allowed (Err rule) is = kept
+call-keeps H call kept allowed (Ok drawn) is =
+    let invariants : Invariants H = kept.invariants in
+    let added : Adds H drawn.group = accepted-adds H call.caller call.command drawn allowed.bounded allowed.caller is in
+    let fits = accepted-fits H call.caller call.command drawn invariants (Kept-told H invariants) (forms_tell H invariants) allowed.caller is in
+    record {
+      invariants = growth_keeps.more H drawn.group invariants (adds drawn.group added) fits;
+      whole = growth_keeps.whole H drawn.group kept.whole added;
+    }
 
--- so the tables tell what it tells
-pub Kept-told : (H : History) → Invariants H → AreTold H
-Kept-told H kept = tables_tell H kept.fits (comes-first [] H kept.in_order)
+-- and so does one that a bulk follows
+bulk-drawn_keeps : (H : History) (user : ℕ) (rows : List BulkRow) (drawn : Drawn) → IsKept H → IsRegistered H user
+    → judge_bulk user (view (Some user) H) rows ≡ Ok drawn → IsKept (H ++ drawn.group)
+bulk-drawn_keeps H user rows drawn kept registered accepted =
+    let draws = bulk-draws user H rows drawn accepted in
+    subst (λ (d : Drawn). IsKept (H ++ d.group)) draws.drawn_is (record {
+      invariants = rows-keep user rows 1 H draws.entries (record { kept = kept.invariants; registered = registered }) draws.accepted;
+      whole = whole-append H (grouped user draws.entries) kept.whole (grouped-whole user draws.entries);
+    })
 
--- what the invariants say of a history stays so as it is followed by what a command adds
-followed-keeps : (H : History) (call : Call) → Invariants H → IsAllowed H call → (r : Result Drawn Rule)
-    → judge call.caller (view call.caller H) call.command ≡ r → Invariants (followed_by H r)
-followed-keeps H call kept allowed (Err rule) is = kept
-followed-keeps H call kept allowed (Ok drawn) is =
-    let fits = accepted-fits H call.caller call.command drawn kept (Kept-told H kept) (forms_tell H kept) allowed.caller is in
-    growth_keeps.more H drawn.group kept (accepted-adds H call.caller call.command drawn allowed.bounded allowed.caller is) fits
+bulk-keeps : (H : History) (bulk : BulkCall) → IsKept H → IsBulkAllowed H bulk → (r : Result Drawn Broken)
+    → judge_bulk bulk.user (view (Some bulk.user) H) bulk.rows ≡ r → IsKept (followed_by H r)
+bulk-keeps H bulk kept allowed (Err refusal) is = kept
+bulk-keeps H bulk kept allowed (Ok drawn) is = bulk-drawn_keeps H bulk.user bulk.rows drawn kept allowed.caller is
 
-leads-keeps : (from to : History) (calls : List Call) → Invariants from → LeadsTo from calls to → Invariants to
-leads-keeps from to [] kept leads = subst (λ (H : History). Invariants H) leads kept
-leads-keeps from to (call ∷ calls) kept leads = leads-keeps (step from call) to calls (followed-keeps from call kept leads.0 (judge call.caller (view call.caller from) call.command) refl) leads.1
+move-keeps : (H : History) (move : Move) → IsKept H → IsMoveAllowed H move → IsKept (moved H move)
+move-keeps H (calls call) kept allowed = call-keeps H call kept allowed (judge call.caller (view call.caller H) call.command) refl
+move-keeps H (bulks bulk) kept allowed = bulk-keeps H bulk kept allowed (judge_bulk bulk.user (view (Some bulk.user) H) bulk.rows) refl
+
+leads-keeps : (from to : History) (moves : List Move) → IsKept from → LeadsTo from moves to → IsKept to
+leads-keeps from to [] kept leads = subst (λ (H : History). IsKept H) leads kept
+leads-keeps from to (move ∷ moves) kept leads = leads-keeps (moved from move) to moves (move-keeps from move kept leads.0) leads.1
 
 -- all that a legal history keeps
-pub legal_invariants : LegalKeeps
-legal_invariants H legal = leads-keeps [] H legal.0 growth_keeps.first legal.1
+pub Legal-kept : LegalKeeps
+Legal-kept H legal = leads-keeps [] H legal.0 (record { invariants = growth_keeps.first; whole = tt }) legal.1
+
+pub legal_invariants : (H : History) → Legal H → Invariants H
+legal_invariants H legal = (Legal-kept H legal).invariants
+
+-- and no command's entries, nor a bulk's, are cut off in it
+pub Legal-whole : (H : History) → Legal H → IsWhole H
+Legal-whole H legal = (Legal-kept H legal).whole
 
 -- each entry of a legal history fits in its turn
 pub Legal-fits : (H : History) → Legal H → FitInTurn no_tables H
@@ -114,7 +153,18 @@ Legal-judge u H command legal = let kept = legal_invariants H legal in judge-tab
 pub Legal-answer : (u : Option ℕ) (H : History) (query : Query) → Legal H → answer u (view u H) query ≡ answer_by_role (tables_of H) u query
 Legal-answer u H query legal = let kept = legal_invariants H legal in answer-tables u H kept (Kept-told H kept) (forms_tell H kept) query
 
--- and so is whether a query wants a login
+-- so it is of bulks
+pub Legal-judge_bulk : (user : ℕ) (H : History) (rows : List BulkRow) → Legal H → IsRegistered H user
+    → judge_bulk user (view (Some user) H) rows ≡ bulk_by_role (tables_of H) user rows
+Legal-judge_bulk user H rows legal registered = bulk-same user H rows (record { kept = legal_invariants H legal; registered = registered })
+
+-- and what an accepted bulk adds, the tables take
+pub Legal-bulk_fits : (user : ℕ) (H : History) (rows : List BulkRow) (drawn : Drawn) → Legal H → IsRegistered H user
+    → judge_bulk user (view (Some user) H) rows ≡ Ok drawn → FitInTurn (tables_of H) drawn.group
+Legal-bulk_fits user H rows drawn legal registered accepted =
+    FitInTurn-behind no_tables H drawn.group (bulk-drawn_keeps H user rows drawn (Legal-kept H legal) registered accepted).invariants.fits
+
+-- so is whether a query wants a login
 pub Legal-needs_login : (H : History) (query : Query) → Legal H → needs_login (view None H) query ≡ login_wanted (facts_of_tables (tables_of H) None) query
 Legal-needs_login H query legal =
     let kept = legal_invariants H legal in
@@ -125,4 +175,8 @@ pub Legal-declared : DeclaredFromView
 Legal-declared u p H legal author = declared-seen_by_author u p H (Legal-in_time H legal) author
 
 pub view_suffices : ViewSuffices
-view_suffices = record { commands = λ u H command legal may. Legal-judge u H command legal; queries = λ u H query legal may. Legal-answer u H query legal }
+view_suffices = record {
+  commands = λ u H command legal may. Legal-judge u H command legal;
+  bulks = λ user H rows legal registered. Legal-judge_bulk user H rows legal registered;
+  queries = λ u H query legal may. Legal-answer u H query legal;
+}

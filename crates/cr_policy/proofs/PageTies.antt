@@ -1,6 +1,6 @@
 -- Where the tables tell what a history tells and conflicts are declared in time, answers by a view are those by the tables.
 use Rattle.std.proofs.Common.{ℕ, Bool, true, false, ◌≡◌, List, [], ◌∷◌, ◌||◌, ◌&&◌, refl, ap, ◌∙◌, arith, Option, Some, None, Result, Ok}
-use Rattle.std.specs.Prelude.{◌==◌, unwrap_or, not, is_some, map, length, if◌then◌else◌}
+use Rattle.std.specs.Prelude.{◌==◌, unwrap_or, not, is_some, map, length}
 use Rattle.std.specs.List.{flat_map, list_any, filter}
 use Rattle.std.specs.Option.{option_map}
 use Rattle.std.proofs.lemmas.Bool.{not-false}
@@ -18,7 +18,6 @@ use Rattle.cr_base.specs.declared.reply.Rule.{Rule}
 use Rattle.cr_base.specs.declared.reply.Rule.TheVariants as rules
 use Rattle.cr_base.specs.declared.search.Step.{Step}
 use Rattle.cr_base.specs.declared.standing.Standing.{Standing}
-use Rattle.cr_base.specs.declared.words.Decision.TheVariants.{Accept}
 use Rattle.cr_base.specs.declared.words.Phase.TheVariants.{Bidding, Discussion}
 use Rattle.cr_base.specs.Accounts.{lines_of}
 use Rattle.cr_base.specs.Checks.{Check, ◌breaks◌, judged, reads_freely}
@@ -33,9 +32,9 @@ use Rattle.cr_base.specs.Phases.{is_from}
 use Rattle.cr_base.specs.Tables.{Tables, no_tables, tables_of, FitInTurn}
 use Rattle.cr_base.specs.Answering.{uploads_told, upload_of, content_by, content_asked, query_checks, bidder_told, reviewer_told, page_by}
 use Rattle.cr_base.specs.Answering.{told_of, found_by, search_told, reviews_answered, comments_answered}
-use Rattle.cr_base.specs.Answering.{decision_by, accepted_paper, accepted_by, comments_by, reply_or_rule, answer_by, answer_by_role}
+use Rattle.cr_base.specs.Answering.{accepted_paper, accepted_by, comments_by, reply_or_rule, answer_by, answer_by_role}
 use Rattle.cr_base.specs.Searching.{is_found, found_paper}
-use Rattle.cr_base.specs.Sources.{Facts, Shown, has_paper, facts_of_tables, shown_in_tables, names_in}
+use Rattle.cr_base.specs.Sources.{Facts, Shown, decision_by, has_paper, facts_of_tables, shown_in_tables, names_in}
 use Rattle.cr_base.specs.Words.{is_anonymous, is_chair, is_member, no_bid}
 use Rattle.cr_base.proofs.CheckLaws.{judged-behind}
 use Rattle.cr_history.specs.Laws.{AreTold, AreFormsTold}
@@ -50,7 +49,8 @@ use Rattle.cr_policy.proofs.BidTies.{bids-tables}
 use Rattle.cr_policy.proofs.ReviewerTells.{same_key}
 use Rattle.cr_policy.proofs.PageTells.{conflicts-seen}
 use Rattle.cr_policy.proofs.FactTies.{facts_in_view-tables, title-tables, abstract-tables, authors-tables, withdrawn-tables, uploads-tables}
-use Rattle.cr_policy.proofs.FactTies.{decision-tables}
+use Rattle.cr_policy.proofs.FactTies.{decision_by-tables}
+use Rattle.cr_policy.proofs.ReportTies.{passed, map-same, report-tables}
 use Rattle.cr_policy.proofs.ReviewTies.{reviewers-tables, reviews-tables}
 use Rattle.cr_policy.proofs.TalkTies.{comments-tables, tags-tables}
 
@@ -130,16 +130,6 @@ module _ (u : Option ℕ) (H : History) (kept : Invariants H) (told : AreTold H)
   abbrev tabled : Shown
   tabled = shown_in_tables (tables_of H)
 
-  -- the decision on a paper, as far as she is told of it: that it is accepted everyone is
-  decision-same : (p : ℕ) → gets_decision (facts.standing (Some p)) (facts.accepted p) ≡ true
-      → decision_by facts shown p ≡ decision_by facts tabled p
-  decision-same p may = by (facts.accepted p) may
-    where
-      by : (b : Bool) → gets_decision (facts.standing (Some p)) b ≡ true
-          → (if b then Some Accept else shown.decision p) ≡ (if b then Some Accept else tabled.decision p)
-      by true may = refl
-      by false may = decision-tables u H told p may
-
   -- the page of any paper by any user's view is the one by the tables
   page-tables : (p : ℕ) → page_by facts shown u p ≡ page_by facts tabled u p
   page-tables p =
@@ -170,7 +160,7 @@ module _ (u : Option ℕ) (H : History) (kept : Invariants H) (told : AreTold H)
         abstract_ = λ may. abstract-tables u H told p may;
         authors = λ may. ap names (authors-tables u H told p may);
         conflicts = λ may. ap names (conflicts-tables u H p kept.fits told (ap gets_conflicts stands ∙ may));
-        decision = λ may. decision-same p may;
+        decision = λ may. decision_by-tables u H told p may;
         declared = λ may. ap names (declared-tables u H p kept.fits told kept.in_time (ap gets_declared stands ∙ may));
         bids = λ may. ap bidders (bids-tables u H told kept.in_order p may);
         reviewers = λ may. reviewers-tables u H told p facts.accounts may;
@@ -264,19 +254,9 @@ module _ (u : Option ℕ) (H : History) (kept : Invariants H) (told : AreTold H)
       titled a m accepted h = grind arith
 
   accepted-tables : accepted_by facts shown ≡ accepted_by facts tabled
-  accepted-tables = each facts.papers
-    where
-      each : (ps : List ℕ)
-          → map (accepted_paper facts shown) (filter facts.accepted ps) ≡ map (accepted_paper facts tabled) (filter facts.accepted ps)
-      each [] = refl
-      each (p ∷ ps) = by (facts.accepted p) (λ is. accepted_paper-same p is) (each ps)
-        where
-          by : (b : Bool) → (b ≡ true → accepted_paper facts shown p ≡ accepted_paper facts tabled p)
-              → map (accepted_paper facts shown) (filter facts.accepted ps) ≡ map (accepted_paper facts tabled) (filter facts.accepted ps)
-              → map (accepted_paper facts shown) (if b then p ∷ filter facts.accepted ps else filter facts.accepted ps)
-              ≡ map (accepted_paper facts tabled) (if b then p ∷ filter facts.accepted ps else filter facts.accepted ps)
-          by true same rest = λ i. same refl i ∷ rest i
-          by false same rest = rest
+  accepted-tables =
+      map-same (λ p. facts.accepted p ≡ true) (accepted_paper facts shown) (accepted_paper facts tabled) accepted_paper-same (filter facts.accepted facts.papers)
+      (passed facts.accepted facts.papers)
 
   -- ---- searches
 
@@ -310,6 +290,7 @@ module _ (u : Option ℕ) (H : History) (kept : Invariants H) (told : AreTold H)
   answer-shown (queries.Reviews (Some p)) = ap reply_or_rule (reviews-tables u H told p forms)
   answer-shown (queries.Comments paper) = ap reply_or_rule (comments-same paper)
   answer-shown (queries.Search search only_count) = search-same search only_count
+  answer-shown (queries.Report report) = ap reply_or_rule (report-tables u H told forms report)
 
   -- and so is the answer
   pub answer-tables : (query : Query) → answer u (view u H) query ≡ answer_by_role (tables_of H) u query

@@ -10,12 +10,13 @@ use Rattle.cr_base.specs.declared.reply.Rule.{Rule}
 use Rattle.cr_base.specs.declared.review.ReviewLine.{ReviewLine}
 use Rattle.cr_base.specs.declared.standing.Standing.{Standing}
 use Rattle.cr_base.specs.declared.words.Phase.TheVariants.{Discussion, Notification}
-use Rattle.cr_base.specs.Answering.{reviewer_told, by_labels, most_labels, review_told, reviews_by}
+use Rattle.cr_base.specs.Answering.{reviewer_told, review_told, reviews_by}
+use Rattle.cr_base.specs.Labels.{by_labels, most_labels}
 use Rattle.cr_base.specs.Checks.{judged, of_there, reviews_checks}
 use Rattle.cr_base.specs.History.{History, SeatTold, FormTold}
 use Rattle.cr_base.specs.HistoryFacts.{assigned_under, reviewers_of, last_form_of, forms_discussed_of}
 use Rattle.cr_base.specs.Lists.{listed}
-use Rattle.cr_base.specs.Page.{is_clear_chair, is_clear_member, gets_reviewers, shows_reviewer, where_told}
+use Rattle.cr_base.specs.Page.{is_clear_chair, is_clear_member, gets_conflicts, gets_reviewers, shows_reviewer, where_told}
 use Rattle.cr_base.specs.Phases.{is_from}
 use Rattle.cr_base.specs.Reviews.{last_form_in, forms_discussed_in, is_written_in, written_told}
 use Rattle.cr_base.specs.Seats.{seats_in, reviewers_in}
@@ -27,7 +28,7 @@ use Rattle.cr_history.specs.Laws.{AreTold, AreFormsTold}
 use Rattle.cr_history.proofs.ReviewTies.{is_written-tables, last_form_of-tables}
 use Rattle.cr_policy.specs.View.{view}
 use Rattle.cr_policy.specs.ViewFacts.{seats_in_view, reviewers_in_view, last_form_in_view, forms_discussed_in_view, is_written_in_view, shown_in_view}
-use Rattle.cr_policy.proofs.ReviewerTells.{same_key, assigned-seen, reviewers-seen}
+use Rattle.cr_policy.proofs.ReviewerTells.{same_key, assigned-seen, reviewers-seen, reviewers-seen_by_chair}
 use Rattle.cr_policy.proofs.ReviewTells.{written-seen, last_form-seen, discussed-seen}
 
 -- reviewers are told alike where clear chairs are told alike which labels have a form
@@ -81,8 +82,12 @@ module _ (u : Option ℕ) (H : History) (told : AreTold H) (p : ℕ) where
       written : ℕ → Bool
       written o = is_written_in_view p o (view u H)
 
+  -- and all of each, as the view of a clear chair shows them from the bidding on
+  pub seats-tables : gets_conflicts by ≡ true → reviewers_in_view p (view u H) ≡ reviewers_in (tables_of H).seats p
+  seats-tables may = reviewers-seen_by_chair u p H (ap gets_conflicts (told.standing u (Some p)) ∙ may) ∙ told.reviewers p
+
   -- who has a label, or has had it, where reviewers are told by name
-  assigned-tables : shows_reviewer by ≡ true → (o : ℕ) → assigned_under o (seats_in_view p (view u H)) ≡ assigned_under o (seats_in (tables_of H).seats p)
+  pub assigned-tables : shows_reviewer by ≡ true → (o : ℕ) → assigned_under o (seats_in_view p (view u H)) ≡ assigned_under o (seats_in (tables_of H).seats p)
   assigned-tables may o = assigned-seen u p H (ap shows_reviewer (told.standing u (Some p)) ∙ may) o ∙ ap (assigned_under o) (told.seats p)
 
   -- ---- reviews
@@ -92,7 +97,7 @@ module _ (u : Option ℕ) (H : History) (told : AreTold H) (p : ℕ) where
     tell = review_told by accounts named user o
 
     -- the last form of a label, as an author is told of it
-    last_form-tables : by.author ≡ true → is_from Notification by.phase ≡ true
+    pub last_form-tables : by.author ≡ true → is_from Notification by.phase ≡ true
         → map tell (listed (last_form_in_view p o (view u H))) ≡ map tell (listed (option_map written_told (last_form_in (tables_of H).reviews p o)))
     last_form-tables author notified =
         subst
@@ -103,7 +108,7 @@ module _ (u : Option ℕ) (H : History) (told : AreTold H) (p : ℕ) where
         ∙ ap (λ (form : Option FormTold). map tell (listed form)) (last_form_of-tables p o H)
 
     -- the forms that are discussed, as one who discusses the paper is told of them
-    discussed-tables : AreFormsTold H → is_clear_member by ≡ true → is_from Discussion by.phase ≡ true
+    pub discussed-tables : AreFormsTold H → is_clear_member by ≡ true → is_from Discussion by.phase ≡ true
         → map tell (forms_discussed_in_view p o (view u H)) ≡ map tell (forms_discussed_in (tables_of H).reviews p o)
     discussed-tables forms clear discussed =
         subst

@@ -4,14 +4,16 @@ use Rattle.std.specs.Prelude.{map, not, filter, find, ◌==◌}
 use Rattle.std.specs.Cmp.Derive.{both_true}
 use Rattle.std.specs.List.{flat_map, list_any}
 use Rattle.std.specs.Option.{option_and_then}
-use Rattle.std.proofs.lemmas.Bool.{and_parts, or_left, or_right}
-use Rattle.std.proofs.lemmas.List.{length-map}
+use Rattle.std.proofs.lemmas.Bool.{and_parts, or_left, or_right, true≢false}
+use Rattle.std.proofs.lemmas.List.{length-map, map-id}
 use Rattle.cr_base.specs.declared.entry.Entry.TheVariants.{Assigned}
 use Rattle.cr_base.specs.declared.entry.Stamped.{Stamped}
 use Rattle.cr_base.specs.declared.page.Reviewer.{Reviewer}
 use Rattle.cr_base.specs.declared.reply.AccountLine.{AccountLine}
 use Rattle.cr_base.specs.declared.standing.Standing.{Standing}
 use Rattle.cr_base.specs.declared.words.Phase.TheVariants.{Bidding, Discussion, Notification}
+use Rattle.cr_base.specs.declared.words.Role.{Role}
+use Rattle.cr_base.specs.declared.words.Role.TheVariants.{Account, Member, Chair}
 use Rattle.cr_base.specs.Answering.{reviewer_told}
 use Rattle.cr_base.specs.Lists.{last}
 use Rattle.cr_base.specs.History.{History, SeatTold, bid_told, assigned_told, unassigned_told}
@@ -19,7 +21,7 @@ use Rattle.cr_base.specs.HistoryFacts.{phase_of, standing_of, is_conflict_on, bi
 use Rattle.cr_base.specs.Page.{is_clear_member, is_clear_chair, gets_bids, gets_conflicts, gets_reviewers, shows_reviewer, where_told}
 use Rattle.cr_base.specs.Phases.{is_from}
 use Rattle.cr_base.specs.Sources.{name_in}
-use Rattle.cr_base.specs.Words.{is_overt, is_member}
+use Rattle.cr_base.specs.Words.{is_overt, is_chair, is_member}
 use Rattle.cr_history.proofs.LineTies.{stamp}
 use Rattle.cr_policy.specs.Part as part
 use Rattle.cr_policy.specs.Sighting.{Sighting, where_shown}
@@ -208,6 +210,21 @@ module _ (u : Option ℕ) (p : ℕ) (H : History) (accounts : List AccountLine) 
           let own : Bool = user_named (reader u H) maker in
           (label_shown named own, ap (λ b. record { ordinal = ordinal; kind = None; user = where_shown b (Some user) }) (user_shown named own names))
 
+  -- a clear member who is told who reviews the paper sees all of each seat
+  module _ (names : shows_reviewer by ≡ true) (clear : member ≡ true) where
+    seat-shown : (at : Around) → ShowsAssigned (λ (seat : SeatTold). seat) (reader u H) at p
+    seat-shown at maker more user kind ordinal =
+        let named : Bool = user_named (reader u H) user in
+        let own : Bool = user_named (reader u H) maker in
+        let kinds = ap (λ b. where_shown b (Some kind)) (kind_shown named own clear) in
+        let users = ap (λ b. where_shown b (Some user)) (user_shown named own names) in
+        (label_shown named own, λ i. record { ordinal = ordinal; kind = kinds i; user = users i })
+
+    reviewers-seen_whole : reviewers_in_view p (view u H) ≡ reviewers_of p H
+    reviewers-seen_whole =
+        let seats = sym (map-id (seats_in_view p (view u H))) ∙ seats-as (λ (seat : SeatTold). seat) seat-shown ∙ map-id (seats_of p H) in
+        ap (λ gone. seats_left gone (seats_in_view p (view u H))) gone-seen ∙ ap (seats_left (flat_map (λ (e : Stamped). unassigned_told p e.entry) H)) seats
+
 pub assigned-seen : (u : Option ℕ) (p : ℕ) (H : History) → shows_reviewer (standing_of u (Some p) H) ≡ true
     → (o : ℕ) → assigned_under o (seats_in_view p (view u H)) ≡ assigned_under o (seats_of p H)
 assigned-seen u p H names o = assigned-seen_where u p H [] (λ _. false) (first_of (shows_reviewer (standing_of u (Some p) H)) _ names) names o
@@ -217,3 +234,17 @@ pub labels-seen : (u : Option ℕ) (p : ℕ) (H : History) → gets_conflicts (s
     → length (seats_in_view p (view u H)) ≡ length (seats_of p H)
 labels-seen u p H told = labels-seen_where u p H [] (λ _. false)
     (first_of (shows_reviewer (standing_of u (Some p) H)) _ (first_of _ _ (first_of (gets_conflicts (standing_of u (Some p) H)) _ told)))
+
+-- and all of each reviewer
+pub reviewers-seen_by_chair : (u : Option ℕ) (p : ℕ) (H : History) → gets_conflicts (standing_of u (Some p) H) ≡ true
+    → reviewers_in_view p (view u H) ≡ reviewers_of p H
+reviewers-seen_by_chair u p H told =
+    let by : Standing = standing_of u (Some p) H in
+    let names = first_of (shows_reviewer by) _ (first_of _ _ (first_of (gets_conflicts by) _ told)) in
+    reviewers-seen_whole u p H [] (λ _. false) names (first_of _ _ (first_of (gets_conflicts by) _ told))
+    (chair_clear by.role by.conflicted (and_parts (is_clear_chair by) (is_from Bidding by.phase) told).0)
+  where
+    chair_clear : (role : Role) (c : Bool) → (is_chair role && not c) ≡ true → (is_member role && not c) ≡ true
+    chair_clear Account c h = absurd (true≢false (sym h))
+    chair_clear Member c h = absurd (true≢false (sym h))
+    chair_clear Chair c h = h

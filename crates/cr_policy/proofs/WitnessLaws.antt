@@ -8,21 +8,24 @@ use Rattle.std.proofs.lemmas.Bool.Decides.{nat_tests}
 use Rattle.std.proofs.lemmas.Str.{IsUtf8-from_ascii, is_utf8-from_IsUtf8}
 use Rattle.cr_base.specs.declared.command.Command.TheVariants.{Register, SetPhase, Submit, Name, SetMode, SetConflict}
 use Rattle.cr_base.specs.declared.entry.Entry.TheVariants.{Registered, Named}
+use Rattle.cr_base.specs.declared.reply.Receipt.TheVariants as receipts
 use Rattle.cr_base.specs.declared.words.Mode.TheVariants.{Anonymous}
 use Rattle.cr_base.specs.declared.words.Phase.TheVariants.{Submission, Bidding}
 use Rattle.cr_base.specs.declared.words.Role.TheVariants.{Member}
+use Rattle.cr_base.specs.Bulk.{row_command}
+use Rattle.cr_base.specs.Drawn.{Drawn}
 use Rattle.cr_base.specs.History.{History}
-use Rattle.cr_policy.specs.Legal.{Call, IsAllowed, step, Legal}
-use Rattle.cr_policy.specs.Witness.{two_registrations, made_anonymous, submission_opened, one_submission, four_registrations, two_members, one_conflict, bidding_opened}
-use Rattle.cr_policy.specs.Laws.{TwoRegistrations, DigestsHidden, OneSubmission, OneConflict}
-use Rattle.cr_policy.proofs.LegalLaws.{Legal-step}
+use Rattle.cr_policy.specs.Legal.{Call, IsAllowed, step, calls, Legal}
+use Rattle.cr_policy.specs.Witness.{two_registrations, made_anonymous, submission_opened, one_submission, four_registrations, two_members, one_conflict, bidding_opened, four_rows, rows_added}
+use Rattle.cr_policy.specs.Laws.{TwoRegistrations, DigestsHidden, OneSubmission, OneConflict, OneBulk}
+use Rattle.cr_policy.proofs.LegalLaws.{Legal-step, Legal-bulk_accepted}
 
 abbrev pub register : List ℕ → List ℕ → Call
 register name digest = record { caller = None; command = Register name digest }
 
 two_calls : (alice bob : List ℕ) → length alice ≡ 32 → length bob ≡ 32 → Legal (two_registrations alice bob)
 two_calls alice bob ha hb = (
-  register (codes "alice") alice ∷ register (codes "bob") bob ∷ [],
+  calls (register (codes "alice") alice) ∷ calls (register (codes "bob") bob) ∷ [],
   (
     record { caller = refl; bounded = (record { some = omega arith; few = omega arith; bytes = refl }, ha) },
     (
@@ -121,3 +124,17 @@ one_conflict-legal alice bob carol dave ha hb hc hd = record {
   named = refl;
   declared = refl;
 }
+
+-- ---- a bulk
+
+pub one_bulk-legal : OneBulk
+unfolding row_command
+one_bulk-legal alice bob carol dave ha hb hc hd =
+    let before : History = bidding_opened alice bob carol dave in
+    let drawn : Drawn = record { group = rows_added; receipt = receipts.Rows 4 } in
+    record {
+      accepted = refl;
+      legal = Legal-bulk_accepted before (record { user = 1; rows = four_rows }) drawn (one_conflict-legal alice bob carol dave ha hb hc hd).legal
+          (record { caller = refl; bounded = omega arith }) refl;
+      refused = refl;
+    }

@@ -2,12 +2,15 @@ pub mod Conference
 pub mod ConferenceLaws
 pub mod ConferenceOutcomes
 pub mod ConferenceViews
+pub mod HiddenPairs
+pub mod HiddenPayload
 pub mod Judge
 pub mod Laws
 pub mod Legal
 pub mod Part
 pub mod ShownTo
 pub mod Sighting
+pub mod SingleRows
 pub mod Triggers
 pub mod View
 pub mod ViewBounds

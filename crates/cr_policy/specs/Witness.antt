@@ -1,8 +1,10 @@
--- Two registrations, a submission and a declared conflict after them, so that no law on legal histories is empty; and
+-- Two registrations, a submission, a declared conflict and a bulk after them, so that no law on legal histories is empty; and
 -- what is seen of them.
 use Rattle.std.specs.Prelude.{ℕ, Bool, true, false, List, [], ◌∷◌, ◌++◌, Option, Some, None, codes}
-use Rattle.cr_base.specs.declared.entry.Entry.TheVariants.{Registered, Named, PhaseSet, ModeSet, Submitted, Conflict}
+use Rattle.cr_base.specs.declared.bulk.BulkRow.{BulkRow}
+use Rattle.cr_base.specs.declared.entry.Entry.TheVariants.{Registered, Named, PhaseSet, ModeSet, Submitted, Conflict, Assigned, Unassigned, Tagged}
 use Rattle.cr_base.specs.declared.entry.EntryKind.TheVariants as kinds
+use Rattle.cr_base.specs.declared.words.Kind.TheVariants.{Primary, Pc}
 use Rattle.cr_base.specs.declared.words.Mode.TheVariants.{Anonymous}
 use Rattle.cr_base.specs.declared.words.Phase.TheVariants.{Submission, Bidding}
 use Rattle.cr_base.specs.declared.words.Role.TheVariants.{Member, Chair}
@@ -105,3 +107,37 @@ one_conflict alice bob carol dave = two_members alice bob carol dave ++ record {
 -- and alice opens the bidding
 abbrev pub bidding_opened : List ℕ → List ℕ → List ℕ → List ℕ → History
 bidding_opened alice bob carol dave = one_conflict alice bob carol dave ++ record { maker = 1; more = false; entry = PhaseSet Bidding } ∷ []
+
+-- ---- a bulk
+
+-- of this paper alice assigns dave, takes him off and assigns him anew, and tags it, in one bulk
+abbrev pub row_about : List ℕ → List ℕ → List ℕ → BulkRow
+row_about action user tag = record { paper = codes "1"; action = action; user = user; tag = tag }
+
+abbrev pub four_rows : List BulkRow
+four_rows =
+    row_about (codes "primary") (codes "dave") []
+    ∷ row_about (codes "clearreview") (codes "dave") []
+    ∷ row_about (codes "pcreview") (codes "dave") []
+    ∷ row_about (codes "tag") [] (codes "odd")
+    ∷ []
+
+-- the entries of the bulk: dave's second label is another
+abbrev pub rows_added : History
+rows_added =
+    record { maker = 1; more = true; entry = Assigned 1 4 Primary 1 }
+    ∷ record { maker = 1; more = true; entry = Unassigned 1 4 1 }
+    ∷ record { maker = 1; more = true; entry = Assigned 1 4 Pc 2 }
+    ∷ record { maker = 1; more = false; entry = Tagged 1 (codes "odd") true }
+    ∷ []
+
+-- rows of which the third breaks a rule: dave is assigned already
+abbrev pub twice_assigned : List BulkRow
+twice_assigned =
+    row_about (codes "tag") [] (codes "odd")
+    ∷ row_about (codes "primary") (codes "dave") []
+    ∷ row_about (codes "pcreview") (codes "dave") []
+    ∷ []
+
+abbrev pub bulk_given : List ℕ → List ℕ → List ℕ → List ℕ → History
+bulk_given alice bob carol dave = bidding_opened alice bob carol dave ++ rows_added

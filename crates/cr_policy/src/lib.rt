@@ -11,8 +11,17 @@ ghost use Rattle.cr_base.specs.History.{History};
 ghost use Rattle.cr_policy.specs.ConferenceLaws.{ConferenceLegal, ViewsBeforeBidding, ViewsInBidding, ViewsInReviewing};
 ghost use Rattle.cr_policy.specs.ConferenceLaws.{ViewsInDiscussion, ViewsAtNotification, ViewsAtClose, ViewsReversed, TwinsAlike, AsidesHidden};
 ghost use Rattle.cr_policy.specs.ConferenceLaws.{VerdictsHidden};
+ghost use Rattle.cr_policy.specs.HiddenPayload.{HiddenPayload, Removal};
+ghost use Rattle.cr_policy.specs.HiddenPairs.{CommentRemovable, VersionRemovable};
+ghost use Rattle.cr_policy.specs.HiddenPairs.{DigestHidden, NamerHidden, ModeSetterHidden, PhaseSetterHidden, TitleHidden, AbstractHidden};
+ghost use Rattle.cr_policy.specs.HiddenPairs.{SubmitterHidden, CoauthorHidden, RevisionHidden, ReviserHidden, ContentHidden, UploaderHidden};
+ghost use Rattle.cr_policy.specs.HiddenPairs.{WithdrawerHidden, DeclaredHidden, SwitchHidden, DeclarerHidden, BidHidden, BidderHidden};
+ghost use Rattle.cr_policy.specs.HiddenPairs.{TagHidden, TaggerHidden, AssignedHidden, SeatHidden, AssignerHidden, UnassignedHidden};
+ghost use Rattle.cr_policy.specs.HiddenPairs.{UnassignerHidden, FormHidden, FormHiddenFromMembers, ToPcHidden, ReviewerHidden, CommentHidden};
+ghost use Rattle.cr_policy.specs.HiddenPairs.{WriterHidden, DecisionHidden, DeciderHidden};
 ghost use Rattle.cr_policy.specs.Laws.{StandingFromView, PublicFactsFromView, ViewSuffices, DeclaredFromView, LegalKeeps};
-ghost use Rattle.cr_policy.specs.Laws.{DigestsAreOwn, TwoRegistrations, DigestsHidden, OneSubmission, OneConflict};
+ghost use Rattle.cr_policy.specs.SingleRows.{BulkIsItsRows};
+ghost use Rattle.cr_policy.specs.Laws.{DigestsAreOwn, TwoRegistrations, DigestsHidden, OneSubmission, OneConflict, OneBulk};
 ghost use Rattle.cr_policy.specs.ViewBounds.{EntriesShown, MarksShown, PapersShown, UsersShown, NamesShown, DigestsShown};
 ghost use Rattle.cr_policy.specs.ViewBounds.{RolesShown, PhasesShown, ModesShown, MakersShown, TitlesShown, AbstractsShown};
 ghost use Rattle.cr_policy.specs.ViewBounds.{VersionsShown, ContentsShown, SwitchesShown, ValuesShown, SeatsShown, OrdinalsShown};
@@ -36,14 +45,23 @@ pub fn law_standing()
 {}
 
 /// What checks of role on the tables of a legal history give is what the caller's view alone gives:
-/// of every command its broken rule or the entries that it adds and its receipt, of every query its
-/// answer, for every registered user, and for nobody where no login is wanted. The accepted papers, a paper's page, its content,
+/// of every command and of every bulk its broken rule, with the number of a bulk's row that breaks one, or the entries that it adds
+/// and its receipt, of every query its answer, for every registered user, and for nobody where no login is wanted. A bulk's rows are
+/// judged one behind the other, each on the view with the entries of those before it, which are the caller's own. The accepted papers, a paper's page, its content,
 /// its reviews and the comments on it are among the answers: what the caller's standing lets her have, its texts, its authors, its versions,
 /// whether it is withdrawn, who is declared in conflict with it and whom its authors declared, her own bid, label and forms,
 /// all bids, who reviews it and has written of it, the forms that are hers to read, the comments with their writers or their
 /// labels, and the tags that are for her, is in her view, and no more is needed.
 pub fn law_view_suffices()
     ensures { ViewSuffices }
+{}
+
+/// A bulk is its rows one after another, on a legal history. Where it is accepted, each row tells a command; given singly, one
+/// after another, these are all accepted, and what they add is what the bulk adds, but for the marks that another entry
+/// follows. Where it is refused for a row, the commands of those before it are accepted singly, and behind them that row breaks
+/// the rule that is told.
+pub fn law_bulk()
+    ensures { BulkIsItsRows }
 {}
 
 /// Whom a paper's authors declared in conflict with it can be read off the view of any of them, on a
@@ -58,8 +76,8 @@ pub fn law_declared()
 /// fits the tables of what stands before it; each is in order there: who registers makes the entry
 /// herself and every other maker has registered before, users and papers are numbered as they come,
 /// names are new, phases go on by one, and what is set, submitted, named or declared is so in its
-/// phase, by whom may. No command's entries are cut off, and authors declare conflicts before the
-/// bidding. So a digest is its user's alone: no view shows it to anybody else.
+/// phase, by whom may. No command's entries are cut off, nor a bulk's, and authors declare conflicts before the
+/// bidding. A history is legal that commands and bulks lead to. So a digest is its user's alone: no view shows it to anybody else.
 pub fn law_legal()
     ensures invariants { LegalKeeps }
     ensures own_digests { DigestsAreOwn }
@@ -69,12 +87,15 @@ pub fn law_legal()
 /// no other than her own. One that goes on with a submission: before the bidding a chair sees of it
 /// the paper's number alone, not who made it, title or abstract; its author sees all of it. And one
 /// that goes on from there to the bidding, in the anonymous mode: the member whom the author declared in
-/// conflict sees no abstract, and the other member sees it but not who wrote it.
+/// conflict sees no abstract, and the other member sees it but not who wrote it. From there the chair goes on with a bulk, which
+/// assigns that member, takes him off, assigns him anew under another label and tags the paper; a bulk that assigns him twice is
+/// refused for the second of these rows.
 pub fn law_witness()
     ensures legal { TwoRegistrations }
     ensures hidden { DigestsHidden }
     ensures submitted { OneSubmission }
     ensures conflict { OneConflict }
+    ensures bulk { OneBulk }
 {}
 
 /// What each kind of reader sees of a small conference, entry by entry and all of it: nobody, an
@@ -168,4 +189,66 @@ pub fn law_bounds()
     ensures outsiders { OutsidersShown }
     ensures strangers { StrangersShown }
     ensures nobody { NobodyShown }
+{}
+
+/// Two histories that differ in nothing that a user is shown look the same to her; and so they do to an unauthenticated caller, of what
+/// she isn't shown. Place by place they have the same
+/// kinds of entry, papers, ordinals, versions, numbers and tags; they differ only in parts that the table doesn't show her, or in
+/// users and makers of whom neither is she; the same papers are accepted; and each conflict with a paper of hers is declared by
+/// one of its authors in both or in neither. They need not be legal.
+pub fn law_hidden_payload()
+    ensures { HiddenPayload }
+{}
+
+/// An entry that shows a user nothing can be taken out of a history, where the same papers stay accepted: she sees the same without
+/// it, and so does an unauthenticated caller of one that shows her nothing. Another entry may take its place, as the last of a paper's texts, say, or the first form under a label; it is
+/// shown no more there than the one that was taken out, so nothing more.
+pub fn law_removed()
+    ensures { Removal }
+{}
+
+/// For each kind of entry, and each part of it that is hidden from some, two legal histories that differ there and meet the conditions
+/// of [`law_hidden_payload`] for one user, who sees the same of both, while another user doesn't: the digest of a registration; who
+/// named a member, and who set a mode or a phase; a paper's title and abstract, and in the anonymous mode its authors; a
+/// revision's texts and an upload's content, where others follow, and who made them; who withdrew; whom an author declares in
+/// conflict, whether a chair turns that off, and which author declared; a bid and whose it is; whether a private tag is on and whose
+/// it is; who is assigned, as what and by whom, and who is unassigned and by whom; a form before it is read, what it tells the
+/// committee alone, and in the anonymous mode who wrote it; a comment and who wrote it; and a decision and who made it. The
+/// last two clauses are of [`law_removed`]: a comment, and the last version of a content, whose place another takes.
+pub fn law_hidden_pairs()
+    ensures digests { DigestHidden }
+    ensures namers { NamerHidden }
+    ensures mode_setters { ModeSetterHidden }
+    ensures phase_setters { PhaseSetterHidden }
+    ensures titles { TitleHidden }
+    ensures abstracts { AbstractHidden }
+    ensures submitters { SubmitterHidden }
+    ensures coauthors { CoauthorHidden }
+    ensures revisions { RevisionHidden }
+    ensures revisers { ReviserHidden }
+    ensures contents { ContentHidden }
+    ensures uploaders { UploaderHidden }
+    ensures withdrawers { WithdrawerHidden }
+    ensures declared { DeclaredHidden }
+    ensures switches { SwitchHidden }
+    ensures declarers { DeclarerHidden }
+    ensures bids { BidHidden }
+    ensures bidders { BidderHidden }
+    ensures tags { TagHidden }
+    ensures taggers { TaggerHidden }
+    ensures assigned { AssignedHidden }
+    ensures seats { SeatHidden }
+    ensures assigners { AssignerHidden }
+    ensures unassigned { UnassignedHidden }
+    ensures unassigners { UnassignerHidden }
+    ensures forms { FormHidden }
+    ensures forms_to_members { FormHiddenFromMembers }
+    ensures to_pc { ToPcHidden }
+    ensures reviewers { ReviewerHidden }
+    ensures comments { CommentHidden }
+    ensures writers { WriterHidden }
+    ensures decisions { DecisionHidden }
+    ensures deciders { DeciderHidden }
+    ensures removed_comment { CommentRemovable }
+    ensures removed_version { VersionRemovable }
 {}

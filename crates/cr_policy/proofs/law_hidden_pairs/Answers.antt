@@ -1,0 +1,47 @@
+use Rattle.cr_policy.proofs.HiddenPairProofs.{digest-hidden, namer-hidden, mode_setter-hidden, phase_setter-hidden, title-hidden, abstract-hidden}
+use Rattle.cr_policy.proofs.HiddenPairProofs.{submitter-hidden, coauthor-hidden, revision-hidden, reviser-hidden, content-hidden, uploader-hidden}
+use Rattle.cr_policy.proofs.HiddenPairProofs.{withdrawer-hidden, declared-hidden, switch-hidden, declarer-hidden, bid-hidden, bidder-hidden}
+use Rattle.cr_policy.proofs.HiddenPairProofs.{tag-hidden, tagger-hidden, assigned-hidden, seat-hidden, assigner-hidden, unassigned-hidden}
+use Rattle.cr_policy.proofs.HiddenPairProofs.{unassigner-hidden, form-hidden, form-hidden_from_members, to_pc-hidden, reviewer-hidden, comment-hidden}
+use Rattle.cr_policy.proofs.HiddenPairProofs.{writer-hidden, decision-hidden, decider-hidden}
+use Rattle.cr_policy.proofs.HiddenPairProofs.{comment-removable, version-removable}
+use Rattle.cr_policy.proofs.law_hidden_pairs.Goals as goal
+
+pub returns : goal.returns
+returns c = record {
+  digests = digest-hidden;
+  namers = namer-hidden;
+  mode_setters = mode_setter-hidden;
+  phase_setters = phase_setter-hidden;
+  titles = title-hidden;
+  abstracts = abstract-hidden;
+  submitters = submitter-hidden;
+  coauthors = coauthor-hidden;
+  revisions = revision-hidden;
+  revisers = reviser-hidden;
+  contents = content-hidden;
+  uploaders = uploader-hidden;
+  withdrawers = withdrawer-hidden;
+  declared = declared-hidden;
+  switches = switch-hidden;
+  declarers = declarer-hidden;
+  bids = bid-hidden;
+  bidders = bidder-hidden;
+  tags = tag-hidden;
+  taggers = tagger-hidden;
+  assigned = assigned-hidden;
+  seats = seat-hidden;
+  assigners = assigner-hidden;
+  unassigned = unassigned-hidden;
+  unassigners = unassigner-hidden;
+  forms = form-hidden;
+  forms_to_members = form-hidden_from_members;
+  to_pc = to_pc-hidden;
+  reviewers = reviewer-hidden;
+  comments = comment-hidden;
+  writers = writer-hidden;
+  decisions = decision-hidden;
+  deciders = decider-hidden;
+  removed_comment = comment-removable;
+  removed_version = version-removable;
+}

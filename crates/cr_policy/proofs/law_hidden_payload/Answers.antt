@@ -1,0 +1,5 @@
+use Rattle.cr_policy.proofs.HiddenLaws.{hidden_payload}
+use Rattle.cr_policy.proofs.law_hidden_payload.Goals as goal
+
+pub returns : goal.returns
+returns c = hidden_payload

@@ -1,0 +1,5 @@
+use Rattle.cr_policy.proofs.RemovedLaws.{removal}
+use Rattle.cr_policy.proofs.law_removed.Goals as goal
+
+pub returns : goal.returns
+returns c = removal
