@@ -116,7 +116,12 @@ impl Seats {
 
     /// The ordinal under which the user reviews the paper behind earlier entries of the same command. One
     /// binary search, and a walk over the entries, of which there are none but in a command of many parts.
-    fn ordinal_behind(&self, user: UserNo, paper: PaperNo, earlier: &[Stamped]) -> Option<Ordinal>
+    pub fn ordinal_behind(
+        &self,
+        user: UserNo,
+        paper: PaperNo,
+        earlier: &[Stamped],
+    ) -> Option<Ordinal>
         requires { SeatsFitInTurn self.now.seats earlier.now }
         ensures { result ≡ seat_in (seats_from self.now.seats earlier.now) (Some user) paper }
     {

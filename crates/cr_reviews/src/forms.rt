@@ -16,6 +16,13 @@ fn is_before(form: &WrittenForm, ordinal: Ordinal, phase: Phase) -> bool
     form.is_under(ordinal) && !form.phase.is_from(phase)
 }
 
+/// Whether the form was written under the label, in the phase or later.
+fn is_since(form: &WrittenForm, ordinal: Ordinal, phase: Phase) -> bool
+    ensures { result ≡ (form.now.ordinal == ordinal && is_from phase form.now.phase) }
+{
+    form.is_under(ordinal) && form.phase.is_from(phase)
+}
+
 /// How many there are. A walk over all forms.
 pub(crate) fn count_under(forms: &[Filed<WrittenForm>], ordinal: Ordinal) -> usize
     ensures { result ≡ count_by (λ filed. filed.value.ordinal == ordinal) forms.now }
@@ -56,6 +63,21 @@ pub(crate) fn last_before(
         .iter()
         .rev()
         .find(|filed| is_before(&filed.value, ordinal, phase))?;
+    Some(&filed.value)
+}
+
+/// The last of those that were written in the phase or later. A walk back to it.
+pub(crate) fn last_since(
+    forms: &[Filed<WrittenForm>],
+    ordinal: Ordinal,
+    phase: Phase,
+) -> Option<&WrittenForm>
+    ensures { option_copied result ≡ option_map (λ filed. filed.value) (find (λ filed. filed.value.ordinal == ordinal && is_from phase filed.value.phase) (reverse forms.now)) }
+{
+    let filed = forms
+        .iter()
+        .rev()
+        .find(|filed| is_since(&filed.value, ordinal, phase))?;
     Some(&filed.value)
 }
 

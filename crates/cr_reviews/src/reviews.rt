@@ -3,11 +3,12 @@ ghost use Rattle.std.specs.Prelude.{◌≡◌, ℕ, ◌≤◌, ◌<◌, ◌+◌,
 ghost use Rattle.std.specs.Option.{option_copied};
 ghost use Rattle.cr_base.specs.Checks.{judged, review_checks};
 ghost use Rattle.cr_base.specs.Filed.{filed_of};
-ghost use Rattle.cr_base.specs.Reviews.{no_reviews, reviews_after, last_form_in, last_form_before, is_written_in};
+ghost use Rattle.cr_base.specs.Lists.{last};
+ghost use Rattle.cr_base.specs.Reviews.{no_reviews, reviews_after, last_form_in, last_form_before, forms_from, is_written_in};
 ghost use Rattle.cr_reviews.specs.Labels.{has_label};
 ghost use Rattle.cr_reviews.specs.Under.{forms_by};
 
-use crate::forms::{count_under, has_under, labels_of, last_before, last_under};
+use crate::forms::{count_under, has_under, labels_of, last_before, last_since, last_under};
 use crate::labels::Labels;
 use cr_base::{Entry, Filed, Ordinal, PaperNo, Phase, Rule, Stamped, Standing, WrittenForm};
 use cr_kept::Files;
@@ -74,6 +75,13 @@ impl Reviews {
         ensures { option_copied result ≡ last_form_before self.now.reviews paper ordinal phase }
     {
         last_before(self.forms(paper), ordinal, phase)
+    }
+
+    /// The last of them that was written in the phase or later, and none where there is none. It costs the same.
+    pub fn last_since(&self, paper: PaperNo, ordinal: Ordinal, phase: Phase) -> Option<&WrittenForm>
+        ensures { option_copied result ≡ last (forms_from self.now.reviews paper ordinal phase) }
+    {
+        last_since(self.forms(paper), ordinal, phase)
     }
 
     /// Whether there is a form under the paper's label of this ordinal. Two binary searches, and a walk over
