@@ -7,7 +7,7 @@ use Rattle.cr_base.proofs.ListLaws.{length-numbers_from}
 use Rattle.cr_view.proofs.AnswerLaws.{walk-step}
 
 -- the number of the element at an index
-get_or-numbers_from : {A : Type 0} (n i other : ℕ) (xs : List A) → i < length xs → get_or (numbers_from n xs) i other ≡ n + i
+pub get_or-numbers_from : {A : Type 0} (n i other : ℕ) (xs : List A) → i < length xs → get_or (numbers_from n xs) i other ≡ n + i
 get_or-numbers_from n i other [] h = omega (arith, h)
 get_or-numbers_from n zero other (x ∷ xs) h = let e : n ≡ n + 0 = omega arith in e
 get_or-numbers_from n (suc i) other (x ∷ xs) h = get_or-numbers_from (n + 1) i other xs (omega (arith, h)) ∙ behind n i

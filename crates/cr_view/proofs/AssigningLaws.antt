@@ -1,6 +1,6 @@
 -- What a command draws that names a paper and a user, by reads of the tables.
-use Rattle.std.proofs.Common.{ℕ, Bool, true, false, ◌≡◌, ◌+◌, List, ◌∷◌, refl, sym, ap, ◌∙◌, ◌||◌, Option, Some, None, Result, Ok}
-use Rattle.std.specs.Prelude.{is_some, not, unwrap_or}
+use Rattle.std.proofs.Common.{ℕ, Bool, true, false, ◌≡◌, ◌+◌, List, ◌∷◌, drop, refl, sym, ap, ◌∙◌, ◌||◌, Option, Some, None, Result, Ok, Err}
+use Rattle.std.specs.Prelude.{is_some, is_none, not, unwrap_or}
 use Rattle.std.specs.List.{list_any}
 use Rattle.std.specs.Option.{option_map, option_and_then}
 use Rattle.std.specs.Result.{result_and}
@@ -36,7 +36,7 @@ use Rattle.cr_view.specs.ByTables.{named_at, asked_of, asked_at, conflict_at, as
 use Rattle.cr_view.specs.Draws.{drawn_by, drawn_or_rule}
 use Rattle.cr_view.specs.Targets.{target_at}
 use Rattle.cr_view.proofs.JudgeLaws.{made_of, judged-made}
-use Rattle.cr_view.proofs.NamedLaws.{same-paper, judged-there}
+use Rattle.cr_view.proofs.NamedLaws.{named-there, same-paper, judged-there}
 use Rattle.cr_view.proofs.TargetLaws.{target-among, drawn-and}
 
 -- whoever was found for a name has a number, and a role
@@ -133,6 +133,34 @@ module _ (t : Tables) (maker : ℕ) where
 
     is-paper : Some named.paper ≡ paper
     is-paper = same-paper t maker paper named given
+
+    -- nobody has the name
+    module _ (name : Option (List ℕ)) (target : Option (ℕ × Role)) (nobody : target ≡ None) (found : number_found target ≡ target_at t.accounts name) where
+      unheard : {A : Type 0} (rest : List Check) (x : A) → ◌≡◌ {A = Result A Rule} (Err rules.NoUser)
+          (judged (not (asked_of t paper).there breaks rules.NoPaper ∷ is_none (asked_at t maker paper (target_at t.accounts name)) breaks rules.NoUser ∷ rest) x)
+      unheard rest x =
+          ap (λ (b : Bool). judged (b breaks rules.NoPaper ∷ true breaks rules.NoUser ∷ rest) x) (sym (named-there t maker paper named given))
+          ∙ ap (λ (v : Option ℕ). judged (not (asked_of t paper).there breaks rules.NoPaper ∷ is_none (asked_at t maker paper v) breaks rules.NoUser ∷ rest) x)
+          (sym (ap number_found nobody) ∙ found)
+
+      pub conflict-nobody : (on : Bool) → ◌≡◌ {A = Result Drawn Rule} (Err rules.NoUser) (conflict_at t maker paper name on)
+      conflict-nobody on =
+          unheard (drop 2 (conflict_checks here (asked_of t paper) (asked_at t maker paper (target_at t.accounts name)) on))
+          (conflict_drawn maker (unwrap_or paper 0) (unwrap_or (target_at t.accounts name) 0) on)
+
+      pub assignment-nobody : (kind : Kind) → ◌≡◌ {A = Result Drawn Rule} (Err rules.NoUser) (assignment_at t maker paper name kind)
+      assignment-nobody kind =
+          let labels : ℕ = labels_in t.seats (unwrap_or paper 0) in
+          unheard (drop 2 (assign_checks here (asked_of t paper) (asked_at t maker paper (target_at t.accounts name)) labels))
+          (assignment_drawn maker (unwrap_or paper 0) (unwrap_or (target_at t.accounts name) 0) kind (labels + 1))
+
+      pub unassignment-nobody : ◌≡◌ {A = Result Drawn Rule} (Err rules.NoUser) (unassignment_at t maker paper name)
+      unassignment-nobody =
+          let p : ℕ = unwrap_or paper 0 in
+          let due : Option ℕ = target_at t.accounts name in
+          let seat : Option ℕ = seat_in t.seats due p in
+          unheard (drop 2 (unassign_checks here (asked_of t paper) (asked_at t maker paper due) (at_some (is_written_in t.reviews p) seat)))
+          (unassignment_drawn maker p (unwrap_or due 0) (unwrap_or seat 0))
 
     -- the user; and what tables are asked that are these
     module _ (name : Option (List ℕ)) (target : Option (ℕ × Role)) (user : ℕ) (known : number_found target ≡ Some user)

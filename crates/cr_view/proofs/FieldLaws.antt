@@ -12,7 +12,8 @@ use Rattle.cr_base.specs.declared.review.WrittenForm.{WrittenForm}
 use Rattle.cr_base.specs.declared.standing.Standing.{Standing}
 use Rattle.cr_base.specs.declared.words.Phase.TheVariants.{Discussion}
 use Rattle.cr_base.specs.Accounts.{lines_of}
-use Rattle.cr_base.specs.Answering.{by_labels, most_labels, reply_or_rule, review_told, reviews_answered, uploads_told}
+use Rattle.cr_base.specs.Answering.{reply_or_rule, review_told, reviews_answered, uploads_told}
+use Rattle.cr_base.specs.Labels.{by_labels, most_labels}
 use Rattle.cr_base.specs.Checks.{Check, judged}
 use Rattle.cr_base.specs.History.{FormTold, Upload}
 use Rattle.cr_base.specs.HistoryFacts.{assigned_under}

@@ -9,7 +9,10 @@ pub mod GroupLaws
 pub mod JudgeLaws
 pub mod MeLaws
 pub mod NamedLaws
+pub mod ReportLaws
 pub mod ReviewLaws
 pub mod ReviewingLaws
+pub mod RowEntryLaws
+pub mod RowLaws
 pub mod TargetLaws
 pub mod WritingLaws

@@ -1,5 +1,5 @@
 -- The paper that a command names, as its tables are asked of it, and what is drawn where nobody else is named.
-use Rattle.std.proofs.Common.{ℕ, Bool, true, false, ◌≡◌, List, [], ◌∷◌, refl, sym, ap, ◌∙◌, Option, Some, None, Result, Ok}
+use Rattle.std.proofs.Common.{ℕ, Bool, true, false, ◌≡◌, List, [], ◌∷◌, refl, sym, ap, ◌∙◌, Option, Some, None, Result, Ok, Err}
 use Rattle.std.specs.Prelude.{not, unwrap_or}
 use Rattle.std.specs.Result.{result_and}
 use Rattle.std.proofs.lemmas.Bool.{true≢false}
@@ -12,13 +12,20 @@ use Rattle.cr_base.specs.Lists.{at_some}
 use Rattle.cr_base.specs.Papers.{is_withdrawn_at}
 use Rattle.cr_base.specs.Sources.{has_paper, standing_at, facts_of_tables}
 use Rattle.cr_base.specs.Tables.{Tables}
-use Rattle.cr_base.proofs.CheckLaws.{judged-Ok}
+use Rattle.cr_base.proofs.CheckLaws.{judged-Ok, judged-front}
 use Rattle.cr_view.specs.declared.assigning.Named.{Named}
 use Rattle.cr_view.specs.declared.draw.Draw.{Draw}
 use Rattle.cr_view.specs.ByTables.{named_at, asked_of}
 use Rattle.cr_view.specs.Draws.{drawn_by, drawn_or_rule}
 use Rattle.cr_view.proofs.JudgeLaws.{made_of, judged-made}
 use Rattle.cr_view.proofs.TargetLaws.{drawn-and}
+
+-- where it isn't there, that is told whatever else is asked
+pub named-refused : {A : Type 0} (t : Tables) (maker : ℕ) (paper : Option ℕ) (rule : Rule) (rest : List Check) (x : A)
+    → ◌≡◌ {A = Result Named Rule} (Err rule) (named_at t maker paper)
+    → ◌≡◌ {A = Result A Rule} (Err rule) (judged (not (has_paper (facts_of_tables t None) paper) breaks rules.NoPaper ∷ rest) x)
+named-refused t maker paper rule rest x is =
+    sym (judged-front (not (has_paper (facts_of_tables t None) paper) breaks rules.NoPaper ∷ []) rest _ x rule (sym is))
 
 module _ (t : Tables) (maker : ℕ) (paper : Option ℕ) (named : Named) (given : ◌≡◌ {A = Result Named Rule} (Ok named) (named_at t maker paper)) where
   abbrev here : Standing
@@ -31,15 +38,15 @@ module _ (t : Tables) (maker : ℕ) (paper : Option ℕ) (named : Named) (given 
   abbrev told : NamedPaper
   told = record { there = true; withdrawn = named.withdrawn }
 
-  found-there : not is_there ≡ false
-  found-there = (judged-Ok (not is_there breaks rules.NoPaper ∷ []) _ named (sym given)).0.0
+  pub named-there : not is_there ≡ false
+  named-there = (judged-Ok (not is_there breaks rules.NoPaper ∷ []) _ named (sym given)).0.0
 
   same-named : record { by = here; paper = unwrap_or paper 0; withdrawn = at_some (is_withdrawn_at t.papers) paper } ≡ named
   same-named = (judged-Ok (not is_there breaks rules.NoPaper ∷ []) _ named (sym given)).1
 
   -- it is the one that was told
   pub same-paper : Some named.paper ≡ paper
-  same-paper = ap (λ (n : Named). Some n.paper) (sym same-named) ∙ by paper found-there
+  same-paper = ap (λ (n : Named). Some n.paper) (sym same-named) ∙ by paper named-there
     where
       by : (o : Option ℕ) → not (has_paper (facts_of_tables t None) o) ≡ false → Some (unwrap_or o 0) ≡ o
       by None h = absurd (true≢false h)
@@ -47,7 +54,7 @@ module _ (t : Tables) (maker : ℕ) (paper : Option ℕ) (named : Named) (given 
 
   asked-there : told ≡ asked_of t paper
   asked-there =
-      ap (λ (b : Bool). record { there = b; withdrawn = named.withdrawn }) (is-true is_there found-there)
+      ap (λ (b : Bool). record { there = b; withdrawn = named.withdrawn }) (is-true is_there named-there)
       ∙ ap (λ (n : Named). record { there = is_there; withdrawn = n.withdrawn }) (sym same-named)
     where
       is-true : (b : Bool) → not b ≡ false → true ≡ b

@@ -17,7 +17,7 @@ use Rattle.cr_base.specs.declared.standing.Standing.{Standing}
 use Rattle.cr_base.specs.declared.words.Phase.{Phase}
 use Rattle.cr_base.specs.declared.words.Phase.TheVariants.{Setup, Submission, Bidding, Reviewing, Discussion, Notification, Closed}
 use Rattle.cr_base.specs.Accounts.{account_at, lines_of}
-use Rattle.cr_base.specs.Answering.{by_labels, most_labels}
+use Rattle.cr_base.specs.Labels.{by_labels, most_labels}
 use Rattle.cr_base.specs.History.{SeatTold, FormTold}
 use Rattle.cr_base.specs.HistoryFacts.{assigned_under}
 use Rattle.cr_base.specs.Lists.{is_nothing, last, listed}
@@ -168,16 +168,16 @@ label-unwritten t by p o none = split (forms_in t.reviews p o) by.author none
     split (w ∷ forms) author h = absurd (true≢false h)
 
 -- one more label
-pub labels-step : (told : ℕ → List ReviewLine) (n : ℕ) (before after : List ReviewLine) → before ≡ by_labels told n → after ≡ before ++ told (n + 1)
+pub labels-step : {A : Type 0} (told : ℕ → List A) (n : ℕ) (before after : List A) → before ≡ by_labels told n → after ≡ before ++ told (n + 1)
     → after ≡ by_labels told (n + 1)
-labels-step told n before after h pushed =
+labels-step {A} told n before after h pushed =
     let next : n + 1 ≡ suc n = add-one n in
-    pushed ∙ ap (λ (l : List ReviewLine). l ++ told (n + 1)) h
+    pushed ∙ ap (λ (l : List A). l ++ told (n + 1)) h
     ∙ ap (λ (m : ℕ). by_labels told n ++ told m) next
     ∙ sym (ap (by_labels told) next)
 
 -- and all of them
-pub labels-all : (told : ℕ → List ReviewLine) (n : ℕ) (given : List ReviewLine) → given ≡ by_labels told n → 26 ≤ n → n ≤ 26
+pub labels-all : {A : Type 0} (told : ℕ → List A) (n : ℕ) (given : List A) → given ≡ by_labels told n → 26 ≤ n → n ≤ 26
     → given ≡ by_labels told most_labels
 unfolding most_labels
 labels-all told n given h low high = let same : n ≡ 26 = omega arith in h ∙ ap (by_labels told) same

@@ -64,3 +64,11 @@ IsOfReviewing draw = IsOfWriting draw
 abbrev pub drawn_or_rule : Result Draw Rule → Result Drawn Rule
 drawn_or_rule (Ok draw) = Ok (drawn_by draw)
 drawn_or_rule (Err rule) = Err rule
+
+-- the draw is one that a row of a bulk makes
+abbrev pub IsOfRow : Draw → Type 0
+IsOfRow (Conflict maker paper user on) = Unit {0}
+IsOfRow (Assignment maker paper user kind ordinal) = Unit {0}
+IsOfRow (Unassignment maker paper user ordinal) = Unit {0}
+IsOfRow (Tag maker paper tag on) = Unit {0}
+IsOfRow draw = ⊥

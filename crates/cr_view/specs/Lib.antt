@@ -5,6 +5,8 @@ pub mod Comments
 pub mod Draws
 pub mod Fields
 pub mod Replies
+pub mod Reports
 pub mod Reviews
+pub mod Rows
 pub mod Seen
 pub mod Targets

@@ -1,19 +1,22 @@
 //! What is judged of a paper, and of a user who is named with it: conflicts, bids and assignments.
-ghost use Rattle.std.specs.Prelude.{◌≡◌, Some};
+ghost use Rattle.std.specs.Prelude.{◌≡◌, IfOk, Some};
 ghost use Rattle.std.specs.Option.{option_map, option_and_then};
 ghost use Rattle.cr_base.specs.Accounts.{role_at};
 ghost use Rattle.cr_base.specs.Judging.{judge_by_role};
 ghost use Rattle.cr_base.specs.Lists.{at_some};
 ghost use Rattle.cr_base.specs.Reviews.{is_written_in};
 ghost use Rattle.cr_base.specs.Seats.{seat_in};
+ghost use Rattle.cr_base.specs.Sources.{standing_at};
+ghost use Rattle.cr_base.specs.Tables.{tables_from};
 ghost use Rattle.cr_base.specs.declared.command.Command.TheVariants as commands;
 ghost use Rattle.cr_view.specs.ByTables.{named_at, conflict_at, assignment_at, unassignment_at};
-ghost use Rattle.cr_view.specs.Draws.{drawn_or_rule};
+ghost use Rattle.cr_view.specs.Draws.{drawn_or_rule, IsOfRow};
+ghost use Rattle.cr_view.specs.Rows.{AreEarlier};
 ghost use Rattle.cr_view.specs.Targets.{target_at};
 
 use crate::draw::Draw;
 use crate::live::Live;
-use cr_base::{Bid, Kind, PaperNo, Role, Rule, Short, Standing, UserNo};
+use cr_base::{Bid, Kind, PaperNo, Role, Rule, Short, Stamped, Standing, UserNo};
 
 /// The paper that a command names, where it is there.
 #[derive(Clone, Copy, Debug)]
@@ -32,6 +35,19 @@ impl Live {
     pub(crate) fn named(&self, maker: UserNo, paper: &Option<PaperNo>) -> Result<Named, Rule>
         ensures { result ≡ named_at self.now.tables maker paper.now }
     {
+        self.named_behind(maker, paper, &[])
+    }
+
+    /// The same behind earlier entries of the same bulk.
+    pub(crate) fn named_behind(
+        &self,
+        maker: UserNo,
+        paper: &Option<PaperNo>,
+        earlier: &[Stamped],
+    ) -> Result<Named, Rule>
+        requires { AreEarlier self.now.tables earlier.now }
+        ensures { result ≡ named_at (tables_from self.now.tables earlier.now) maker paper.now }
+    {
         let Some(number) = paper else {
             return Err(Rule::NoPaper);
         };
@@ -39,10 +55,27 @@ impl Live {
             return Err(Rule::NoPaper);
         }
         Ok(Named {
-            by: self.standing(&Some(maker), paper),
+            by: self.standing_behind(maker, *number, earlier),
             paper: *number,
             withdrawn: self.papers.is_withdrawn(*number),
         })
+    }
+
+    /// What a user is to the conference and to a paper, behind earlier entries of the same bulk, of which none
+    /// changes a phase, a mode, a role or who is an author. Takes no memory; a few reads by number, four binary
+    /// searches of ties and seats, and three walks over the earlier entries.
+    fn standing_behind(&self, user: UserNo, paper: PaperNo, earlier: &[Stamped]) -> Standing
+        requires { AreEarlier self.now.tables earlier.now }
+        ensures { result ≡ standing_at (tables_from self.now.tables earlier.now) (Some user) (Some paper) }
+    {
+        Standing {
+            phase: self.stage.phase(),
+            mode: self.stage.mode(),
+            role: self.accounts.standing_for(&Some(user)),
+            author: self.ties.is_author(user, paper),
+            conflicted: self.ties.is_conflicted(user, paper, earlier),
+            reviewer: self.seats.ordinal_behind(user, paper, earlier).is_some(),
+        }
     }
 
     /// The user of a name and her role, if somebody registered it.
@@ -61,12 +94,14 @@ impl Live {
 
 /// What she has written.
 impl Live {
-    /// Whether a form is written under the label under which the user reviews the paper; false where she
-    /// doesn't. One binary search, and where she does a walk over the paper's forms.
-    fn has_written(&self, user: UserNo, paper: PaperNo) -> bool
-        ensures { result ≡ at_some (is_written_in self.now.tables.reviews paper) (seat_in self.now.tables.seats (Some user) paper) }
+    /// Whether a form is written under the label under which the user reviews the paper behind earlier entries
+    /// of the same bulk; false where she doesn't. One binary search and a walk over these entries, and where she
+    /// does a walk over the paper's forms.
+    fn has_written(&self, user: UserNo, paper: PaperNo, earlier: &[Stamped]) -> bool
+        requires { AreEarlier self.now.tables earlier.now }
+        ensures { let t = tables_from self.now.tables earlier.now in result ≡ at_some (is_written_in t.reviews paper) (seat_in t.seats (Some user) paper) }
     {
-        match self.seats.ordinal_of(user, paper) {
+        match self.seats.ordinal_behind(user, paper, earlier) {
             Some(ordinal) => self.reviews.has_form(paper, ordinal),
             None => false,
         }
@@ -100,10 +135,13 @@ impl Live {
         paper: &Option<PaperNo>,
         name: &Option<Short>,
         on: bool,
+        earlier: &[Stamped],
     ) -> Result<Draw, Rule>
-        ensures { drawn_or_rule result ≡ conflict_at self.now.tables maker paper.now name.now on }
+        requires { AreEarlier self.now.tables earlier.now }
+        ensures drawn { drawn_or_rule result ≡ conflict_at (tables_from self.now.tables earlier.now) maker paper.now name.now on }
+        ensures row { IfOk result IsOfRow }
     {
-        let named = self.named(maker, paper)?;
+        let named = self.named_behind(maker, paper, earlier)?;
         let target = self.target(name);
         let Some((user, _)) = &target else {
             return Err(Rule::NoUser);
@@ -115,7 +153,7 @@ impl Live {
             &target,
             on,
             named.withdrawn,
-            &[],
+            earlier,
         );
         kept.and(Ok(Draw::Conflict {
             maker,
@@ -131,22 +169,25 @@ impl Live {
         paper: &Option<PaperNo>,
         name: &Option<Short>,
         kind: Kind,
+        earlier: &[Stamped],
     ) -> Result<Draw, Rule>
-        ensures { drawn_or_rule result ≡ assignment_at self.now.tables maker paper.now name.now kind }
+        requires { AreEarlier self.now.tables earlier.now }
+        ensures drawn { drawn_or_rule result ≡ assignment_at (tables_from self.now.tables earlier.now) maker paper.now name.now kind }
+        ensures row { IfOk result IsOfRow }
     {
-        let named = self.named(maker, paper)?;
+        let named = self.named_behind(maker, paper, earlier)?;
         let target = self.target(name);
         let Some((user, _)) = &target else {
             return Err(Rule::NoUser);
         };
-        let conflicted = self.ties.is_conflicted(*user, named.paper, &[]);
+        let conflicted = self.ties.is_conflicted(*user, named.paper, earlier);
         match self.seats.judge_assign(
             &named.by,
             &Some(named.paper),
             &target,
             named.withdrawn,
             conflicted,
-            &[],
+            earlier,
         ) {
             Ok(ordinal) => Ok(Draw::Assignment {
                 maker,
@@ -164,10 +205,13 @@ impl Live {
         maker: UserNo,
         paper: &Option<PaperNo>,
         name: &Option<Short>,
+        earlier: &[Stamped],
     ) -> Result<Draw, Rule>
-        ensures { drawn_or_rule result ≡ unassignment_at self.now.tables maker paper.now name.now }
+        requires { AreEarlier self.now.tables earlier.now }
+        ensures drawn { drawn_or_rule result ≡ unassignment_at (tables_from self.now.tables earlier.now) maker paper.now name.now }
+        ensures row { IfOk result IsOfRow }
     {
-        let named = self.named(maker, paper)?;
+        let named = self.named_behind(maker, paper, earlier)?;
         let target = self.target(name);
         let Some((user, _)) = &target else {
             return Err(Rule::NoUser);
@@ -177,8 +221,8 @@ impl Live {
             &Some(named.paper),
             &target,
             named.withdrawn,
-            self.has_written(*user, named.paper),
-            &[],
+            self.has_written(*user, named.paper, earlier),
+            earlier,
         ) {
             Ok(ordinal) => Ok(Draw::Unassignment {
                 maker,

@@ -74,18 +74,20 @@ impl Live {
             Command::Name { user, role } => self.judge_naming(maker(caller), &user, role),
             Command::SetMode { mode } => self.judge_mode(maker(caller), mode),
             Command::SetConflict { paper, user, on } => {
-                self.judge_conflict(maker(caller), &paper, &user, on)
+                self.judge_conflict(maker(caller), &paper, &user, on, &[])
             }
             Command::Bid { paper, value } => self.judge_bid(maker(caller), &paper, value),
             Command::Assign { paper, user, kind } => {
-                self.judge_assignment(maker(caller), &paper, &user, kind)
+                self.judge_assignment(maker(caller), &paper, &user, kind, &[])
             }
             Command::Unassign { paper, user } => {
-                self.judge_unassignment(maker(caller), &paper, &user)
+                self.judge_unassignment(maker(caller), &paper, &user, &[])
             }
             Command::Review { paper, form } => self.judge_review(maker(caller), &paper, form),
             Command::Comment { paper, text } => self.judge_comment(maker(caller), &paper, text),
-            Command::Tag { paper, tag, on } => self.judge_tag(maker(caller), &paper, tag, on),
+            Command::Tag { paper, tag, on } => {
+                self.judge_tag(maker(caller), &paper, tag, on, &[])
+            }
             Command::Decide { paper, decision } => {
                 self.judge_decision(maker(caller), &paper, decision)
             }

@@ -1,6 +1,7 @@
 //! What an accepted command draws.
-ghost use Rattle.std.specs.Prelude.{◌≡◌, IfOk};
-ghost use Rattle.cr_view.specs.Draws.{drawn_by, IsOfMarking, IsOfPaper, IsOfReviewing, IsOfWriting};
+ghost use Rattle.std.specs.Prelude.{◌≡◌, [], ◌∷◌, IfOk};
+ghost use Rattle.cr_base.specs.Bulk.{entries_of};
+ghost use Rattle.cr_view.specs.Draws.{drawn_by, IsOfMarking, IsOfPaper, IsOfReviewing, IsOfRow, IsOfWriting};
 
 use crate::group::{registration, single, submission};
 use cr_base::{
@@ -234,6 +235,45 @@ impl Draw {
             } => single(alloc, maker, Entry::Named { user, role }),
             Draw::Mode { maker, mode } => single(alloc, maker, Entry::ModeSet { mode }),
             other => of_paper(alloc, other),
+        }
+    }
+
+    /// The one entry of what a row of a bulk draws.
+    pub(crate) fn entry(self) -> Entry
+        requires { IsOfRow self }
+        ensures { entries_of (drawn_by self).group ≡ result ∷ [] }
+    {
+        match self {
+            Draw::Conflict {
+                paper,
+                user,
+                on,
+                ..
+            } => Entry::Conflict { paper, user, on },
+            Draw::Assignment {
+                paper,
+                user,
+                kind,
+                ordinal,
+                ..
+            } => Entry::Assigned {
+                paper,
+                user,
+                kind,
+                ordinal,
+            },
+            Draw::Unassignment {
+                paper,
+                user,
+                ordinal,
+                ..
+            } => Entry::Unassigned {
+                paper,
+                user,
+                ordinal,
+            },
+            Draw::Tag { paper, tag, on, .. } => Entry::Tagged { paper, tag, on },
+            _ => unreachable!(),
         }
     }
 }

@@ -16,10 +16,13 @@ mod live;
 mod me;
 mod page;
 mod queries;
+mod reports;
 mod reviewing;
 mod reviews;
+mod rows;
 mod writing;
 
 pub use draw::Draw;
 pub use live::Live;
 pub use queries::AnswerError;
+pub use reports::ScoreSum;

@@ -2,7 +2,8 @@
 ghost use Rattle.std.specs.Prelude.{◌≡◌, ◌++◌, ◌==◌, IfOk, OnOk, map, find};
 ghost use Rattle.std.specs.Option.{option_map, option_copied};
 ghost use Rattle.cr_base.specs.declared.command.Query.TheVariants as queries;
-ghost use Rattle.cr_base.specs.Answering.{answer_by_role, by_labels, most_labels};
+ghost use Rattle.cr_base.specs.Answering.{answer_by_role};
+ghost use Rattle.cr_base.specs.Labels.{by_labels, most_labels};
 ghost use Rattle.cr_base.specs.Checks.{judged, of_there, reviews_checks};
 ghost use Rattle.cr_base.specs.Lists.{listed};
 ghost use Rattle.cr_base.specs.Page.{shows_reviewer};
@@ -263,8 +264,9 @@ impl Live {
         )
     }
 
-    /// The name of whoever was assigned under the label, where it is told. One read by number, where it is.
-    fn label_name(&self, by: &Standing, paper: PaperNo, label: Ordinal) -> Option<Short>
+    /// The name of whoever was assigned under the label, where it is told. Two binary searches, a walk over the paper's seats and one
+    /// read by number, where it is.
+    pub fn label_name(&self, by: &Standing, paper: PaperNo, label: Ordinal) -> Option<Short>
         ensures { result ≡ label_name self.now.tables (shows_reviewer by.now) paper label }
     {
         if !shows_reviewer(by) {

@@ -1,13 +1,15 @@
 //! What is judged of what members write on a paper, reviews, comments and tags, and of what is decided of it.
-ghost use Rattle.std.specs.Prelude.{◌≡◌, IsSome, Some};
+ghost use Rattle.std.specs.Prelude.{◌≡◌, IfOk, IsSome, Some};
 ghost use Rattle.cr_base.specs.Judging.{judge_by_role};
+ghost use Rattle.cr_base.specs.Tables.{tables_from};
 ghost use Rattle.cr_base.specs.declared.command.Command.TheVariants as commands;
 ghost use Rattle.cr_view.specs.ByTables.{comment_at};
-ghost use Rattle.cr_view.specs.Draws.{drawn_or_rule};
+ghost use Rattle.cr_view.specs.Draws.{drawn_or_rule, IsOfRow};
+ghost use Rattle.cr_view.specs.Rows.{AreEarlier};
 
 use crate::draw::Draw;
 use crate::live::Live;
-use cr_base::{Decision, Form, Ordinal, PaperNo, Rule, Tag, Text, UserNo};
+use cr_base::{Decision, Form, Ordinal, PaperNo, Rule, Stamped, Tag, Text, UserNo};
 
 /// The label of who reviews.
 fn held(ordinal: &Option<Ordinal>) -> Ordinal
@@ -76,10 +78,16 @@ impl Live {
         paper: &Option<PaperNo>,
         tag: Tag,
         on: bool,
+        earlier: &[Stamped],
     ) -> Result<Draw, Rule>
-        ensures { drawn_or_rule result ≡ judge_by_role self.now.tables (Some maker) (commands.Tag paper.now tag on) }
+        requires { AreEarlier self.now.tables earlier.now }
+        ensures drawn { drawn_or_rule result ≡ judge_by_role (tables_from self.now.tables earlier.now) (Some maker) (commands.Tag paper.now tag on) }
+        ensures row { IfOk result IsOfRow }
     {
-        let named = self.named(maker, paper)?;
+        let named = match self.named_behind(maker, paper, earlier) {
+            Ok(named) => named,
+            Err(rule) => return Err(rule),
+        };
         let kept = self
             .tags
             .judge_tag(&named.by, &Some(named.paper), &tag, named.withdrawn);

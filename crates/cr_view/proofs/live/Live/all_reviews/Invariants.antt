@@ -1,5 +1,5 @@
 use Rattle.std.proofs.Common.{◌≡◌}
-use Rattle.cr_base.specs.Answering.{by_labels}
+use Rattle.cr_base.specs.Labels.{by_labels}
 use Rattle.cr_view.specs.Reviews.{label_reviews}
 use Rattle.cr_view.proofs.live.Live.all_reviews.Given as goal
 

@@ -1,0 +1,190 @@
+-- What the row of a bulk draws, by the tables behind the rows before it, and that its entry may come next.
+use Rattle.std.proofs.Common.{ℕ, Bool, true, false, cond, ◌≡◌, ◌+◌, List, [], ◌∷◌, ◌++◌, refl, sym, ap, subst, ◌∙◌, Some, Result, Ok, Err}
+use Rattle.std.specs.Prelude.{map, unwrap_or}
+use Rattle.cr_base.specs.declared.command.Command.{Command}
+use Rattle.cr_base.specs.declared.command.Command.TheVariants.{SetConflict, Assign, Unassign, Tag}
+use Rattle.cr_base.specs.declared.entry.Account.{Account}
+use Rattle.cr_base.specs.declared.entry.Entry.{Entry}
+use Rattle.cr_base.specs.declared.entry.Entry.TheVariants as entries
+use Rattle.cr_base.specs.declared.entry.Stamped.{Stamped}
+use Rattle.cr_base.specs.declared.reply.Receipt.{Receipt}
+use Rattle.cr_base.specs.declared.reply.Receipt.TheVariants as receipts
+use Rattle.cr_base.specs.declared.reply.Rule.{Rule}
+use Rattle.cr_base.specs.declared.reply.Rule.TheVariants as rules
+use Rattle.cr_base.specs.Accounts.{lines_of}
+use Rattle.cr_base.specs.Bulk.{entries_of, turns_own_conflict}
+use Rattle.cr_base.specs.Checks.{Check, judged, conflict_checks, assign_checks, unassign_checks, tag_checks}
+use Rattle.cr_base.specs.Drawn.{Drawn, grouped}
+use Rattle.cr_base.specs.History.{History}
+use Rattle.cr_base.specs.Judging.{judge_by_role}
+use Rattle.cr_base.specs.Lists.{at_some, is_number}
+use Rattle.cr_base.specs.Papers.{paper_count}
+use Rattle.cr_base.specs.Reviews.{is_written_in}
+use Rattle.cr_base.specs.Seats.{labels_in, seat_in}
+use Rattle.cr_base.specs.Sources.{Facts, facts_of_tables, shown_in_tables, standing_at, user_among, paper_named, target_named}
+use Rattle.cr_base.specs.Tables.{Tables, tables_after, tables_from, Fits, FitInTurn}
+use Rattle.cr_base.specs.TagTexts.{is_for_chairs}
+use Rattle.cr_base.specs.Ties.{AreWithin}
+use Rattle.cr_base.proofs.CheckLaws.{judged-Ok}
+use Rattle.cr_base.proofs.FitLaws.{judged-fits}
+use Rattle.cr_view.specs.declared.draw.Draw.{Draw}
+use Rattle.cr_view.specs.Draws.{drawn_by}
+use Rattle.cr_base.specs.Bulk.{IsRowCommand, IsRowEntry}
+use Rattle.cr_view.specs.Rows.{AreRowEntries, AreEarlier, row_judged_at, group_or_rule, row_group}
+use Rattle.cr_view.proofs.RowLaws.{accounts-behind, within-from}
+
+-- ---- an entry
+
+-- what is drawn of one entry, where it is known
+one-drawn : (user : ℕ) (checks : List Check) (e : Entry) (receipt : Receipt) (drawn : Drawn) (entry : Entry)
+    → judged checks (record { group = grouped user (e ∷ []); receipt = receipt }) ≡ Ok drawn → IsRowEntry e → entries_of drawn.group ≡ entry ∷ []
+    → (drawn.group ≡ grouped user (entry ∷ [])) × IsRowEntry entry
+one-drawn user checks e receipt drawn entry accepted is told =
+    let first : Drawn = record { group = grouped user (e ∷ []); receipt = receipt } in
+    let k = judged-Ok checks first drawn accepted in
+    let same : e ≡ entry = ap (λ (es : List Entry). head-or es) (ap (λ (d : Drawn). entries_of d.group) k.1 ∙ told) in
+    (ap (λ (d : Drawn). d.group) (sym k.1) ∙ ap (λ (x : Entry). grouped user (x ∷ [])) same, subst IsRowEntry same is)
+  where
+    head-or : List Entry → Entry
+    head-or [] = e
+    head-or (x ∷ xs) = x
+
+-- the command of a row draws one of its kinds, which its caller makes
+pub row-drawn : (t : Tables) (user : ℕ) (command : Command) → IsRowCommand command → (drawn : Drawn) (entry : Entry)
+    → judge_by_role t (Some user) command ≡ Ok drawn → entries_of drawn.group ≡ entry ∷ []
+    → (drawn.group ≡ grouped user (entry ∷ [])) × IsRowEntry entry
+row-drawn t user (SetConflict paper name on) is drawn entry accepted told =
+    let facts : Facts = facts_of_tables t (Some user) in
+    let target = user_among facts.accounts name in
+    one-drawn user
+    (conflict_checks (standing_at t (Some user) paper) (paper_named facts (shown_in_tables t) paper) (target_named facts (shown_in_tables t) (Some user) paper target) on)
+    (entries.Conflict (unwrap_or paper 0) (unwrap_or target 0) on) (receipts.Changed (unwrap_or paper 0)) drawn entry accepted tt told
+row-drawn t user (Assign paper name kind) is drawn entry accepted told =
+    let facts : Facts = facts_of_tables t (Some user) in
+    let target = user_among facts.accounts name in
+    let labels = labels_in t.seats (unwrap_or paper 0) in
+    one-drawn user
+    (assign_checks (standing_at t (Some user) paper) (paper_named facts (shown_in_tables t) paper) (target_named facts (shown_in_tables t) (Some user) paper target) labels)
+    (entries.Assigned (unwrap_or paper 0) (unwrap_or target 0) kind (labels + 1)) (receipts.Label (labels + 1)) drawn entry accepted tt told
+row-drawn t user (Unassign paper name) is drawn entry accepted told =
+    let facts : Facts = facts_of_tables t (Some user) in
+    let target = user_among facts.accounts name in
+    let p : ℕ = unwrap_or paper 0 in
+    let seat = seat_in t.seats target p in
+    one-drawn user
+    (unassign_checks (standing_at t (Some user) paper) (paper_named facts (shown_in_tables t) paper) (target_named facts (shown_in_tables t) (Some user) paper target)
+    (at_some (is_written_in t.reviews p) seat))
+    (entries.Unassigned p (unwrap_or target 0) (unwrap_or seat 0)) (receipts.Changed p) drawn entry accepted tt told
+row-drawn t user (Tag paper tag on) is drawn entry accepted told =
+    one-drawn user
+    (tag_checks (standing_at t (Some user) paper) (paper_named (facts_of_tables t (Some user)) (shown_in_tables t) paper) (is_for_chairs tag))
+    (entries.Tagged (unwrap_or paper 0) tag on) (receipts.Changed (unwrap_or paper 0)) drawn entry accepted tt told
+row-drawn t user _ is drawn entry accepted told = absurd is
+
+-- ---- one more
+
+-- its mark is no matter
+fit-marked : (t : Tables) (s : Stamped) (more : Bool) → Fits t s → Fits t (record { maker = s.maker; more = more; entry = s.entry })
+fit-marked t s more fit = record {
+  accounts = fit.accounts;
+  papers = fit.papers;
+  ties = fit.ties;
+  seats = fit.seats;
+  reviews = fit.reviews;
+  talk = fit.talk;
+}
+
+fits-more : (t : Tables) (earlier : History) (s : Stamped) → FitInTurn t earlier → Fits (tables_from t earlier) s → FitInTurn t (earlier ++ s ∷ [])
+fits-more t [] s fits fit = (fit, tt)
+fits-more t (x ∷ earlier) s fits fit = (fits.0, fits-more (tables_after t x) earlier s fits.1 fit)
+
+rows-more : (earlier : History) (s : Stamped) → AreRowEntries earlier → IsRowEntry s.entry → AreRowEntries (earlier ++ s ∷ [])
+rows-more [] s are is = (is, tt)
+rows-more (x ∷ earlier) s are is = (are.0, rows-more earlier s are.1 is)
+
+-- ---- what a row is answered
+
+module _ (t : Tables) (earlier : History) (before : AreEarlier t earlier) (user : ℕ) (command : Command) where
+  abbrev now : Tables
+  now = tables_from t earlier
+
+  -- whether it is of the caller's own conflict doesn't hang on them
+  own-behind : turns_own_conflict (facts_of_tables t (Some user)) user command ≡ turns_own_conflict (facts_of_tables now (Some user)) user command
+  own-behind = by command
+    where
+      by : (c : Command) → turns_own_conflict (facts_of_tables t (Some user)) user c ≡ turns_own_conflict (facts_of_tables now (Some user)) user c
+      by (SetConflict paper name on) =
+          ap (λ (accounts : List Account). is_number (user_among (lines_of accounts) name) user) (accounts-behind t earlier before.rows)
+      by _ = refl
+
+  module _ (own : Bool) (told : own ≡ turns_own_conflict (facts_of_tables t (Some user)) user command) where
+    judged-told : (x : Bool) → own ≡ x → cond x (Err rules.BulkSelf) (judge_by_role now (Some user) command) ≡ row_judged_at now user command
+    judged-told x is = ap (λ (b : Bool). cond b (Err rules.BulkSelf) (judge_by_role now (Some user) command)) (sym is ∙ told ∙ own-behind)
+
+    pub row-own : own ≡ true → row_group user (Err rules.BulkSelf) ≡ group_or_rule (row_judged_at now user command)
+    row-own is = ap group_or_rule (judged-told true is)
+
+    pub row-refused : own ≡ false → (rule : Rule) → ◌≡◌ {A = Result Drawn Rule} (Err rule) (judge_by_role now (Some user) command)
+        → row_group user (Err rule) ≡ group_or_rule (row_judged_at now user command)
+    row-refused is rule refused = ap group_or_rule (refused ∙ judged-told false is)
+
+    module _ (is : own ≡ false) (row : IsRowCommand command) (draw : Draw) (entry : Entry)
+        (drawn : ◌≡◌ {A = Result Drawn Rule} (Ok (drawn_by draw)) (judge_by_role now (Some user) command)) (one : entries_of (drawn_by draw).group ≡ entry ∷ []) where
+      group-is : ((drawn_by draw).group ≡ grouped user (entry ∷ [])) × IsRowEntry entry
+      group-is = row-drawn now user command row (drawn_by draw) entry (sym drawn) one
+
+      pub row-judged : row_group user (Ok entry) ≡ group_or_rule (row_judged_at now user command)
+      row-judged =
+          let same : ◌≡◌ {A = Result History Rule} (Ok (grouped user (entry ∷ []))) (Ok (drawn_by draw).group) = ap (λ (g : History). Ok g) (sym group-is.0) in
+          same ∙ ap group_or_rule (drawn ∙ judged-told false is)
+
+      pub row-fits : AreWithin (paper_count t.papers) t.ties → FitInTurn now (grouped user (entry ∷ []))
+      row-fits within =
+          subst (FitInTurn now) group-is.0
+          (judged-fits now (within-from t earlier before.fits within) user command (drawn_by draw) (sym drawn))
+
+      pub row-next : AreWithin (paper_count t.papers) t.ties → (more : Bool)
+          → AreEarlier t (earlier ++ record { maker = user; more = more; entry = entry } ∷ [])
+      row-next within more =
+          let s : Stamped = record { maker = user; more = more; entry = entry } in
+          record {
+            rows = rows-more earlier s before.rows group-is.1;
+            fits = fits-more t earlier s before.fits (fit-marked now (record { maker = user; more = false; entry = entry }) more (row-fits within).0);
+          }
+
+-- ---- marks
+
+-- an entry without its mark
+abbrev pub unmarked : Stamped → Stamped
+unmarked s = record { maker = s.maker; more = false; entry = s.entry }
+
+-- the tables behind entries don't hang on marks
+tables-unmarked : (t : Tables) (H : History) → tables_from t (map unmarked H) ≡ tables_from t H
+tables-unmarked t [] = refl
+tables-unmarked t (s ∷ H) = tables-unmarked (tables_after t s) H
+
+pub tables-remarked : (t : Tables) (H K : History) → map unmarked H ≡ map unmarked K → tables_from t H ≡ tables_from t K
+tables-remarked t H K same = sym (tables-unmarked t H) ∙ ap (tables_from t) same ∙ tables-unmarked t K
+
+-- and neither does whether they may be a bulk's
+fits-unmarked : (t : Tables) (H : History) → FitInTurn t H → FitInTurn t (map unmarked H)
+fits-unmarked t [] fits = tt
+fits-unmarked t (s ∷ H) fits = (fit-marked t s false fits.0, fits-unmarked (tables_after t s) H fits.1)
+
+fits-marked : (t : Tables) (H : History) → FitInTurn t (map unmarked H) → FitInTurn t H
+fits-marked t [] fits = tt
+fits-marked t (s ∷ H) fits = (fit-marked t (unmarked s) s.more fits.0, fits-marked (tables_after t s) H fits.1)
+
+rows-unmarked : (H : History) → AreRowEntries H → AreRowEntries (map unmarked H)
+rows-unmarked [] are = tt
+rows-unmarked (s ∷ H) are = (are.0, rows-unmarked H are.1)
+
+rows-marked : (H : History) → AreRowEntries (map unmarked H) → AreRowEntries H
+rows-marked [] are = tt
+rows-marked (s ∷ H) are = (are.0, rows-marked H are.1)
+
+pub earlier-remarked : (t : Tables) (H K : History) → map unmarked H ≡ map unmarked K → AreEarlier t H → AreEarlier t K
+earlier-remarked t H K same before = record {
+  rows = rows-marked K (subst AreRowEntries same (rows-unmarked H before.rows));
+  fits = fits-marked t K (subst (FitInTurn t) same (fits-unmarked t H before.fits));
+}

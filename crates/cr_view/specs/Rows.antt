@@ -1,0 +1,37 @@
+-- The rows of a bulk by the tables: their commands, the entries that they draw, and what each is judged behind.
+use Rattle.std.specs.Prelude.{ℕ, [], ◌∷◌, Some, Result, Ok, Err}
+use Rattle.cr_base.specs.declared.command.Command.{Command}
+use Rattle.cr_base.specs.declared.entry.Entry.{Entry}
+use Rattle.cr_base.specs.declared.reply.Rule.{Rule}
+use Rattle.cr_base.specs.Bulk.{row_judged_by, IsRowEntry}
+use Rattle.cr_base.specs.Drawn.{Drawn, grouped}
+use Rattle.cr_base.specs.History.{History}
+use Rattle.cr_base.specs.Sources.{facts_of_tables, shown_in_tables}
+use Rattle.cr_base.specs.Tables.{Tables, FitInTurn}
+
+-- ---- what rows may draw
+
+abbrev pub AreRowEntries : History → Type 0
+AreRowEntries [] = Unit {0}
+AreRowEntries (s ∷ group) = IsRowEntry s.entry × AreRowEntries group
+
+-- these may be the entries of the rows before one: all are of such kinds, and each may come next in its turn
+pub record AreEarlier (t : Tables) (earlier : History) : Type 0 where
+  pub rows : AreRowEntries earlier
+  pub fits : FitInTurn t earlier
+
+-- ---- what is judged of one
+
+-- what the command of a row draws, by the tables
+abbrev pub row_judged_at : Tables → ℕ → Command → Result Drawn Rule
+row_judged_at t user command = row_judged_by (facts_of_tables t (Some user)) (shown_in_tables t) user command
+
+-- a judgement without its receipt, since no row is given one
+abbrev pub group_or_rule : Result Drawn Rule → Result History Rule
+group_or_rule (Ok drawn) = Ok drawn.group
+group_or_rule (Err rule) = Err rule
+
+-- the entry of a row of this user's bulk, as a group of its own
+abbrev pub row_group : ℕ → Result Entry Rule → Result History Rule
+row_group user (Ok entry) = Ok (grouped user (entry ∷ []))
+row_group user (Err rule) = Err rule

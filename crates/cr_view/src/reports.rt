@@ -1,0 +1,210 @@
+//! What reports ask of the tables: who may have one, and single facts of a paper, each read alone. None takes memory.
+ghost use Rattle.std.specs.Prelude.{◌≡◌, ◌≤◌, ◌+◌, ◌*◌, ℕ, None, Some, length};
+ghost use Rattle.std.specs.Option.{option_copied, option_map};
+ghost use Rattle.cr_base.specs.Checks.{judged};
+ghost use Rattle.cr_base.specs.Lists.{listed, total};
+ghost use Rattle.cr_base.specs.Pairs.{ties_of};
+ghost use Rattle.cr_base.specs.Papers.{is_withdrawn_at};
+ghost use Rattle.cr_base.specs.Reports.{chairs_report, last_scores, letter_checks, members_report, report_checks, title_by};
+ghost use Rattle.cr_base.specs.Reviews.{is_written_in, last_form_in, written_told};
+ghost use Rattle.cr_base.specs.Sources.{decision_by, facts_of_tables, shown_in_tables, standing_at};
+ghost use Rattle.cr_base.specs.declared.pairs.Order.TheVariants.{ByPaper};
+ghost use Rattle.cr_reviews.specs.Labels.{has_label};
+ghost use Rattle.cr_view.specs.Reports.{last_discussed, score_sum, score_under};
+
+use crate::live::Live;
+use cr_base::{
+    Decision, Grade, MOST_LABELS, Ordinal, PaperNo, Phase, Report, Rule, Seat, Standing, Tie,
+    UserNo, WrittenForm,
+};
+use cr_reviews::Labels;
+
+/// Whether one who stands so may have a report that members have from this phase on, or the first broken rule.
+fn members_report(by: &Standing, first: Phase) -> Result<(), Rule>
+    ensures { result ≡ judged (members_report by.now first) tt }
+{
+    if !by.role.is_member() {
+        return Err(Rule::NotMember);
+    }
+    if !by.phase.is_from(first) {
+        return Err(Rule::WrongPhase);
+    }
+    Ok(())
+}
+
+/// The same of a report that chairs have.
+fn chairs_report(by: &Standing, first: Phase) -> Result<(), Rule>
+    ensures { result ≡ judged (chairs_report by.now first) tt }
+{
+    if !by.role.is_chair() {
+        return Err(Rule::NotChair);
+    }
+    if !by.phase.is_from(first) {
+        return Err(Rule::WrongPhase);
+    }
+    Ok(())
+}
+
+/// The same of the letter on a paper, which is there or isn't, and to which she stands so.
+fn letter_rule(by: &Standing, there: bool) -> Result<(), Rule>
+    ensures { result ≡ judged (letter_checks by.now there) tt }
+{
+    if !there {
+        return Err(Rule::NoPaper);
+    }
+    if !by.author {
+        return Err(Rule::NotAuthor);
+    }
+    if !by.phase.is_from(Phase::Notification) {
+        return Err(Rule::WrongPhase);
+    }
+    Ok(())
+}
+
+/// Who may have a report.
+impl Live {
+    /// Whether a user, or nobody, may have the report, or the first broken rule, as `may` tells it.
+    pub fn may_have(&self, user: &Option<UserNo>, report: &Report) -> Result<(), Rule>
+        ensures { result ≡ judged (report_checks (facts_of_tables self.now.tables user.now) report.now) tt }
+    {
+        match report {
+            Report::Papers => members_report(&self.standing(user, &None), Phase::Bidding),
+            Report::Scores => members_report(&self.standing(user, &None), Phase::Discussion),
+            Report::Load => chairs_report(&self.standing(user, &None), Phase::Bidding),
+            Report::Decisions => members_report(&self.standing(user, &None), Phase::Discussion),
+            Report::Letter { paper } => {
+                letter_rule(&self.standing(user, paper), self.has_paper(paper))
+            }
+        }
+    }
+}
+
+/// What a paper is.
+impl Live {
+    /// The bytes of its last title, and none where there is no such paper. One read by number.
+    pub fn title(&self, paper: PaperNo) -> &[u8]
+        ensures { result.now ≡ title_by (shown_in_tables self.now.tables) paper }
+    {
+        match self.papers.last_title(paper) {
+            Some(title) => title.as_str().as_bytes(),
+            None => &[],
+        }
+    }
+
+    /// Whether it is withdrawn. One read by number.
+    pub fn is_withdrawn(&self, paper: PaperNo) -> bool
+        ensures { result ≡ is_withdrawn_at self.now.tables.papers paper }
+    {
+        self.papers.is_withdrawn(paper)
+    }
+
+    /// Whether the user is in conflict with it. Two binary searches at most.
+    pub fn is_in_conflict(&self, user: UserNo, paper: PaperNo) -> bool
+        ensures { result ≡ (standing_at self.now.tables (Some user) (Some paper)).conflicted }
+    {
+        self.ties.is_conflicted(user, paper, &[])
+    }
+
+    /// What was decided of it last: to accept it, where it is accepted. Three binary searches at most, and a read by number.
+    pub fn decision(&self, paper: PaperNo) -> Option<Decision>
+        ensures { result ≡ decision_by (facts_of_tables self.now.tables None) (shown_in_tables self.now.tables) paper }
+    {
+        if self.is_accepted(paper) {
+            return Some(Decision::Accept);
+        }
+        self.decisions.last(paper)
+    }
+}
+
+/// Who reviews it, and whether she has written.
+impl Live {
+    /// The seats of all who were ever assigned to it, at most 26, those that somebody has left among them. Two binary searches.
+    pub fn seats(&self, paper: PaperNo) -> &[Tie<Seat>]
+        ensures ties { result.now ≡ ties_of ByPaper paper self.now.tables.seats }
+        ensures few { length result.now ≤ 26 }
+    {
+        self.seats.seats(paper)
+    }
+
+    /// Whether there is a form under its label of this ordinal. Two binary searches, and a walk over its forms up to the first.
+    pub fn is_written(&self, paper: PaperNo, label: Ordinal) -> bool
+        ensures { result ≡ is_written_in self.now.tables.reviews paper label }
+    {
+        self.reviews.has_form(paper, label)
+    }
+
+    /// The last form under the label. Two binary searches, and a walk over its forms back to it.
+    pub fn last_form(&self, paper: PaperNo, label: Ordinal) -> Option<&WrittenForm>
+        ensures { option_copied result ≡ last_form_in self.now.tables.reviews paper label }
+    {
+        self.reviews.last(paper, label)
+    }
+}
+
+/// How many scores a paper has, and their sum.
+#[derive(Clone, Copy, Debug)]
+pub struct ScoreSum {
+    /// How many there are: 0 to 26.
+    pub count: u64,
+    /// Their sum, at most 130.
+    pub sum: u64,
+}
+
+impl ScoreSum {
+    /// With one more score, where there is one.
+    fn with(self, score: Option<Grade>) -> ScoreSum
+        requires count { self.count ≤ 26 }
+        requires sum { self.sum ≤ 5 * self.count }
+        ensures count { result.count ≡ self.count + length (listed score) }
+        ensures sum { result.sum ≡ self.sum + total (listed score) }
+        ensures low { result.sum ≤ 5 * result.count }
+    {
+        match score {
+            Some(score) => ScoreSum {
+                count: self.count + 1,
+                sum: self.sum + score.number(),
+            },
+            None => self,
+        }
+    }
+}
+
+/// Its scores.
+impl Live {
+    /// The scores of the last forms under its labels that the committee discusses, counted and summed. Two binary searches and a
+    /// walk over its forms, and for each label under which there is one the same twice.
+    pub fn scores(&self, paper: PaperNo) -> ScoreSum
+        ensures value { result ≡ score_sum (last_scores (shown_in_tables self.now.tables) paper) }
+        ensures count { result.count ≤ 26 }
+        ensures sum { result.sum ≤ 5 * result.count }
+    {
+        let written = self.reviews.labels(paper);
+        let mut scores = ScoreSum { count: 0, sum: 0 };
+        for before in 0..MOST_LABELS {
+            scores = scores.with(self.score_under(&written, paper, Ordinal::new(before + 1)));
+        }
+        scores
+    }
+
+    /// The score of the last form under the label that the committee discusses, where there is one under it.
+    fn score_under(&self, written: &Labels, paper: PaperNo, label: Ordinal) -> Option<Grade>
+        requires { (o : ℕ) → has_label written.now o ≡ is_written_in self.now.tables.reviews paper o }
+        ensures { listed result ≡ score_under self.now.tables paper label }
+    {
+        if !written.has(label) {
+            return None;
+        }
+        let form = self.last_discussed(paper, label)?;
+        Some(form.form.score)
+    }
+
+    /// The last form under the label that the committee discusses.
+    fn last_discussed(&self, paper: PaperNo, label: Ordinal) -> Option<&WrittenForm>
+        ensures { option_map written_told (option_copied result) ≡ last_discussed self.now.tables paper label }
+    {
+        match self.reviews.last_since(paper, label, Phase::Discussion) {
+            Some(form) => Some(form),
+            None => self.reviews.last_before(paper, label, Phase::Discussion),
+        }
+    }
+}

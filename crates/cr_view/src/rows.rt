@@ -1,0 +1,111 @@
+//! What is judged of a bulk: whether its caller may send one, and of each row behind those before it.
+ghost use Rattle.std.specs.Prelude.{◌≡◌, [], ◌∷◌, ◌++◌, Bool, IfOk, Some, None};
+ghost use Rattle.cr_base.specs.Bulk.{bulk_checks, turns_own_conflict};
+ghost use Rattle.cr_base.specs.Checks.{judged};
+ghost use Rattle.cr_base.specs.Drawn.{grouped};
+ghost use Rattle.cr_base.specs.Judging.{judge_by_role};
+ghost use Rattle.cr_base.specs.Lists.{is_number};
+ghost use Rattle.cr_base.specs.Sources.{facts_of_tables, standing_at};
+ghost use Rattle.cr_base.specs.Tables.{FitInTurn, tables_from};
+ghost use Rattle.cr_view.specs.Draws.{drawn_or_rule, IsOfRow};
+ghost use Rattle.cr_base.specs.Bulk.{IsRowCommand};
+ghost use Rattle.cr_view.specs.Rows.{AreEarlier, group_or_rule, row_group, row_judged_at};
+ghost use Rattle.cr_view.specs.Targets.{target_at};
+
+use crate::draw::Draw;
+use crate::live::Live;
+use cr_base::{Command, Entry, Phase, Rule, Short, Stamped, UserNo};
+
+impl Live {
+    /// Whether a user may send a bulk, or the first broken rule: `NotChair`, else `WrongPhase` before the
+    /// bidding and from the notification on. Takes no memory; a few reads by number.
+    pub fn may_bulk(&self, caller: UserNo) -> Result<(), Rule>
+        ensures { result ≡ judged (bulk_checks (standing_at self.now.tables (Some caller) None)) tt }
+    {
+        let by = self.standing(&Some(caller), &None);
+        if !by.role.is_chair() {
+            return Err(Rule::NotChair);
+        }
+        if !by.phase.is_from(Phase::Bidding) || by.phase.is_from(Phase::Notification) {
+            return Err(Rule::WrongPhase);
+        }
+        Ok(())
+    }
+
+    /// The entry that a row of the caller's bulk draws, or the first broken rule, behind the `earlier` entries
+    /// of the same bulk, which no table knows yet: each is of a kind that a row draws, and may come next in its
+    /// turn. So may the entry drawn. The command is one that a row tells. No table is changed.
+    ///
+    /// First comes `BulkSelf`, where it turns a conflict of the caller's own on or off; then the rules of the
+    /// command, as `judge` tells them.
+    ///
+    /// Takes no memory. The cost is that of the command in `judge`, one more look-up by name for a conflict, and
+    /// walks over the earlier entries, at most 511: three for how the caller stands to the paper, and four more
+    /// at most for how the user named does.
+    pub fn judge_row(
+        &self,
+        caller: UserNo,
+        command: Command,
+        earlier: &[Stamped],
+    ) -> Result<Entry, Rule>
+        requires row { IsRowCommand command }
+        requires earlier { AreEarlier self.now.tables earlier.now }
+        ensures judged { row_group caller result ≡ group_or_rule (row_judged_at (tables_from self.now.tables earlier.now) caller command) }
+        ensures fits { IfOk result (λ entry. FitInTurn (tables_from self.now.tables earlier.now) (grouped caller (entry ∷ []))) }
+        ensures next { IfOk result (λ entry. (more : Bool) → AreEarlier self.now.tables (earlier.now ++ record { maker = caller; more = more; entry = entry } ∷ [])) }
+    {
+        self.law_within();
+        if self.turns_own_conflict(caller, &command) {
+            return Err(Rule::BulkSelf);
+        }
+        match self.row_draw(caller, command, earlier) {
+            Ok(draw) => Ok(draw.entry()),
+            Err(rule) => Err(rule),
+        }
+    }
+
+    /// Whether the command turns a conflict of the caller's own on or off.
+    fn turns_own_conflict(&self, caller: UserNo, command: &Command) -> bool
+        ensures { result ≡ turns_own_conflict (facts_of_tables self.now.tables (Some caller)) caller command.now }
+    {
+        match command {
+            Command::SetConflict { user, .. } => self.is_name_of(user, caller),
+            _ => false,
+        }
+    }
+
+    /// Whether the user registered the name. One look-up by name.
+    fn is_name_of(&self, name: &Option<Short>, user: UserNo) -> bool
+        ensures { result ≡ is_number (target_at self.now.tables.accounts name.now) user }
+    {
+        let Some(name) = name else {
+            return false;
+        };
+        match self.number_of(name) {
+            Some(found) => found.number() == user.number(),
+            None => false,
+        }
+    }
+
+    /// What the command of a row draws, or the first broken rule of its kind, behind the earlier entries.
+    fn row_draw(&self, caller: UserNo, command: Command, earlier: &[Stamped]) -> Result<Draw, Rule>
+        requires row { IsRowCommand command }
+        requires earlier { AreEarlier self.now.tables earlier.now }
+        ensures drawn { drawn_or_rule result ≡ judge_by_role (tables_from self.now.tables earlier.now) (Some caller) command }
+        ensures row { IfOk result IsOfRow }
+    {
+        match command {
+            Command::SetConflict { paper, user, on } => {
+                self.judge_conflict(caller, &paper, &user, on, earlier)
+            }
+            Command::Assign { paper, user, kind } => {
+                self.judge_assignment(caller, &paper, &user, kind, earlier)
+            }
+            Command::Unassign { paper, user } => {
+                self.judge_unassignment(caller, &paper, &user, earlier)
+            }
+            Command::Tag { paper, tag, on } => self.judge_tag(caller, &paper, tag, on, earlier),
+            _ => unreachable!(),
+        }
+    }
+}
