@@ -1,0 +1,6 @@
+pub mod CountLaws
+pub mod LetterLaws
+pub mod LoadLaws
+pub mod OpenLaws
+pub mod ToldLaws
+pub mod WalkLaws

@@ -1,0 +1,105 @@
+//! The report of decisions.
+ghost use Rattle.std.specs.Prelude.{◌≡◌, ◌++◌, ◌+◌, ◌<◌, ◌^◌, ◌&&◌, None, OnOk, Some, if◌then◌else◌, []};
+ghost use Rattle.cr_base.specs.Reports.{decision_line, decision_word, decisions_end, decisions_told, is_accepting, is_undecided, is_rejecting};
+ghost use Rattle.cr_base.specs.Sources.{decision_by, facts_of_tables, shown_in_tables};
+ghost use Rattle.cr_reports.specs.Told.{is_open_to, one};
+
+use crate::columns::{append_in_four, append_left};
+use crate::listed::is_open_to;
+use crate::put::{append, append_number, append_space, end_line};
+use crate::tally::Tally;
+use cr_base::{Decision, PaperNo, UserNo};
+use cr_view::Live;
+use std::alloc::AllocError;
+
+/// A decision by its word, and where nothing was decided by that for none.
+pub(crate) fn decision_word(decision: &Option<Decision>) -> &'static str
+    ensures { result.now ≡ decision_word decision.now }
+{
+    match decision {
+        Some(decision) => decision.name(),
+        None => "none",
+    }
+}
+
+/// Appends the line of a paper of which this was decided.
+fn append_line(
+    into: &mut Vec<u8>,
+    live: &Live,
+    paper: PaperNo,
+    decision: &Option<Decision>,
+) -> Result<(), AllocError>
+    requires { decision.now ≡ decision_by (facts_of_tables live.now.tables None) (shown_in_tables live.now.tables) paper }
+    ensures { OnOk result (into.new.items
+        ≡ into.old.items ++ decision_line (facts_of_tables live.now.tables None) (shown_in_tables live.now.tables) paper) }
+{
+    append_in_four(into, paper.number())?;
+    append_space(into)?;
+    append_left(into, 6, decision_word(decision).as_bytes())?;
+    append_space(into)?;
+    append(into, live.title(paper))?;
+    end_line(into)
+}
+
+/// Appends the line of a paper, where it is told to the user, and counts it.
+fn append_paper(
+    into: &mut Vec<u8>,
+    tally: &mut Tally,
+    live: &Live,
+    user: UserNo,
+    paper: PaperNo,
+) -> Result<(), AllocError>
+    requires accepted { tally.old.accepted < 2 ^ 32 }
+    requires rejected { tally.old.rejected < 2 ^ 32 }
+    requires undecided { tally.old.undecided < 2 ^ 32 }
+    ensures text { OnOk result (into.new.items ≡ into.old.items
+        ++ (if is_open_to live.now.tables user paper then decision_line (facts_of_tables live.now.tables None) (shown_in_tables live.now.tables) paper else [])) }
+    ensures accepted { OnOk result (tally.new.accepted ≡ tally.old.accepted
+        + one (is_open_to live.now.tables user paper && is_accepting (decision_by (facts_of_tables live.now.tables None) (shown_in_tables live.now.tables) paper))) }
+    ensures rejected { OnOk result (tally.new.rejected ≡ tally.old.rejected
+        + one (is_open_to live.now.tables user paper && is_rejecting (decision_by (facts_of_tables live.now.tables None) (shown_in_tables live.now.tables) paper))) }
+    ensures undecided { OnOk result (tally.new.undecided ≡ tally.old.undecided
+        + one (is_open_to live.now.tables user paper && is_undecided (decision_by (facts_of_tables live.now.tables None) (shown_in_tables live.now.tables) paper))) }
+{
+    if !is_open_to(live, user, paper) {
+        return Ok(());
+    }
+    let decision = live.decision(paper);
+    append_line(into, live, paper, &decision)?;
+    tally.add(&decision);
+    Ok(())
+}
+
+/// Appends the last line, of how many papers were decided which way.
+#[tactic(auto, unfolding(cr_base::specs::Reports::decisions_end))]
+fn append_end(into: &mut Vec<u8>, tally: &Tally) -> Result<(), AllocError>
+    ensures { OnOk result (into.new.items ≡ into.old.items ++ decisions_end tally.now.accepted tally.now.rejected tally.now.undecided) }
+{
+    append(into, b"accept ")?;
+    append_number(into, tally.accepted)?;
+    append(into, b", reject ")?;
+    append_number(into, tally.rejected)?;
+    append(into, b", none ")?;
+    append_number(into, tally.undecided)?;
+    end_line(into)
+}
+
+/// Appends the line of each paper that is told, and how many there are of each decision.
+pub(crate) fn append_decisions(
+    into: &mut Vec<u8>,
+    live: &Live,
+    user: UserNo,
+) -> Result<(), AllocError>
+    ensures { OnOk result (into.new.items
+        ≡ into.old.items ++ decisions_told (facts_of_tables live.now.tables (Some user)) (shown_in_tables live.now.tables)) }
+{
+    let mut tally = Tally {
+        accepted: 0,
+        rejected: 0,
+        undecided: 0,
+    };
+    for before in 0..live.paper_count() {
+        append_paper(into, &mut tally, live, user, PaperNo::new(before + 1))?;
+    }
+    append_end(into, &tally)
+}

@@ -1,0 +1,27 @@
+//! The mean of scores.
+ghost use Rattle.std.specs.Prelude.{◌≡◌, ◌≤◌, ◌++◌, ◌*◌, OnOk};
+ghost use Rattle.cr_base.specs.Reports.{hundredths, two_places};
+
+use crate::put::{append, append_number};
+use std::alloc::AllocError;
+
+/// The mean of so many scores with this sum, in hundredths: rounded to the nearest one, and up where two are as near.
+pub(crate) fn hundredths(sum: u64, count: u64) -> u64
+    requires low { 1 ≤ count }
+    requires high { count ≤ 26 }
+    requires sum { sum ≤ 5 * count }
+    ensures { result ≡ hundredths sum count }
+{
+    (200 * sum + count) / (2 * count)
+}
+
+/// Appends hundredths as a number with two places; an error only for lack of memory.
+#[tactic(auto, unfolding(cr_base::specs::Reports::two_places))]
+pub(crate) fn append_two_places(into: &mut Vec<u8>, hundredths: u64) -> Result<(), AllocError>
+    ensures { OnOk result (into.new.items ≡ into.old.items ++ two_places hundredths) }
+{
+    append_number(into, hundredths / 100)?;
+    append(into, b".")?;
+    append_number(into, hundredths % 100 / 10)?;
+    append_number(into, hundredths % 10)
+}

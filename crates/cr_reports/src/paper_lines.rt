@@ -1,0 +1,64 @@
+//! The report of all papers.
+ghost use Rattle.std.specs.Prelude.{◌≡◌, ◌++◌, OnOk, Some};
+ghost use Rattle.cr_base.specs.Reports.{paper_line, paper_mark, papers_end, papers_told};
+ghost use Rattle.cr_base.specs.Sources.{facts_of_tables, shown_in_tables};
+
+use crate::columns::append_in_four;
+use crate::put::{append, append_number, append_space, end_line};
+use cr_base::{PaperNo, UserNo};
+use cr_view::Live;
+use std::alloc::AllocError;
+
+/// The mark of a paper that is withdrawn or isn't, and with which the caller is in conflict or isn't.
+#[tactic(auto, unfolding(cr_base::specs::Reports::paper_mark))]
+fn mark(withdrawn: bool, conflicted: bool) -> &'static str
+    ensures { result.now ≡ paper_mark withdrawn conflicted }
+{
+    if withdrawn {
+        return "W";
+    }
+    if conflicted {
+        return "C";
+    }
+    "-"
+}
+
+/// Appends the line of a paper.
+fn append_paper(
+    into: &mut Vec<u8>,
+    live: &Live,
+    user: UserNo,
+    paper: PaperNo,
+) -> Result<(), AllocError>
+    ensures { OnOk result (into.new.items
+        ≡ into.old.items ++ paper_line (facts_of_tables live.now.tables (Some user)) (shown_in_tables live.now.tables) paper) }
+{
+    let mark = mark(live.is_withdrawn(paper), live.is_in_conflict(user, paper));
+    append_in_four(into, paper.number())?;
+    append_space(into)?;
+    append(into, mark.as_bytes())?;
+    append_space(into)?;
+    append(into, live.title(paper))?;
+    end_line(into)
+}
+
+/// Appends the last line, of how many papers there are.
+#[tactic(auto, unfolding(cr_base::specs::Reports::papers_end))]
+fn append_end(into: &mut Vec<u8>, count: u64) -> Result<(), AllocError>
+    ensures { OnOk result (into.new.items ≡ into.old.items ++ papers_end count) }
+{
+    append_number(into, count)?;
+    append(into, b" papers")?;
+    end_line(into)
+}
+
+/// Appends the line of each paper, and how many there are.
+pub(crate) fn append_papers(into: &mut Vec<u8>, live: &Live, user: UserNo) -> Result<(), AllocError>
+    ensures { OnOk result (into.new.items
+        ≡ into.old.items ++ papers_told (facts_of_tables live.now.tables (Some user)) (shown_in_tables live.now.tables)) }
+{
+    for before in 0..live.paper_count() {
+        append_paper(into, live, user, PaperNo::new(before + 1))?;
+    }
+    append_end(into, live.paper_count())
+}
