@@ -1,0 +1,4 @@
+pub mod Actions
+pub mod Outcome
+pub mod Reading
+pub mod Rows

@@ -1,0 +1,58 @@
+//! The command that a row tells.
+ghost use Rattle.std.specs.Prelude.{◌≡◌};
+ghost use Rattle.cr_base.specs.Bulk.{command_by, row_command};
+ghost use Rattle.cr_bulk.specs.Actions.{seen, tag_command};
+
+use crate::action::Action;
+use cr_base::{BulkRow, Command, Rule, Tag, name_spelt, paper_spelt};
+
+/// The command of a row that turns a tag on or off.
+fn tag_command(row: &BulkRow, on: bool) -> Result<Command, Rule>
+    ensures { result ≡ tag_command row.now on }
+{
+    match Tag::read(row.tag.as_slice()) {
+        Some(tag) => Ok(Command::Tag {
+            paper: paper_spelt(row.paper.as_slice()),
+            tag,
+            on,
+        }),
+        None => Err(Rule::BadTag),
+    }
+}
+
+/// The command of a row with this action.
+fn command_by(action: Action, row: &BulkRow) -> Result<Command, Rule>
+    ensures { result ≡ command_by (seen action) row.now }
+{
+    let paper = paper_spelt(row.paper.as_slice());
+    match action {
+        Action::Assign(kind) => Ok(Command::Assign {
+            paper,
+            user: name_spelt(row.user.as_slice()),
+            kind,
+        }),
+        Action::Unassign => Ok(Command::Unassign {
+            paper,
+            user: name_spelt(row.user.as_slice()),
+        }),
+        Action::TurnConflict(on) => Ok(Command::SetConflict {
+            paper,
+            user: name_spelt(row.user.as_slice()),
+            on,
+        }),
+        Action::TurnTag(on) => tag_command(row, on),
+    }
+}
+
+/// The command that a row tells, or why it tells none: `BadAction` where there is no such action, and `BadTag` where the action
+/// is one of tags and the column `tag` has none. The column that the action isn't about isn't read. One walk over at most 34
+/// bytes of each column; takes no memory.
+#[tactic(auto, unfolding(cr_base::specs::Bulk::row_command))]
+pub fn row_command(row: &BulkRow) -> Result<Command, Rule>
+    ensures { result ≡ row_command row.now }
+{
+    match Action::read(row.action.as_slice()) {
+        Some(action) => command_by(action, row),
+        None => Err(Rule::BadAction),
+    }
+}

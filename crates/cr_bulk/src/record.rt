@@ -1,0 +1,66 @@
+//! Records of a file, one after another.
+ghost use Rattle.std.specs.Prelude.{◌≡◌, [], IfOk, unwrap_or};
+ghost use Rattle.csv.specs.Records.{field_at, fields_of};
+ghost use Rattle.cr_bulk.specs.Outcome.{Tells};
+ghost use Rattle.cr_bulk.specs.Reading.{IsReading, NextTold, left_of};
+ghost use Rattle.cr_bulk.specs.Rows.{records_of, row_spelt};
+
+use crate::error::BulkError;
+use cr_base::{Blob, BulkRow};
+use csv::{ByteRecord, Reader, ReaderBuilder};
+use std::alloc::{AllocError, Global};
+
+/// A reader over the records of a text, with the default settings of `csv`, but that the header is a record as the others are, and
+/// that records may differ in length: `row_of` looks at their length, so that an error is want of memory alone.
+pub(crate) fn reader_over(alloc: Global, text: &[u8]) -> Reader<&[u8]>
+    ensures reading { IsReading result }
+    ensures left { left_of result ≡ records_of text.now }
+{
+    ReaderBuilder::new()
+        .has_headers(false)
+        .flexible(true)
+        .from_reader(alloc, text)
+}
+
+/// Reads the next record; false where there is none.
+pub(crate) fn read_next(
+    reader: &mut Reader<&[u8]>,
+    fields: &mut ByteRecord,
+) -> Result<bool, BulkError>
+    requires { IsReading reader.old }
+    ensures { NextTold result reader.old reader.new (fields_of fields.new) }
+{
+    let Ok(found) = reader.read_byte_record(fields) else {
+        return Err(BulkError::OutOfMemory);
+    };
+    Ok(found)
+}
+
+/// A field of a record by its place, copied; empty where the record is shorter.
+fn field(alloc: Global, fields: &ByteRecord, place: usize) -> Result<Blob, AllocError>
+    ensures { IfOk result (λ blob. blob ≡ unwrap_or (field_at (fields_of fields.now) place) []) }
+{
+    match fields.get(place) {
+        Some(bytes) => Blob::from_slice(alloc, bytes),
+        None => Ok(Blob::empty()),
+    }
+}
+
+/// The row of a record: `Csv` where it hasn't four fields.
+pub(crate) fn row_of(alloc: Global, fields: &ByteRecord) -> Result<BulkRow, BulkError>
+    ensures { Tells result (row_spelt (fields_of fields.now)) }
+{
+    if fields.len() != 4 {
+        return Err(BulkError::Csv);
+    }
+    let paper = field(alloc, fields, 0)?;
+    let action = field(alloc, fields, 1)?;
+    let user = field(alloc, fields, 2)?;
+    let tag = field(alloc, fields, 3)?;
+    Ok(BulkRow {
+        paper,
+        action,
+        user,
+        tag,
+    })
+}
