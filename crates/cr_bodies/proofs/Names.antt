@@ -4,14 +4,15 @@ use Rattle.std.proofs.lemmas.Bool.Decides.{nat_tests}
 use Rattle.serde_json.specs.Find.{as_str}
 use Rattle.serde_json.specs.View.{items_view, view}
 use Rattle.serde_json.specs.declared.value.Value.{Value}
-use Rattle.cr_bodies.specs.Field.{◌>>=◌, if_few, name_told, names_told}
+use Rattle.cr_base.specs.Spelt.{name_spelt}
+use Rattle.cr_bodies.specs.Field.{◌>>=◌, if_few, names_told}
 
 abbrev Told : Type 0
 Told = List (Option (List ℕ))
 
 -- the names told of each element
 abbrev one_more : Option (List ℕ) → Option Told → Option Told
-one_more text rest = text >>= λ t. rest >>= λ names. Some (name_told t ∷ names)
+one_more text rest = text >>= λ t. rest >>= λ names. Some (name_spelt t ∷ names)
 
 -- as many names as elements
 as_many : (vs : List Value) (names : Told) → names_told (items_view vs) ≡ Some names → length names ≡ length vs
@@ -23,7 +24,7 @@ as_many (v ∷ vs) names e = by (as_str (view v)) (names_told (items_view vs)) (
     by None rest more names e = cc
     by (Some t) None more names e = cc
     by (Some t) (Some some) more names e =
-        let same : name_told t ∷ some ≡ names = cc in
+        let same : name_spelt t ∷ some ≡ names = cc in
         let n = more some refl in
         sym (ap (λ (n : Told). length n) same) ∙ ap suc n
 

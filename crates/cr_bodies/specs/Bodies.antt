@@ -73,6 +73,12 @@ command_in asks.Tag paper d = None
 command_in asks.Untag paper d = None
 command_in asks.Me paper d = None
 command_in asks.Search paper d = None
+command_in asks.Bulk paper d = None
+command_in asks.PapersReport paper d = None
+command_in asks.ScoresReport paper d = None
+command_in asks.LoadReport paper d = None
+command_in asks.DecisionsReport paper d = None
+command_in asks.Letter paper d = None
 
 -- the same of a body's bytes
 abbrev pub command_read : Ask → Option ℕ → List ℕ → Option Command

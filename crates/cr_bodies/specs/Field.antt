@@ -8,6 +8,7 @@ use Rattle.cr_base.specs.declared.words.Kind.{Kind}
 use Rattle.cr_base.specs.declared.words.Mode.{Mode}
 use Rattle.cr_base.specs.declared.words.Phase.{Phase}
 use Rattle.cr_base.specs.declared.words.Role.{Role}
+use Rattle.cr_base.specs.Spelt.{passing, name_spelt}
 use Rattle.cr_base.specs.Texts.{IsAbstract, IsCommentText, IsName, IsReviewText, IsTitle, is_abstract, is_comment_text, is_name, is_review_text, is_title}
 use Rattle.cr_base.specs.Words.{bid_of_value, decision_named, grade_of_value, mode_named, phase_named, role_named, seat_named}
 use Rattle.cr_bodies.specs.Secret.{is_secret}
@@ -37,10 +38,6 @@ IsOf Abstract text = IsAbstract text
 IsOf ReviewText text = IsReviewText text
 IsOf CommentText text = IsCommentText text
 
--- the text, where it passes the test
-abbrev pub passing : (List ℕ → Bool) → List ℕ → Option (List ℕ)
-passing test text = if test text then Some text else None
-
 -- the text under a key
 abbrev pub text_under : List ℕ → Data → Option (List ℕ)
 text_under key d = get key d >>= as_str
@@ -69,13 +66,9 @@ comment_under key d = tested_under CommentText key d
 abbrev pub digest_under : List ℕ → Data → Option (List ℕ)
 digest_under key d = option_map sha256 (tested_under Secret key d)
 
--- the name that a text is
-abbrev pub name_told : List ℕ → Option (List ℕ)
-name_told text = passing is_name text
-
 -- the user whose name is told under a key, None where the text there is no name
 abbrev pub user_under : List ℕ → Data → Option (Option (List ℕ))
-user_under key d = option_map name_told (text_under key d)
+user_under key d = option_map name_spelt (text_under key d)
 
 -- the names that a list tells, each None where its text is no name; None where an element is no text
 abbrev pub names_told : Items → Option (List (Option (List ℕ)))
@@ -83,7 +76,7 @@ names_told no_items = Some []
 names_told (item d ds) = do
   text ← as_str d
   names ← names_told ds
-  Some (name_told text ∷ names)
+  Some (name_spelt text ∷ names)
 
 -- at most 19 of them
 abbrev pub if_few : List (Option (List ℕ)) → Option (List (Option (List ℕ)))

@@ -199,13 +199,15 @@ fn command_in(
         Ask::Withdraw | Ask::Content | Ask::Upload | Ask::Version => Err(BodyError::Bad),
         Ask::Unassign | Ask::Reviews | Ask::Comments => Err(BodyError::Bad),
         Ask::Tag | Ask::Untag => Err(BodyError::Bad),
+        Ask::Bulk | Ask::PapersReport | Ask::ScoresReport => Err(BodyError::Bad),
+        Ask::LoadReport | Ask::DecisionsReport | Ask::Letter => Err(BodyError::Bad),
     }
 }
 
 /// The command that the JSON body of a request tells, with the paper that its path tells, where the command is about one.
 /// Reads the body once. `Bad` comes exactly where the body is no JSON object with the members that such a request must
 /// have, memory aside; so it does where what is asked for is told by no JSON body: a query, an upload, a
-/// withdrawal, that a reviewer leaves, or a tag.
+/// withdrawal, that a reviewer leaves, a tag, or a bulk.
 pub fn read_command(
     alloc: Global,
     ask: Ask,

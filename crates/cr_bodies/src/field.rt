@@ -4,7 +4,7 @@ ghost use Rattle.cr_base.specs.Bounds.{IsGrade};
 ghost use Rattle.cr_base.specs.Texts.{IsName};
 ghost use Rattle.cr_base.specs.Words.{is_member};
 ghost use Rattle.cr_bodies.specs.Field.{IsOf, admits as admits_text, bid_under, decision_under, digest_under, flag_under, grade_under};
-ghost use Rattle.cr_bodies.specs.Field.{kind_under, mode_under, name_told, name_under, names_of, names_under, phase_under, role_under};
+ghost use Rattle.cr_bodies.specs.Field.{kind_under, mode_under, name_under, names_of, names_under, phase_under, role_under};
 ghost use Rattle.cr_bodies.specs.Field.{text_under, tested_under, user_under};
 ghost use Rattle.cr_bodies.specs.Outcome.{Tells, TellsBody, TellsSeen};
 ghost use Rattle.serde_json.specs.Data.{array};
@@ -14,7 +14,7 @@ use crate::body::BodyError;
 use crate::secret::{digest_of, is_secret};
 use cr_base::{
     Bid, Decision, Digest, Grade, Kind, MOST_COAUTHORS, Mode, Phase, Role, Short, ToldNames,
-    is_abstract, is_comment, is_name, is_review_text, is_title,
+    is_abstract, is_comment, is_name, is_review_text, is_title, name_spelt,
 };
 use serde_json::Value;
 use std::alloc::Global;
@@ -93,23 +93,12 @@ pub(crate) fn digest(body: &Value, key: &str) -> Result<Digest, BodyError>
     Ok(digest_of(text.as_bytes()))
 }
 
-/// The name that a text is: 1 to 32 of `a-z0-9-`. None where it is no name. One walk over at most 32 bytes; takes no memory.
-pub fn name_in(text: &str) -> Option<Short>
-    ensures { result ≡ name_told text.now }
-{
-    if is_name(text.as_bytes()) {
-        Some(Short::from_slice(text.as_bytes()))
-    } else {
-        None
-    }
-}
-
 /// The user whose name is told by the text under a key: None where the text is no name.
 pub(crate) fn user(body: &Value, key: &str) -> Result<Option<Short>, BodyError>
     ensures { Tells result (user_under key.now (view body.now)) }
 {
     let text = text(body, key)?;
-    Ok(name_in(text))
+    Ok(name_spelt(text.as_bytes()))
 }
 
 /// The names that a list tells, each None where its text is no name.
@@ -125,7 +114,7 @@ fn names_in(alloc: Global, items: &[Value]) -> Result<ToldNames, BodyError>
         let Some(text) = item.as_str() else {
             return Err(BodyError::Bad);
         };
-        names.push_reserved(name_in(text));
+        names.push_reserved(name_spelt(text.as_bytes()));
     }
     Ok(ToldNames::from_vec(names))
 }

@@ -10,4 +10,3 @@ mod secret;
 pub use body::{BodyError, read_command};
 pub use bytes::{after_first, before_first};
 pub use credentials::{Credentials, read_credentials};
-pub use field::name_in;

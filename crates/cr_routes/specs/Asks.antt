@@ -37,6 +37,12 @@ route_at at.Tag Delete = Some asks.Untag
 route_at at.Decision Put = Some asks.Decide
 route_at at.Me Get = Some asks.Me
 route_at at.Search Get = Some asks.Search
+route_at at.Bulk Post = Some asks.Bulk
+route_at at.PapersReport Get = Some asks.PapersReport
+route_at at.ScoresReport Get = Some asks.ScoresReport
+route_at at.LoadReport Get = Some asks.LoadReport
+route_at at.DecisionsReport Get = Some asks.DecisionsReport
+route_at at.Letter Get = Some asks.Letter
 route_at _ _ = None
 
 -- HEAD asks for what GET does

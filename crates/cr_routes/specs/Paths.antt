@@ -3,7 +3,8 @@ use Rattle.std.specs.Prelude.{ℕ, List, [], ◌∷◌, codes}
 use Rattle.cr_routes.specs.declared.place.Place.{Place}
 use Rattle.cr_routes.specs.declared.place.Place.TheVariants.{Register, Accepted, Accounts, Members, Mode, Phase, Me, Search}
 use Rattle.cr_routes.specs.declared.place.Place.TheVariants.{Papers, Paper, Content, Version, Conflicts, Bid, Reviewers, Reviewer}
-use Rattle.cr_routes.specs.declared.place.Place.TheVariants.{Review, Reviews, Comments, Tag, Decision}
+use Rattle.cr_routes.specs.declared.place.Place.TheVariants.{Review, Reviews, Comments, Tag, Decision, Bulk}
+use Rattle.cr_routes.specs.declared.place.Place.TheVariants.{PapersReport, ScoresReport, LoadReport, DecisionsReport, Letter}
 
 -- each path, with its place; a parameter is written in braces. They stand in the order in which the router keeps them:
 -- by their bytes, a path behind those that it is the start of
@@ -11,6 +12,7 @@ abbrev pub paths : List (List ℕ × Place)
 paths =
     (codes "/accepted", Accepted) ∷
     (codes "/accounts", Accounts) ∷
+    (codes "/assign", Bulk) ∷
     (codes "/members", Members) ∷
     (codes "/me", Me) ∷
     (codes "/mode", Mode) ∷
@@ -29,4 +31,9 @@ paths =
     (codes "/papers", Papers) ∷
     (codes "/phase", Phase) ∷
     (codes "/register", Register) ∷
+    (codes "/reports/decisions", DecisionsReport) ∷
+    (codes "/reports/letter/{p}", Letter) ∷
+    (codes "/reports/load", LoadReport) ∷
+    (codes "/reports/papers", PapersReport) ∷
+    (codes "/reports/scores", ScoresReport) ∷
     (codes "/search", Search) ∷ []

@@ -49,6 +49,18 @@ pub enum Place {
     Me,
     /// `/search`
     Search,
+    /// `/assign`
+    Bulk,
+    /// `/reports/papers`
+    PapersReport,
+    /// `/reports/scores`
+    ScoresReport,
+    /// `/reports/load`
+    LoadReport,
+    /// `/reports/decisions`
+    DecisionsReport,
+    /// `/reports/letter/{p}`: one part of any bytes, at least one, follows `/reports/letter/`.
+    Letter,
 }
 
 impl Place {
@@ -86,6 +98,12 @@ impl Place {
             (Place::Decision, Method::Put) => Some(Ask::Decide),
             (Place::Me, Method::Get | Method::Head) => Some(Ask::Me),
             (Place::Search, Method::Get | Method::Head) => Some(Ask::Search),
+            (Place::Bulk, Method::Post) => Some(Ask::Bulk),
+            (Place::PapersReport, Method::Get | Method::Head) => Some(Ask::PapersReport),
+            (Place::ScoresReport, Method::Get | Method::Head) => Some(Ask::ScoresReport),
+            (Place::LoadReport, Method::Get | Method::Head) => Some(Ask::LoadReport),
+            (Place::DecisionsReport, Method::Get | Method::Head) => Some(Ask::DecisionsReport),
+            (Place::Letter, Method::Get | Method::Head) => Some(Ask::Letter),
             _ => None,
         }
     }
@@ -98,12 +116,14 @@ impl Place {
     {
         match self {
             Place::Register | Place::Members | Place::Mode | Place::Papers => "POST",
-            Place::Conflicts | Place::Reviewers => "POST",
+            Place::Conflicts | Place::Reviewers | Place::Bulk => "POST",
             Place::Bid | Place::Review | Place::Decision => "PUT",
             Place::Reviewer => "DELETE",
             Place::Tag => "DELETE, PUT",
             Place::Accepted | Place::Accounts | Place::Me => "GET, HEAD",
             Place::Version | Place::Reviews | Place::Search => "GET, HEAD",
+            Place::PapersReport | Place::ScoresReport | Place::LoadReport => "GET, HEAD",
+            Place::DecisionsReport | Place::Letter => "GET, HEAD",
             Place::Paper => "DELETE, GET, HEAD, PUT",
             Place::Content => "GET, HEAD, PUT",
             Place::Phase | Place::Comments => "GET, HEAD, POST",

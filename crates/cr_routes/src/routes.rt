@@ -9,9 +9,10 @@ use matchit::{InsertError, Router};
 use std::alloc::{AllocError, Global};
 
 /// As `paths` lists them.
-static PATHS: [(&str, Place); 21] = [
+static PATHS: [(&str, Place); 27] = [
     ("/accepted", Place::Accepted),
     ("/accounts", Place::Accounts),
+    ("/assign", Place::Bulk),
     ("/members", Place::Members),
     ("/me", Place::Me),
     ("/mode", Place::Mode),
@@ -30,6 +31,11 @@ static PATHS: [(&str, Place); 21] = [
     ("/papers", Place::Papers),
     ("/phase", Place::Phase),
     ("/register", Place::Register),
+    ("/reports/decisions", Place::DecisionsReport),
+    ("/reports/letter/{p}", Place::Letter),
+    ("/reports/load", Place::LoadReport),
+    ("/reports/papers", Place::PapersReport),
+    ("/reports/scores", Place::ScoresReport),
     ("/search", Place::Search),
 ];
 

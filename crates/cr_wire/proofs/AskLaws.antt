@@ -3,6 +3,7 @@ use Rattle.std.proofs.Common.{◌≡◌, ℕ, List, Bool, true, false, Option, S
 use Rattle.std.specs.Prelude.{codes}
 use Rattle.cr_base.specs.Logins.{command_ask}
 use Rattle.cr_base.specs.declared.ask.Ask.{Ask}
+use Rattle.cr_base.specs.declared.bulk.BulkRow.{BulkRow}
 use Rattle.cr_base.specs.declared.ask.Ask.TheVariants as asks
 use Rattle.cr_base.specs.declared.command.Command.{Command}
 use Rattle.cr_base.specs.declared.command.Command.TheVariants as commands
@@ -11,8 +12,9 @@ use Rattle.cr_bodies.specs.Bodies.{command_in, command_read}
 use Rattle.cr_bodies.specs.Field.{◌>>=◌, abstract_under, bid_under, comment_under, decision_under, digest_under, flag_under, grade_under, kind_under}
 use Rattle.cr_bodies.specs.Field.{mode_under, name_under, names_under, phase_under, review_text_under, role_under, title_under, user_under}
 use Rattle.cr_bodies.specs.Json.{json_of}
+use Rattle.cr_bulk.specs.Rows.{rows_spelt}
 use Rattle.cr_routes.specs.Parts.{FoundPath}
-use Rattle.cr_wire.specs.Asked.{LooksBehindPath, ask_has_body, asked, command_of, commanded, tagged}
+use Rattle.cr_wire.specs.Asked.{LooksBehindPath, ask_has_body, asked, bulk_of, command_of, commanded, tagged}
 use Rattle.cr_wire.specs.Caller.{ask_of}
 use Rattle.cr_wire.specs.Paper.{paper_of, tag_of}
 use Rattle.cr_wire.specs.Query.{asks_count, search_read, search_text, searched}
@@ -97,6 +99,11 @@ by_query : (only_count : Bool) (read : Result (List Step) ℕ) → ask_of (searc
 by_query only_count (Err place) = refl
 by_query only_count (Ok steps) = refl
 
+-- and what the rows of a bulk are
+by_rows : (rows : Option (List BulkRow)) → ask_of (bulk_of rows) ≡ Some asks.Bulk
+by_rows None = refl
+by_rows (Some rows) = refl
+
 pub ask_by_ask : (ask : Ask) (found : FoundPath) (query body : List ℕ) → ask_of (asked ask found query body) ≡ Some ask
 ask_by_ask asks.Register found query body = by_body asks.Register found body
 ask_by_ask asks.Name found query body = by_body asks.Name found body
@@ -113,8 +120,13 @@ ask_by_ask asks.Decide found query body = by_body asks.Decide found body
 ask_by_ask asks.Tag found query body = by_tag asks.Tag found true (λ tag. refl)
 ask_by_ask asks.Untag found query body = by_tag asks.Untag found false (λ tag. refl)
 ask_by_ask asks.Search found query body = by_query (asks_count query) (search_read (search_text query))
+ask_by_ask asks.Bulk found query body = by_rows (rows_spelt body)
 ask_by_ask ask found query body = refl
 
 -- what is told by a body looks at it, whatever it tells
 pub looked : (ask : Ask) (found : FoundPath) (body : List ℕ) → IsTrue (ask_has_body ask) → LooksBehindPath (commanded ask found body)
 looked ask found body has = rw (by_body ask found body, has) refl
+
+-- and so does a bulk
+pub looked_rows : (rows : Option (List BulkRow)) → LooksBehindPath (bulk_of rows)
+looked_rows rows = rw (by_rows rows) refl

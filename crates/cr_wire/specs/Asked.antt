@@ -3,10 +3,13 @@ use Rattle.std.specs.Prelude.{ℕ, List, Bool, true, false, IsTrue, ◌==◌, �
 use Rattle.std.specs.Option.{option_map_or}
 use Rattle.std.specs.List.{before_first}
 use Rattle.std.specs.Str.{is_utf8}
+use Rattle.cr_base.specs.declared.bulk.BulkRow.{BulkRow}
 use Rattle.cr_base.specs.declared.command.Command.{Command}
 use Rattle.cr_base.specs.declared.command.Command.TheVariants as commands
 use Rattle.cr_base.specs.declared.command.Query.TheVariants as queries
+use Rattle.cr_base.specs.declared.report.Report.TheVariants as reports
 use Rattle.cr_bodies.specs.Bodies.{command_read}
+use Rattle.cr_bulk.specs.Rows.{rows_spelt}
 use Rattle.cr_routes.specs.Asks.{ask_at}
 use Rattle.cr_routes.specs.Parts.{FoundPath, found_at}
 use Rattle.cr_routes.specs.Methods.{method_of}
@@ -16,7 +19,7 @@ use Rattle.cr_wire.specs.Caller.{ask_of}
 use Rattle.cr_wire.specs.Paper.{paper_of, tag_of, user_of, version_of}
 use Rattle.cr_wire.specs.Query.{query_of, search_in}
 use Rattle.cr_wire.specs.declared.what.What.{What}
-use Rattle.cr_wire.specs.declared.what.What.TheVariants.{NoRoute, WrongMethod, BadBody, Command as Commands, Query as Queries}
+use Rattle.cr_wire.specs.declared.what.What.TheVariants.{NoRoute, WrongMethod, BadBody, Command as Commands, Query as Queries, Bulk}
 
 -- the target up to the first question mark
 abbrev pub path_of : List ℕ → List ℕ
@@ -38,6 +41,11 @@ commanded ask found body = command_of ask (command_read ask (paper_of found) bod
 -- that a tag is on or off, which the path alone tells; a text there that is no tag counts as a bad body
 abbrev pub tagged : Ask → FoundPath → Bool → What
 tagged ask found on = command_of ask (option_map (λ tag. commands.Tag (paper_of found) tag on) (tag_of found))
+
+-- a bulk, where the body spells rows
+abbrev pub bulk_of : Option (List BulkRow) → What
+bulk_of None = BadBody asks.Bulk
+bulk_of (Some rows) = Bulk rows
 
 -- one line for each thing that can be asked for; an upload's body is the content
 abbrev pub asked : Ask → FoundPath → List ℕ → List ℕ → What
@@ -68,6 +76,12 @@ asked asks.Decide found query body = commanded asks.Decide found body
 asked asks.AcceptedPapers found query body = Queries queries.AcceptedPapers
 asked asks.Me found query body = Queries queries.Me
 asked asks.Search found query body = search_in query
+asked asks.Bulk found query body = bulk_of (rows_spelt body)
+asked asks.PapersReport found query body = Queries (queries.Report reports.Papers)
+asked asks.ScoresReport found query body = Queries (queries.Report reports.Scores)
+asked asks.LoadReport found query body = Queries (queries.Report reports.Load)
+asked asks.DecisionsReport found query body = Queries (queries.Report reports.Decisions)
+asked asks.Letter found query body = Queries (queries.Report (reports.Letter (paper_of found)))
 
 abbrev pub with_ask : FoundPath → Option Ask → List ℕ → List ℕ → What
 with_ask found None query body = WrongMethod found.place
@@ -80,7 +94,7 @@ with_found (Some found) method query body = with_ask found (option_and_then (ask
 abbrev pub what_of : List ℕ → List ℕ → List ℕ → What
 what_of method target body = with_found (find_at (path_of target)) method (query_of target) body
 
--- whether what is asked for is told by a body: all commands are but tags and those by which something is taken away
+-- whether what is asked for is told by a body: all commands are but tags and those by which something is taken away, and so is a bulk
 abbrev pub ask_has_body : Ask → Bool
 ask_has_body asks.Register = true
 ask_has_body asks.Accounts = false
@@ -109,6 +123,12 @@ ask_has_body asks.Decide = true
 ask_has_body asks.AcceptedPapers = false
 ask_has_body asks.Me = false
 ask_has_body asks.Search = false
+ask_has_body asks.Bulk = true
+ask_has_body asks.PapersReport = false
+ask_has_body asks.ScoresReport = false
+ask_has_body asks.LoadReport = false
+ask_has_body asks.DecisionsReport = false
+ask_has_body asks.Letter = false
 
 -- whether it is told by the query string
 abbrev pub ask_has_query : Ask → Bool

@@ -8,7 +8,7 @@ use Rattle.cr_base.specs.HistoryFacts.{caller_of}
 use Rattle.cr_base.specs.Logins.{ask_reads_credentials, ask_wants_login, command_ask, query_ask}
 use Rattle.cr_bodies.specs.declared.credentials.Credentials.{Credentials}
 use Rattle.cr_wire.specs.declared.what.What.{What}
-use Rattle.cr_wire.specs.declared.what.What.TheVariants.{NoRoute, WrongMethod, BadBody, BadQuery, Command as Commands, Query as Queries}
+use Rattle.cr_wire.specs.declared.what.What.TheVariants.{NoRoute, WrongMethod, BadBody, BadQuery, Command as Commands, Query as Queries, Bulk}
 use Rattle.cr_wire.specs.declared.what.Wish.{Wish}
 
 -- what a wish's request asks for; None where it is no request of the server's
@@ -19,6 +19,7 @@ ask_of (BadBody ask) = Some ask
 ask_of (BadQuery place) = Some asks.Search
 ask_of (Commands command) = Some (command_ask command)
 ask_of (Queries query) = Some (query_ask query)
+ask_of (Bulk rows) = Some asks.Bulk
 
 -- whether a login is wanted, also where the body or the query string is a bad one, by what is asked for alone; what is no request of
 -- the server's is refused alike to everybody

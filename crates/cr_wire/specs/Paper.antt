@@ -4,21 +4,9 @@ use Rattle.std.specs.Char.{is_ascii_digit}
 use Rattle.std.specs.List.{list_all}
 use Rattle.std.specs.Option.{option_map_or}
 use Rattle.std.specs.Str.Parse.{digits_value}
+use Rattle.cr_base.specs.Spelt.{paper_spelt, name_spelt}
 use Rattle.cr_base.specs.TagTexts.{is_tag}
-use Rattle.cr_bodies.specs.Field.{name_told}
 use Rattle.cr_routes.specs.Parts.{FoundPath}
-
--- from one to four bytes
-abbrev pub is_short : List ℕ → Bool
-is_short text = nat_le 1 (length text) && nat_le (length text) 4
-
--- a number from 1 to 9,999 in decimal: so many digits, of which the first isn't 0
-abbrev pub is_paper_number : List ℕ → Bool
-is_paper_number text = is_short text && not (slice_index text 0 == 48) && list_all is_ascii_digit text
-
--- the paper of a text
-abbrev pub paper_spelt : List ℕ → Option ℕ
-paper_spelt text = if is_paper_number text then Some (digits_value 10 text) else None
 
 -- the paper that a path is about: its first parameter names it
 abbrev pub paper_of : FoundPath → Option ℕ
@@ -38,7 +26,7 @@ version_of found = option_map_or version_spelt found.second 0
 
 -- the user that a path is about: her name is its second parameter, None where that is no name
 abbrev pub user_of : FoundPath → Option (List ℕ)
-user_of found = option_and_then name_told found.second
+user_of found = option_and_then name_spelt found.second
 
 -- the tag of a text
 abbrev pub tag_spelt : List ℕ → Option (List ℕ)

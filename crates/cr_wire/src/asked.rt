@@ -1,5 +1,6 @@
 //! From a path, a method, and a query string or a body to what is wished.
 ghost use Rattle.std.specs.Prelude.{◌≡◌, option_and_then, option_map, IfOk, IsTrue, OnErr};
+ghost use Rattle.cr_bulk.specs.Rows.{rows_spelt};
 ghost use Rattle.cr_routes.specs.Asks.{ask_at as ask_of_place};
 ghost use Rattle.cr_routes.specs.Methods.{method_of};
 ghost use Rattle.cr_routes.specs.Parts.{seen};
@@ -11,8 +12,9 @@ ghost use Rattle.cr_wire.specs.Query.{query_of};
 use crate::paper::{paper_of, tag_of, user_of, version_of};
 use crate::query::search_in;
 use crate::what::What;
-use cr_base::{Ask, Command, PaperNo, Query};
+use cr_base::{Ask, Command, PaperNo, Query, Report};
 use cr_bodies::{BodyError, before_first, read_command};
+use cr_bulk::{BulkError, read_rows};
 use cr_http::Body;
 use cr_routes::{Matched, Method, Place, Routes};
 use std::alloc::{AllocError, Global};
@@ -73,6 +75,27 @@ fn tagged(ask: Ask, found: Matched<'_>, on: bool) -> What
     }
 }
 
+/// A bulk, whose rows the body spells.
+fn bulk(alloc: Global, body: &[u8]) -> Result<What, AllocError>
+    ensures told { Gives result (spec.bulk_of (rows_spelt body.now)) }
+    ensures bounded { IfOk result IsBoundedWhat }
+    ensures sure { OnErr result (spec.LooksBehindPath (spec.bulk_of (rows_spelt body.now))) }
+{
+    match read_rows(alloc, body) {
+        Ok(rows) => Ok(What::Bulk(rows)),
+        Err(BulkError::Csv) => Ok(What::BadBody(Ask::Bulk)),
+        Err(BulkError::OutOfMemory) => Err(AllocError),
+    }
+}
+
+/// That a report is asked for.
+fn reported(report: Report) -> What
+    ensures told { result ≡ What.Query (Query.Report report) }
+    ensures bounded { IsBoundedWhat result }
+{
+    What::Query(Query::Report { report })
+}
+
 /// What is asked for, by its path, and by its query string or its body too.
 fn asked(
     alloc: Global,
@@ -108,6 +131,12 @@ fn asked(
         Ask::Tag => Ok(tagged(ask, found, true)),
         Ask::Untag => Ok(tagged(ask, found, false)),
         Ask::Upload => upload(alloc, paper, body),
+        Ask::Bulk => bulk(alloc, body.as_slice()),
+        Ask::PapersReport => Ok(reported(Report::Papers)),
+        Ask::ScoresReport => Ok(reported(Report::Scores)),
+        Ask::LoadReport => Ok(reported(Report::Load)),
+        Ask::DecisionsReport => Ok(reported(Report::Decisions)),
+        Ask::Letter => Ok(reported(Report::Letter { paper })),
         Ask::Register | Ask::Name | Ask::SetMode | Ask::SetPhase => {
             command(alloc, ask, found, body.as_slice())
         }
@@ -121,7 +150,7 @@ fn asked(
 }
 
 /// What a request of this method, this target and this body wishes. Fails only for lack of memory, which the reading of
-/// a JSON body or of a search and the keeping of an upload alone take.
+/// a JSON body, of the rows of a bulk or of a search and the keeping of an upload alone take.
 pub(crate) fn what_of(
     alloc: Global,
     routes: &Routes,

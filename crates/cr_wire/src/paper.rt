@@ -4,35 +4,8 @@ ghost use Rattle.cr_base.specs.TagTexts.{is_tag};
 ghost use Rattle.cr_routes.specs.Parts.{seen};
 ghost use Rattle.cr_wire.specs.Paper as spec;
 
-use cr_base::{PaperNo, Short, Tag};
-use cr_bodies::name_in;
-use cr_http::{all_digits, decimal_value};
+use cr_base::{PaperNo, Short, Tag, all_digits, name_spelt, paper_spelt};
 use cr_routes::Matched;
-
-/// Whether a text has from one to four bytes.
-fn is_short(text: &[u8]) -> bool
-    ensures { result ≡ spec.is_short text.now }
-{
-    1 <= text.len() && text.len() <= 4
-}
-
-/// Whether a text is a number from 1 to 9,999 in decimal.
-fn is_paper_number(text: &[u8]) -> bool
-    ensures { result ≡ spec.is_paper_number text.now }
-{
-    is_short(text) && text[0] != b'0' && all_digits(text)
-}
-
-/// The paper of a text.
-fn paper_spelt(text: &[u8]) -> Option<PaperNo>
-    ensures { result ≡ spec.paper_spelt text.now }
-{
-    if is_paper_number(text) {
-        Some(PaperNo::new(decimal_value(text)))
-    } else {
-        None
-    }
-}
 
 /// Whether a text is a number in decimal, without a zero in front.
 fn is_number(text: &[u8]) -> bool
@@ -78,7 +51,7 @@ pub(crate) fn version_of(found: Matched<'_>) -> u64
 pub(crate) fn user_of(found: Matched<'_>) -> Option<Short>
     ensures { result ≡ spec.user_of (seen found.entry) }
 {
-    name_in(found.second?)
+    name_spelt(found.second?.as_bytes())
 }
 
 /// The tag of a text.

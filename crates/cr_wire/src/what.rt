@@ -1,7 +1,7 @@
 //! What a request wishes.
 ghost use Rattle.std.specs.Prelude.{◌≡◌};
 
-use cr_base::{Ask, Command, Query};
+use cr_base::{Ask, BulkRows, Command, Query};
 use cr_bodies::Credentials;
 use cr_routes::Place;
 
@@ -24,6 +24,8 @@ pub enum What {
     Command(Command),
     /// To be told something.
     Query(Query),
+    /// To change what these rows tell, all of it or nothing.
+    Bulk(BulkRows),
 }
 
 /// What a whole request wishes, who tells so, and in which form the answer comes.
@@ -53,12 +55,13 @@ impl What {
             What::BadQuery { .. } => Some(Ask::Search),
             What::Command(command) => Some(command.ask()),
             What::Query(query) => Some(query.ask()),
+            What::Bulk(_) => Some(Ask::Bulk),
         }
     }
 
-    /// Whether a login is wanted, so that nobody is answered `unauthorized`: by each command but a registration, also
-    /// where its body is a bad one, by a paper's page, content, reviews and comments, by searches, also by bad ones, and by
-    /// what the caller is told of herself. Registration, the list of accounts, the state of the conference and the accepted
+    /// Whether a login is wanted, so that nobody is answered `unauthorized`: by each command but a registration and by a bulk, also
+    /// where its body is a bad one, by a paper's page, content, reviews and comments, by searches, also by bad ones, by reports, and
+    /// by what the caller is told of herself. Registration, the list of accounts, the state of the conference and the accepted
     /// papers want none, and what is no request of these is refused alike to everybody. That a published paper's page and
     /// content are served to nobody too isn't looked at here: the request doesn't tell which papers are.
     pub fn wants_login(&self) -> bool

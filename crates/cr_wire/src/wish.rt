@@ -57,10 +57,10 @@ fn asks_close(head: &Head<'_>) -> bool
     head.version() == Version::Http10 || field_asks_close(head)
 }
 
-/// The wish of a request, by its head and its body. Fails only for lack of memory, which the reading of a JSON body or of a
-/// search and the keeping of an upload alone take. Reads the target's path, the fields' names and the field Connection once,
+/// The wish of a request, by its head and its body. Fails only for lack of memory, which the reading of a JSON body, of the rows
+/// of a bulk or of a search and the keeping of an upload alone take. Reads the target's path, the fields' names and the field Connection once,
 /// the body and the query string only where the method and the path want them, and the field Authorization only where
-/// `reads_credentials` says so. A command that is wished is within the bounds on commands.
+/// `reads_credentials` says so. A command that is wished is within the bounds on commands, and a bulk has at most 512 rows.
 pub fn wish_of(
     alloc: Global,
     routes: &Routes,
