@@ -15,12 +15,12 @@ use Rattle.cr_http.specs.declared.refusal.Refusal.{Refusal}
 use Rattle.cr_print.specs.declared.head.Extra.{Extra}
 use Rattle.cr_print.specs.declared.head.Extra.TheVariants.{Nothing}
 use Rattle.cr_print.specs.declared.head.AnswerHead.{AnswerHead}
-use Rattle.cr_print.specs.declared.head.MediaType.TheVariants.{Json, OctetStream}
+use Rattle.cr_print.specs.declared.head.MediaType.TheVariants.{Json, PlainText, OctetStream}
 use Rattle.cr_print.specs.declared.status.Status.{Status}
 use Rattle.cr_print.specs.declared.status.Status.TheVariants.{Okay}
 use Rattle.cr_print.specs.declared.form.Form.{Form}
 use Rattle.cr_print.specs.declared.refused.Refused.{Refused}
-use Rattle.cr_print.specs.declared.refused.Refused.TheVariants.{Closing, NoMemory, Rule}
+use Rattle.cr_print.specs.declared.refused.Refused.TheVariants.{Closing, NoMemory, Row, Rule}
 use Rattle.cr_print.specs.Head.{head_text}
 use Rattle.cr_print.specs.Refused.{refused_status, extra_of, refusal_content}
 use Rattle.cr_print.specs.Receipt.{receipt_status, receipt_content}
@@ -106,10 +106,19 @@ bytes_head = record { status = Okay; media_type = OctetStream; extra = Nothing }
 unfoldable pub content_front : ℕ → Form → List ℕ
 content_front n form = head_text bytes_head n form.closes
 
--- what is printed of a reply: of a content its head, and else the whole answer
+-- the head of an answer whose content is text
+abbrev pub text_head : AnswerHead
+text_head = record { status = Okay; media_type = PlainText; extra = Nothing }
+
+-- what stands in front of a report of so many bytes
+unfoldable pub report_front : ℕ → Form → List ℕ
+report_front n form = head_text text_head n form.closes
+
+-- what is printed of a reply: of a content and of a report its head, and else the whole answer
 abbrev pub front_text : Form → Reply → List ℕ
 front_text form (replies.Accepted receipt) = receipt_text receipt form
 front_text form (replies.Refused rule) = refusal_text (Rule rule) form
+front_text form (replies.RowRefused row rule) = refusal_text (Row row rule) form
 front_text form (replies.Accounts accounts) = accounts_text accounts form
 front_text form (replies.AcceptedPapers papers) = papers_text papers form
 front_text form (replies.Reviews reviews) = reviews_text reviews form
@@ -120,10 +129,12 @@ front_text form (replies.Conference conference) = conference_text conference for
 front_text form (replies.Page page) = page_text page form
 front_text form (replies.Me me) = me_text me form
 front_text form (replies.Content content) = content_front (length content) form
+front_text form (replies.Report text) = report_front (length text) form
 
--- what is written behind that, as it is kept: a content's bytes
+-- what is written behind that, as it is kept: the bytes of a content or of a report
 abbrev pub block_text : Form → Reply → List ℕ
 block_text form (replies.Content content) = unless_head form.is_head content
+block_text form (replies.Report text) = unless_head form.is_head text
 block_text form _ = []
 
 -- a reply
@@ -138,6 +149,7 @@ no_memory_text is_head = refusal_text NoMemory (record { is_head = is_head; clos
 abbrev pub IsBrief : Reply → Type 0
 IsBrief (replies.Accepted receipt) = Unit {0}
 IsBrief (replies.Refused rule) = Unit {0}
+IsBrief (replies.RowRefused row rule) = Unit {0}
 IsBrief (replies.Accounts accounts) = ⊥
 IsBrief (replies.AcceptedPapers papers) = ⊥
 IsBrief (replies.Reviews reviews) = ⊥
@@ -148,3 +160,4 @@ IsBrief (replies.Conference conference) = Unit {0}
 IsBrief (replies.Page page) = ⊥
 IsBrief (replies.Me me) = ⊥
 IsBrief (replies.Content content) = Unit {0}
+IsBrief (replies.Report text) = Unit {0}

@@ -3,7 +3,7 @@ use Rattle.std.specs.Prelude.{ℕ, List, ◌++◌, Some, codes, decimal}
 use Rattle.json.specs.Print.{quoted}
 use Rattle.cr_base.specs.Words.{phase_name, mode_name, role_name}
 use Rattle.cr_base.specs.declared.reply.Receipt.{Receipt}
-use Rattle.cr_base.specs.declared.reply.Receipt.TheVariants.{User, Phase, Paper, Named, Mode, Changed, Version, Bid, Label, Comment}
+use Rattle.cr_base.specs.declared.reply.Receipt.TheVariants.{User, Phase, Paper, Named, Mode, Changed, Version, Bid, Label, Comment, Rows}
 use Rattle.cr_print.specs.declared.status.Status.{Status}
 use Rattle.cr_print.specs.declared.status.Status.TheVariants.{Okay, Created}
 use Rattle.cr_print.specs.Json.{Member, bid_text, label_text, member_of, object_text}
@@ -19,6 +19,7 @@ receipt_status (Version version) = Okay
 receipt_status (Bid bid) = Okay
 receipt_status (Label ordinal) = Created
 receipt_status (Comment n) = Created
+receipt_status (Rows n) = Okay
 
 -- the keys in the order of their bytes
 unfoldable pub receipt_members : Receipt → List Member
@@ -32,6 +33,7 @@ receipt_members (Version version) = member_of (codes "version") (Some (decimal v
 receipt_members (Bid bid) = member_of (codes "bid") (Some (bid_text bid))
 receipt_members (Label ordinal) = member_of (codes "label") (Some (label_text ordinal))
 receipt_members (Comment n) = member_of (codes "comment") (Some (decimal n))
+receipt_members (Rows n) = member_of (codes "rows") (Some (decimal n))
 
 abbrev pub receipt_content : Receipt → List ℕ
 receipt_content receipt = object_text (receipt_members receipt)

@@ -5,11 +5,11 @@ use Rattle.cr_base.specs.declared.reply.Rule.{Rule as BaseRule}
 use Rattle.cr_base.specs.declared.reply.Rule.TheVariants.{NameTaken, FullAccounts, NotChair, WrongPhase, FullPapers, QuotaPapers, NoPaper}
 use Rattle.cr_base.specs.declared.reply.Rule.TheVariants.{NotMember, NoUser, AlreadyNamed, NotAuthor, NotAMember, Conflict, Withdrawn, QuotaBytes}
 use Rattle.cr_base.specs.declared.reply.Rule.TheVariants.{NoContent, AuthorConflict, TargetConflict, AlreadyAssigned, LabelsSpent, NotAssigned}
-use Rattle.cr_base.specs.declared.reply.Rule.TheVariants.{HasReview, NotReviewer, QuotaComments}
+use Rattle.cr_base.specs.declared.reply.Rule.TheVariants.{HasReview, NotReviewer, QuotaComments, BadAction, BadTag, BulkSelf}
 use Rattle.cr_http.specs.declared.refusal.Refusal.{Refusal}
 use Rattle.cr_http.specs.declared.refusal.Refusal.TheVariants.{HeadTooLarge, BadHttp, NoHost, LengthRequired, BadLength, TooLarge}
 use Rattle.cr_print.specs.declared.refused.Refused.{Refused}
-use Rattle.cr_print.specs.declared.refused.Refused.TheVariants.{Closing, NoRoute, WrongMethod, Unauthorized, BadBody, BadQuery, Rule, KeeperFault, NoMemory}
+use Rattle.cr_print.specs.declared.refused.Refused.TheVariants.{Closing, NoRoute, WrongMethod, Unauthorized, BadBody, BadQuery, Rule, Row, KeeperFault, NoMemory}
 use Rattle.cr_print.specs.declared.head.Extra.{Extra}
 use Rattle.cr_print.specs.declared.head.Extra.TheVariants.{Nothing, Challenge, Allow}
 use Rattle.cr_print.specs.declared.status.Status.{Status}
@@ -49,6 +49,9 @@ rule_name NotAssigned = codes "not_assigned"
 rule_name HasReview = codes "has_review"
 rule_name NotReviewer = codes "not_reviewer"
 rule_name QuotaComments = codes "quota_comments"
+rule_name BadAction = codes "bad_action"
+rule_name BadTag = codes "bad_tag"
+rule_name BulkSelf = codes "bulk_self"
 
 unfoldable pub refused_name : Refused → List ℕ
 refused_name (Closing refusal) = closing_name refusal
@@ -58,6 +61,7 @@ refused_name Unauthorized = codes "unauthorized"
 refused_name BadBody = codes "bad_body"
 refused_name (BadQuery place) = codes "bad_query"
 refused_name (Rule rule) = rule_name rule
+refused_name (Row row rule) = codes "bulk_row"
 refused_name KeeperFault = codes "keeper_fault"
 refused_name NoMemory = codes "no_memory"
 
@@ -94,6 +98,9 @@ rule_status NotAssigned = statuses.Conflict
 rule_status HasReview = statuses.Conflict
 rule_status NotReviewer = statuses.Forbidden
 rule_status QuotaComments = statuses.Conflict
+rule_status BadAction = statuses.Conflict
+rule_status BadTag = statuses.Conflict
+rule_status BulkSelf = statuses.Conflict
 
 unfoldable pub refused_status : Refused → Status
 refused_status (Closing refusal) = closing_status refusal
@@ -103,6 +110,7 @@ refused_status Unauthorized = statuses.Unauthorized
 refused_status BadBody = statuses.BadRequest
 refused_status (BadQuery place) = statuses.BadRequest
 refused_status (Rule rule) = rule_status rule
+refused_status (Row row rule) = statuses.Conflict
 refused_status KeeperFault = statuses.ServiceUnavailable
 refused_status NoMemory = statuses.InsufficientStorage
 
@@ -115,10 +123,11 @@ extra_of Unauthorized = Challenge
 extra_of BadBody = Nothing
 extra_of (BadQuery place) = Nothing
 extra_of (Rule rule) = Nothing
+extra_of (Row row rule) = Nothing
 extra_of KeeperFault = Nothing
 extra_of NoMemory = Nothing
 
--- what a refusal tells beside why: of a search where it is wrong
+-- what a refusal tells beside why: of a search where it is wrong, of a bulk which row breaks which rule
 unfoldable pub further_members : Refused → List Member
 further_members (Closing refusal) = []
 further_members NoRoute = []
@@ -127,6 +136,7 @@ further_members Unauthorized = []
 further_members BadBody = []
 further_members (BadQuery place) = member_of (codes "place") (Some (decimal place))
 further_members (Rule rule) = []
+further_members (Row row rule) = member_of (codes "row") (Some (decimal row)) ++ member_of (codes "rule") (Some (quoted (rule_name rule)))
 further_members KeeperFault = []
 further_members NoMemory = []
 

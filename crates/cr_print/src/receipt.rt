@@ -28,7 +28,8 @@ fn receipt_status(receipt: &Receipt) -> Status
         | Receipt::Mode { .. }
         | Receipt::Changed { .. }
         | Receipt::Version { .. }
-        | Receipt::Bid { .. } => Status::Okay,
+        | Receipt::Bid { .. }
+        | Receipt::Rows { .. } => Status::Okay,
     }
 }
 
@@ -64,6 +65,7 @@ fn add_receipt(object: &mut Object, into: &mut Vec<u8>, receipt: &Receipt) -> Re
         Receipt::Bid { bid } => object.bid(into, "bid", *bid),
         Receipt::Label { ordinal } => object.label(into, "label", *ordinal),
         Receipt::Comment { n } => object.number(into, "comment", *n),
+        Receipt::Rows { rows } => object.number(into, "rows", *rows),
     }
 }
 

@@ -4,6 +4,7 @@ ghost use Rattle.cr_print.specs.Put.{Appends, HasRoom, Puts, Takes};
 ghost use Rattle.cr_print.specs.Json.{AddsMembers};
 ghost use Rattle.cr_print.specs.Refused.{closing_name, rule_name, refused_name, closing_status, rule_status, refused_status, extra_of, further_members, refusal_content};
 ghost use Rattle.cr_print.specs.Answers.{refusal_text};
+ghost use Rattle.cr_print.specs.declared.refused.Refused.TheVariants as refused;
 
 use crate::brief::print_brief;
 use crate::form::Form;
@@ -36,6 +37,13 @@ pub enum Refused {
     },
     /// A rule of the conference is broken.
     Rule(Rule),
+    /// A row of a bulk breaks a rule (409); the answer tells which row and which rule.
+    Row {
+        /// The row, 1 to 512.
+        row: u64,
+        /// The rule.
+        rule: Rule,
+    },
     /// What was accepted couldn't be kept (503).
     KeeperFault,
     /// Memory ran out (507).
@@ -45,7 +53,7 @@ pub enum Refused {
 #[tactic(auto, unfolding(crate::specs::Refused::rule_name))]
 fn rule_name(rule: Rule) -> &'static str
     ensures value { result.now ≡ rule_name rule }
-    ensures short { length result.now ≤ 24 }
+    ensures short { length result.now ≤ 16 }
 {
     match rule {
         Rule::NameTaken => "name_taken",
@@ -72,13 +80,16 @@ fn rule_name(rule: Rule) -> &'static str
         Rule::HasReview => "has_review",
         Rule::NotReviewer => "not_reviewer",
         Rule::QuotaComments => "quota_comments",
+        Rule::BadAction => "bad_action",
+        Rule::BadTag => "bad_tag",
+        Rule::BulkSelf => "bulk_self",
     }
 }
 
 #[tactic(auto, unfolding(crate::specs::Refused::closing_name))]
 fn closing_name(refusal: Refusal) -> &'static str
     ensures value { result.now ≡ closing_name refusal }
-    ensures short { length result.now ≤ 24 }
+    ensures short { length result.now ≤ 16 }
 {
     match refusal {
         Refusal::HeadTooLarge => "head_too_large",
@@ -93,7 +104,7 @@ fn closing_name(refusal: Refusal) -> &'static str
 #[tactic(auto, unfolding(crate::specs::Refused::refused_name))]
 fn name(refused: Refused) -> &'static str
     ensures value { result.now ≡ refused_name refused }
-    ensures short { length result.now ≤ 24 }
+    ensures short { length result.now ≤ 16 }
 {
     match refused {
         Refused::Closing(refusal) => closing_name(refusal),
@@ -103,6 +114,7 @@ fn name(refused: Refused) -> &'static str
         Refused::BadBody => "bad_body",
         Refused::BadQuery { .. } => "bad_query",
         Refused::Rule(rule) => rule_name(rule),
+        Refused::Row { .. } => "bulk_row",
         Refused::KeeperFault => "keeper_fault",
         Refused::NoMemory => "no_memory",
     }
@@ -131,7 +143,10 @@ fn rule_status(rule: Rule) -> Status
         | Rule::LabelsSpent
         | Rule::NotAssigned
         | Rule::HasReview
-        | Rule::QuotaComments => Status::Conflict,
+        | Rule::QuotaComments
+        | Rule::BadAction
+        | Rule::BadTag
+        | Rule::BulkSelf => Status::Conflict,
     }
 }
 
@@ -158,6 +173,7 @@ fn status(refused: Refused) -> Status
         Refused::Unauthorized => Status::Unauthorized,
         Refused::BadBody | Refused::BadQuery { .. } => Status::BadRequest,
         Refused::Rule(rule) => rule_status(rule),
+        Refused::Row { .. } => Status::Conflict,
         Refused::KeeperFault => Status::ServiceUnavailable,
         Refused::NoMemory => Status::InsufficientStorage,
     }
@@ -174,14 +190,25 @@ fn extra(refused: Refused) -> Extra
     }
 }
 
+/// Writes which row of a bulk breaks which rule.
+fn add_row(object: &mut Object, into: &mut Vec<u8>, row: u64, rule: Rule) -> Result<(), AllocError>
+    ensures adds { AddsMembers result into.old into.new object.old.is_first object.new.is_first (further_members (refused.Row row rule)) }
+    ensures room { Takes result into.old into.new 133 }
+{
+    object.number(into, "row", row)?;
+    object.string(into, "rule", rule_name(rule).as_bytes())?;
+    Ok(())
+}
+
 /// Writes what a refusal tells beside why.
 #[tactic(auto, unfolding(crate::specs::Refused::further_members))]
 fn add_further(object: &mut Object, into: &mut Vec<u8>, refused: Refused) -> Result<(), AllocError>
     ensures adds { AddsMembers result into.old into.new object.old.is_first object.new.is_first (further_members refused) }
-    ensures room { Takes result into.old into.new 29 }
+    ensures room { Takes result into.old into.new 133 }
 {
     match refused {
         Refused::BadQuery { place } => object.number(into, "place", place as u64),
+        Refused::Row { row, rule } => add_row(object, into, row, rule),
         _ => Ok(()),
     }
 }

@@ -1,7 +1,7 @@
 //! Replies.
 ghost use Rattle.std.specs.Prelude.{◌≡◌, OnErr, map};
 ghost use Rattle.cr_print.specs.Put.{HasRoom, Prints, Puts};
-ghost use Rattle.cr_print.specs.Answers.{bytes_head, content_front, served_text, list_text, papers_text, found_text, page_text, me_text, front_text, block_text, IsBrief};
+ghost use Rattle.cr_print.specs.Answers.{bytes_head, content_front, text_head, report_front, served_text, list_text, papers_text, found_text, page_text, me_text, front_text, block_text, IsBrief};
 
 use crate::brief::ANSWER_ROOM;
 use crate::conference::print_conference;
@@ -107,12 +107,32 @@ fn print_front(into: &mut Vec<u8>, length: usize, form: Form)
     print_head(into, head_of_bytes(), length, form.closes);
 }
 
-/// Appends the answer of a reply, all but what `block` lends: so a paper's content is never copied here, and its head alone
-/// is appended. Every other answer is appended whole.
+/// The head of an answer whose content is text.
+fn head_of_text() -> AnswerHead
+    ensures { result ≡ text_head }
+{
+    AnswerHead {
+        status: Status::Okay,
+        media_type: MediaType::PlainText,
+        extra: Extra::Nothing,
+    }
+}
+
+/// Appends what stands in front of a report of so many bytes. It can't fail.
+#[tactic(auto, unfolding(crate::specs::Answers::report_front))]
+fn print_report_front(into: &mut Vec<u8>, length: usize, form: Form)
+    requires { HasRoom into.old 224 }
+    ensures { Puts into.old into.new (report_front length form) 224 }
+{
+    print_head(into, head_of_text(), length, form.closes);
+}
+
+/// Appends the answer of a reply, all but what `block` lends: so neither a paper's content nor a report is ever copied here, and
+/// its head alone is appended. Every other answer is appended whole.
 ///
 /// An error comes only for lack of memory, and `into` then has the bytes that it had; its room may
-/// have grown. It never comes for a receipt, a refusal, the conference, a count or a content where room for 512 bytes is
-/// there. The content of a list, a page, what was found or what one is told of oneself is made in a vector of its
+/// have grown. It never comes for a receipt, a refusal, the conference, a count, a content or a report where room for 512
+/// bytes is there. The content of a list, a page, what was found or what one is told of oneself is made in a vector of its
 /// own, to HEAD too, and copied once.
 #[tactic(auto, unfolding(crate::specs::Answers::accounts_text, crate::specs::Answers::reviews_text, crate::specs::Answers::comments_text))]
 pub fn print_reply(into: &mut Vec<u8>, reply: &Reply, form: Form) -> Result<(), AllocError>
@@ -128,6 +148,15 @@ pub fn print_reply(into: &mut Vec<u8>, reply: &Reply, form: Form) -> Result<(), 
         Reply::Refused(rule) => {
             into.reserve(ANSWER_ROOM)?;
             print_refusal(into, Refused::Rule(*rule), form);
+            Ok(())
+        }
+        Reply::RowRefused { row, rule } => {
+            into.reserve(ANSWER_ROOM)?;
+            let refused = Refused::Row {
+                row: *row,
+                rule: *rule,
+            };
+            print_refusal(into, refused, form);
             Ok(())
         }
         Reply::Accounts(accounts) => print_list(into, "accounts", accounts.as_slice(), form),
@@ -152,16 +181,22 @@ pub fn print_reply(into: &mut Vec<u8>, reply: &Reply, form: Form) -> Result<(), 
             print_front(into, content.as_slice().len(), form);
             Ok(())
         }
+        Reply::Report(text) => {
+            into.reserve(HEAD_ROOM)?;
+            print_report_front(into, text.as_slice().len(), form);
+            Ok(())
+        }
     }
 }
 
-/// What is to be written behind what `print_reply` appended: a paper's content as it is kept, unless the answer is to HEAD,
-/// and nothing of any other reply. It is lent, so this takes no memory and no time.
+/// What is to be written behind what `print_reply` appended: a paper's content as it is kept, or the text of a report, unless the
+/// answer is to HEAD, and nothing of any other reply. It is lent, so this takes no memory and no time.
 pub fn block(reply: &Reply, form: Form) -> &[u8]
     ensures { result.now ≡ block_text form reply.now }
 {
     match reply {
         Reply::Content(content) if !form.is_head => content.as_slice(),
+        Reply::Report(text) if !form.is_head => text.as_slice(),
         _ => &[],
     }
 }
