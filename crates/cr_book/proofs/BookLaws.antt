@@ -1,6 +1,9 @@
 -- What stays true of a book when its history grows.
-use Rattle.std.proofs.Common.{ℕ, ◌≡◌, ◌≢◌, Bool, true, false, List, ◌++◌, refl, sym, ap, subst, ◌∙◌, Option, Some, None, Result, IfSome, IsSome}
+use Rattle.std.proofs.Common.{ℕ, ◌≡◌, ◌≢◌, Bool, true, false, List, ◌++◌, refl, sym, ap, subst, ◌∙◌, length, Option, Some, None, Result, Ok, IfSome, IsSome}
 use Rattle.cr_base.specs.declared.command.Command.{Command}
+use Rattle.cr_base.specs.declared.bulk.Broken.{Broken}
+use Rattle.cr_base.specs.declared.bulk.BulkRow.{BulkRow}
+use Rattle.cr_base.specs.declared.reply.Receipt.TheVariants as receipts
 use Rattle.cr_base.specs.declared.reply.Rule.{Rule}
 use Rattle.cr_base.specs.declared.row.Row.{Row}
 use Rattle.cr_base.specs.History.{History}
@@ -8,29 +11,34 @@ use Rattle.cr_base.specs.Accounts.{number_at, caller_at}
 use Rattle.cr_base.specs.HistoryFacts.{number_of, caller_of}
 use Rattle.cr_base.specs.declared.command.Query.{Query}
 use Rattle.cr_base.specs.declared.command.Query.TheVariants as queries
+use Rattle.cr_base.specs.declared.report.Report.{Report}
+use Rattle.cr_base.specs.declared.report.Report.TheVariants as reports
 use Rattle.cr_base.specs.declared.search.Step.{Step}
+use Rattle.cr_base.specs.Bulk.{bulk_by_role, bulk_drawn, entries_of}
 use Rattle.cr_base.specs.Answering.{answer_by_role, login_wanted}
-use Rattle.cr_base.specs.Drawn.{Drawn}
+use Rattle.cr_base.specs.Drawn.{Drawn, grouped}
 use Rattle.cr_base.specs.Judging.{judge_by_role}
 use Rattle.cr_base.specs.Rows.{rows_of}
 use Rattle.cr_base.specs.Sources.{facts_of_tables}
 use Rattle.cr_base.specs.Tables.{Tables, tables_of, tables_from}
-use Rattle.cr_policy.specs.Judge.{judge, answer, needs_login}
+use Rattle.cr_policy.specs.Judge.{judge, judge_bulk, answer, needs_login}
 use Rattle.cr_policy.specs.View.{view}
 use Rattle.cr_policy.specs.Legal.{Legal, MayAsk}
-use Rattle.cr_policy.proofs.LegalLaws.{Legal-judge, Legal-answer, Legal-needs_login, Legal-number_of, Legal-caller_of}
+use Rattle.cr_policy.proofs.LegalLaws.{Legal-judge, Legal-judge_bulk, Legal-answer, Legal-needs_login, Legal-number_of, Legal-caller_of}
+use Rattle.cr_history.specs.Invariants.{IsRegistered}
 use Rattle.cr_history.proofs.TableTies.{tables_of-append, rows_of-append}
 use Rattle.cr_ports.specs.Keeping.{and_rows}
 use Rattle.cr_view.specs.Callers.{HasAsker}
 use Rattle.cr_view.specs.Replies.{IsNoRefusal}
 use Rattle.cr_book.specs.Sound.{IsSound}
 
--- it is no search, which the tables alone don't answer
-abbrev pub IsNoSearch : Query → Type 0
-IsNoSearch query = (search : List Step) (only_count : Bool) → query ≢ queries.Search search only_count
+-- it is no search and no report, which have crates of their own
+pub record IsOther (query : Query) : Type 0 where
+  pub search : (search : List Step) (only_count : Bool) → query ≢ queries.Search search only_count
+  pub report : (report : Report) → query ≢ queries.Report report
 
 -- whoever may ask what only a user is told is there
-pub asker-there : (h : History) (caller : Option ℕ) (query : Query) → IsNoSearch query → MayAsk h (needs_login (view None h) query) caller → HasAsker caller query
+pub asker-there : (h : History) (caller : Option ℕ) (query : Query) → IsOther query → MayAsk h (needs_login (view None h) query) caller → HasAsker caller query
 asker-there h caller queries.Accounts other may = tt
 asker-there h caller queries.Phase other may = tt
 asker-there h caller queries.AcceptedPapers other may = tt
@@ -41,13 +49,23 @@ asker-there h caller (queries.Reviews paper) other may = tt
 asker-there h caller (queries.Comments paper) other may = tt
 asker-there h None queries.Me other may = cc
 asker-there h (Some u) queries.Me other may = refl
-asker-there h caller (queries.Search search only_count) other may = absurd (other search only_count refl)
+asker-there h caller (queries.Search search only_count) other may = absurd (other.search search only_count refl)
+asker-there h caller (queries.Report report) other may = absurd (other.report report refl)
 
 -- whoever may search has registered
 pub searcher-there : (h : History) (caller : Option ℕ) (search : List Step) (only_count : Bool)
     → MayAsk h (needs_login (view None h) (queries.Search search only_count)) caller → IsSome caller
 searcher-there h None search only_count may = cc
 searcher-there h (Some u) search only_count may = refl
+
+-- and so has whoever may have a report
+pub reporter-there : (h : History) (caller : Option ℕ) (report : Report) → MayAsk h (needs_login (view None h) (queries.Report report)) caller → IsSome caller
+reporter-there h None reports.Papers may = cc
+reporter-there h None reports.Scores may = cc
+reporter-there h None reports.Load may = cc
+reporter-there h None reports.Decisions may = cc
+reporter-there h None (reports.Letter paper) may = cc
+reporter-there h (Some u) report may = refl
 
 -- what a search is told is no refusal
 pub searched-no_refusal : (t : Tables) (caller : Option ℕ) (search : List Step) (only_count : Bool)
@@ -65,6 +83,23 @@ judged-by_view rows h log t keeper caller command judgement same sound is =
     ∙ Legal-judge caller h command sound.legal
     ∙ ap (λ (x : Tables). judge_by_role x caller command) (sym sound.same)
     ∙ sym is
+
+-- and so it is of a bulk, where its caller has registered
+pub bulk-by_view : {K : Type 0} (rows : K → Option (List Row)) (h log : History) (t : Tables) (keeper : K) (user : ℕ) (of : List BulkRow) (judgement : Result Drawn Broken)
+    → h ≡ log → IsSound rows h t keeper → IsRegistered log user → bulk_by_role t user of ≡ judgement → judge_bulk user (view (Some user) log) of ≡ judgement
+bulk-by_view rows h log t keeper user of judgement same sound registered is =
+    sym (ap (λ (x : History). judge_bulk user (view (Some user) x) of) same)
+    ∙ Legal-judge_bulk user h of sound.legal (subst (λ (x : History). IsRegistered x user) (sym same) registered)
+    ∙ ap (λ (x : Tables). bulk_by_role x user of) (sym sound.same)
+    ∙ is
+
+-- what it adds
+pub bulk-drawn : {K : Type 0} (rows : K → Option (List Row)) (h log : History) (t : Tables) (keeper : K) (user : ℕ) (of : List BulkRow) (group : History)
+    → h ≡ log → IsSound rows h t keeper → IsRegistered log user → group ≡ grouped user (entries_of group) → bulk_by_role t user of ≡ Ok (bulk_drawn user (length group) (entries_of group))
+    → judge_bulk user (view (Some user) log) of ≡ Ok (record { group = group; receipt = receipts.Rows (length group) })
+bulk-drawn rows h log t keeper user of group same sound registered grouped is =
+    bulk-by_view rows h log t keeper user of _ same sound registered is
+    ∙ ap (λ (g : History). let drawn : Drawn = record { group = g; receipt = receipts.Rows (length group) } in Ok drawn) (sym grouped)
 
 -- ---- an accepted command
 

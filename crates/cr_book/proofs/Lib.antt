@@ -1,9 +1,17 @@
 pub mod BookLaws
+pub mod JudgingLaws
 pub mod OpeningAuthors
+pub mod OpeningBulkRows
+pub mod OpeningBulks
 pub mod OpeningCommands
+pub mod OpeningDrawn
 pub mod OpeningLaws
 pub mod OpeningLegal
 pub mod OpeningNames
+pub mod OpeningNext
+pub mod OpeningOnward
+pub mod OpeningRowCommands
 pub mod OpeningRows
+pub mod OpeningSpelling
 pub mod ViewLaws
 pub mod StoreLaws

@@ -23,35 +23,33 @@ use Rattle.cr_base.specs.declared.reply.Rule.{Rule}
 use Rattle.cr_base.specs.declared.reply.Rule.TheVariants as rules
 use Rattle.cr_base.specs.declared.row.Row.{Row}
 use Rattle.cr_base.specs.declared.standing.Standing.{Standing}
-use Rattle.cr_base.specs.declared.target.Target.{Target}
 use Rattle.cr_base.specs.declared.words.Decision.{Decision}
-use Rattle.cr_base.specs.declared.words.Kind.{Kind}
 use Rattle.cr_base.specs.declared.words.Mode.{Mode}
 use Rattle.cr_base.specs.declared.words.Phase.{Phase}
 use Rattle.cr_base.specs.declared.words.Role.{Role}
 use Rattle.cr_base.specs.declared.words.Role.TheVariants as roles
 use Rattle.cr_base.specs.Accounts.{lines_of}
 use Rattle.cr_base.specs.Bounds.{IsBoundedCommand, IsForm}
+use Rattle.cr_base.specs.Bulk.{entries_of}
 use Rattle.cr_base.specs.HistoryFacts.{role_of}
 use Rattle.cr_base.specs.History.{History, Registration, all_told, registration_told}
 use Rattle.cr_base.specs.Judging.{judge_by_role}
-use Rattle.cr_base.specs.Drawn.{Drawn, besides, grouped, registration_drawn, phase_drawn, submission_drawn, revision_drawn, upload_drawn, withdrawal_drawn, naming_drawn, mode_drawn, conflict_drawn}
-use Rattle.cr_base.specs.Drawn.{bid_drawn, assignment_drawn, unassignment_drawn, review_drawn, comment_drawn, tag_drawn, decision_drawn}
-use Rattle.cr_base.specs.Lists.{is_nothing, listed, at_some}
+use Rattle.cr_base.specs.Drawn.{Drawn, besides, grouped, registration_drawn, phase_drawn, submission_drawn, revision_drawn, upload_drawn, withdrawal_drawn, naming_drawn, mode_drawn}
+use Rattle.cr_base.specs.Drawn.{bid_drawn, review_drawn, comment_drawn, decision_drawn}
+use Rattle.cr_base.specs.Lists.{is_nothing, listed}
 use Rattle.cr_base.specs.Logins.{command_wants_login}
 use Rattle.cr_base.specs.Papers.{own_bytes, uploads_at}
-use Rattle.cr_base.specs.Reviews.{is_written_in}
-use Rattle.cr_base.specs.Seats.{labels_in, seat_in}
-use Rattle.cr_base.specs.Sources.{Facts, number_in, paper_named, role_among, shown_in_tables, target_named, user_among, users_among, facts_of_tables, standing_at}
+use Rattle.cr_base.specs.Seats.{seat_in}
+use Rattle.cr_base.specs.Sources.{Facts, number_in, paper_named, role_among, shown_in_tables, users_among, facts_of_tables, standing_at}
 use Rattle.cr_base.specs.Sources.{own_forms_in}
-use Rattle.cr_base.specs.TagTexts.{is_for_chairs}
 use Rattle.cr_base.specs.Talk.{comments_in, comment_as_told, own_comments_in}
-use Rattle.cr_base.specs.Checks.{Check, NamedPaper, judged, of_role, register_checks, phase_checks, submit_checks, revise_checks, upload_checks, name_checks, mode_checks, conflict_checks}
-use Rattle.cr_base.specs.Checks.{bid_checks, assign_checks, unassign_checks, review_checks, comment_checks, tag_checks, decide_checks}
+use Rattle.cr_base.specs.Checks.{Check, NamedPaper, judged, of_role, register_checks, phase_checks, submit_checks, revise_checks, upload_checks, name_checks, mode_checks}
+use Rattle.cr_base.specs.Checks.{bid_checks, review_checks, comment_checks, decide_checks}
 use Rattle.cr_base.specs.Texts.{IsTitle, IsAbstract}
-use Rattle.cr_base.proofs.CheckLaws.{NoneBroken, judged-Ok, judged-none}
+use Rattle.cr_base.proofs.CheckLaws.{judged-Ok, judged-none}
 use Rattle.cr_book.proofs.OpeningAuthors.{new-besides, found-back, none-missing, all-listed, coauthors, grouped-cons, numbers, begin-first, told-first, open-rest, same-begin, IsNumber, bounded-numbers, Rebuilt, rebuilt, Become, become}
 use Rattle.cr_book.proofs.OpeningNames.{AreNamedOnce, named, found_by_name}
+use Rattle.cr_book.proofs.OpeningBulks.{none_some, some_is, with-name, row-judges, told-of_row, drawn-of_row, one_is}
 use Rattle.cr_book.proofs.OpeningLegal.{MayAdd}
 use Rattle.cr_base.specs.Rows.{rows_of, IsBoundedEntry}
 use Rattle.cr_base.specs.Tables.{Tables, tables_of}
@@ -64,7 +62,10 @@ use Rattle.cr_history.specs.Invariants.{IsRegistered}
 use Rattle.cr_policy.specs.View.{view}
 use Rattle.cr_policy.proofs.LegalLaws.{Legal-fits, Legal-judge}
 use Rattle.cr_history.proofs.LineTies.{accounts_of-tables}
-use Rattle.cr_book.specs.Rebuilding.{name_told, giver_told, command_told, user_command_told, is_known, authors_told, drawn_told, drawn_by_rows}
+use Rattle.cr_base.specs.Bulk.{IsRowCommand}
+use Rattle.cr_book.proofs.OpeningRowCommands.{row-adds}
+use Rattle.cr_book.specs.BulkRebuilding.{is_of_row, IsDrawn}
+use Rattle.cr_book.specs.Rebuilding.{name_told, giver_told, command_told, paper_command_told, user_command_told, is_known, authors_told, drawn_told, drawn_by_rows}
 
 -- ---- who is known
 
@@ -86,7 +87,7 @@ any-line H user [] = refl
 any-line H user (r ∷ rs) = ap (λ b. eqb r.user user || b) (any-line H user rs)
 
 -- a user has registered exactly where she is known by the tables
-registered-known : (H : History) (user : ℕ) → Legal H → list_any (λ (r : Registration). eqb r.user user) (all_told registration_told H)
+pub registered-known : (H : History) (user : ℕ) → Legal H → list_any (λ (r : Registration). eqb r.user user) (all_told registration_told H)
     ≡ is_known (tables_of H) (Some user)
 registered-known H user legal =
     let lines : List AccountLine = lines_of (tables_of H).accounts in
@@ -205,6 +206,21 @@ module _ (t : Tables) (once : AreNamedOnce t.accounts) (user : ℕ) (known : is_
 
 -- ---- all other groups
 
+-- the command of an entry that a row of a bulk adds as well is its maker's, and tells no co-authors
+row-giver : (user : ℕ) (e : Entry) → is_of_row e ≡ true → giver_told user e ≡ Some user
+row-giver user (Conflict paper v on) of_row = refl
+row-giver user (Assigned paper v kind ordinal) of_row = refl
+row-giver user (Unassigned paper v ordinal) of_row = refl
+row-giver user (Tagged paper tag on) of_row = refl
+row-giver user e of_row = absurd (true≢false (sym of_row))
+
+row-command : (t : Tables) (authors : List (Option (List ℕ))) (e : Entry) → is_of_row e ≡ true → command_told t authors e ≡ paper_command_told t e
+row-command t authors (Conflict paper v on) of_row = refl
+row-command t authors (Assigned paper v kind ordinal) of_row = refl
+row-command t authors (Unassigned paper v ordinal) of_row = refl
+row-command t authors (Tagged paper tag on) of_row = refl
+row-command t authors e of_row = absurd (true≢false (sym of_row))
+
 module _ (t : Tables) (rows : List Row) (drawn : Drawn) (begins : take (length rows) (rows_of drawn.group) ≡ rows) where
   -- a group of one entry
   told-single : (user : ℕ) (e : Entry) (command : Command) (given : Drawn) → given.group ≡ grouped user (e ∷ []) → given ≡ drawn → giver_told user e
@@ -259,100 +275,15 @@ module _ (t : Tables) (rows : List Row) (drawn : Drawn) (begins : take (length r
             told-single user (Named v role) (Name (Some name) role) (naming_drawn user v name role) refl (ap (λ (o : Option ℕ). naming_drawn user (unwrap_or o 0) name role) (sym is) ∙ k.1) refl known
             (ap (option_map (λ (n : List ℕ). Name (Some n) role)) (named t name v (sym (number_in-lines_of t.accounts name) ∙ is))) accepted
 
-    -- the user of a name, and the paper and the user whom a command names
-    abbrev found : Option (List ℕ) → Option ℕ
-    found name = user_among (lines_of t.accounts) name
+    -- a command that a row of a bulk may tell as well
+    row-told : (command : Command) → IsRowCommand command → judge_by_role t (Some user) command ≡ Ok drawn → Told t rows drawn
+    row-told command of_row accepted =
+        let one = row-adds t user drawn command of_row accepted in
+        told-single user one.entry command drawn one.group_is refl (row-giver user one.entry one.of_row) known
+        (row-command t (authors_told t user rows) one.entry one.of_row ∙ one.told) accepted
 
     abbrev named_paper : Option ℕ → NamedPaper
     named_paper paper = paper_named (facts_of_tables t (Some user)) (shown_in_tables t) paper
-
-    abbrev named_user : Option ℕ → Option ℕ → Option Target
-    named_user paper target = target_named (facts_of_tables t (Some user)) (shown_in_tables t) (Some user) paper target
-
-    -- A command that names a user on a paper, with its rules, which want both to be there, and with what it draws: one entry,
-    -- which tells the command.
-    record OnPaper : Type 0 where
-      made : Option ℕ → Option (List ℕ) → Command
-      entry : ℕ → ℕ → Entry
-      checks : Option ℕ → Option ℕ → List Check
-      draws : Option ℕ → Option ℕ → Drawn
-      judges : (paper : Option ℕ) (name : Option (List ℕ))
-          → judge_by_role t (Some user) (made paper name) ≡ judged (checks paper (found name)) (draws paper (found name))
-      no_paper : (target : Option ℕ) → NoneBroken (checks None target) → ⊥
-      no_user : (p : ℕ) → NoneBroken (checks (Some p) None) → ⊥
-      group : (p v : ℕ) → (draws (Some p) (Some v)).group ≡ grouped user (entry p v ∷ [])
-      given : (p v : ℕ) → giver_told user (entry p v) ≡ Some user
-      tells : (p v : ℕ) → command_told t (authors_told t user rows) (entry p v) ≡ option_map (λ (n : List ℕ). made (Some p) (Some n)) (name_told t v)
-
-    on-paper-told : (c : OnPaper) (paper : Option ℕ) (name : Option (List ℕ)) → judge_by_role t (Some user) (c.made paper name) ≡ Ok drawn → Told t rows drawn
-    on-paper-told c paper name accepted =
-        by paper name accepted (judged-Ok (c.checks paper (found name)) (c.draws paper (found name)) drawn (sym (c.judges paper name) ∙ accepted))
-      where
-        of_user : (p : ℕ) (name : List ℕ) → judge_by_role t (Some user) (c.made (Some p) (Some name)) ≡ Ok drawn
-            → (target : Option ℕ) → found (Some name) ≡ target
-            → NoneBroken (c.checks (Some p) target) × (c.draws (Some p) target ≡ drawn) → Told t rows drawn
-        of_user p name accepted None is kept = absurd (c.no_user p kept.0)
-        of_user p name accepted (Some v) is kept =
-            let found_by = named t name v (sym (number_in-lines_of t.accounts name) ∙ is) in
-            told-single user (c.entry p v) (c.made (Some p) (Some name)) (c.draws (Some p) (Some v)) (c.group p v) kept.1 (c.given p v) known
-            (c.tells p v ∙ ap (option_map (λ (n : List ℕ). c.made (Some p) (Some n))) found_by) accepted
-
-        by : (paper : Option ℕ) (name : Option (List ℕ)) → judge_by_role t (Some user) (c.made paper name) ≡ Ok drawn
-            → NoneBroken (c.checks paper (found name)) × (c.draws paper (found name) ≡ drawn) → Told t rows drawn
-        by None name accepted kept = absurd (c.no_paper (found name) kept.0)
-        by (Some p) None accepted kept = absurd (c.no_user p kept.0)
-        by (Some p) (Some name) accepted kept = of_user p name accepted (found (Some name)) refl kept
-
-    abbrev conflict : Bool → OnPaper
-    conflict on = record {
-      made = λ paper name. SetConflict paper name on;
-      entry = λ p v. Conflict p v on;
-      checks = λ paper target. conflict_checks (standing_at t (Some user) paper) (named_paper paper) (named_user paper target) on;
-      draws = λ paper target. conflict_drawn user (unwrap_or paper 0) (unwrap_or target 0) on;
-      judges = λ paper name. refl;
-      no_paper = λ target none. true≢false none.0;
-      no_user = λ p none. true≢false none.1.0;
-      group = λ p v. refl;
-      given = λ p v. refl;
-      tells = λ p v. refl;
-    }
-
-    abbrev labels : Option ℕ → ℕ
-    labels paper = labels_in t.seats (unwrap_or paper 0)
-
-    abbrev assignment : Kind → OnPaper
-    assignment kind = record {
-      made = λ paper name. Assign paper name kind;
-      entry = λ p v. Assigned p v kind (labels (Some p) + 1);
-      checks = λ paper target. assign_checks (standing_at t (Some user) paper) (named_paper paper) (named_user paper target) (labels paper);
-      draws = λ paper target. assignment_drawn user (unwrap_or paper 0) (unwrap_or target 0) kind (labels paper + 1);
-      judges = λ paper name. refl;
-      no_paper = λ target none. true≢false none.0;
-      no_user = λ p none. true≢false none.1.0;
-      group = λ p v. refl;
-      given = λ p v. refl;
-      tells = λ p v. refl;
-    }
-
-    abbrev seat : Option ℕ → Option ℕ → Option ℕ
-    seat paper target = seat_in t.seats target (unwrap_or paper 0)
-
-    abbrev written : Option ℕ → Option ℕ → Bool
-    written paper target = at_some (is_written_in t.reviews (unwrap_or paper 0)) (seat paper target)
-
-    abbrev unassignment : OnPaper
-    unassignment = record {
-      made = Unassign;
-      entry = λ p v. Unassigned p v (unwrap_or (seat (Some p) (Some v)) 0);
-      checks = λ paper target. unassign_checks (standing_at t (Some user) paper) (named_paper paper) (named_user paper target) (written paper target);
-      draws = λ paper target. unassignment_drawn user (unwrap_or paper 0) (unwrap_or target 0) (unwrap_or (seat paper target) 0);
-      judges = λ paper name. refl;
-      no_paper = λ target none. true≢false none.0;
-      no_user = λ p none. true≢false none.1.0;
-      group = λ p v. refl;
-      given = λ p v. refl;
-      tells = λ p v. refl;
-    }
 
     -- What is done to a paper without naming a user wants the paper to be there. It adds one entry, which tells the command.
     paper-told : (paper : Option ℕ) (made : Option ℕ → Command) (entry : ℕ → Entry) (checks : ℕ → List Check) (draws : ℕ → Drawn)
@@ -417,11 +348,6 @@ module _ (t : Tables) (rows : List Row) (drawn : Drawn) (begins : take (length r
         n : ℕ → ℕ
         n p = length (map comment_as_told (comments_in t.talk p)) + 1
 
-    tag-told : (paper : Option ℕ) (tag : List ℕ) (on : Bool) → judge_by_role t (Some user) (Tag paper tag on) ≡ Ok drawn → Told t rows drawn
-    tag-told paper tag on =
-        paper-told paper (λ paper. Tag paper tag on) (λ p. Tagged p tag on) (λ p. tag_checks (standing p) (named_paper (Some p)) (is_for_chairs tag))
-        (λ p. tag_drawn user p tag on) refl (λ p. (refl, refl, refl, refl))
-
     decision-told : (paper : Option ℕ) (decision : Decision) → judge_by_role t (Some user) (Decide paper decision) ≡ Ok drawn → Told t rows drawn
     decision-told paper decision =
         paper-told paper (λ paper. Decide paper decision) (λ p. Decided p decision) (λ p. decide_checks (standing p) (named_paper (Some p)))
@@ -470,17 +396,17 @@ accepted-told H call drawn r behind legal allowed accepted begins bounded = by c
     by (Some user) (Withdraw paper) is within judges = withdrawal-told t rows drawn begins user (registered user is) paper judges
     by (Some user) (Name name role) is within judges = name-told t rows drawn begins user (registered user is) name role judges
     by (Some user) (SetConflict paper name on) is within judges =
-        on-paper-told t rows drawn begins user (registered user is) (conflict t rows drawn begins user (registered user is) on) paper name judges
+        row-told t rows drawn begins user (registered user is) (SetConflict paper name on) tt judges
     by (Some user) (commands.Bid paper value) is within judges = bid-told t rows drawn begins user (registered user is) paper value judges
     by (Some user) (Assign paper name kind) is within judges =
-        on-paper-told t rows drawn begins user (registered user is) (assignment t rows drawn begins user (registered user is) kind) paper name judges
+        row-told t rows drawn begins user (registered user is) (Assign paper name kind) tt judges
     by (Some user) (Unassign paper name) is within judges =
-        on-paper-told t rows drawn begins user (registered user is) (unassignment t rows drawn begins user (registered user is)) paper name judges
+        row-told t rows drawn begins user (registered user is) (Unassign paper name) tt judges
     by (Some user) (Review paper form) is within judges = review-told t rows drawn begins user (registered user is) paper form judges
     by (Some user) (Comment paper text) is within judges = comment-told t rows drawn begins user (registered user is) paper text judges
     by (Some user) (Tag paper tag on) is within judges =
         let made = subst (λ (login : Bool). CallsAs H login (Some user)) (tags-login paper tag on) is in
-        tag-told t rows drawn begins user (registered user made) paper tag on judges
+        row-told t rows drawn begins user (registered user made) (Tag paper tag on) tt judges
     by (Some user) (Decide paper decision) is within judges = decision-told t rows drawn begins user (registered user is) paper decision judges
 
 -- ---- the call of an entry
@@ -491,12 +417,6 @@ record Judges (t : Tables) (authors : List (Option (List ℕ))) (first : Stamped
   command : Command
   told : command_told t authors first.entry ≡ Some command
   judged : judge_by_role t (giver_told first.maker first.entry) command ≡ Ok drawn
-
-none_some : {A : Type 0} (x : A) → None ≡ Some x → ⊥
-none_some x e = cc (e)
-
-some_is : {A : Type 0} (x y : A) → Some x ≡ Some y → x ≡ y
-some_is x y e = cc (e)
 
 told-judges : (t : Tables) (authors : List (Option (List ℕ))) (first : Stamped) (drawn : Drawn) → drawn_told t authors first ≡ Some drawn
     → Judges t authors first drawn
@@ -520,11 +440,6 @@ member_named : (role : Role) → 1 ≤ role_number role → is_member role ≡ t
 member_named roles.Account h = absurd (omega (arith, h))
 member_named roles.Member h = refl
 member_named roles.Chair h = refl
-
--- the command of an entry that names a user
-told-name : (o : Option (List ℕ)) (made : List ℕ → Command) (command : Command) → option_map made o ≡ Some command → (name : List ℕ) × (made name ≡ command)
-told-name None made command e = absurd (none_some command e)
-told-name (Some name) made command e = (name, some_is (made name) command e)
 
 module _ (H : History) (legal : Legal H) where
   abbrev t : Tables
@@ -560,8 +475,8 @@ module _ (H : History) (legal : Legal H) where
       → ((name : List ℕ) → IsAllowed H (record { caller = Some maker; command = naming name })) → option_map naming (name_told t user) ≡ Some command
       → IsAllowed H (record { caller = Some maker; command = command })
   naming-allowed maker user command naming allowed told =
-      let name = told-name (name_told t user) naming command told in
-      subst (λ (c : Command). IsAllowed H (record { caller = Some maker; command = c })) name.1 (allowed name.0)
+      let name = with-name (name_told t user) naming command told in
+      subst (λ (c : Command). IsAllowed H (record { caller = Some maker; command = c })) name.2 (allowed name.0)
 
   -- a user's is allowed, where the entry is within its bounds
   user-allowed : (authors : List (Option (List ℕ))) (maker : ℕ) (more : Bool) (e : Entry) (command : Command)
@@ -621,3 +536,15 @@ module _ (H : History) (legal : Legal H) where
         accepted = Legal-judge caller H j.command legal ∙ j.judged;
         group_is = refl;
       }
+
+  -- and what one row of a bulk adds, its command does
+  pub drawn-adds : (user : ℕ) (e : Entry) → IsBoundedEntry (record { maker = user; more = false; entry = e }) → is_known t (Some user) ≡ true → IsDrawn t user e
+      → MayAdd H (grouped user (e ∷ []))
+  drawn-adds user e bounded known d =
+      let first : Stamped = record { maker = user; more = false; entry = e } in
+      let of_row = told-of_row t e d.command d.told in
+      let told : paper_command_told t e ≡ Some d.command = ap (λ (b : Bool). cond b (paper_command_told t e) None) (sym of_row) ∙ d.told in
+      let judges = (row-judges t user d.command d.drawn d.accepted).1 in
+      let added = told-adds [] first d.drawn bounded (told-judged t [] first (Some user) d.command (Ok d.drawn) (row-giver user e of_row) known (row-command t [] e of_row ∙ told) judges) in
+      let one = row-adds t user d.drawn d.command (drawn-of_row t e d.command d.told) judges in
+      subst (λ (g : History). MayAdd H g) (one.group_is ∙ ap (λ (x : Entry). grouped user (x ∷ [])) (one_is one.entry e (ap entries_of (sym one.group_is) ∙ d.adds))) added

@@ -1,16 +1,17 @@
 -- What is so of rows that are read one behind another: where they begin a group, and where none.
-use Rattle.std.proofs.Common.{cond, ◌≡◌, ◌≤◌, ◌<◌, ◌⊎◌, inl, inr, List, [], ◌∷◌, ◌++◌, length, take, drop, suc, refl, sym, ap, subst, ◌∙◌, arith, append_assoc, append-nil, IfSome, Ok}
-use Rattle.std.specs.Prelude.{slice_get}
+use Rattle.std.proofs.Common.{true, false, cond, ◌≡◌, ◌≤◌, ◌<◌, List, [], ◌∷◌, ◌++◌, length, take, drop, suc, refl, sym, ap, subst, ◌∙◌, arith, append_assoc, append-nil, IfSome, Ok}
+use Rattle.std.specs.Prelude.{Bool, slice_get, IsTrue, ◌↔◌}
+use Rattle.std.proofs.lemmas.Bool.{true≢false}
 use Rattle.std.specs.List.{AllByRecursion}
-use Rattle.std.proofs.lemmas.List.{append_cancel_left, take_all, take-append-drop}
-use Rattle.std.proofs.lemmas.List.Elements.{recursion_from_All}
+use Rattle.std.proofs.lemmas.List.{take_all, take-append-drop}
 use Rattle.cr_base.specs.declared.entry.Stamped.{Stamped}
 use Rattle.cr_base.specs.declared.row.Row.{Row}
 use Rattle.cr_base.specs.History.{History}
 use Rattle.cr_base.specs.Rows.{row_of, rows_of, IsBoundedEntry}
-use Rattle.cr_base.specs.Tables.{Tables, tables_of, tables_from}
+use Rattle.cr_base.specs.Tables.{Tables, tables_of, tables_from, FitInTurn}
+use Rattle.cr_view.specs.Rows.{AreEarlier}
 use Rattle.cr_policy.specs.Legal.{Legal}
-use Rattle.cr_policy.proofs.LegalLaws.{Legal-accepted, legal_invariants}
+use Rattle.cr_policy.proofs.LegalLaws.{Legal-accepted}
 use Rattle.cr_history.proofs.TableTies.{tables_of-append, rows_of-append}
 use Rattle.cr_book.specs.Opening.{Continue}
 use Rattle.cr_book.specs.Reading.{IsOpen, IsGroup, IsReading, IsGoing, IsRowRefused}
@@ -22,14 +23,13 @@ use Rattle.cr_policy.specs.Legal.{Call, IsAllowed}
 use Rattle.cr_policy.specs.View.{view}
 use Rattle.cr_book.specs.Rebuilding.{authors_told, drawn_by_rows, IsBegun, NoneBegun}
 use Rattle.cr_book.proofs.OpeningRows.{head_is, tail_is, rows-split, group-covers}
-use Rattle.cr_book.proofs.OpeningLegal.{MayAdd, may_add-group, Next, legal-next, next-extends}
+use Rattle.cr_book.specs.BulkRebuilding.{begins_bulk, GoesOn, NoBulk, is_of_bulk}
+use Rattle.cr_book.proofs.OpeningBulkRows.{call-of, bulk-refused, bulk-last, bulk-more}
+use Rattle.cr_book.proofs.OpeningLegal.{MayAdd, may_add-group}
+use Rattle.cr_book.proofs.OpeningOnward.{legal-bounded, first-bounded, Onward, onward}
 use Rattle.cr_book.proofs.OpeningCommands.{Told, accepted-told, told-adds}
 
 -- ---- legal histories and their rows
-
--- the entries of a legal history have rows
-pub legal-bounded : (H : History) → Legal H → AllByRecursion IsBoundedEntry H
-legal-bounded H legal = recursion_from_All IsBoundedEntry H (legal_invariants H legal).bounded
 
 -- one legal history has its rows
 pub one_history : (G H : History) → Legal G → Legal H → rows_of H ≡ rows_of G → H ≡ G
@@ -50,7 +50,7 @@ may_add-legal : (log group : History) → Legal log → MayAdd log group → Leg
 may_add-legal log group legal add = subst (λ (g : History). Legal (log ++ g)) (sym add.group_is) (Legal-accepted log add.call.caller add.call.command add.drawn legal add.allowed add.accepted)
 
 -- a group that is begun goes on the history
-pub begun-going : (log : History) (t : Tables) (pending rows : List Row) (group : History) → IsReading log t pending → IsBegun t rows group → IsGoing log t rows group
+pub begun-going : (log : History) (t : Tables) (pending rows : List Row) (group : History) → IsReading log t pending [] → IsBegun t rows group → IsGoing log t rows group
 begun-going log t pending rows group reading begun =
     let told : drawn_by_rows (tables_of log) rows begun.first ≡ _ = ap (λ (x : Tables). drawn_by_rows x rows begun.first) (sym reading.same) ∙ begun.told in
     let authors = authors_told (tables_of log) begun.first.maker rows in
@@ -70,59 +70,53 @@ first-none : (t : Tables) (pending : List Row) (row : Row) (first : Stamped) (re
 first-none t [] row first rest after e none = subst (λ (r : Row). NoneBegun t r (row ∷ [])) (let h : row ≡ row_of first = cc (e) in h) none
 first-none t (p ∷ ps) row first rest after e none = subst (λ (r : Row). NoneBegun t r (p ∷ (ps ++ row ∷ []))) (let h : p ≡ row_of first = cc (e) in h) none
 
-some_rows : (pending : List Row) (row : Row) (after : List Row) → [] ≡ (pending ++ row ∷ []) ++ after → ⊥
-some_rows [] row after e = cc (e)
-some_rows (p ∷ ps) row after e = cc (e)
+-- the first entry of a group whose rows begin so begins no bulk of more than one row, where the rows don't
+single-first : (pending : List Row) (row : Row) (first : Stamped) (rest after : List Row) → IsBoundedEntry first → NoBulk (pending ++ row ∷ [])
+    → row_of first ∷ rest ≡ (pending ++ row ∷ []) ++ after → begins_bulk first ≡ false
+single-first [] row first rest after bounded none e = none first bounded (head_is (row_of first) row rest after e)
+single-first (p ∷ ps) row first rest after bounded none e = none first bounded (head_is (row_of first) p rest ((ps ++ row ∷ []) ++ after) e)
 
--- where no command's group begins with the rows behind the history, no legal history goes on with them
-pub none-begun : (log : History) (t : Tables) (pending : List Row) (row : Row) → IsReading log t pending → IfSome (slice_get (pending ++ row ∷ []) 0) (λ r. NoneBegun t r (pending ++ row ∷ [])) → Continue (rows_of log ++ (pending ++ row ∷ [])) → ⊥
-none-begun log t pending row reading none goes = or (legal-next log goes.history split.0 reading.legal goes.legal split.1)
+-- where no command's group begins with the rows behind the history, and they are no bulk's, no legal history goes on with them
+pub none-begun : (log : History) (t : Tables) (pending : List Row) (row : Row) → IsReading log t pending [] → NoBulk (pending ++ row ∷ [])
+    → IfSome (slice_get (pending ++ row ∷ []) 0) (λ r. NoneBegun t r (pending ++ row ∷ [])) → Continue (rows_of log ++ (pending ++ row ∷ [])) → ⊥
+none-begun log t pending row reading no_bulk none goes =
+    first told.first told.given (subst (λ (g : History). AllByRecursion IsBoundedEntry g) told.group_is bounded).0 refl (ap (λ (x : Tables). drawn_by_rows x rows told.first) reading.same ∙ told.told) told.begins
   where
     rows : List Row
     rows = pending ++ row ∷ []
 
-    split : (tail : History) × (goes.history ≡ log ++ tail) × (rows_of tail ≡ rows ++ goes.after)
-    split = rows-split log goes.history (rows ++ goes.after) (legal-bounded log reading.legal) (legal-bounded goes.history goes.legal) (goes.rows_are ∙ append_assoc (rows_of log) rows goes.after)
+    on : Onward log rows
+    on = onward log pending row reading.legal goes
 
-    nothing : log ≡ goes.history → split.0 ≡ []
-    nothing same = append_cancel_left log split.0 [] (sym split.1 ∙ sym same ∙ sym (append-nil log))
+    begins : rows_of on.group ++ rows_of on.further ≡ rows ++ on.after
+    begins = sym (rows_of-append on.group on.further) ∙ on.spelled
 
-    begins : (next : Next log goes.history) → rows_of next.group ++ rows_of (next-extends log goes.history next).0 ≡ rows ++ goes.after
-    begins next =
-        let further = next-extends log goes.history next in
-        let tail : split.0 ≡ next.group ++ further.0 = append_cancel_left log split.0 (next.group ++ further.0) (sym split.1 ∙ further.1 ∙ append_assoc log next.group further.0) in
-        sym (rows_of-append next.group further.0) ∙ ap rows_of (sym tail) ∙ split.2
+    begins_as : (first : Stamped) (rest : History) → on.group ≡ first ∷ rest → row_of first ∷ (rows_of rest ++ rows_of on.further) ≡ rows ++ on.after
+    begins_as first rest is = ap (λ (g : History). rows_of g ++ rows_of on.further) (sym is) ∙ begins
 
-    or : (log ≡ goes.history) ⊎ Next log goes.history → ⊥
-    or (inl same) = some_rows pending row goes.after (ap rows_of (sym (nothing same)) ∙ split.2)
-    or (inr next) =
-        let add = next.add in
-        let further = (next-extends log goes.history next).0 in
-        let b = begins next in
-        let covered = group-covers next.group pending row (rows_of further) goes.after (may_add-group log next.group add) reading.unfinished b in
-        let bounded = subst (λ (g : History). AllByRecursion IsBoundedEntry g) add.group_is (group-bounded next) in
-        let told : Told (tables_of log) rows add.drawn = begun-told pending log add.call add.drawn reading.legal add.allowed add.accepted (ap (λ (g : History). take (length rows) (rows_of g)) (sym add.group_is) ∙ covered) bounded in
-        let whole : next.group ≡ told.first ∷ told.rest = add.group_is ∙ told.group_is in
-        let first = first-none t pending row told.first (rows_of told.rest ++ rows_of further) goes.after (ap (λ (g : History). rows_of g ++ rows_of further) (sym whole) ∙ b) none in
-        first told.first told.given (subst (λ (g : History). AllByRecursion IsBoundedEntry g) told.group_is bounded).0 refl (ap (λ (x : Tables). drawn_by_rows x rows told.first) reading.same ∙ told.told) told.begins
-      where
-        begun-told : (pending : List Row) (log : History) (call : Call) (drawn : Drawn) → Legal log → IsAllowed log call → judge call.caller (view call.caller log) call.command ≡ Ok drawn
-            → take (length (pending ++ row ∷ [])) (rows_of drawn.group) ≡ pending ++ row ∷ [] → AllByRecursion IsBoundedEntry drawn.group → Told (tables_of log) (pending ++ row ∷ []) drawn
-        begun-told [] log call drawn legal allowed accepted begins bounded = accepted-told log call drawn row [] legal allowed accepted begins bounded
-        begun-told (p ∷ ps) log call drawn legal allowed accepted begins bounded = accepted-told log call drawn p (ps ++ row ∷ []) legal allowed accepted begins bounded
+    group_bounded : AllByRecursion IsBoundedEntry on.group
+    group_bounded = first-bounded on.group on.further on.bounded
 
-        part : (G H : History) → AllByRecursion IsBoundedEntry (G ++ H) → AllByRecursion IsBoundedEntry H
-        part [] H all = all
-        part (e ∷ G) H all = part G H all.1
+    add : MayAdd log on.group
+    add = call-of log on.group reading.legal on.move group_bounded
+        (λ first rest is. single-first pending row first (rows_of rest ++ rows_of on.further) on.after (subst (λ (g : History). AllByRecursion IsBoundedEntry g) is group_bounded).0 no_bulk (begins_as first rest is))
 
-        front : (G H : History) → AllByRecursion IsBoundedEntry (G ++ H) → AllByRecursion IsBoundedEntry G
-        front [] H all = tt
-        front (e ∷ G) H all = (all.0, front G H all.1)
+    covered : take (length rows) (rows_of on.group) ≡ rows
+    covered = group-covers on.group pending row (rows_of on.further) on.after (may_add-group log on.group add) reading.unfinished begins
 
-        group-bounded : (next : Next log goes.history) → AllByRecursion IsBoundedEntry next.group
-        group-bounded next =
-            let further = next-extends log goes.history next in
-            front next.group further.0 (part log (next.group ++ further.0) (subst (λ (h : History). AllByRecursion IsBoundedEntry h) (further.1 ∙ append_assoc log next.group further.0) (legal-bounded goes.history goes.legal)))
+    bounded : AllByRecursion IsBoundedEntry add.drawn.group
+    bounded = subst (λ (g : History). AllByRecursion IsBoundedEntry g) add.group_is group_bounded
+
+    begun-told : (pending : List Row) (log : History) (call : Call) (drawn : Drawn) → Legal log → IsAllowed log call → judge call.caller (view call.caller log) call.command ≡ Ok drawn
+        → take (length (pending ++ row ∷ [])) (rows_of drawn.group) ≡ pending ++ row ∷ [] → AllByRecursion IsBoundedEntry drawn.group → Told (tables_of log) (pending ++ row ∷ []) drawn
+    begun-told [] log call drawn legal allowed accepted begins bounded = accepted-told log call drawn row [] legal allowed accepted begins bounded
+    begun-told (p ∷ ps) log call drawn legal allowed accepted begins bounded = accepted-told log call drawn p (ps ++ row ∷ []) legal allowed accepted begins bounded
+
+    told : Told (tables_of log) rows add.drawn
+    told = begun-told pending log add.call add.drawn reading.legal add.allowed add.accepted (ap (λ (g : History). take (length rows) (rows_of g)) (sym add.group_is) ∙ covered) bounded
+
+    first : NoneBegun t (row_of told.first) rows
+    first = first-none t pending row told.first (rows_of told.rest ++ rows_of on.further) on.after (begins_as told.first told.rest (add.group_is ∙ told.group_is)) none
 
 -- ---- a group that is begun, and its rows
 
@@ -141,8 +135,9 @@ group-opens (e ∷ e' ∷ g) (r ∷ rows) ig b few = (
 )
 
 -- the reading goes on, where more rows of the group are to come
-pub going-on : (log : History) (t : Tables) (rows : List Row) (group : History) → IsGoing log t rows group → length rows < length group → IsReading log t rows
-going-on log t rows group going few = record {
+pub going-on : (log : History) (t : Tables) (rows : List Row) (group begun : History) → IsGoing log t rows group → length rows < length group → NoBulk rows → begun ≡ []
+    → IsReading log t rows begun
+going-on log t rows group begun going few no_bulk none = subst (λ (h : History). IsReading log t rows h) (sym none) (record {
   legal = going.legal;
   same = going.same;
   unfinished = group-opens group rows going.whole going.begins few;
@@ -154,15 +149,17 @@ going-on log t rows group going few = record {
         ∙ ap (λ (x : List Row). rows_of log ++ x) (sym (take-append-drop (length rows) (rows_of group)) ∙ ap (λ (x : List Row). x ++ drop (length rows) (rows_of group)) going.begins)
         ∙ sym (append_assoc (rows_of log) rows (drop (length rows) (rows_of group)));
   };
-}
+  bulk = no_bulk;
+})
 
 -- all rows of the group are there
 whole-rows : (rows : List Row) (group : History) → take (length rows) (rows_of group) ≡ rows → length group ≤ length rows → rows_of group ≡ rows
 whole-rows rows group begins all = let n = length-rows group in sym (take_all (length rows) (rows_of group) (omega (arith, n, all))) ∙ begins
 
 -- then the group is added, and no row is left
-pub going-whole : (log items : History) (t now : Tables) (rows left : List Row) (group : History) → IsGoing log t rows group → items ≡ log ++ group → now ≡ tables_from t group → left ≡ [] → IsReading items now left
-going-whole log items t now rows left group going is_items is_now is_left = record {
+pub going-whole : (log items : History) (t now : Tables) (rows left : List Row) (group begun : History) → IsGoing log t rows group → items ≡ log ++ group → now ≡ tables_from t group → left ≡ []
+    → begun ≡ [] → IsReading items now left begun
+going-whole log items t now rows left group begun going is_items is_now is_left none = subst (λ (h : History). IsReading items now left h) (sym none) (record {
   legal = subst (λ (x : History). Legal x) (sym is_items) going.next;
   same = is_now ∙ ap (λ (x : Tables). tables_from x group) going.same ∙ sym (tables_of-append log group) ∙ ap tables_of (sym is_items);
   unfinished = subst (λ (x : List Row). AllByRecursion IsOpen x) (sym is_left) tt;
@@ -172,7 +169,8 @@ going-whole log items t now rows left group going is_items is_now is_left = reco
     after = [];
     rows_are = sym (append-nil (rows_of items)) ∙ ap (λ (x : List Row). rows_of items ++ x) (sym is_left) ∙ sym (append-nil (rows_of items ++ left));
   };
-}
+  bulk = subst (λ (x : List Row). NoBulk x) (sym is_left) tt;
+})
 
 pub going-rows : (log items : History) (t : Tables) (rows left : List Row) (group : History) → IsGoing log t rows group → length group ≤ length rows → items ≡ log ++ group → left ≡ [] → rows_of items ++ left ≡ rows_of log ++ rows
 going-rows log items t rows left group going all is_items is_left =
@@ -183,8 +181,52 @@ going-rows log items t rows left group going all is_items is_left =
     ∙ ap (λ (x : List Row). rows_of log ++ x) (whole-rows rows group going.begins all)
 
 -- a row with which none is begun is refused
-pub refused-row : (log : History) (t : Tables) (pending rows : List Row) (row : Row) (error : ReadError) → IsReading log t pending → rows ≡ pending ++ row ∷ [] → IfSome (slice_get rows 0) (λ r. NoneBegun t r rows) → error ≡ errors.Bad row → IsRowRefused (rows_of log ++ pending) row error
-refused-row log t pending rows row error reading is none bad =
+pub refused-row : (log : History) (t : Tables) (pending rows : List Row) (row : Row) (error : ReadError) → IsReading log t pending [] → rows ≡ pending ++ row ∷ [] → NoBulk rows
+    → IfSome (slice_get rows 0) (λ r. NoneBegun t r rows) → error ≡ errors.Bad row → IsRowRefused (rows_of log ++ pending) row error
+refused-row log t pending rows row error reading is no_bulk none bad =
     let none' = subst (λ (x : List Row). IfSome (slice_get x 0) (λ r. NoneBegun t r x)) is none in
+    let no_bulk' = subst (λ (x : List Row). NoBulk x) is no_bulk in
     subst (λ (e : ReadError). IsRowRefused (rows_of log ++ pending) row e) (sym bad)
-    (refl, reading.continue, λ goes. none-begun log t pending row reading none' (subst (λ (x : List Row). Continue x) (append_assoc (rows_of log) pending (row ∷ [])) goes))
+    (refl, reading.continue, λ goes. none-begun log t pending row reading no_bulk' none' (subst (λ (x : List Row). Continue x) (append_assoc (rows_of log) pending (row ∷ [])) goes))
+
+-- and so is the row of a bulk that doesn't go on
+pub refused-next : (log : History) (t : Tables) (pending : List Row) (begun : History) (row : Row) (next : Stamped) → IsReading log t pending begun
+    → is_of_bulk pending begun next ≡ true → IsBoundedEntry next → row_of next ≡ row → (GoesOn t begun next → ⊥) → IsRowRefused (rows_of log ++ pending) row (errors.Bad row)
+refused-next log t pending begun row next reading of bounded is not_on =
+    (refl, reading.continue, λ goes. bulk-refused log t pending begun row next reading of bounded is not_on (subst (λ (x : List Row). Continue x) (append_assoc (rows_of log) pending (row ∷ [])) goes))
+
+-- and one that is no entry's
+pub refused-none : (log : History) (t : Tables) (pending : List Row) (begun : History) (row : Row) → IsReading log t pending begun
+    → ((s : Stamped) → IsBoundedEntry s → row_of s ≡ row → ⊥) → IsRowRefused (rows_of log ++ pending) row (errors.Bad row)
+refused-none log t pending begun row reading none =
+    (refl, reading.continue, λ goes. among goes.history (rows_of log ++ pending) goes.after (legal-bounded goes.history goes.legal) (goes.rows_are ∙ append_assoc (rows_of log ++ pending) (row ∷ []) goes.after))
+  where
+    among : (H : History) (before after : List Row) → AllByRecursion IsBoundedEntry H → rows_of H ≡ before ++ row ∷ after → ⊥
+    among [] [] after all is = cc (is)
+    among [] (p ∷ before) after all is = cc (is)
+    among (s ∷ H) [] after all is = none s all.0 (head_is (row_of s) row (rows_of H) after is)
+    among (s ∷ H) (p ∷ before) after all is = among H before after all.1 (tail_is (row_of s) p (rows_of H) (before ++ row ∷ after) is)
+
+-- ---- a bulk's row by the test on it
+
+module _ (log : History) (t : Tables) (pending : List Row) (begun at_hand : History) (row : Row) (next : Stamped) (reading : IsReading log t pending begun)
+    (of : is_of_bulk pending begun next ≡ true) (bounded : IsBoundedEntry next) (is : row_of next ≡ row) (same : at_hand ≡ begun) (on : Bool) (tested : IsTrue on ↔ GoesOn t at_hand next) where
+  pub test-refused : on ≡ false → IsRowRefused (rows_of log ++ pending) row (errors.Bad row)
+  test-refused off = refused-next log t pending begun row next reading of bounded is (λ goes. true≢false (sym (tested.1 (subst (λ (h : History). GoesOn t h next) (sym same) goes)) ∙ off))
+
+  goes : on ≡ true → GoesOn t begun next
+  goes passed = subst (λ (h : History). GoesOn t h next) same (tested.0 passed)
+
+  pub test-last : on ≡ true → next.more ≡ false → IsGoing log t (pending ++ row ∷ []) (begun ++ next ∷ [])
+  test-last passed last = bulk-last log t pending begun row next reading of bounded is (goes passed) last
+
+  pub test-more : on ≡ true → (IsTrue on → AreEarlier t (at_hand ++ next ∷ [])) → next.more ≡ true → IsReading log t (pending ++ row ∷ []) (begun ++ next ∷ [])
+  test-more passed earlier more =
+      bulk-more log t pending begun row next reading of bounded is (goes passed) (subst (λ (h : History). AreEarlier t (h ++ next ∷ [])) same (earlier passed)) more
+
+  pub test-fits : on ≡ true → (IsTrue on → AreEarlier t (at_hand ++ next ∷ [])) → FitInTurn t (begun ++ next ∷ [])
+  test-fits passed earlier = (subst (λ (h : History). AreEarlier t (h ++ next ∷ [])) same (earlier passed)).fits
+
+-- a list with one more behind it, for which room was taken
+pub appended : {A : Type 0} (old room new : List A) (x : A) → new ≡ room ++ x ∷ [] → room ≡ old → new ≡ old ++ x ∷ []
+appended {A} old room new x pushes same = pushes ∙ ap (λ (xs : List A). xs ++ x ∷ []) same

@@ -1,10 +1,12 @@
 -- Users and their names, by the tables: a user has the name by which she is found, and is found by the name that she has.
 use Rattle.std.proofs.Common.{ℕ, Bool, true, false, cond, ◌≡◌, ◌≤◌, ◌<◌, ◌+◌, ◌-◌, List, [], ◌∷◌, ◌++◌, length, eqb, zero, suc, refl, sym, ap, subst, ◌∙◌, arith, Option, Some, None}
-use Rattle.std.specs.List.{slice_get, position_from}
+use Rattle.std.specs.Prelude.{nat_le, ◌&&◌}
+use Rattle.std.specs.List.{AllByRecursion, list_all, slice_get, position_from}
 use Rattle.std.specs.Option.{option_map, option_and_then}
 use Rattle.std.specs.Str.{bytes_eq}
 use Rattle.std.proofs.lemmas.Bool.{eqb-true, true≢false}
 use Rattle.std.proofs.lemmas.Bool.Decides.{nat_tests}
+use Rattle.std.proofs.lemmas.List.Elements.{recursion_from_All}
 use Rattle.std.proofs.lemmas.Slice.Eq.{bytes_eq-Decides}
 use Rattle.cr_base.specs.declared.entry.Account.{Account}
 use Rattle.cr_base.specs.declared.entry.Entry.{Entry}
@@ -18,7 +20,9 @@ use Rattle.cr_base.proofs.AccountLaws.{number_at-from, number_at-push, number_at
 use Rattle.cr_base.proofs.ChangeLaws.{where_changed, numbered-changed_at}
 use Rattle.cr_base.proofs.ListLaws.{numbered-push}
 use Rattle.cr_policy.specs.Legal.{Legal}
-use Rattle.cr_policy.proofs.LegalLaws.{Legal-fits}
+use Rattle.cr_policy.proofs.LegalLaws.{Legal-fits, legal_invariants}
+use Rattle.cr_base.specs.Rows.{IsBoundedEntry}
+use Rattle.cr_base.specs.Texts.{IsName, is_name, is_name_byte}
 use Rattle.cr_book.specs.Rebuilding.{name_told, is_taken, first_free, name_left}
 
 none_some : {A : Type 0} (x : A) → None ≡ Some x → ⊥
@@ -102,6 +106,43 @@ none-once (suc i) name told = absurd (none_some name told)
 -- by the tables of a legal history, who has a name is found by it
 pub found_by_name : (H : History) → Legal H → AreNamedOnce (tables_of H).accounts
 found_by_name H legal = once-from no_tables H (Legal-fits H legal) none-once
+
+-- ---- names that rows can tell
+
+-- each user's name is one that a row can tell
+abbrev pub AreNames : List Account → Type 0
+AreNames accounts = (user : ℕ) (name : List ℕ) → option_map (λ (a : Account). a.name) (account_at accounts user) ≡ Some name → is_name name ≡ true
+
+name-tested : (name : List ℕ) → IsName name → is_name name ≡ true
+name-tested name is = ap (λ (b : Bool). b && list_all is_name_byte name) (between (length name) is.some is.few) ∙ is.bytes
+  where
+    between : (n : ℕ) → 1 ≤ n → n ≤ 32 → (nat_le 1 n && nat_le n 32) ≡ true
+    between n low high = grind (arith, nat_tests)
+
+names-push : (accounts : List Account) (a : Account) → is_name a.name ≡ true → AreNames accounts → AreNames (accounts ++ a ∷ [])
+names-push accounts a one names v name told = by (eqb v (length accounts + 1)) (sym (ap (option_map (λ (x : Account). x.name)) (numbered-push accounts a v)) ∙ told)
+  where
+    by : (b : Bool) → option_map (λ (x : Account). x.name) (cond b (Some a) (account_at accounts v)) ≡ Some name → is_name name ≡ true
+    by true h = ap is_name (sym (some_is a.name name h)) ∙ one
+    by false h = names v name h
+
+names-after : (accounts : List Account) (maker : ℕ) (more : Bool) (e : Entry) → IsBoundedEntry (record { maker = maker; more = more; entry = e }) → AreNames accounts
+    → AreNames (accounts_after accounts e)
+names-after accounts maker more (Registered user name digest) bounded names = names-push accounts _ (name-tested name bounded.b1) names
+names-after accounts maker more (Named user role) bounded names = λ v name told. names v name (sym (name_at-with_role accounts user role v bounded.n1.0) ∙ told)
+names-after accounts maker more e bounded names = names
+
+names-from : (t : Tables) (H : History) → AllByRecursion IsBoundedEntry H → AreNames t.accounts → AreNames (tables_from t H).accounts
+names-from t [] bounded names = names
+names-from t (s ∷ H) bounded names = names-from (tables_after t s) H bounded.1 (names-after t.accounts s.maker s.more s.entry bounded.0 names)
+
+none-names : AreNames []
+none-names zero name told = absurd (none_some name told)
+none-names (suc i) name told = absurd (none_some name told)
+
+-- by the tables of a legal history, each user has a name that a row can tell
+pub row_names : (H : History) → Legal H → AreNames (tables_of H).accounts
+row_names H legal = names-from no_tables H (recursion_from_All IsBoundedEntry H (legal_invariants H legal).bounded) none-names
 
 -- ---- somebody who isn't taken
 

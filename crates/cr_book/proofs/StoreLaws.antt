@@ -1,6 +1,7 @@
 -- Rows that a keeper tells, read one behind another: what is so of all of them by what is so of each.
 use Rattle.std.proofs.Common.{ℕ, ◌≡◌, ◌+◌, ◌-◌, ◌⊎◌, inl, inr, List, [], ◌∷◌, ◌++◌, length, take, drop, cond, zero, suc, refl, sym, ap, subst, ◌∙◌, arith, add-one, append_assoc, append-nil, length-append, Option, Some, None, IfSome, Result, Ok, Err}
 use Rattle.std.specs.Prelude.{slice_get, ◌≢◌}
+use Rattle.std.proofs.Math.Seq.{take-length}
 use Rattle.std.proofs.lemmas.List.{take-append-drop}
 use Rattle.cr_base.specs.declared.row.Row.{Row}
 use Rattle.cr_base.specs.History.{History}
@@ -19,7 +20,7 @@ use Rattle.cr_book.specs.Reading.{IsRowRefused, IsCutStore, IsWholeStore, refusa
 use Rattle.cr_book.specs.Seen.{SeenBook}
 use Rattle.cr_history.specs.Invariants.{IsWhole}
 use Rattle.cr_policy.specs.Legal.{Legal}
-use Rattle.cr_policy.proofs.LegalLaws.{legal_invariants}
+use Rattle.cr_policy.proofs.LegalLaws.{Legal-whole}
 use Rattle.cr_book.proofs.OpeningLaws.{one_history}
 
 -- ---- errors that say nothing of rows
@@ -77,6 +78,11 @@ read-more None now i row before after same read at is = tt
 read-more (Some t) now i row before after same read at is =
     let here = subst (λ (o : Option (List Row)). IfSome o (λ x. slice_get x i ≡ Some row)) same at in
     is ∙ ap (λ (x : List Row). x ++ row ∷ []) read ∙ sym (next-row t i row here)
+
+-- behind the last row all of them are read
+pub all-read : (told : Option (List Row)) (read : List Row) (i count : ℕ) → IfSome told (λ t. count ≡ length t) → IfSome told (λ t. read ≡ take i t) → i ≡ count → IfSome told (λ t. read ≡ t)
+all-read None read i count counted upto is = tt
+all-read (Some t) read i count counted upto is = upto ∙ ap (λ n. take n t) (is ∙ counted) ∙ take-length t
 
 -- a row that is refused is bad in its place
 refused-bad : (t : List Row) (i : ℕ) (row : Row) (before : List Row) (error : ReadError) → before ≡ take i t → slice_get t i ≡ Some row → IsRowRefused before row error → Explains t (refusal i error)
@@ -145,7 +151,7 @@ bad-none rows at found bad H legal is = by bad.bad
     by : (Continue (take (at + 1) rows) → ⊥) ⊎ ((at + 1 ≡ length rows) × AreCutOff rows found) → ⊥
     by (inl not) = not (record { history = H; legal = legal; after = drop (at + 1) rows; rows_are = whole })
     by (inr cut) =
-        let zero = whole-last H at found (legal_invariants H legal).whole (ap (λ (x : List Row). slice_get x at) is ∙ bad.here) (cut.0 ∙ ap length (sym is)) in
+        let zero = whole-last H at found (Legal-whole H legal) (ap (λ (x : List Row). slice_get x at) is ∙ bad.here) (cut.0 ∙ ap length (sym is)) in
         let one = cut.1.more in
         omega (arith, zero, one)
 

@@ -1,5 +1,7 @@
 pub mod Opening
 pub mod Reading
+pub mod BulkRebuilding
 pub mod Rebuilding
 pub mod Seen
 pub mod Sound
+pub mod Kinds

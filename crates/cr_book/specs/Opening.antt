@@ -12,7 +12,7 @@ use Rattle.cr_book.specs.declared.opening.OpenError.TheVariants as errors
 use Rattle.cr_book.specs.Seen.{SeenBook}
 
 -- The rows continue a legal history: they are the first of one's rows. So the groups among them are legal, and what
--- stands behind the last whole group begins one that an allowed command would add.
+-- stands behind the last whole group begins one that an allowed command or bulk would add.
 pub record Continue (rows : List Row) : Type 0 where
   pub history : History
   pub legal : Legal history

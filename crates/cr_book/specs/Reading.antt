@@ -10,24 +10,27 @@ use Rattle.cr_book.specs.declared.opening.OpenError.{OpenError}
 use Rattle.cr_book.specs.declared.opening.OpenError.TheVariants as refusals
 use Rattle.cr_book.specs.declared.reading.ReadError.{ReadError}
 use Rattle.cr_book.specs.declared.reading.ReadError.TheVariants as errors
+use Rattle.cr_book.specs.BulkRebuilding.{IsBulkRead}
 use Rattle.cr_book.specs.Opening.{Continue, AreCutOff}
 
 -- another row of the same group is to come
 abbrev pub IsOpen : Row → Type 0
 IsOpen row = row.more ≡ 1
 
--- the entries of one command: each but the last is told to have another behind it
+-- the entries of one command, or of one bulk: each but the last is told to have another behind it
 abbrev pub IsGroup : History → Type 0
 IsGroup [] = ⊥
 IsGroup (e ∷ []) = IsFalse e.more
 IsGroup (e ∷ next ∷ after) = IsTrue e.more × IsGroup (next ∷ after)
 
--- the history of the whole groups is legal and the tables are its own; the rows behind them are open, and continue it
-pub record IsReading (log : History) (tables : Tables) (pending : List Row) : Type 0 where
+-- the history of the whole groups is legal and the tables are its own; the rows behind them are open, and continue it; if they are
+-- a bulk's, their entries are begun
+pub record IsReading (log : History) (tables : Tables) (pending : List Row) (begun : History) : Type 0 where
   pub legal : Legal log
   pub same : tables ≡ tables_of log
   pub unfinished : AllByRecursion IsOpen pending
   pub continue : Continue (rows_of log ++ pending)
+  pub bulk : IsBulkRead tables pending begun
 
 -- the same, where a whole group of the history continues it, and the rows are its first
 pub record IsGoing (log : History) (tables : Tables) (rows : List Row) (group : History) : Type 0 where

@@ -1,5 +1,6 @@
--- What is true of every book, and what a command did to one.
-use Rattle.std.specs.Prelude.{ℕ, ◌≡◌, ◌++◌, List, Option, Ok, IfSome}
+-- What is true of every book, and what a command or a bulk did to one.
+use Rattle.std.specs.Prelude.{ℕ, ◌≡◌, ◌++◌, List, Option, Some, Ok, IfSome}
+use Rattle.cr_base.specs.declared.bulk.BulkRow.{BulkRow}
 use Rattle.cr_base.specs.declared.command.Command.{Command}
 use Rattle.cr_base.specs.declared.row.Row.{Row}
 use Rattle.cr_base.specs.declared.reply.Receipt.{Receipt}
@@ -7,7 +8,7 @@ use Rattle.cr_base.specs.History.{History}
 use Rattle.cr_base.specs.Drawn.{Drawn}
 use Rattle.cr_base.specs.Rows.{rows_of}
 use Rattle.cr_base.specs.Tables.{Tables, tables_of}
-use Rattle.cr_policy.specs.Judge.{judge}
+use Rattle.cr_policy.specs.Judge.{judge, judge_bulk}
 use Rattle.cr_policy.specs.View.{view}
 use Rattle.cr_policy.specs.Legal.{Legal}
 
@@ -15,7 +16,7 @@ use Rattle.cr_policy.specs.Legal.{Legal}
 abbrev pub IsKept : {K : Type 0} → (K → Option (List Row)) → K → History → Type 0
 IsKept rows keeper log = IfSome (rows keeper) (λ told. told ≡ rows_of log)
 
--- the history comes of commands, the tables are the history's, and so are the keeper's rows
+-- the history comes of commands and bulks, the tables are the history's, and so are the keeper's rows
 pub record IsSound {K : Type 0} (rows : K → Option (List Row)) (log : History) (tables : Tables) (keeper : K) : Type 0 where
   pub legal : Legal log
   pub same : tables ≡ tables_of log
@@ -25,5 +26,12 @@ pub record IsSound {K : Type 0} (rows : K → Option (List Row)) (log : History)
 pub record Accepts (old new : History) (caller : Option ℕ) (command : Command) (receipt : Receipt) : Type 0 where
   pub drawn : Drawn
   pub judged : judge caller (view caller old) command ≡ Ok drawn
+  pub receipt_is : receipt ≡ drawn.receipt
+  pub added : new ≡ old ++ drawn.group
+
+-- the same of a bulk
+pub record AcceptsBulk (old new : History) (user : ℕ) (rows : List BulkRow) (receipt : Receipt) : Type 0 where
+  pub drawn : Drawn
+  pub judged : judge_bulk user (view (Some user) old) rows ≡ Ok drawn
   pub receipt_is : receipt ≡ drawn.receipt
   pub added : new ≡ old ++ drawn.group

@@ -1,25 +1,33 @@
 //! The book: one history, its tables and its keeper.
 ghost use Rattle.std.specs.Prelude.{◌≡◌, ◌≢◌, ◌≤◌, ◌++◌, ℕ, length};
 ghost use Rattle.std.specs.Prelude.{IfOk, IfErr, IsOk, OnOk, OnErr, IfSome, Ok, Err, None, Some};
+ghost use Rattle.cr_base.specs.declared.bulk.Broken.{Broken};
+ghost use Rattle.cr_base.specs.declared.reply.Receipt.TheVariants as receipts;
 ghost use Rattle.cr_base.specs.declared.reply.Rule.{Rule};
 ghost use Rattle.cr_base.specs.HistoryFacts.{number_of, caller_of};
 ghost use Rattle.cr_base.specs.Tables.{tables_of, FitInTurn};
-ghost use Rattle.cr_policy.specs.Judge.{judge, answer, needs_login};
+ghost use Rattle.cr_policy.specs.Judge.{judge, judge_bulk, answer, needs_login};
 ghost use Rattle.cr_policy.specs.View.{view};
 ghost use Rattle.cr_base.specs.declared.command.Query.TheVariants as queries;
-ghost use Rattle.cr_policy.specs.Legal.{Legal, IsAllowed, MayAsk};
+ghost use Rattle.cr_policy.specs.Legal.{Legal, IsAllowed, IsBulkAllowed, MayAsk};
 ghost use Rattle.cr_ports.specs.Count.{Rises};
 ghost use Rattle.cr_ports.specs.Writing.{outlet_of};
 ghost use Rattle.cr_sights.specs.Lines.{lines_text};
 ghost use Rattle.cr_sights.specs.Walks.{WritesView};
 ghost use Rattle.cr_view.specs.Draws.{drawn_by};
 ghost use Rattle.cr_view.specs.Replies.{AnswersAsDue};
+ghost use Rattle.cr_book.specs.Kinds.{count_of_kind};
 ghost use Rattle.cr_book.specs.Opening.{Opens, IsCounted};
-ghost use Rattle.cr_book.specs.Sound.{IsKept, Accepts};
+ghost use Rattle.cr_book.specs.Sound.{IsKept, Accepts, AcceptsBulk};
 
+use crate::judging::judge_bulk;
+use crate::kinds::count_of_kind;
 use crate::opening::{OpenError, read_all};
 use crate::rows::{copies_of, rows_of};
-use cr_base::{Command, Digest, Query, Receipt, Reply, Rule, Search, Short, Stamped, UserNo};
+use cr_base::{
+    Broken, BulkRows, Command, Digest, EntryKind, Query, Receipt, Reply, Report, Rule, Search,
+    Short, Stamped, UserNo,
+};
 use cr_lock::Stands;
 use cr_ports::{Keeper, KeeperError, Sink};
 use cr_sights::{ViewError, view_len, write_view};
@@ -61,15 +69,27 @@ pub enum BookError {
     OutOfMemory,
 }
 
+/// Why a bulk was not taken.
+#[derive(Clone, Copy, Debug, PartialEq, Eq)]
+pub enum BulkError {
+    /// The bulk breaks this rule as a whole, or a row of it breaks one.
+    Broken(Broken),
+    /// The keeper failed to keep what the bulk adds.
+    KeeperFault,
+    /// Out of memory.
+    OutOfMemory,
+}
+
 impl<K: Keeper> Book<K> {
     /// The book of the legal history that the keeper's rows spell; with each error the keeper is handed
     /// back. Every row is read once, in order, and the command of its group is judged again, by the same
     /// judgement and on the history before it; at each row of the group, so one of n rows costs n judgements.
     /// Only a submission's has more than two rows, 20 at most; its judgement looks up each co-author told so far.
+    /// Each row of a bulk is judged once, behind the entries of the rows before it, over which its judgement walks.
     ///
     /// `OpenError::BadStore` comes exactly where no legal history has these rows, and tells the first that
     /// is no entry's or doesn't continue a legal history, or else the last one, where another of its
-    /// command should follow. `KeeperFault` comes only where the keeper's count of faults rose, or stands
+    /// command or its bulk should follow. `KeeperFault` comes only where the keeper's count of faults rose, or stands
     /// at its last value; with all else the count is as it was, and `OutOfMemory` comes for lack of memory
     /// alone. No row changes.
     pub fn open(alloc: Global, mut keeper: K) -> Result<Book<K>, (OpenError, K)>
@@ -141,14 +161,13 @@ impl<K: Keeper> Book<K> {
         ensures legal { Legal self.new.log }
     {
         match self.live.judge(caller, command) {
-            Ok(draw) => self.keep(draw),
+            Ok(draw) => self.keep_drawn(draw),
             Err(rule) => Err(BookError::Rule(rule)),
         }
     }
 
-    /// Takes the room for what was drawn, keeps it and applies it: after the keeper has kept it nothing
-    /// can fail. The texts go into the entries, which the tables keep; rows and history share them.
-    fn keep(&mut self, draw: Draw) -> Result<Receipt, BookError>
+    /// Keeps what was drawn and applies it.
+    fn keep_drawn(&mut self, draw: Draw) -> Result<Receipt, BookError>
         requires legal { Legal (self.old.log ++ (drawn_by draw).group) }
         requires fits { FitInTurn (tables_of self.old.log) (drawn_by draw).group }
         ensures kept { IfOk result (λ receipt. (receipt ≡ (drawn_by draw).receipt) × (self.new.log ≡ self.old.log ++ (drawn_by draw).group)) }
@@ -164,26 +183,105 @@ impl<K: Keeper> Book<K> {
         let Ok(group) = draw.group(self.alloc) else {
             return Err(BookError::OutOfMemory);
         };
+        match self.keep(group) {
+            Ok(()) => Ok(receipt),
+            Err(KeeperError::Failed) => Err(BookError::KeeperFault),
+            Err(KeeperError::OutOfMemory) => Err(BookError::OutOfMemory),
+        }
+    }
+
+    /// Judges a bulk of this caller, each row behind those before it, and where no rule is broken, keeps the entries of all
+    /// rows and applies them.
+    ///
+    /// The caller is a registered user. On each error the history and the keeper's rows stay as they were: so of a bulk with
+    /// a broken row nothing is kept. What is broken is told whatever memory there is, since judging takes none; so both other
+    /// errors come only for a bulk that is accepted. `KeeperFault` comes only where the keeper's count of faults rose, or
+    /// stands at its last value; with all else the count is as it was, and `OutOfMemory` comes for lack of memory alone.
+    ///
+    /// Costs one judgement for each row, which walks over the entries of the rows before it, at most 511; the keeper is
+    /// asked once.
+    pub fn bulk(&mut self, caller: UserNo, rows: BulkRows) -> Result<Receipt, BulkError>
+        requires { IsBulkAllowed self.old.log (record { user = caller; rows = rows }) }
+
+        ensures accepted { IfOk result (λ receipt. AcceptsBulk self.old.log self.new.log caller rows receipt) }
+
+        // What is broken is told exactly where Judge gives it, and then nothing changes.
+        ensures broken { (broken : Broken) → judge_bulk caller (view (Some caller) self.old.log) rows ≡ Err broken
+            → result ≡ Err (BulkError.Broken broken) }
+        ensures only_broken { (broken : Broken) → result ≡ Err (BulkError.Broken broken)
+            → judge_bulk caller (view (Some caller) self.old.log) rows ≡ Err broken }
+        ensures broken_stays { (broken : Broken) → result ≡ Err (BulkError.Broken broken) → self.new ≡ self.old }
+
+        // The other errors come only where Judge accepts the bulk.
+        ensures memory { result ≡ Err BulkError.OutOfMemory → IsOk (judge_bulk caller (view (Some caller) self.old.log) rows) }
+        ensures lost { result ≡ Err BulkError.KeeperFault → IsOk (judge_bulk caller (view (Some caller) self.old.log) rows) }
+
+        ensures log_stays { OnErr result (self.new.log ≡ self.old.log) }
+        ensures rows_stay { OnErr result (K.rows self.new.keeper ≡ K.rows self.old.keeper) }
+        ensures fault { result ≡ Err BulkError.KeeperFault → Rises (K.faults self.old.keeper) (K.faults self.new.keeper) }
+        ensures steady { result ≢ Err BulkError.KeeperFault → K.faults self.new.keeper ≡ K.faults self.old.keeper }
+        ensures count { K.faults self.old.keeper ≤ K.faults self.new.keeper }
+        ensures legal { Legal self.new.log }
+    {
+        match judge_bulk(&self.live, caller, rows) {
+            Ok(group) => self.keep_rows(group),
+            Err(broken) => Err(BulkError::Broken(broken)),
+        }
+    }
+
+    /// Keeps the entries of a bulk and applies them.
+    fn keep_rows(&mut self, group: Vec<Stamped>) -> Result<Receipt, BulkError>
+        requires legal { Legal (self.old.log ++ group.items) }
+        requires fits { FitInTurn (tables_of self.old.log) group.items }
+        ensures kept { IfOk result (λ receipt. (receipt ≡ receipts.Rows (length group.items)) × (self.new.log ≡ self.old.log ++ group.items)) }
+        ensures none_broken { (broken : Broken) → result ≢ Err (BulkError.Broken broken) }
+        ensures log_stays { OnErr result (self.new.log ≡ self.old.log) }
+        ensures rows_stay { OnErr result (K.rows self.new.keeper ≡ K.rows self.old.keeper) }
+        ensures fault { result ≡ Err BulkError.KeeperFault → Rises (K.faults self.old.keeper) (K.faults self.new.keeper) }
+        ensures steady { result ≢ Err BulkError.KeeperFault → K.faults self.new.keeper ≡ K.faults self.old.keeper }
+        ensures count { K.faults self.old.keeper ≤ K.faults self.new.keeper }
+        ensures legal { Legal self.new.log }
+    {
+        let rows = group.len() as u64;
+        match self.keep(group) {
+            Ok(()) => Ok(Receipt::Rows { rows }),
+            Err(KeeperError::Failed) => Err(BulkError::KeeperFault),
+            Err(KeeperError::OutOfMemory) => Err(BulkError::OutOfMemory),
+        }
+    }
+
+    /// Takes the room for a group, keeps it and applies it: after the keeper has kept it nothing can fail. The texts are in the
+    /// entries, which the tables keep; rows and history share them.
+    fn keep(&mut self, group: Vec<Stamped>) -> Result<(), KeeperError>
+        requires legal { Legal (self.old.log ++ group.items) }
+        requires fits { FitInTurn (tables_of self.old.log) group.items }
+        ensures kept { OnOk result (self.new.log ≡ self.old.log ++ group.items) }
+        ensures log_stays { OnErr result (self.new.log ≡ self.old.log) }
+        ensures rows_stay { OnErr result (K.rows self.new.keeper ≡ K.rows self.old.keeper) }
+        ensures fault { result ≡ Err KeeperError.Failed → Rises (K.faults self.old.keeper) (K.faults self.new.keeper) }
+        ensures steady { result ≢ Err KeeperError.Failed → K.faults self.new.keeper ≡ K.faults self.old.keeper }
+        ensures count { K.faults self.old.keeper ≤ K.faults self.new.keeper }
+        ensures legal { Legal self.new.log }
+    {
         let Ok(rows) = rows_of(self.alloc, &group) else {
-            return Err(BookError::OutOfMemory);
+            return Err(KeeperError::OutOfMemory);
         };
         let Ok(mut entries) = copies_of(self.alloc, &group) else {
-            return Err(BookError::OutOfMemory);
+            return Err(KeeperError::OutOfMemory);
         };
         if self.live.room(&group).is_err() {
-            return Err(BookError::OutOfMemory);
+            return Err(KeeperError::OutOfMemory);
         }
         if self.log.reserve(group.len()).is_err() {
-            return Err(BookError::OutOfMemory);
+            return Err(KeeperError::OutOfMemory);
         }
         match self.keeper.append_all(&rows) {
             Ok(()) => {}
-            Err(KeeperError::Failed) => return Err(BookError::KeeperFault),
-            Err(KeeperError::OutOfMemory) => return Err(BookError::OutOfMemory),
+            Err(error) => return Err(error),
         }
         self.live.apply_all(group);
         match self.log.append(&mut entries) {
-            Ok(()) => Ok(receipt),
+            Ok(()) => Ok(()),
             Err(_) => unreachable!(),
         }
     }
@@ -198,8 +296,8 @@ impl<K: Keeper> Book<K> {
     /// assignments, `Query::Reviews` at most three walks over the paper's forms for each of its labels, of which
     /// there are at most 26, `Query::Comments` a walk over the comments on the paper with a look-up each,
     /// `Query::Content` and `Query::Version` one look-up, `Query::Search` a walk over all papers, which costs each
-    /// what `matches` of `cr_search_eval` does, `Query::Phase` nothing that grows. But for a search, the length of
-    /// texts and contents makes no difference.
+    /// what `matches` of `cr_search_eval` does, `Query::Report` what `cr_reports` says of each report, `Query::Phase` nothing
+    /// that grows. But for a search and a letter, the length of texts and contents makes no difference.
     pub fn answer(&self, caller: &Option<UserNo>, query: &Query) -> Result<Reply, AnswerError>
         requires { MayAsk self.now.log (needs_login (view None self.now.log) query.now) caller.now }
         ensures answered { AnswersAsDue result (answer caller.now (view caller.now self.now.log) query.now) }
@@ -207,6 +305,7 @@ impl<K: Keeper> Book<K> {
     {
         match query {
             Query::Search { search, only_count } => self.answer_search(caller, search, *only_count),
+            Query::Report { report } => self.answer_report(caller, report),
             _ => self.live.answer(self.alloc, caller, query),
         }
     }
@@ -225,6 +324,15 @@ impl<K: Keeper> Book<K> {
             Ok(reply) => Ok(reply),
             Err(_) => Err(AnswerError::OutOfMemory),
         }
+    }
+
+    /// A report, or the first rule that it breaks, which is told whatever memory there is; else an error only for lack of
+    /// memory.
+    fn answer_report(&self, caller: &Option<UserNo>, report: &Report) -> Result<Reply, AnswerError>
+        requires { MayAsk self.now.log (needs_login (view None self.now.log) (queries.Report report.now)) caller.now }
+        ensures { AnswersAsDue result (answer caller.now (view caller.now self.now.log) (queries.Report report.now)) }
+    {
+        cr_reports::answer(self.alloc, &self.live, caller, report)
     }
 
     /// The user whose registration has this name and this digest, and none exactly where nobody's has
@@ -257,6 +365,13 @@ impl<K: Keeper> Book<K> {
         ensures legal { Legal self.now.log }
     {
         self.log.len() as u64
+    }
+
+    /// How many entries of this kind the history has. One walk over the history; takes no memory.
+    pub fn count_of_kind(&self, kind: EntryKind) -> u64
+        ensures { result ≡ count_of_kind kind self.now.log }
+    {
+        count_of_kind(&self.log, kind) as u64
     }
 }
 

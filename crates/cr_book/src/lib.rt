@@ -1,8 +1,11 @@
-//! The history of a conference with its tables, kept in rows: commands are judged, kept and applied,
-//! and queries answered.
+//! The history of a conference with its tables, kept in rows: commands and bulks are judged, kept
+//! and applied, and queries answered.
 #![tactic(auto)]
 
 mod book;
+mod bulks;
+mod judging;
+mod kinds;
 mod laws;
 mod naming;
 mod opening;
@@ -10,7 +13,7 @@ mod reading;
 mod rebuilding;
 mod rows;
 
-pub use book::{Book, BookError};
+pub use book::{Book, BookError, BulkError};
 pub use cr_sights::ViewError;
 pub use cr_view::AnswerError;
 pub use laws::law_standing_by_tables;

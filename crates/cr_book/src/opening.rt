@@ -17,7 +17,7 @@ use std::alloc::Global;
 #[derive(Drop, Debug)]
 pub enum OpenError {
     /// A row is no entry's, or doesn't continue a legal history, or is the last one though another of
-    /// its command should follow.
+    /// its command or its bulk should follow.
     BadStore {
         /// Its number, from 0: it is the first such row.
         row: u64,

@@ -1,10 +1,12 @@
 //! A store that is being read, row by row.
-ghost use Rattle.std.specs.Prelude.{◌≡◌, ◌<◌, ◌++◌, ◌∷◌, List, [], IfOk, IfErr, length};
+ghost use Rattle.std.specs.Prelude.{◌≡◌, ◌<◌, ◌≤◌, ◌++◌, ◌∷◌, List, [], IfOk, IfErr, length, true, false};
 ghost use Rattle.cr_base.specs.declared.row.Row.{Row};
-ghost use Rattle.cr_base.specs.Rows.{rows_of};
+ghost use Rattle.cr_base.specs.Rows.{row_of, rows_of, IsBoundedEntry};
 ghost use Rattle.cr_base.specs.Tables.{FitInTurn};
-ghost use Rattle.cr_book.specs.Reading.{IsCutStore, IsGoing, IsRowRefused, IsWholeStore};
+ghost use Rattle.cr_book.specs.BulkRebuilding.{is_of_bulk, NoBulk};
+ghost use Rattle.cr_book.specs.Reading.{IsCutStore, IsGoing, IsReading, IsRowRefused, IsWholeStore};
 
+use crate::bulks::{goes_on, is_of_bulk};
 use crate::rebuilding::begun;
 use crate::rows::copies_of;
 use cr_base::{Row, Stamped};
@@ -22,13 +24,14 @@ pub(crate) enum ReadError {
 }
 
 /// The history of the whole groups read so far with its tables, and the rows of a group of which more
-/// are to come.
+/// are to come; if they are a bulk's, their entries as well.
 #[derive(Drop)]
 pub(crate) struct Reading {
     alloc: Global,
     log: Vec<Stamped>,
     live: Live,
     pending: Vec<Row>,
+    begun: Vec<Stamped>,
 }
 
 impl Model for Reading {
@@ -40,7 +43,7 @@ impl Model for Reading {
 
     ghost use Rattle.cr_book.specs.Reading.{IsReading};
 
-    ghost invariant = { λ r. IsReading r.log.items r.live.tables r.pending.items };
+    ghost invariant = { λ r. IsReading r.log.items r.live.tables r.pending.items r.begun.items };
 }
 
 impl Reading {
@@ -54,11 +57,12 @@ impl Reading {
             log: Vec::new(alloc),
             live: Live::new(alloc),
             pending: Vec::new(alloc),
+            begun: Vec::new(alloc),
         }
     }
 
-    /// One more row, which is kept until its group is whole. Costs what judging and applying the group's
-    /// command costs.
+    /// One more row, which is kept until its group is whole. The row of a bulk of more than one costs one judgement of the
+    /// row's command, behind the entries that are begun; any other what judging and applying the group's command costs.
     pub(crate) fn read(self, row: Row) -> Result<Reading, ReadError>
         ensures ok { IfOk result (λ after. rows_of after.log ++ after.pending ≡ (rows_of self.log ++ self.pending) ++ row ∷ []) }
         ensures refused { IfErr result (λ e. IsRowRefused (rows_of self.log ++ self.pending) row e) }
@@ -67,17 +71,19 @@ impl Reading {
             alloc,
             log,
             live,
-            mut pending,
+            pending,
+            begun,
         } = self;
-        if pending.reserve(1).is_err() {
+        let Ok(found) = Stamped::from_row(&row) else {
             return Err(ReadError::OutOfMemory);
+        };
+        let Some(next) = found else {
+            return Err(ReadError::Bad(row));
+        };
+        if is_of_bulk(&pending, &begun, &next) {
+            return read_of_bulk(alloc, log, live, pending, begun, row, next);
         }
-        pending.push_reserved(row);
-        match begun(alloc, &live, &pending) {
-            Ok(Some(group)) => with_begun(alloc, log, live, pending, group),
-            Ok(None) => Err(last_of(pending)),
-            Err(_) => Err(ReadError::OutOfMemory),
-        }
+        read_of_command(alloc, log, live, pending, row)
     }
 
     /// The history read, with its tables; or the last row, where more of its group should come.
@@ -90,6 +96,7 @@ impl Reading {
             log,
             live,
             mut pending,
+            begun: _,
         } = self;
         match pending.pop() {
             Some(row) => Err(row),
@@ -98,16 +105,103 @@ impl Reading {
     }
 }
 
-/// The reading where these rows begin the group: the group is added once all its rows are there.
+/// The reading with a row more of a command's group.
+fn read_of_command(
+    alloc: Global,
+    log: Vec<Stamped>,
+    live: Live,
+    mut pending: Vec<Row>,
+    row: Row,
+) -> Result<Reading, ReadError>
+    requires reading { IsReading log.items live.tables pending.items [] }
+    requires no_bulk { NoBulk (pending.items ++ row ∷ []) }
+    ensures ok { IfOk result (λ after. rows_of after.log ++ after.pending ≡ (rows_of log.items ++ pending.items) ++ row ∷ []) }
+    ensures refused { IfErr result (λ e. IsRowRefused (rows_of log.items ++ pending.items) row e) }
+{
+    if pending.reserve(1).is_err() {
+        return Err(ReadError::OutOfMemory);
+    }
+    pending.push_reserved(row);
+    match begun(alloc, &live, &pending) {
+        Ok(Some(group)) => with_begun(alloc, log, live, pending, group),
+        Ok(None) => Err(last_of(pending)),
+        Err(_) => Err(ReadError::OutOfMemory),
+    }
+}
+
+/// The reading with a row more of a bulk's group, whose entry this is.
+fn read_of_bulk(
+    alloc: Global,
+    log: Vec<Stamped>,
+    live: Live,
+    pending: Vec<Row>,
+    begun: Vec<Stamped>,
+    row: Row,
+    next: Stamped,
+) -> Result<Reading, ReadError>
+    requires reading { IsReading log.items live.tables pending.items begun.items }
+    requires bulk { is_of_bulk pending.items begun.items next ≡ true }
+    requires bounded { IsBoundedEntry next }
+    requires row { row_of next ≡ row }
+    ensures ok { IfOk result (λ after. rows_of after.log ++ after.pending ≡ (rows_of log.items ++ pending.items) ++ row ∷ []) }
+    ensures refused { IfErr result (λ e. IsRowRefused (rows_of log.items ++ pending.items) row e) }
+{
+    match goes_on(alloc, &live, &begun, &next, &row) {
+        Ok(true) => with_next(alloc, log, live, pending, begun, row, next),
+        Ok(false) => Err(ReadError::Bad(row)),
+        Err(_) => Err(ReadError::OutOfMemory),
+    }
+}
+
+/// The reading with a row more of a bulk, whose entry this is; the group is added once it is the last.
+fn with_next(
+    alloc: Global,
+    log: Vec<Stamped>,
+    live: Live,
+    mut pending: Vec<Row>,
+    mut begun: Vec<Stamped>,
+    row: Row,
+    next: Stamped,
+) -> Result<Reading, ReadError>
+    requires last { next.more ≡ false → IsGoing log.items live.tables (pending.items ++ row ∷ []) (begun.items ++ next ∷ []) }
+    requires more { next.more ≡ true → IsReading log.items live.tables (pending.items ++ row ∷ []) (begun.items ++ next ∷ []) }
+    requires fits { FitInTurn live.tables (begun.items ++ next ∷ []) }
+    requires same { length pending.items ≡ length begun.items }
+    ensures ok { IfOk result (λ after. rows_of after.log ++ after.pending ≡ (rows_of log.items ++ pending.items) ++ row ∷ []) }
+    ensures memory { IfErr result (λ e. e ≡ ReadError.OutOfMemory) }
+{
+    if pending.reserve(1).is_err() {
+        return Err(ReadError::OutOfMemory);
+    }
+    if begun.reserve(1).is_err() {
+        return Err(ReadError::OutOfMemory);
+    }
+    let more = next.more;
+    pending.push_reserved(row);
+    begun.push_reserved(next);
+    if more {
+        return Ok(Reading {
+            alloc,
+            log,
+            live,
+            pending,
+            begun,
+        });
+    }
+    with_group(alloc, log, live, pending, begun)
+}
+
+/// The reading where these rows begin the group of a command: it is added once all its rows are there.
 fn with_begun(
     alloc: Global,
-    mut log: Vec<Stamped>,
-    mut live: Live,
-    mut pending: Vec<Row>,
+    log: Vec<Stamped>,
+    live: Live,
+    pending: Vec<Row>,
     group: Vec<Stamped>,
 ) -> Result<Reading, ReadError>
     requires going { IsGoing log.items live.tables pending.items group.items }
     requires fits { FitInTurn live.tables group.items }
+    requires no_bulk { NoBulk pending.items }
     ensures ok { IfOk result (λ after. rows_of after.log ++ after.pending ≡ rows_of log.items ++ pending.items) }
     ensures memory { IfErr result (λ e. e ≡ ReadError.OutOfMemory) }
 {
@@ -117,8 +211,26 @@ fn with_begun(
             log,
             live,
             pending,
+            begun: Vec::new(alloc),
         });
     }
+    with_group(alloc, log, live, pending, group)
+}
+
+/// The reading where these rows are all of the group, which is added.
+fn with_group(
+    alloc: Global,
+    mut log: Vec<Stamped>,
+    mut live: Live,
+    mut pending: Vec<Row>,
+    group: Vec<Stamped>,
+) -> Result<Reading, ReadError>
+    requires going { IsGoing log.items live.tables pending.items group.items }
+    requires fits { FitInTurn live.tables group.items }
+    requires all { length group.items ≤ length pending.items }
+    ensures ok { IfOk result (λ after. rows_of after.log ++ after.pending ≡ rows_of log.items ++ pending.items) }
+    ensures memory { IfErr result (λ e. e ≡ ReadError.OutOfMemory) }
+{
     let Ok(mut entries) = copies_of(alloc, &group) else {
         return Err(ReadError::OutOfMemory);
     };
@@ -135,6 +247,7 @@ fn with_begun(
         log,
         live,
         pending,
+        begun: Vec::new(alloc),
     })
 }
 

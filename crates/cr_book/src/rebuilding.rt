@@ -26,7 +26,7 @@ fn caller_of(first: &Stamped) -> Option<UserNo>
 }
 
 /// Whether it is nobody, or a user who has registered.
-fn is_known(live: &Live, caller: &Option<UserNo>) -> bool
+pub(crate) fn is_known(live: &Live, caller: &Option<UserNo>) -> bool
     ensures { result ≡ is_known live.now.tables caller.now }
 {
     match caller {
@@ -64,7 +64,7 @@ fn user_command_of(live: &Live, first: Entry, authors: ToldNames) -> Option<Comm
 }
 
 /// The same, where the command is on a paper and names no user, or where it names one.
-fn paper_command_of(live: &Live, first: Entry) -> Option<Command>
+pub(crate) fn paper_command_of(live: &Live, first: Entry) -> Option<Command>
     ensures { result ≡ paper_command_told live.now.tables first }
 {
     match first {

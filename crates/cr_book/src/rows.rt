@@ -1,4 +1,4 @@
-//! The rows that one command's entries are kept in, and copies of the entries.
+//! The rows that the entries of one command or bulk are kept in, and copies of the entries.
 ghost use Rattle.std.specs.Prelude.{◌≡◌, IfOk};
 ghost use Rattle.cr_base.specs.Rows.{rows_of};
 

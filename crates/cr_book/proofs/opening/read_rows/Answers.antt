@@ -1,6 +1,6 @@
-use Rattle.std.proofs.Common.{◌++◌, ◌∙◌, refl, Ok}
+use Rattle.std.proofs.Common.{◌++◌, ◌∙◌, refl, arith, Ok}
 use Rattle.cr_base.specs.Rows.{rows_of}
-use Rattle.cr_book.proofs.StoreLaws.{untold-explains, untold-counted, answered-steady, read-more, bad-row}
+use Rattle.cr_book.proofs.StoreLaws.{untold-explains, untold-counted, answered-steady, read-more, all-read, bad-row}
 use Rattle.cr_book.proofs.opening.read_rows.Goals as goal
 
 pub returns-in-Err-clause-bad : goal.returns-in-Err-clause-bad
@@ -23,3 +23,8 @@ loop-i-preserved g c =
       read = read-more (g.K.Keeper.rows c.args.keeper.now) (g.K.Keeper.rows c.loop-i.keeper) c.loop-i.i c.in-Ok.row (rows_of c.loop-i.reading.log ++ c.loop-i.reading.pending) (rows_of c.in-Ok-read.after.log ++ c.in-Ok-read.after.pending)
           c.loop-i.invariant.same c.loop-i.invariant.read c.in-Ok.ensures.told c.in-Ok-read.ensures.ok;
     }
+
+pub returns-clause-spelled : goal.returns-clause-spelled
+returns-clause-spelled g c =
+    all-read (g.K.Keeper.rows c.args.keeper.now) (rows_of c.loop-i.reading.log ++ c.loop-i.reading.pending) c.loop-i.i c.args.count c.requires c.loop-i.invariant.read
+    (let end = c.loop-i.auto.i-end in let test = c.loop-i-test.false in omega (arith, end, test))

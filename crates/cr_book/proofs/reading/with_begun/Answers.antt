@@ -1,16 +1,7 @@
-use Rattle.std.proofs.Common.{◌++◌, ◌∙◌, List, ap, arith}
-use Rattle.cr_base.specs.declared.entry.Stamped.{Stamped}
-use Rattle.cr_base.specs.Tables.{Tables, tables_from}
-use Rattle.cr_book.proofs.OpeningLaws.{going-on, going-whole}
+use Rattle.std.proofs.Common.{arith}
+use Rattle.cr_book.proofs.OpeningLaws.{going-on}
 use Rattle.cr_book.proofs.reading.with_begun.Goals as goal
 
 pub invariant_of-result : goal.invariant_of-result
-invariant_of-result c = going-on c.args.log.items c.args.live.tables c.args.pending.items c.args.group.items c.requires.going
-    (omega (arith, c.if-len.true, c.len.ensures, c.len-2.ensures))
-
-pub invariant_of-result-2 : goal.invariant_of-result-2
-invariant_of-result-2 c =
-    going-whole c.args.log.items _ c.args.live.tables _ c.args.pending.items _ c.args.group.items c.requires.going
-    (c.in-Ok-append.ensures.items ∙ ap (λ (xs : List Stamped). c.args.log.items ++ xs) (c.in-Ok.ensures ∙ c.deref.ensures.value))
-    (c.apply_all.ensures.after ∙ ap (λ (t : Tables). tables_from t c.args.group.items) c.room.ensures.same)
-    c.clear.ensures.items
+invariant_of-result c = going-on c.args.log.items c.args.live.tables c.args.pending.items c.args.group.items _ c.requires.going
+    (omega (arith, c.if-len.true, c.len.ensures, c.len-2.ensures)) c.requires.no_bulk c.new.ensures.items

@@ -14,18 +14,27 @@ pub answer_search-requires : goal.answer_search-requires
 answer_search-requires g c =
     subst (λ (q : Query). MayAsk c.args.self.now.log (needs_login (view None c.args.self.now.log) q) c.args.caller.now) c.in-Search.is c.requires
 
+pub answer_report-requires : goal.answer_report-requires
+answer_report-requires g c =
+    subst (λ (q : Query). MayAsk c.args.self.now.log (needs_login (view None c.args.self.now.log) q) c.args.caller.now) c.in-Report.is c.requires
+
 pub answer-requires : goal.answer-requires
 answer-requires g c =
     let u = c.args.caller.now in
     let q = c.args.query.now in
     let same = ap (λ (v : SeenBook g.row.K.Denot). v.log) c.self.view_is in
     let may = subst (λ (h : History). MayAsk h (needs_login (view None h) q) u) (sym same) c.requires in
-    record { caller = asker-there c.self.inside.log.items u q c.in_default.not-Search may }
+    record { caller = asker-there c.self.inside.log.items u q (record { search = c.in_default.not-Search; report = c.in_default.not-Report }) may }
 
 pub returns-in-Search-clause-answered : goal.returns-in-Search-clause-answered
 returns-in-Search-clause-answered g c =
     subst (λ (q : Query). AnswersAsDue c.answer_search.result (answer c.args.caller.now (view c.args.caller.now c.args.self.now.log) q))
     (sym c.in-Search.is) c.answer_search.ensures
+
+pub returns-in-Report-clause-answered : goal.returns-in-Report-clause-answered
+returns-in-Report-clause-answered g c =
+    subst (λ (q : Query). AnswersAsDue c.answer_report.result (answer c.args.caller.now (view c.args.caller.now c.args.self.now.log) q))
+    (sym c.in-Report.is) c.answer_report.ensures
 
 pub returns-in_default-clause-answered : goal.returns-in_default-clause-answered
 returns-in_default-clause-answered g c =

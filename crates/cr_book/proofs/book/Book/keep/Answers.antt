@@ -6,14 +6,13 @@ use Rattle.cr_base.specs.Rows.{rows_of}
 use Rattle.cr_base.specs.Tables.{Tables, tables_from}
 use Rattle.cr_policy.specs.Legal.{Legal}
 use Rattle.cr_ports.specs.Keeping.{and_rows}
-use Rattle.cr_view.specs.Draws.{drawn_by}
 use Rattle.cr_book.specs.Seen.{SeenBook}
 use Rattle.cr_book.proofs.BookLaws.{sound-step}
 use Rattle.cr_book.proofs.book.Book.keep.Given.{Over}
 use Rattle.cr_book.proofs.book.Book.keep.Goals as goal
 
 -- the history is followed by the group
-grown : (g : Over) (c : goal.After-drop-rows-2 g) → c.append.new.self.items ≡ c.self.inside.log.items ++ c.in-Ok.group.items
+grown : (g : Over) (c : goal.After-drop-rows-2 g) → c.append.new.self.items ≡ c.self.inside.log.items ++ c.args.group.items
 grown g c =
     c.in-Ok-append.ensures.items
     ∙ ap (λ (xs : List Stamped). xs ++ c.in-Ok-copies_of.entries.items) c.reserve.ensures.items
@@ -22,11 +21,10 @@ grown g c =
 pub invariant_of-self-2 : goal.invariant_of-self-2
 invariant_of-self-2 g c =
     let same = ap (λ (v : SeenBook g.row.K.Denot). v.log) c.self.view_is in
-    let is_group = c.in-Ok.ensures in
-    let legal = subst (λ (x : History). Legal x) (ap (λ (h : History). h ++ (drawn_by c.args.draw).group) (sym same) ∙ ap (λ (xs : History). c.self.inside.log.items ++ xs) (sym is_group)) c.requires.legal in
-    sound-step g.K.Keeper.rows c.self.inside.log.items c.append.new.self.items c.in-Ok.group.items c.self.inside.live.tables c.apply_all.new.self.tables c.self.inside.keeper c.append_all.new.self
+    let legal = subst (λ (x : History). Legal x) (ap (λ (h : History). h ++ c.args.group.items) (sym same)) c.requires.legal in
+    sound-step g.K.Keeper.rows c.self.inside.log.items c.append.new.self.items c.args.group.items c.self.inside.live.tables c.apply_all.new.self.tables c.self.inside.keeper c.append_all.new.self
     c.self.invariant
     legal
     (grown g c)
-    (c.apply_all.ensures.after ∙ ap (λ (t : Tables). tables_from t c.in-Ok.group.items) c.room.ensures.same)
-    (c.in-Ok-append_all.ensures.kept ∙ ap (λ (rs : List Row). and_rows (g.K.Keeper.rows c.self.inside.keeper) rs) (c.deref-4.ensures.value ∙ c.in-Ok-rows_of.ensures ∙ ap rows_of c.deref.ensures.value))
+    (c.apply_all.ensures.after ∙ ap (λ (t : Tables). tables_from t c.args.group.items) c.room.ensures.same)
+    (c.in-Ok-append_all.ensures.kept ∙ ap (λ (rs : List Row). and_rows (g.K.Keeper.rows c.self.inside.keeper) rs) (c.deref-4.ensures.value ∙ c.in-Ok.ensures ∙ ap rows_of c.deref.ensures.value))

@@ -1,0 +1,29 @@
+use Rattle.std.proofs.Common.{◌∙◌, ap, sym, subst, None}
+use Rattle.cr_base.specs.declared.command.Query.TheVariants as queries
+use Rattle.cr_base.specs.declared.reply.Reply.{Reply}
+use Rattle.cr_base.specs.History.{History}
+use Rattle.cr_policy.specs.Judge.{answer, needs_login}
+use Rattle.cr_policy.specs.Legal.{MayAsk}
+use Rattle.cr_policy.specs.View.{view}
+use Rattle.cr_view.specs.Replies.{AnswersAsDue}
+use Rattle.cr_book.specs.Seen.{SeenBook}
+use Rattle.cr_book.proofs.BookLaws.{answered-by_view, reporter-there}
+use Rattle.cr_book.proofs.book.Book.answer_report.Goals as goal
+
+pub answer-requires : goal.answer-requires
+answer-requires g c =
+    let u = c.args.caller.now in
+    let q = queries.Report c.args.report.now in
+    let same = ap (λ (v : SeenBook g.row.K.Denot). v.log) c.self.view_is in
+    reporter-there c.self.inside.log.items u c.args.report.now
+    (subst (λ (h : History). MayAsk h (needs_login (view None h) q) u) (sym same) c.requires)
+
+pub returns : goal.returns
+returns g c =
+    let u = c.args.caller.now in
+    let q = queries.Report c.args.report.now in
+    let same = ap (λ (v : SeenBook g.row.K.Denot). v.log) c.self.view_is in
+    subst (λ (due : Reply). AnswersAsDue c.answer.result due)
+    (answered-by_view g.K.Keeper.rows c.self.inside.log.items c.self.inside.live.tables c.self.inside.keeper u q c.self.invariant
+    ∙ ap (λ (h : History). answer u (view u h) q) same)
+    c.answer.ensures

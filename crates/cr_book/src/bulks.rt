@@ -1,0 +1,142 @@
+//! The rows of a bulk that the entries of its group come of.
+ghost use Rattle.std.specs.Prelude.{◌≡◌, ◌↔◌, ◌++◌, ◌∷◌, [], IfOk, IfSome, IsTrue, length};
+ghost use Rattle.cr_base.specs.Rows.{row_of, IsBoundedEntry};
+ghost use Rattle.cr_base.specs.Tables.{tables_from};
+ghost use Rattle.cr_base.specs.Bulk.{IsRowCommand};
+ghost use Rattle.cr_view.specs.Rows.{AreEarlier};
+ghost use Rattle.cr_book.specs.BulkRebuilding.{begins_bulk, has_room, is_makers, is_of_bulk, is_of_row, may_bulk, may_go_on};
+ghost use Rattle.cr_book.specs.BulkRebuilding.{row_command_told, GoesOn, IsDrawn};
+
+use crate::rebuilding::{is_known, paper_command_of};
+use cr_base::{Command, Entry, MOST_ROWS, Row, Stamped, UserNo};
+use cr_view::Live;
+use std::alloc::{AllocError, Global};
+
+/// Whether a row of a bulk adds such an entry.
+fn is_of_row(entry: &Entry) -> bool
+    ensures { result ≡ is_of_row entry.now }
+{
+    match entry {
+        Entry::Conflict { .. } => true,
+        Entry::Assigned { .. } => true,
+        Entry::Unassigned { .. } => true,
+        Entry::Tagged { .. } => true,
+        _ => false,
+    }
+}
+
+/// Whether the entry is the first of a bulk's that has more than one.
+fn begins_bulk(first: &Stamped) -> bool
+    ensures { result ≡ begins_bulk first.now }
+{
+    first.more && is_of_row(&first.entry)
+}
+
+/// Whether an entry behind those that are begun is of the same bulk, or begins one where no rows are before it.
+pub(crate) fn is_of_bulk(pending: &[Row], begun: &[Stamped], next: &Stamped) -> bool
+    ensures { result ≡ is_of_bulk pending.now begun.now next.now }
+{
+    !begun.is_empty() || (pending.is_empty() && begins_bulk(next))
+}
+
+/// Whether a bulk may have so many rows: the one behind these, and if another is to follow that one as well.
+fn has_room(begun: &[Stamped], more: bool) -> bool
+    ensures { result ≡ has_room begun.now more }
+{
+    !more || begun.len() < MOST_ROWS - 1
+}
+
+/// Whether these entries, of which all have one maker, are this user's.
+fn is_makers(begun: &[Stamped], user: UserNo) -> bool
+    ensures { result ≡ is_makers begun.now user }
+{
+    match begun.first() {
+        Some(first) => first.maker.number() == user.number(),
+        None => true,
+    }
+}
+
+/// Whether the user has registered, and may give a bulk.
+fn may_bulk(live: &Live, user: UserNo) -> bool
+    ensures { result ≡ may_bulk live.now.tables user }
+{
+    is_known(live, &Some(user)) && live.may_bulk(user).is_ok()
+}
+
+/// Whether the entry's maker may give a bulk of so many rows, the first of which are hers.
+fn may_go_on(live: &Live, begun: &[Stamped], next: &Stamped) -> bool
+    ensures { result ≡ may_go_on live.now.tables begun.now next.now }
+{
+    has_room(begun, next.more) && is_makers(begun, next.maker) && may_bulk(live, next.maker)
+}
+
+/// The command of the row that added the entry; none where no row did, or where it names a user who isn't there.
+fn row_command_of(live: &Live, entry: Entry) -> Option<Command>
+    ensures told { result ≡ row_command_told live.now.tables entry }
+    ensures row { IfSome result IsRowCommand }
+{
+    if !is_of_row(&entry) {
+        return None;
+    }
+    paper_command_of(live, entry)
+}
+
+/// Whether this is the entry's row; an error only for want of memory.
+fn spells(
+    alloc: Global,
+    entry: Entry,
+    maker: UserNo,
+    more: bool,
+    row: &Row,
+) -> Result<bool, AllocError>
+    ensures { IfOk result (λ same. IsTrue same ↔ (row_of (record { maker = maker; more = more; entry = entry }) ≡ row.now)) }
+{
+    let spelled = entry.to_row(alloc, maker, more)?;
+    Ok(spelled.is_same(row))
+}
+
+/// Whether the entry, whose row this is, is what the command that it tells draws behind those that are begun. An error
+/// only for want of memory. Costs one judgement of the command.
+fn is_drawn(
+    alloc: Global,
+    live: &Live,
+    begun: &[Stamped],
+    next: &Stamped,
+    row: &Row,
+) -> Result<bool, AllocError>
+    requires earlier { AreEarlier live.now.tables begun.now }
+    requires bounded { IsBoundedEntry next.now }
+    requires row { row_of next.now ≡ row.now }
+    ensures drawn { IfOk result (λ drawn. IsTrue drawn ↔ IsDrawn (tables_from live.now.tables begun.now) next.now.maker next.now.entry) }
+    ensures earlier { IfOk result (λ drawn. IsTrue drawn → AreEarlier live.now.tables (begun.now ++ next.now ∷ [])) }
+{
+    let entry = next.entry.copy()?;
+    let Some(command) = row_command_of(live, entry) else {
+        return Ok(false);
+    };
+    match live.judge_row(next.maker, command, begun) {
+        Ok(drawn) => spells(alloc, drawn, next.maker, next.more, row),
+        Err(_) => Ok(false),
+    }
+}
+
+/// Whether the entry, whose row this is, comes next in a bulk behind those that are begun. An error only for want of
+/// memory. Costs one judgement of the row, which walks over the entries that are begun, at most 511.
+pub(crate) fn goes_on(
+    alloc: Global,
+    live: &Live,
+    begun: &[Stamped],
+    next: &Stamped,
+    row: &Row,
+) -> Result<bool, AllocError>
+    requires earlier { AreEarlier live.now.tables begun.now }
+    requires bounded { IsBoundedEntry next.now }
+    requires row { row_of next.now ≡ row.now }
+    ensures on { IfOk result (λ on. IsTrue on ↔ GoesOn live.now.tables begun.now next.now) }
+    ensures earlier { IfOk result (λ on. IsTrue on → AreEarlier live.now.tables (begun.now ++ next.now ∷ [])) }
+{
+    if !may_go_on(live, begun, next) {
+        return Ok(false);
+    }
+    is_drawn(alloc, live, begun, next, row)
+}

@@ -1,0 +1,90 @@
+//! What is judged of a bulk: its caller, and each row behind those before it.
+ghost use Rattle.std.specs.Prelude.{◌≡◌, ◌≤◌, ◌<◌, ◌+◌, ◌++◌, ◌∷◌, Bool, [], IfOk, IfErr, Ok, Err, length};
+ghost use Rattle.cr_base.specs.declared.bulk.Broken.TheVariants as broken;
+ghost use Rattle.cr_base.specs.Bulk.{bulk_by_role, bulk_drawn, entries_of, row_command, rows_judged, tables_basis};
+ghost use Rattle.cr_base.specs.Drawn.{grouped};
+ghost use Rattle.cr_base.specs.Tables.{tables_from};
+ghost use Rattle.cr_base.specs.Bulk.{IsRowCommand};
+ghost use Rattle.cr_view.specs.Rows.{AreEarlier, group_or_rule, row_group};
+ghost use Rattle.cr_book.specs.BulkRebuilding.{row_judged_behind};
+
+use cr_base::{Broken, BulkRow, BulkRows, Command, Entry, Rule, Stamped, UserNo};
+use cr_view::Live;
+
+/// The command that a row tells, or why it tells none.
+fn command_of(row: &BulkRow) -> Result<Command, Rule>
+    ensures told { result ≡ row_command row.now }
+    ensures row { IfOk result IsRowCommand }
+{
+    cr_bulk::row_command(row)
+}
+
+/// The entry that a row draws behind those of the rows before it, or the first broken rule.
+fn judge_row(live: &Live, caller: UserNo, row: &BulkRow, earlier: &[Stamped]) -> Result<Entry, Rule>
+    requires { AreEarlier live.now.tables earlier.now }
+    ensures judged { row_group caller result ≡ group_or_rule (row_judged_behind live.now.tables earlier.now caller row.now) }
+    ensures next { IfOk result (λ entry. (more : Bool) → AreEarlier live.now.tables (earlier.now ++ record { maker = caller; more = more; entry = entry } ∷ [])) }
+{
+    match command_of(row) {
+        Ok(command) => live.judge_row(caller, command, earlier),
+        Err(rule) => Err(rule),
+    }
+}
+
+/// That the row at this index, of at most 512, breaks the rule.
+fn row_broken(index: usize, rule: Rule) -> Broken
+    requires { index < 512 }
+    ensures { result ≡ broken.Row (index + 1) rule }
+{
+    Broken::Row {
+        row: index as u64 + 1,
+        rule,
+    }
+}
+
+/// The group of the entries of all rows, in a vector that is empty and has room for them; or the first row that breaks a rule.
+fn judge_rows(
+    live: &Live,
+    caller: UserNo,
+    rows: &[BulkRow],
+    mut entries: Vec<Stamped>,
+) -> Result<Vec<Stamped>, Broken>
+    requires few { length rows.now ≤ 512 }
+    requires none { entries.items ≡ [] }
+    requires room { length rows.now ≤ entries.cap }
+    ensures group { IfOk result (λ group. group.items ≡ grouped caller (entries_of group.items)) }
+    ensures accepted { IfOk result (λ group. rows_judged (tables_basis caller) caller live.now.tables 1 rows.now ≡ Ok (entries_of group.items)) }
+    ensures broken { IfErr result (λ broken. rows_judged (tables_basis caller) caller live.now.tables 1 rows.now ≡ Err broken) }
+{
+    for (i, row) in rows.iter().enumerate() {
+        let entry = match judge_row(live, caller, row, &entries) {
+            Ok(entry) => entry,
+            Err(rule) => return Err(row_broken(i, rule)),
+        };
+        entries.push_reserved(Stamped {
+            maker: caller,
+            more: i + 1 < rows.len(),
+            entry,
+        });
+    }
+    Ok(entries)
+}
+
+/// The group of a bulk of this caller, or what is broken: the rule on the bulk as a whole, or the first row that breaks one.
+/// Takes no memory. Costs one judgement for each row, which walks over the entries of the rows before it.
+pub(crate) fn judge_bulk(
+    live: &Live,
+    caller: UserNo,
+    rows: BulkRows,
+) -> Result<Vec<Stamped>, Broken>
+    ensures accepted { IfOk result (λ group. bulk_by_role live.now.tables caller rows ≡ Ok (bulk_drawn caller (length group.items) (entries_of group.items))) }
+    ensures group { IfOk result (λ group. group.items ≡ grouped caller (entries_of group.items)) }
+    ensures broken { IfErr result (λ broken. bulk_by_role live.now.tables caller rows ≡ Err broken) }
+{
+    match live.may_bulk(caller) {
+        Ok(()) => {}
+        Err(rule) => return Err(Broken::Rule(rule)),
+    }
+    let (rows, entries) = rows.into_parts();
+    judge_rows(live, caller, &rows, entries)
+}
