@@ -1,4 +1,5 @@
 pub mod TwoRunsLaws
+pub mod HiddenBytesLaws
 pub mod Runs
 pub mod WishRuns
 pub mod Turns

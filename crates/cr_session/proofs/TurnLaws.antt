@@ -1,21 +1,27 @@
 -- What one turn does is what Told and Step say.
-use Rattle.std.proofs.Common.{◌≡◌, ◌∙◌, ℕ, Bool, true, false, cond, Option, Some, None, Result, Ok, Err, refl, sym, ap, subst, append-nil, IsSome, IsOk, [], ◌≤◌, arith}
+use Rattle.std.proofs.Common.{◌≡◌, ◌∙◌, ℕ, Bool, List, true, false, cond, Option, Some, None, Result, Ok, Err, refl, sym, ap, subst, append-nil, IsSome, IsOk, [], ◌≤◌, arith}
 use mathlib.Core.List.{IsPrefix}
 use Rattle.std.proofs.lemmas.Bool.{true≢false}
 use Rattle.cr_base.specs.declared.command.Command.TheVariants.{Register, Tag}
 use Rattle.cr_base.specs.declared.ask.Ask.{Ask}
 use Rattle.cr_routes.specs.declared.place.Place.{Place}
 use Rattle.cr_policy.specs.Legal.{IsCaller, IsUser, MayAsk}
+use Rattle.cr_base.specs.declared.bulk.Broken.{Broken}
+use Rattle.cr_base.specs.declared.bulk.Broken.TheVariants as broken
+use Rattle.cr_base.specs.declared.bulk.BulkRow.{BulkRow}
 use Rattle.cr_base.specs.declared.command.Command.{Command}
 use Rattle.cr_base.specs.declared.command.Query.{Query}
 use Rattle.cr_base.specs.declared.reply.Rule.{Rule}
 use Rattle.cr_base.specs.History.{History}
 use Rattle.cr_base.specs.Drawn.{Drawn}
 use Rattle.cr_base.specs.Logins.{command_wants_login}
-use Rattle.cr_policy.specs.Judge.{judge, answer, needs_login}
+use Rattle.cr_base.specs.Bulk.{IsBoundedBulk}
+use Rattle.cr_base.specs.Sources.{maker_of}
+use Rattle.cr_policy.specs.Judge.{judge, judge_bulk, answer, needs_login}
 use Rattle.cr_policy.specs.View.{view}
 use Rattle.cr_policy.proofs.LegalLaws.{Legal-caller_registered}
 use Rattle.cr_bodies.specs.declared.credentials.Credentials.{Credentials}
+use Rattle.cr_print.specs.declared.form.Form.{Form}
 use Rattle.cr_print.specs.declared.refused.Refused.{Refused}
 use Rattle.cr_print.specs.declared.refused.Refused.TheVariants as refused
 use Rattle.cr_print.specs.Answers.{refusal_text, receipt_text, reply_text}
@@ -25,9 +31,9 @@ use Rattle.cr_wire.specs.declared.what.Wish.{Wish}
 use Rattle.cr_wire.specs.Caller.{caller, reads_credentials, user_told}
 use Rattle.cr_session.specs.declared.turn.TurnResult.{TurnResult}
 use Rattle.cr_session.specs.declared.turn.TurnResult.TheVariants as turns
-use Rattle.cr_session.specs.Told.{form_of, told, told_to, served_to, is_unauthorized, reply_of, drawn, drawn_for, drawn_of, accepted, and_drawn, after_wish}
+use Rattle.cr_session.specs.Told.{form_of, told, told_to, served_to, as_bulk, is_unauthorized, refusal_of, reply_of, drawn, drawn_for, drawn_of, accepted, and_drawn, after_wish}
 use Rattle.cr_session.specs.Replay.{Ledger}
-use Rattle.cr_session.specs.Turning.{Turns, AnswersWish, JudgesCommand, AnswersQuery, WantsRoom, MayWantFor, MayWantMemory}
+use Rattle.cr_session.specs.Turning.{Turns, AnswersWish, IsBulkCaller, JudgesChange, refused_for, AnswersQuery, WantsRoom, MayWantFor, MayWantMemory}
 use Rattle.cr_print.specs.Answers.{IsBrief}
 use Rattle.cr_base.specs.declared.reply.Reply.{Reply}
 use Rattle.cr_base.specs.declared.reply.Reply.TheVariants as replies
@@ -98,53 +104,59 @@ pub bad_query : (w : Wish) (u : Option ℕ) (b : Ledger) (place : ℕ) → w.wha
     → is_unauthorized u (view u b.history) (whats.BadQuery place) ≡ false → AnswersWish (turns.Refused (refused.BadQuery place)) w b b
 bad_query w u b place is by may = refused-turn (refused.BadQuery place) w u (whats.BadQuery place) b is by may (λ close. refl) refl
 
--- ---- commands
+-- ---- commands and bulks
 
-told-command : (H : History) (w : Wish) (u : Option ℕ) (command : Command) (r : Result Drawn Rule) (close : Bool) → w.what ≡ whats.Command command
-    → u ≡ caller H w → is_unauthorized u (view u H) (whats.Command command) ≡ false
-    → judge u (view u H) command ≡ r → reply_text (reply_of r) (form_of w close) ≡ told H w close
-told-command H w u command r close is by may e =
-    ap (λ x. reply_text (reply_of x) (form_of w close)) (sym e) ∙ sym (told-by H w u (whats.Command command) close is by may)
-
-stepped-command : (H : History) (w : Wish) (u : Option ℕ) (command : Command) (r : Result Drawn Rule) → w.what ≡ whats.Command command → u ≡ caller H w
-    → is_unauthorized u (view u H) (whats.Command command) ≡ false
-    → judge u (view u H) command ≡ r → after_wish H w ≡ and_drawn H (accepted r)
-stepped-command H w u command r is by may e = ap (and_drawn H) (drawn-by H w u (whats.Command command) is by may ∙ ap accepted e)
-
-is_ok-accepted : (r : Result Drawn Rule) → IsOk r → IsSome (accepted r)
+is_ok-accepted : (r : Result Drawn Broken) → IsOk r → IsSome (accepted r)
 is_ok-accepted (Ok d) h = refl
-is_ok-accepted (Err rule) h = h
+is_ok-accepted (Err refusal) h = h
 
-pub command-turn : (turn : TurnResult) (w : Wish) (u : Option ℕ) (command : Command) (b b' : Ledger) → w.what ≡ whats.Command command → u ≡ caller b.history w
-    → is_unauthorized u (view u b.history) (whats.Command command) ≡ false
-    → JudgesCommand turn u command b b' → Turns turn w b b'
-command-turn (turns.Refused (refused.Rule rule)) w u command b b' is by may j = record {
-  told_is = λ close. sym (append-nil (refusal_text (refused.Rule rule) (form_of w close))) ∙ told-command b.history w u command (Err rule) close is by may j.0;
-  stepped = ap (λ (x : Ledger). x.history) j.1 ∙ sym (stepped-command b.history w u command (Err rule) is by may j.0);
-  steady = ap (λ (x : Ledger). x.faults) j.1;
+-- a refusal's bytes are those of its reply
+refusal-told : (refusal : Broken) (form : Form) → refusal_text (refused_for refusal) form ≡ reply_text (refusal_of refusal) form
+refusal-told (broken.Rule rule) form = sym (append-nil (refusal_text (refused.Rule rule) form))
+refusal-told (broken.Row row rule) form = sym (append-nil (refusal_text (refused.Row row rule) form))
+
+-- a wish of which Judge gives this, where that is what she who wishes it is served, and what it draws
+pub change-turn : (turn : TurnResult) (w : Wish) (u : Option ℕ) (what : What) (judged : Result Drawn Broken) (b b' : Ledger) → w.what ≡ what
+    → u ≡ caller b.history w → is_unauthorized u (view u b.history) what ≡ false
+    → ((form : Form) → served_to u (view u b.history) form what ≡ reply_text (reply_of judged) form)
+    → drawn_of u (view u b.history) what ≡ accepted judged
+    → (IsOk judged → WantsRoom u (view u b.history) what)
+    → JudgesChange turn judged b b' → Turns turn w b b'
+change-turn (turns.Refused r) w u what judged b b' is by may served draws wants j = record {
+  told_is = λ close.
+      let form : Form = form_of w close in
+      ap (λ x. refusal_text x form) j.refused_is ∙ refusal-told j.refusal form ∙ ap (λ x. reply_text (reply_of x) form) (sym j.judged_is) ∙ sym (served form)
+      ∙ sym (told-by b.history w u what close is by may);
+  stepped = ap (λ (x : Ledger). x.history) j.same ∙ sym (ap (and_drawn b.history) (drawn-by b.history w u what is by may ∙ draws ∙ ap accepted j.judged_is));
+  steady = ap (λ (x : Ledger). x.faults) j.same;
 }
-command-turn (turns.Refused (refused.Closing why)) w u command b b' is by may j = absurd j
-command-turn (turns.Refused refused.NoRoute) w u command b b' is by may j = absurd j
-command-turn (turns.Refused (refused.WrongMethod place)) w u command b b' is by may j = absurd j
-command-turn (turns.Refused refused.Unauthorized) w u command b b' is by may j = absurd j
-command-turn (turns.Refused refused.BadBody) w u command b b' is by may j = absurd j
-command-turn (turns.Refused (refused.BadQuery place)) w u command b b' is by may j = absurd j
-command-turn (turns.Refused refused.KeeperFault) w u command b b' is by may j = absurd j
-command-turn (turns.Refused refused.NoMemory) w u command b b' is by may j = absurd j
-command-turn (turns.Accepted receipt) w u command b b' is by may j = record {
-  told_is = λ close. ap (λ x. receipt_text x (form_of w close)) j.0.receipt_is ∙ sym (append-nil (receipt_text j.0.drawn.receipt (form_of w close)))
-      ∙ told-command b.history w u command (Ok j.0.drawn) close is by may j.0.judged;
-  stepped = j.0.added ∙ sym (stepped-command b.history w u command (Ok j.0.drawn) is by may j.0.judged);
-  steady = j.1;
+change-turn (turns.Accepted receipt) w u what judged b b' is by may served draws wants j = record {
+  told_is = λ close.
+      let form : Form = form_of w close in
+      ap (λ x. receipt_text x form) j.receipt_is ∙ sym (append-nil (receipt_text j.drawn.receipt form)) ∙ ap (λ x. reply_text (reply_of x) form) (sym j.judged_is)
+      ∙ sym (served form) ∙ sym (told-by b.history w u what close is by may);
+  stepped = j.added ∙ sym (ap (and_drawn b.history) (drawn-by b.history w u what is by may ∙ draws ∙ ap accepted j.judged_is));
+  steady = j.steady;
 }
-command-turn (turns.Answered reply) w u command b b' is by may j = absurd j
-command-turn turns.Lost w u command b b' is by may j = (
-  subst (λ (o : Option Drawn). IsSome o) (sym (drawn-by b.history w u (whats.Command command) is by may))
-      (is_ok-accepted (judge u (view u b.history) command) j.0),
+change-turn (turns.Answered reply) w u what judged b b' is by may served draws wants j = absurd j
+change-turn turns.Lost w u what judged b b' is by may served draws wants j = (
+  subst (λ (o : Option Drawn). IsSome o) (sym (drawn-by b.history w u what is by may ∙ draws)) (is_ok-accepted judged j.0),
   j.1,
   j.2,
 )
-command-turn turns.OutOfMemory w u command b b' is by may j = (j.0, may-want b.history w u (whats.Command command) is by may j.1)
+change-turn turns.OutOfMemory w u what judged b b' is by may served draws wants j = (j.0, may-want b.history w u what is by may (wants j.1))
+
+pub command-turn : (turn : TurnResult) (w : Wish) (u : Option ℕ) (command : Command) (b b' : Ledger) → w.what ≡ whats.Command command → u ≡ caller b.history w
+    → is_unauthorized u (view u b.history) (whats.Command command) ≡ false
+    → JudgesChange turn (as_bulk (judge u (view u b.history) command)) b b' → Turns turn w b b'
+command-turn turn w u command b b' is by may j =
+    change-turn turn w u (whats.Command command) (as_bulk (judge u (view u b.history) command)) b b' is by may (λ form. refl) refl (λ ok. ok) j
+
+pub bulk-turn : (turn : TurnResult) (w : Wish) (u : Option ℕ) (rows : List BulkRow) (b b' : Ledger) → w.what ≡ whats.Bulk rows → u ≡ caller b.history w
+    → is_unauthorized u (view u b.history) (whats.Bulk rows) ≡ false
+    → JudgesChange turn (judge_bulk (maker_of u) (view u b.history) rows) b b' → Turns turn w b b'
+bulk-turn turn w u rows b b' is by may j =
+    change-turn turn w u (whats.Bulk rows) (judge_bulk (maker_of u) (view u b.history) rows) b b' is by may (λ form. refl) refl (λ ok. ok) j
 
 -- ---- queries
 
@@ -202,6 +214,12 @@ caller-command H w u (Register name digest) is by may = by ∙ ap (λ (x : What)
 caller-command H w u (Tag paper tag true) is by may = is-user H w u (Tag paper tag true) refl by may
 caller-command H w u (Tag paper tag false) is by may = is-user H w u (Tag paper tag false) refl by may
 caller-command H w u command is by may = is-user H w u command refl by may
+
+-- a bulk is a registered user's
+pub caller-bulk : (H : History) (w : Wish) (u : Option ℕ) (rows : List BulkRow) → u ≡ caller H w → is_unauthorized u (view u H) (whats.Bulk rows) ≡ false
+    → IsBoundedBulk rows → IsBulkCaller H u rows
+caller-bulk H w None rows by may few = absurd (true≢false may)
+caller-bulk H w (Some user) rows by may few = record { caller = caller-registered H w user (sym by); bounded = few }
 
 -- ---- what a turn leaves
 

@@ -1,5 +1,6 @@
 pub mod Told
 pub mod TwoRuns
+pub mod HiddenBytes
 pub mod Replay
 pub mod Passing
 pub mod Wishes

@@ -4,24 +4,37 @@ use Rattle.std.specs.Prelude.{ℕ, List, ◌++◌, Option, Some, None, Bool, fal
 use Rattle.cr_base.specs.declared.reply.Reply.{Reply}
 use Rattle.cr_base.specs.declared.reply.Reply.TheVariants as replies
 use Rattle.cr_base.specs.declared.reply.Rule.{Rule}
+use Rattle.cr_base.specs.declared.bulk.Broken.{Broken}
+use Rattle.cr_base.specs.declared.bulk.Broken.TheVariants as broken
 use Rattle.cr_base.specs.History.{History}
 use Rattle.cr_base.specs.Drawn.{Drawn}
-use Rattle.cr_policy.specs.Judge.{judge, answer, needs_login}
+use Rattle.cr_base.specs.Sources.{maker_of}
+use Rattle.cr_policy.specs.Judge.{judge, judge_bulk, answer, needs_login}
 use Rattle.cr_policy.specs.View.{View, view}
 use Rattle.cr_print.specs.declared.form.Form.{Form}
 use Rattle.cr_print.specs.declared.refused.Refused.TheVariants as refused
 use Rattle.cr_print.specs.Answers.{refusal_text, reply_text}
 use Rattle.cr_wire.specs.declared.what.What.{What}
-use Rattle.cr_wire.specs.declared.what.What.TheVariants.{NoRoute, WrongMethod, BadBody, BadQuery, Command, Query}
+use Rattle.cr_wire.specs.declared.what.What.TheVariants.{NoRoute, WrongMethod, BadBody, BadQuery, Command, Bulk, Query}
 use Rattle.cr_wire.specs.declared.what.Wish.{Wish}
 use Rattle.cr_wire.specs.Caller.{caller, wants_login}
 
 -- ---- what is answered
 
--- a command's answer: its receipt, or the first rule that it breaks
-abbrev pub reply_of : Result Drawn Rule → Reply
+-- a command's judgement as a bulk's, which may be refused for a row too
+abbrev pub as_bulk : Result Drawn Rule → Result Drawn Broken
+as_bulk (Ok drawn) = Ok drawn
+as_bulk (Err rule) = Err (broken.Rule rule)
+
+-- what breaks a rule is told which one, and of a bulk in which row, where it is one row's
+abbrev pub refusal_of : Broken → Reply
+refusal_of (broken.Rule rule) = replies.Refused rule
+refusal_of (broken.Row row rule) = replies.RowRefused row rule
+
+-- the answer to a command or a bulk: its receipt, or the first rule that it breaks
+abbrev pub reply_of : Result Drawn Broken → Reply
 reply_of (Ok drawn) = replies.Accepted drawn.receipt
-reply_of (Err rule) = replies.Refused rule
+reply_of (Err refusal) = refusal_of refusal
 
 -- nobody wishes what wants a login; of a query her view says so, since everyone is served what is published
 abbrev pub is_unauthorized : Option ℕ → View → What → Bool
@@ -39,7 +52,8 @@ served_to u V form NoRoute = refusal_text refused.NoRoute form
 served_to u V form (WrongMethod place) = refusal_text (refused.WrongMethod place) form
 served_to u V form (BadBody ask) = refusal_text refused.BadBody form
 served_to u V form (BadQuery place) = refusal_text (refused.BadQuery place) form
-served_to u V form (Command command) = reply_text (reply_of (judge u V command)) form
+served_to u V form (Command command) = reply_text (reply_of (as_bulk (judge u V command))) form
+served_to u V form (Bulk rows) = reply_text (reply_of (judge_bulk (maker_of u) V rows)) form
 served_to u V form (Query query) = reply_text (answer u V query) form
 
 -- the answer's bytes to what a caller wishes: whoever can't be told from nobody is answered one and the same, where a
@@ -58,17 +72,18 @@ unkept w close = refusal_text refused.KeeperFault (form_of w close)
 -- ---- what is added
 
 -- what a judgement drew, where it accepted
-abbrev pub accepted : Result Drawn Rule → Option Drawn
+abbrev pub accepted : Result Drawn Broken → Option Drawn
 accepted (Ok drawn) = Some drawn
-accepted (Err rule) = None
+accepted (Err refusal) = None
 
--- what the wish of a caller who may adds, where it is a command that Judge accepts
+-- what the wish of a caller who may adds, where it is a command or a bulk that Judge accepts
 abbrev pub drawn_of : Option ℕ → View → What → Option Drawn
 drawn_of u V NoRoute = None
 drawn_of u V (WrongMethod place) = None
 drawn_of u V (BadBody ask) = None
 drawn_of u V (BadQuery place) = None
-drawn_of u V (Command command) = accepted (judge u V command)
+drawn_of u V (Command command) = accepted (as_bulk (judge u V command))
+drawn_of u V (Bulk rows) = accepted (judge_bulk (maker_of u) V rows)
 drawn_of u V (Query query) = None
 
 -- what a caller's wish adds: nothing, where a login is wanted and nobody calls

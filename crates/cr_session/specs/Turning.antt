@@ -1,15 +1,21 @@
 -- What one turn and one request do.
 use mathlib.Core.List.{IsPrefix}
-use Rattle.std.specs.Prelude.{◌≡◌, ◌≢◌, ℕ, List, [], Bool, true, false, Option, IsSome, Err, IsOk}
-use Rattle.cr_base.specs.declared.command.Command.{Command}
+use Rattle.std.specs.Prelude.{◌≡◌, ◌≢◌, ℕ, List, [], ◌++◌, Bool, true, false, Option, Some, None, IsSome, Result, Ok, Err, IsOk}
+use Rattle.cr_base.specs.declared.bulk.Broken.{Broken}
+use Rattle.cr_base.specs.declared.bulk.Broken.TheVariants as broken
+use Rattle.cr_base.specs.declared.bulk.BulkRow.{BulkRow}
 use Rattle.cr_base.specs.declared.command.Query.{Query}
 use Rattle.cr_base.specs.declared.reply.Reply.TheVariants as replies
+use Rattle.cr_base.specs.declared.reply.Receipt.{Receipt}
 use Rattle.cr_base.specs.declared.reply.Rule.{Rule}
-use Rattle.cr_book.specs.Sound.{Accepts}
-use Rattle.cr_policy.specs.Judge.{judge, answer}
+use Rattle.cr_base.specs.Drawn.{Drawn}
+use Rattle.cr_base.specs.Sources.{maker_of}
+use Rattle.cr_policy.specs.Judge.{judge, judge_bulk, answer}
+use Rattle.cr_policy.specs.Legal.{IsBulkAllowed}
 use Rattle.cr_policy.specs.View.{View, view}
 use Rattle.cr_base.specs.History.{History}
 use Rattle.cr_print.specs.declared.form.Form.{Form}
+use Rattle.cr_print.specs.declared.refused.Refused.{Refused}
 use Rattle.cr_print.specs.declared.refused.Refused.TheVariants as refused
 use Rattle.cr_print.specs.Answers.{IsBrief, refusal_text, receipt_text, reply_text, front_text, block_text}
 use Rattle.cr_wire.specs.declared.what.What.{What}
@@ -20,7 +26,7 @@ use Rattle.cr_session.specs.declared.turn.TurnResult.{TurnResult}
 use Rattle.cr_session.specs.declared.turn.TurnResult.TheVariants as turns
 use Rattle.cr_session.specs.declared.serve.RequestOutcome.{RequestOutcome}
 use Rattle.cr_session.specs.declared.serve.RequestOutcome.TheVariants as served
-use Rattle.cr_session.specs.Told.{form_of, told, is_unauthorized, drawn, after_wish}
+use Rattle.cr_session.specs.Told.{form_of, told, as_bulk, is_unauthorized, drawn, after_wish}
 use Rattle.cr_lock.specs.Passes.{after_turn}
 use Rattle.cr_session.specs.Replay.{JudgedWish, Ledger, CountsLoss, answer_to}
 use Rattle.cr_session.specs.Passing.{KnownPass, TakesTurn}
@@ -47,14 +53,15 @@ abbrev pub turn_block : TurnResult → Form → List ℕ
 turn_block (turns.Answered reply) form = block_text form reply
 turn_block turn form = []
 
--- memory may run out in the turn of what a caller wishes on her view: for a command that Judge accepts, and for a query
+-- memory may run out in the turn of what a caller wishes on her view: for a command or a bulk that Judge accepts, and for a query
 -- that Answer doesn't refuse
 abbrev pub WantsRoom : Option ℕ → View → What → Type 0
 WantsRoom u V whats.NoRoute = ⊥
 WantsRoom u V (whats.WrongMethod place) = ⊥
 WantsRoom u V (whats.BadBody ask) = ⊥
 WantsRoom u V (whats.BadQuery place) = ⊥
-WantsRoom u V (whats.Command command) = IsOk (judge u V command)
+WantsRoom u V (whats.Command command) = IsOk (as_bulk (judge u V command))
+WantsRoom u V (whats.Bulk rows) = IsOk (judge_bulk (maker_of u) V rows)
 WantsRoom u V (whats.Query query) = (rule : Rule) → answer u V query ≢ replies.Refused rule
 
 -- and only for a caller who may
@@ -78,14 +85,38 @@ Turns (turns.Answered reply) w b b' = AnswersWish (turns.Answered reply) w b b' 
 Turns turns.Lost w b b' = IsSome (drawn b.history w) × (b'.history ≡ b.history) × CountsLoss true b.faults b'.faults
 Turns turns.OutOfMemory w b b' = (b' ≡ b) × MayWantMemory b.history w
 
--- a command was judged for this caller
-abbrev pub JudgesCommand : TurnResult → Option ℕ → Command → Ledger → Ledger → Type 0
-JudgesCommand (turns.Refused (refused.Rule rule)) u command b b' = (judge u (view u b.history) command ≡ Err rule) × (b' ≡ b)
-JudgesCommand (turns.Refused _) u command b b' = ⊥
-JudgesCommand (turns.Accepted receipt) u command b b' = Accepts b.history b'.history u command receipt × (b'.faults ≡ b.faults)
-JudgesCommand (turns.Answered reply) u command b b' = ⊥
-JudgesCommand turns.Lost u command b b' = IsOk (judge u (view u b.history) command) × (b'.history ≡ b.history) × CountsLoss true b.faults b'.faults
-JudgesCommand turns.OutOfMemory u command b b' = (b' ≡ b) × WantsRoom u (view u b.history) (whats.Command command)
+-- how what breaks a rule is refused
+abbrev pub refused_for : Broken → Refused
+refused_for (broken.Rule rule) = refused.Rule rule
+refused_for (broken.Row row rule) = refused.Row row rule
+
+-- it was refused, as Judge says, and nothing changed
+pub record RefusesChange (r : Refused) (judged : Result Drawn Broken) (b b' : Ledger) : Type 0 where
+  pub refusal : Broken
+  pub judged_is : judged ≡ Err refusal
+  pub refused_is : r ≡ refused_for refusal
+  pub same : b' ≡ b
+
+-- it was accepted, as Judge says, and what it adds stands behind the history
+pub record AcceptsChange (receipt : Receipt) (judged : Result Drawn Broken) (b b' : Ledger) : Type 0 where
+  pub drawn : Drawn
+  pub judged_is : judged ≡ Ok drawn
+  pub receipt_is : receipt ≡ drawn.receipt
+  pub added : b'.history ≡ b.history ++ drawn.group
+  pub steady : b'.faults ≡ b.faults
+
+-- a command or a bulk, of which Judge gives this, was judged
+abbrev pub JudgesChange : TurnResult → Result Drawn Broken → Ledger → Ledger → Type 0
+JudgesChange (turns.Refused r) judged b b' = RefusesChange r judged b b'
+JudgesChange (turns.Accepted receipt) judged b b' = AcceptsChange receipt judged b b'
+JudgesChange (turns.Answered reply) judged b b' = ⊥
+JudgesChange turns.Lost judged b b' = IsOk judged × (b'.history ≡ b.history) × CountsLoss true b.faults b'.faults
+JudgesChange turns.OutOfMemory judged b b' = (b' ≡ b) × IsOk judged
+
+-- a bulk's caller is a registered user, and it has no more rows than it may
+abbrev pub IsBulkCaller : History → Option ℕ → List BulkRow → Type 0
+IsBulkCaller H None rows = ⊥
+IsBulkCaller H (Some user) rows = IsBulkAllowed H (record { user = user; rows = rows })
 
 -- a query was answered for this caller
 abbrev pub AnswersQuery : TurnResult → Option ℕ → Query → History → Type 0

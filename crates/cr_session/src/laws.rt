@@ -3,6 +3,7 @@ ghost use Rattle.std.specs.Prelude.{◌≡◌, ◌≤◌, ◌<◌, ◌+◌, ◌-
 ghost use Rattle.cr_lock.specs.Turns.{marks};
 ghost use Rattle.cr_session.specs.Passing.{KnownPass, TakesTurns};
 ghost use Rattle.cr_session.specs.Replay.{JudgedWish, Ledger, Replays, lost_count};
+ghost use Rattle.cr_session.specs.HiddenBytes.{HiddenBytes};
 ghost use Rattle.cr_session.specs.TwoRuns.{TwoRuns};
 
 /// Two runs that agree in a user's wishes and in what she sees at each of them agree in every byte that
@@ -11,6 +12,14 @@ ghost use Rattle.cr_session.specs.TwoRuns.{TwoRuns};
 /// their turn.
 pub fn law_two_runs()
     ensures { TwoRuns }
+{}
+
+/// Two runs in which a user wishes the same agree in every byte that she is answered where, at each of her wishes, what was done before
+/// differs only in what she isn't shown: where the histories meet the four conditions of cr_policy's `law_hidden_payload`, or one is
+/// the other without entries that show her nothing, or they come to be alike in several such steps. Whoever else may ask whatever
+/// else.
+pub fn law_hidden_bytes()
+    ensures { HiddenBytes }
 {}
 
 /// Over any turns at most as many commands are lost as the keeper's count of faults rose by, its last value

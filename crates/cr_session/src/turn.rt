@@ -1,19 +1,20 @@
 //! One turn: a wish is judged or answered by the book.
-ghost use Rattle.std.specs.Prelude.{◌≡◌, ◌≤◌, ◌<◌, ◌^◌, [], ℕ, None, OnOk, OnErr, vec_capacity};
+ghost use Rattle.std.specs.Prelude.{◌≡◌, ◌≤◌, ◌<◌, ◌^◌, [], ℕ, Some, None, OnOk, OnErr, vec_capacity};
 ghost use mathlib.Core.List.{IsPrefix};
 ghost use Rattle.cr_lock.specs.Passes.{after_turn};
-ghost use Rattle.cr_policy.specs.Judge.{needs_login};
-ghost use Rattle.cr_policy.specs.Legal.{IsAllowed, MayAsk};
+ghost use Rattle.cr_policy.specs.Judge.{judge, judge_bulk, needs_login};
+ghost use Rattle.cr_policy.specs.Legal.{IsAllowed, IsBulkAllowed, MayAsk};
 ghost use Rattle.cr_policy.specs.View.{view};
+ghost use Rattle.cr_base.specs.Sources.{maker_of};
 ghost use Rattle.cr_print.specs.Put.{HasRoom};
 ghost use Rattle.cr_wire.specs.Bounds.{IsBoundedWhat};
 ghost use Rattle.cr_wire.specs.Caller.{caller};
 ghost use Rattle.cr_session.specs.Replay.{Ledger, ledger_of};
-ghost use Rattle.cr_session.specs.Told.{is_unauthorized};
-ghost use Rattle.cr_session.specs.Turning.{Turns, JudgesCommand, AnswersQuery, turn_block, turn_front, MayWantToPrint};
+ghost use Rattle.cr_session.specs.Told.{as_bulk, is_unauthorized};
+ghost use Rattle.cr_session.specs.Turning.{Turns, IsBulkCaller, JudgesChange, AnswersQuery, refused_for, turn_block, turn_front, MayWantToPrint};
 
-use cr_base::{Command, Query, Receipt, Reply, UserNo};
-use cr_book::{AnswerError, Book, BookError};
+use cr_base::{Broken, BulkRows, Command, Query, Receipt, Reply, UserNo};
+use cr_book::{AnswerError, Book, BookError, BulkError};
 use cr_lock::{HistoryLock, Pass};
 use cr_ports::Keeper;
 use cr_print::{Form, Refused, block, print_receipt, print_refusal, print_reply};
@@ -26,11 +27,11 @@ use std::sync::Wait;
 pub(crate) enum TurnResult {
     /// The request is refused.
     Refused(Refused),
-    /// The command was accepted, kept and applied.
+    /// The command or the bulk was accepted, kept and applied.
     Accepted(Receipt),
     /// The query's answer.
     Answered(Reply),
-    /// The command was accepted, but the keeper failed to keep it: nothing changed.
+    /// The command or the bulk was accepted, but the keeper failed to keep it: nothing changed.
     Lost,
     /// Out of memory: nothing changed.
     OutOfMemory,
@@ -55,7 +56,7 @@ pub(crate) fn in_turn<R: Wait, K: Keeper>(
     lock.turn(rt, pass, |book: &mut Book<K>| take_turn(book, wish))
 }
 
-/// Judges or answers a wish. Takes no memory on a refusal: `TurnResult::OutOfMemory` comes only for a command
+/// Judges or answers a wish. Takes no memory on a refusal: `TurnResult::OutOfMemory` comes only for a command or a bulk
 /// that is accepted and for a query that isn't refused, and then nothing changed. Who calls is asked first, by one look-up
 /// by name; whoever can't be told from nobody is refused alike where a login is wanted.
 pub(crate) fn take_turn<K: Keeper>(book: &mut Book<K>, wish: Wish) -> TurnResult
@@ -73,6 +74,7 @@ pub(crate) fn take_turn<K: Keeper>(book: &mut Book<K>, wish: Wish) -> TurnResult
         What::BadBody(_) => TurnResult::Refused(Refused::BadBody),
         What::BadQuery { place } => TurnResult::Refused(Refused::BadQuery { place }),
         What::Command(command) => judge(book, &caller, command),
+        What::Bulk(rows) => judge_bulk(book, &caller, rows),
         What::Query(query) => answer(book, &caller, &query),
     }
 }
@@ -102,13 +104,47 @@ fn caller_of<K: Keeper>(book: &Book<K>, wish: &Wish) -> Option<UserNo>
 /// Judges a command.
 fn judge<K: Keeper>(book: &mut Book<K>, caller: &Option<UserNo>, command: Command) -> TurnResult
     requires { IsAllowed book.old.log (record { caller = caller.now; command = command }) }
-    ensures { JudgesCommand result caller.now command (ledger_of K.faults book.old) (ledger_of K.faults book.new) }
+    ensures { JudgesChange result (as_bulk (judge caller.now (view caller.now book.old.log) command)) (ledger_of K.faults book.old) (ledger_of K.faults book.new) }
 {
     match book.command(caller, command) {
         Ok(receipt) => TurnResult::Accepted(receipt),
         Err(BookError::Rule(rule)) => TurnResult::Refused(Refused::Rule(rule)),
         Err(BookError::KeeperFault) => TurnResult::Lost,
         Err(BookError::OutOfMemory) => TurnResult::OutOfMemory,
+    }
+}
+
+/// Judges a bulk, of which a registered user is the caller.
+fn judge_bulk<K: Keeper>(book: &mut Book<K>, caller: &Option<UserNo>, rows: BulkRows) -> TurnResult
+    requires { IsBulkCaller book.old.log caller.now rows }
+    ensures { JudgesChange result (judge_bulk (maker_of caller.now) (view caller.now book.old.log) rows) (ledger_of K.faults book.old) (ledger_of K.faults book.new) }
+{
+    match caller {
+        Some(user) => judge_rows(book, *user, rows),
+        None => unreachable!(),
+    }
+}
+
+/// Judges a bulk of this user.
+fn judge_rows<K: Keeper>(book: &mut Book<K>, user: UserNo, rows: BulkRows) -> TurnResult
+    requires { IsBulkAllowed book.old.log (record { user = user; rows = rows }) }
+    ensures { JudgesChange result (judge_bulk user (view (Some user) book.old.log) rows) (ledger_of K.faults book.old) (ledger_of K.faults book.new) }
+{
+    match book.bulk(user, rows) {
+        Ok(count_told) => TurnResult::Accepted(count_told),
+        Err(BulkError::Broken(broken)) => TurnResult::Refused(refused_for(broken)),
+        Err(BulkError::KeeperFault) => TurnResult::Lost,
+        Err(BulkError::OutOfMemory) => TurnResult::OutOfMemory,
+    }
+}
+
+/// How what breaks a rule is refused.
+fn refused_for(broken: Broken) -> Refused
+    ensures { result ≡ refused_for broken }
+{
+    match broken {
+        Broken::Rule(rule) => Refused::Rule(rule),
+        Broken::Row { row, rule } => Refused::Row { row, rule },
     }
 }
 

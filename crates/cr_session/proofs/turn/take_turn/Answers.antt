@@ -4,7 +4,7 @@ use Rattle.cr_wire.specs.Bounds.{IsBoundedWhat}
 use Rattle.cr_wire.specs.declared.what.What.{What}
 use Rattle.cr_session.specs.Replay.{ledger_of}
 use Rattle.cr_session.specs.Told.{is_unauthorized}
-use Rattle.cr_session.proofs.TurnLaws.{unauthorized, no_route, wrong_method, bad_body, bad_query, command-turn, query-turn, caller-command, may-query}
+use Rattle.cr_session.proofs.TurnLaws.{unauthorized, no_route, wrong_method, bad_body, bad_query, command-turn, bulk-turn, query-turn, caller-command, caller-bulk, may-query}
 use Rattle.cr_session.proofs.turn.take_turn.Goals as goal
 
 pub returns-then-is_unauthorized : goal.returns-then-is_unauthorized
@@ -40,6 +40,12 @@ judge-requires g c =
       bounded = subst (λ (x : What). IsBoundedWhat x) c.in-Command.is c.requires;
     }
 
+pub judge_bulk-requires : goal.judge_bulk-requires
+judge_bulk-requires g c =
+    caller-bulk c.args.book.now.log c.args.wish c.caller_of-caller.result c.in-Bulk.rows c.caller_of-caller.ensures
+    (ap (λ (x : What). is_unauthorized c.caller_of-caller.result (view c.caller_of-caller.result c.args.book.now.log) x) (sym c.in-Bulk.is) ∙ sym c.is_unauthorized.ensures ∙ c.if-is_unauthorized.false)
+    (subst (λ (x : What). IsBoundedWhat x) c.in-Bulk.is c.requires)
+
 pub answer-requires : goal.answer-requires
 answer-requires g c =
     may-query c.args.book.now.log c.args.wish c.caller_of-caller.result c.in-Query.query c.caller_of-caller.ensures
@@ -57,3 +63,10 @@ returns-in-Query g c =
     query-turn _ c.args.wish _ _ (ledger_of g.K.Keeper.faults c.args.book.now) c.in-Query.is c.caller_of-caller.ensures
     (ap (λ (x : What). is_unauthorized c.caller_of-caller.result (view c.caller_of-caller.result c.args.book.now.log) x) (sym c.in-Query.is) ∙ sym c.is_unauthorized.ensures
     ∙ c.if-is_unauthorized.false) c.answer.ensures
+
+pub returns-in-Bulk : goal.returns-in-Bulk
+returns-in-Bulk g c =
+    bulk-turn _ c.args.wish _ _ (ledger_of g.K.Keeper.faults c.args.book.now)
+    (ledger_of g.K.Keeper.faults c.judge_bulk.new.book) c.in-Bulk.is c.caller_of-caller.ensures
+    (ap (λ (x : What). is_unauthorized c.caller_of-caller.result (view c.caller_of-caller.result c.args.book.now.log) x) (sym c.in-Bulk.is) ∙ sym c.is_unauthorized.ensures
+    ∙ c.if-is_unauthorized.false) c.judge_bulk.ensures
