@@ -29,7 +29,7 @@ fn store_named(alloc: Global, words: &[String]) -> &str {
     match read_words(alloc, words) {
         Ok(Job::Pipe { store: Some(store) } | Job::Serve { store, .. } | Job::View { store, .. }) =>
             { store }
-        Ok(Job::Pipe { store: None }) | Err(_) => "",
+        Ok(Job::Pipe { store: None } | Job::Drill { .. }) | Err(_) => "",
     }
 }
 
@@ -37,7 +37,7 @@ fn store_named(alloc: Global, words: &[String]) -> &str {
 fn address_named(alloc: Global, words: &[String]) -> &str {
     match read_words(alloc, words) {
         Ok(Job::Serve { listen, .. }) => listen,
-        Ok(Job::Pipe { .. } | Job::View { .. }) | Err(_) => "",
+        Ok(Job::Pipe { .. } | Job::View { .. } | Job::Drill { .. }) | Err(_) => "",
     }
 }
 

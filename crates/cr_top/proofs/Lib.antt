@@ -6,3 +6,7 @@ mod Doors
 mod Lost
 mod Gated
 mod Named
+mod DrillCast
+mod DrillConference
+mod DrillCommands
+mod DrillText

@@ -25,7 +25,7 @@ use Rattle.cr_book.specs.declared.opening.OpenError.TheVariants as errors
 use Rattle.cr_book.specs.Opening.{IsCounted, Opens}
 use Rattle.cr_book.specs.Seen.{SeenBook}
 use Rattle.cr_book.specs.Sound.{IsKept}
-use Rattle.cr_book.proofs.OpeningLaws.{legal-bounded}
+use Rattle.cr_book.proofs.OpeningOnward.{legal-bounded}
 use Rattle.cr_session.specs.declared.serve.Ending.{Ending}
 use Rattle.cr_session.specs.Serving.{ConnectionBytes, WholeBytes}
 use Rattle.cr_top.specs.declared.exit.Exit.{Exit}

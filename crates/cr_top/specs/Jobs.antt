@@ -6,10 +6,11 @@ use Rattle.cr_base.specs.Rows.{rows_of}
 use Rattle.cr_ports.specs.Count.{Rises}
 use Rattle.cr_ports.specs.Doors.{DoorLog}
 use Rattle.cr_policy.specs.Legal.{Legal}
-use Rattle.cr_words.specs.Job.{NamedJob, pipe_job, serve_job, view_job}
+use Rattle.cr_words.specs.Job.{NamedJob, pipe_job, serve_job, view_job, drill_job}
 use Rattle.cr_workers.specs.Connections.{Streams}
 use Rattle.cr_top.specs.declared.exit.Exit.{Exit}
 use Rattle.cr_top.specs.declared.exit.Exit.TheVariants as exits
+use Rattle.cr_top.specs.Drill.{TellsDrill}
 use Rattle.cr_top.specs.Runs.{Outside, outside_of, ServesPipe, IsFaultless, AnswersAll}
 use Rattle.cr_top.specs.Serves.{GatesState, gates_of, ServesGates}
 use Rattle.cr_top.specs.Stores.{Files, ShelfState, state_of, PipesStore, TellsStore, AnswersView}
@@ -40,8 +41,8 @@ pub record IsCounted {I C D : Type 0} (exit : Exit) (a a' : Surroundings I C D) 
   pub keeper : exit ≡ exits.KeeperFault → Rises a.stores.faults a'.stores.faults
   pub listen : exit ≡ exits.ListenFault → Rises a.gates.faults a'.gates.faults
 
--- One connection from the empty history on, or from that of a store on; many connections over a store; or the view of a store.
--- The last two read no input, and all but serving leave the gates alone.
+-- One connection from the empty history on, or from that of a store on; many connections over a store; the view of a store; or a
+-- drill. The last three read no input, and all but serving leave the gates alone. A drill has no store.
 abbrev pub DoesJob : {K I C D : Type 0} → (K → Option (List Row)) → (I → Option (List ℕ)) → (I → I → List ℕ → Type 0) → Streams C D
     → NamedJob → Exit → Surroundings I C D → Surroundings I C D → Type 0
 DoesJob rows left gives streams (pipe_job None) exit a a' =
@@ -53,6 +54,9 @@ DoesJob rows left gives streams (serve_job listen workers connections path) exit
     × (a'.outside.input ≡ a.outside.input) × (a'.outside.read_faults ≡ a.outside.read_faults)
 DoesJob rows left gives streams (view_job path name) exit a a' =
     TellsStore path name exit a.outside.output a'.outside.output a.stores a'.stores
+    × (a'.outside.input ≡ a.outside.input) × (a'.outside.read_faults ≡ a.outside.read_faults) × (a'.gates ≡ a.gates)
+DoesJob rows left gives streams (drill_job seed steps) exit a a' =
+    TellsDrill seed steps exit a.outside.output a'.outside.output × (a'.stores ≡ a.stores)
     × (a'.outside.input ≡ a.outside.input) × (a'.outside.read_faults ≡ a.outside.read_faults) × (a'.gates ≡ a.gates)
 
 -- the same, unless memory ran out before it began
@@ -69,8 +73,8 @@ pub record HasHistory (path : List ℕ) (H : History) (s s' : ShelfState) : Type
   pub faultless : Rises s.faults s'.faults → ⊥
 
 -- Where nothing fails, all that the input's bytes spell is answered, from the empty history on or from the store's; each door
--- gives its share of connections; and the view of the store's history is told whole, or nobody there has the name. Memory may
--- be wanting.
+-- gives its share of connections; the view of the store's history is told whole, or nobody there has the name; and so is the
+-- summary of a drill. Memory may be wanting.
 abbrev pub AnswersJob : {I C D : Type 0} → (I → Option (List ℕ)) → NamedJob → Exit → Surroundings I C D → Surroundings I C D → Type 0
 AnswersJob left (pipe_job None) exit a a' =
     (b : List ℕ) → left a.outside.input ≡ Some b → IsFaultless a.outside a'.outside
@@ -84,3 +88,5 @@ AnswersJob left (serve_job listen workers connections path) exit a a' =
 AnswersJob left (view_job path name) exit a a' =
     (Rises a.outside.output.faults a'.outside.output.faults → ⊥) → (H : History) → HasHistory path H a.stores a'.stores
     → (exit ≡ exits.OutOfMemory) ⊎ AnswersView H name exit a.outside.output a'.outside.output
+AnswersJob left (drill_job seed steps) exit a a' =
+    (Rises a.outside.output.faults a'.outside.output.faults → ⊥) → (exit ≡ exits.OutOfMemory) ⊎ (exit ≡ exits.Done)

@@ -8,6 +8,7 @@ ghost use Rattle.cr_top.specs.Jobs.{AnswersJob, Does, IsCounted, IsUntouched, ar
 ghost use Rattle.cr_top.specs.Runs.{TellsUsage};
 ghost use Rattle.cr_top.specs.Words.{AreFor, AreRefused, PassTest};
 
+use crate::drilling::drill;
 use crate::exit::{Exit, exit_of};
 use crate::piping::pipe;
 use crate::serve::{Address, serve_store};
@@ -33,7 +34,7 @@ fn refuse_words<O: Sink>(out: &mut O) -> Exit
 }
 
 /// A book without entries, whose rows stand in memory.
-fn empty_book(alloc: Global) -> Option<Book<PlainKeeper>>
+pub(crate) fn empty_book(alloc: Global) -> Option<Book<PlainKeeper>>
     ensures { IfSome result (λ book. book.log ≡ []) }
 {
     match Book::open(alloc, PlainKeeper::new(alloc)) {
@@ -85,6 +86,7 @@ fn do_job<R: Threads + Wait + Sync, I: Source, O: Sink, S: Shelf, G: Gates>(
             serve_store(rt, alloc, store, address, out, shelf, gates)
         }
         Job::View { store, user } => view_store(alloc, store, user, out, shelf),
+        Job::Drill { seed, steps } => drill(alloc, seed, steps, out),
     }
 }
 
@@ -92,10 +94,10 @@ fn do_job<R: Threads + Wait + Sync, I: Source, O: Sink, S: Shelf, G: Gates>(
 /// `out`, from the empty history on, whose rows it keeps in memory, or from the history of the rows of a store on, which
 /// are those of the last history when it ends. `serve` serves many connections, which the gates' doors give, from the history
 /// of a store's rows on: however their turns interleave, there is one history. `view` prints what a user sees of a store's
-/// history.
+/// history. `drill` makes up commands from a number, gives them to a book in memory, and prints what they come to.
 ///
 /// - `Done` comes only where the connection's ending is `Clean` or `Closed`, each door gave its share and no connection ended
-///   for lack of memory, or the view was printed; `Cut` exactly where the ending is `Cut`.
+///   for lack of memory, or the view or the drill's summary was printed; `Cut` exactly where the ending is `Cut`.
 /// - `Usage` comes exactly where `clap` refuses the words, a call for help included, unless memory is
 ///   wanting or the usage line can't be written. Then nothing is read.
 /// - `BadStore` comes exactly where the store's rows don't open as a legal history, and `KeeperFault` only where the count

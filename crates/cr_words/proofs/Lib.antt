@@ -7,3 +7,4 @@ mod StoreLaws
 mod Values
 mod ServeBy
 mod ServeLaws
+mod DrillLaws

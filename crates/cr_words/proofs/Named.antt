@@ -14,10 +14,10 @@ use Rattle.clap.specs.declared.error.kind.ErrorKind.{ErrorKind}
 use Rattle.clap.specs.Takes.{is_given}
 use Rattle.clap.specs.Faults.{check_fault, entered_fault, level_fault}
 use Rattle.clap.proofs.OnLiterals.{clap_on_literals}
-use Rattle.cr_words.specs.Words.{pipe, serve, view, confd_words}
+use Rattle.cr_words.specs.Words.{pipe, serve, view, drill, confd_words}
 use Rattle.cr_words.specs.Job.{NamedJob, serve_job, view_job, IsInRange, IsNamed, job_named, job_of, job_seen, number_at, serve_named, view_named, with_all}
-use Rattle.cr_words.specs.Job.{with_both}
-use Rattle.cr_words.specs.Numbers.{spelt, number_of, are_workers, are_connections}
+use Rattle.cr_words.specs.Job.{with_both, with_numbers, drill_job, drill_named}
+use Rattle.cr_words.specs.Numbers.{spelt, number_of, are_workers, are_connections, is_seed, are_steps}
 use Rattle.cr_words.proofs.Numbers.{IsNumber, is_number}
 use Rattle.cr_words.specs.declared.read.Job.{Job}
 use Rattle.cr_words.specs.declared.read.WordsError.{WordsError}
@@ -64,9 +64,15 @@ four_given false b c d is = cc
 -- a number's text is one that clap takes
 abbrev Passes : Text → Text → Type 0
 Passes id v = (bytes_eq id (codes "workers") ≡ true → are_workers v ≡ true) × (bytes_eq id (codes "connections") ≡ true → are_connections v ≡ true)
+    × (bytes_eq id (codes "seed") ≡ true → is_seed v ≡ true) × (bytes_eq id (codes "steps") ≡ true → are_steps v ≡ true)
 
 never : (c : Bool) → false ≡ true → c ≡ true
 never c e = cc
+
+-- a text that is no number's
+any_text : (v : Text) → (false ≡ true → are_workers v ≡ true) × (false ≡ true → are_connections v ≡ true)
+    × (false ≡ true → is_seed v ≡ true) × (false ≡ true → are_steps v ≡ true)
+any_text v = (never (are_workers v), never (are_connections v), never (is_seed v), never (are_steps v))
 
 no_kinds : (passes : Bool) (k : ErrorKind) → cond passes [] (k ∷ []) ≡ [] → passes ≡ true
 no_kinds true k e = refl
@@ -84,6 +90,9 @@ all_there a m n b listen workers connections store e f g h = rw (e, f, g, h) ref
 both_there : (a b : Option Text) (store user : Text) → a ≡ Some store → b ≡ Some user → with_both a b ≡ Some (view_job store user)
 both_there a b store user e f = rw (e, f) refl
 
+pub numbers_there : (a b : Option ℕ) (seed steps : ℕ) → a ≡ Some seed → b ≡ Some steps → with_numbers a b ≡ Some (drill_job seed steps)
+numbers_there a b seed steps e f = rw (e, f) refl
+
 -- ---- the command as it is built
 
 abbrev top : Shape
@@ -98,33 +107,52 @@ serve_built = built_leaf (inherited top serve.top)
 abbrev view_built : Shape
 view_built = built_leaf (inherited top view.top)
 
+abbrev drill_built : Shape
+drill_built = built_leaf (inherited top drill.top)
+
 top_plain : ArePlainRules Passes top.rules
-unfolding confd_words pipe serve view
+unfolding confd_words pipe serve view drill
 top_plain = ((inr refl, refl), tt)
 
 serve_plain : ArePlainRules Passes serve_built.rules
-unfolding confd_words pipe serve view
+unfolding confd_words pipe serve view drill
 serve_plain = (
-  (inl (refl, refl, λ v _. (never (are_workers v), never (are_connections v))), refl),
+  (inl (refl, refl, λ v _. any_text v), refl),
   (
-    (inl (refl, refl, λ v none. (λ _. no_kinds (are_workers v) _ none, never (are_connections v))), refl),
+    (inl (refl, refl, λ v none. (λ _. no_kinds (are_workers v) _ none, never (are_connections v), never (is_seed v), never (are_steps v))), refl),
     (
-      (inl (refl, refl, λ v none. (never (are_workers v), λ _. no_kinds (are_connections v) _ none)), refl),
-      ((inl (refl, refl, λ v _. (never (are_workers v), never (are_connections v))), refl), ((inr refl, refl), tt)),
+      (inl (refl, refl, λ v none. (never (are_workers v), λ _. no_kinds (are_connections v) _ none, never (is_seed v), never (are_steps v))), refl),
+      ((inl (refl, refl, λ v _. any_text v), refl), ((inr refl, refl), tt)),
     ),
   ),
 )
 
 view_plain : ArePlainRules Passes view_built.rules
-unfolding confd_words pipe serve view
+unfolding confd_words pipe serve view drill
 view_plain = (
-  (inl (refl, refl, λ v _. (never (are_workers v), never (are_connections v))), refl),
-  ((inl (refl, refl, λ v _. (never (are_workers v), never (are_connections v))), refl), ((inr refl, refl), tt)),
+  (inl (refl, refl, λ v _. any_text v), refl),
+  ((inl (refl, refl, λ v _. any_text v), refl), ((inr refl, refl), tt)),
+)
+
+drill_plain : ArePlainRules Passes drill_built.rules
+unfolding confd_words pipe serve view drill
+drill_plain = (
+  (
+    inl (refl, refl, λ v none. (never (are_workers v), never (are_connections v), λ _. no_kinds (is_seed v) _ none, never (are_steps v))),
+    refl,
+  ),
+  (
+    (
+      inl (refl, refl, λ v none. (never (are_workers v), never (are_connections v), never (is_seed v), λ _. no_kinds (are_steps v) _ none)),
+      refl,
+    ),
+    ((inr refl, refl), tt),
+  ),
 )
 
 -- `serve` has all its options where it has no fault, and its numbers lie within their ranges
 serve_is_whole : (rest : List Text) → level_fault serve_built [] nothing_held rest false [] ≡ [] → IsNamed (serve_named (rows_after serve_built.rules [] rest))
-unfolding confd_words pipe serve view
+unfolding confd_words pipe serve view drill
 serve_is_whole rest e =
     let rows = rows_after serve_built.rules [] rest in
     let level = level_of Passes serve_built [] rest false [] serve_plain e in
@@ -143,7 +171,7 @@ serve_is_whole rest e =
 
 -- `view` has both its options where it has no fault
 view_is_whole : (rest : List Text) → level_fault view_built [] nothing_held rest false [] ≡ [] → IsNamed (view_named (rows_after view_built.rules [] rest))
-unfolding confd_words pipe serve view
+unfolding confd_words pipe serve view drill
 view_is_whole rest e =
     let rows = rows_after view_built.rules [] rest in
     let level = level_of Passes view_built [] rest false [] view_plain e in
@@ -151,6 +179,22 @@ view_is_whole rest e =
     let store = given_first Passes (codes "store") rows level.filled given.0 in
     let user = given_first Passes (codes "user") rows level.filled given.1 in
     (view_job store.0 user.0, both_there _ _ _ _ store.1 user.1, tt)
+
+-- `drill` has both its numbers where it has no fault, and they lie within their ranges
+drill_is_whole : (rest : List Text) → level_fault drill_built [] nothing_held rest false [] ≡ [] → IsNamed (drill_named (rows_after drill_built.rules [] rest))
+unfolding confd_words pipe serve view drill
+drill_is_whole rest e =
+    let rows = rows_after drill_built.rules [] rest in
+    let level = level_of Passes drill_built [] rest false [] drill_plain e in
+    let given = both_given (is_given (codes "seed") rows) (is_given (codes "steps") rows) (options_are_there drill_built rows false level.checked) in
+    let seed = given_first Passes (codes "seed") rows level.filled given.0 in
+    let steps = given_first Passes (codes "steps") rows level.filled given.1 in
+    let first = is_number 0 2147483647 seed.0 (omega arith) (seed.2.2.2 seed.2.1) in
+    let many = is_number 1 100000 steps.0 (omega arith) (steps.2.2.3 steps.2.1) in (
+      drill_job (spelt seed.0) (spelt steps.0),
+      numbers_there _ _ _ _ (number_there _ rows _ 0 2147483647 seed.1 first) (number_there _ rows _ 1 100000 steps.1 many),
+      (first.high_enough, many.low_enough, many.high_enough),
+    )
 
 -- ---- each subcommand has its job
 
@@ -163,47 +207,56 @@ serve_is_named p e named = rw e named
 view_is_named : (p : Text × List Row) → p.0 ≡ codes "view" → IsNamed (view_named p.1) → IsNamed (job_named p)
 view_is_named p e named = rw e named
 
+drill_is_named : (p : Text × List Row) → p.0 ≡ codes "drill" → IsNamed (drill_named p.1) → IsNamed (job_named p)
+drill_is_named p e named = rw e named
+
 -- ways in which a level without a fault names its job
 abbrev NamesBy : Shape → (List Row → Option NamedJob) → List Text → Type 0
 NamesBy t named rest = level_fault t [] nothing_held rest false [] ≡ [] → IsNamed (named (rows_after t.rules [] rest))
 
-module _ (s t u : Shape) (word : Text) (rest : List Text)
+module _ (s t u v : Shape) (word : Text) (rest : List Text)
     (s_name : s.name ≡ codes "pipe") (t_name : t.name ≡ codes "serve") (u_name : u.name ≡ codes "view")
-    (t_whole : NamesBy t serve_named rest) (u_whole : NamesBy u view_named rest) where
-  abbrev by_name : Bool → Bool → Bool → Option Shape
-  by_name first second third = cond first (Some s) (cond second (Some t) (cond third (Some u) None))
+    (v_name : v.name ≡ codes "drill") (t_whole : NamesBy t serve_named rest) (u_whole : NamesBy u view_named rest)
+    (v_whole : NamesBy v drill_named rest) where
+  abbrev by_name : Bool → Bool → Bool → Bool → Option Shape
+  by_name first second third fourth = cond first (Some s) (cond second (Some t) (cond third (Some u) (cond fourth (Some v) None)))
 
-  found_entry : (first second third : Bool) → option_map_or (λ (w : Shape). level_fault w [] nothing_held rest false []) (by_name first second third) [] ≡ []
-      → is_some (option_map (λ (w : Shape). rows_at w rest) (by_name first second third)) ≡ true
-      → IsNamed (option_and_then job_named (option_map (λ (w : Shape). rows_at w rest) (by_name first second third)))
-  found_entry true second third none some = pipe_is_named (rows_at s rest) s_name
-  found_entry false true third none some = serve_is_named (rows_at t rest) t_name (t_whole none)
-  found_entry false false true none some = view_is_named (rows_at u rest) u_name (u_whole none)
-  found_entry false false false none some = absurd (no_entry some)
+  found_entry : (first second third fourth : Bool)
+      → option_map_or (λ (w : Shape). level_fault w [] nothing_held rest false []) (by_name first second third fourth) [] ≡ []
+      → is_some (option_map (λ (w : Shape). rows_at w rest) (by_name first second third fourth)) ≡ true
+      → IsNamed (option_and_then job_named (option_map (λ (w : Shape). rows_at w rest) (by_name first second third fourth)))
+  found_entry true second third fourth none some = pipe_is_named (rows_at s rest) s_name
+  found_entry false true third fourth none some = serve_is_named (rows_at t rest) t_name (t_whole none)
+  found_entry false false true fourth none some = view_is_named (rows_at u rest) u_name (u_whole none)
+  found_entry false false false true none some = drill_is_named (rows_at v rest) v_name (v_whole none)
+  found_entry false false false false none some = absurd (no_entry some)
     where
       no_entry : false ≡ true → ⊥
       no_entry e = cc
 
-entry_is_named : (a : App) (s t u : Shape) (stop : Option (Text × List Text)) → a.subs ≡ s ∷ t ∷ u ∷ []
-    → s.name ≡ codes "pipe" → t.name ≡ codes "serve" → u.name ≡ codes "view"
+entry_is_named : (a : App) (s t u v : Shape) (stop : Option (Text × List Text)) → a.subs ≡ s ∷ t ∷ u ∷ v ∷ []
+    → s.name ≡ codes "pipe" → t.name ≡ codes "serve" → u.name ≡ codes "view" → v.name ≡ codes "drill"
     → ((rest : List Text) → NamesBy t serve_named rest) → ((rest : List Text) → NamesBy u view_named rest)
+    → ((rest : List Text) → NamesBy v drill_named rest)
     → entered_fault a stop ≡ [] → is_some (entered a stop) ≡ true → IsNamed (option_and_then job_named (entered a stop))
-entry_is_named a s t u None subs s_name t_name u_name t_whole u_whole none some = absurd (not_some some)
+entry_is_named a s t u v None subs s_name t_name u_name v_name t_whole u_whole v_whole none some = absurd (not_some some)
   where
     not_some : false ≡ true → ⊥
     not_some e = cc
-entry_is_named a s t u (Some p) subs s_name t_name u_name t_whole u_whole none some =
-    rw subs (found_entry s t u p.0 p.1 s_name t_name u_name (t_whole p.1) (u_whole p.1)
-    (answers_to p.0 (label_of s)) (answers_to p.0 (label_of t)) (answers_to p.0 (label_of u)) (rw subs at none) (rw subs at some))
+entry_is_named a s t u v (Some p) subs s_name t_name u_name v_name t_whole u_whole v_whole none some =
+    rw subs (found_entry s t u v p.0 p.1 s_name t_name u_name v_name (t_whole p.1) (u_whole p.1) (v_whole p.1)
+    (answers_to p.0 (label_of s)) (answers_to p.0 (label_of t)) (answers_to p.0 (label_of u)) (answers_to p.0 (label_of v)) (rw subs at none)
+    (rw subs at some))
 
 pub names_a_job : (words : List Text) → fault_of confd_words words ≡ [] → IsNamed (job_of words)
-unfolding confd_words pipe serve view
+unfolding confd_words pipe serve view drill
 names_a_job words e =
     let app = built confd_words in
     let stop = stop_after app.top.rules (names_of app) (argument_words confd_words words) in
     let given = argument_words confd_words words in
     let level = level_of Passes app.top (names_of app) given (is_some (entered app stop)) (entered_fault app stop) top_plain e in
-    entry_is_named app pipe_built serve_built view_built stop refl refl refl refl serve_is_whole view_is_whole level.below_none
+    entry_is_named app pipe_built serve_built view_built drill_built stop refl refl refl refl refl serve_is_whole view_is_whole drill_is_whole
+    level.below_none
     (enters app.top (rows_after app.top.rules (names_of app) given) (is_some (entered app stop)) refl level.checked)
 
 -- ---- what is answered to words that clap takes
@@ -227,7 +280,7 @@ by_job words (Some j) is named none = record {
 }
 
 simple_words : is_simple confd_words ≡ true
-unfolding clap_on_literals confd_words pipe serve view
+unfolding clap_on_literals confd_words pipe serve view drill
 simple_words = refl
 
 pub answered : (a : App) (words : List Text) (rows : Option (Text × List Row)) (o : Option Job) (r : Result Job WordsError) → a ≡ confd_words

@@ -7,13 +7,13 @@ use Rattle.clap.specs.declared.builder.value_parser.ValueParser.{ValueParser}
 use Rattle.clap.specs.declared.builder.value_parser.ValueParser.TheVariants.{Unsigned}
 use Rattle.clap.specs.declared.error.kind.ErrorKind.{ErrorKind}
 use Rattle.clap.specs.declared.error.kind.ErrorKind.TheVariants.{ValueValidation}
-use Rattle.cr_words.specs.Words.{pipe, serve, view, confd_words, required, text_option, with_rules, most_workers, most_connections}
+use Rattle.cr_words.specs.Words.{pipe, serve, view, drill, confd_words, required, text_option, with_rules, most_workers, most_connections}
 use Rattle.cr_words.specs.Numbers.{spelt, number_of, are_workers, are_connections}
 use Rattle.cr_words.specs.Job.{NamedJob, job_named, job_of, serve_job, with_all}
 use Rattle.cr_words.proofs.Numbers.{is_number}
 use Rattle.cr_words.proofs.Named.{all_there}
 
-abbrev option_by : Text → ValueParser → Rule
+abbrev pub option_by : Text → ValueParser → Rule
 option_by id p = record (text_option id true) { parser = Some p }
 
 abbrev pub serve_by : ValueParser → ValueParser → App
@@ -21,7 +21,8 @@ serve_by p q = with_rules (new_app (codes "serve")) (text_option (codes "listen"
     ∷ option_by (codes "connections") q ∷ text_option (codes "store") true ∷ [])
 
 abbrev pub words_by : ValueParser → ValueParser → App
-words_by p q = with_subcommand (with_subcommand (with_subcommand (required (new_app (codes "confd"))) pipe.top) (serve_by p q).top) view.top
+words_by p q = with_subcommand (with_subcommand (with_subcommand (with_subcommand (required (new_app (codes "confd"))) pipe.top) (serve_by p q).top)
+    view.top) drill.top
 
 abbrev pub job_by : ValueParser → ValueParser → List Text → Option NamedJob
 job_by p q words = option_and_then job_named (subcommand_of (words_by p q) words)

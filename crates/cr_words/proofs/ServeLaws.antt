@@ -15,7 +15,7 @@ use Rattle.clap.specs.declared.builder.value_parser.ValueParser.{ValueParser}
 use Rattle.clap.specs.declared.error.kind.ErrorKind.TheVariants.{ValueValidation}
 use Rattle.clap.specs.declared.parser.matches.ValueSource.TheVariants.{CommandLine}
 use Rattle.clap.proofs.OnLiterals.{clap_on_literals}
-use Rattle.cr_words.specs.Words.{pipe, view, confd_words, is_plain_text, most_workers, most_connections, serve_word, serve_words, store_words}
+use Rattle.cr_words.specs.Words.{pipe, view, drill, confd_words, is_plain_text, most_workers, most_connections, serve_word, serve_words, store_words}
 use Rattle.cr_words.specs.Numbers.{spelt, number_of, are_workers, are_connections}
 use Rattle.cr_words.specs.Job.{AreTakenFor, job_named, serve_job, with_all}
 use Rattle.cr_words.proofs.ServeBy.{serve_by, words_by, job_by, first_range, second_range, number_fault, walk_faults, faults_by}
@@ -33,15 +33,15 @@ one_word name listen workers connections file = name ∷ codes "serve" ∷ serve
 module _ (p q : ValueParser) (name listen workers connections file : Text) where
   attached_faults : fault_of (words_by p q) (one_word name listen workers connections file)
       ≡ faults_by (refused_kind p) (refused_kind q) (accepts false p workers) (accepts false q connections)
-  unfolding clap_on_literals pipe view
+  unfolding clap_on_literals pipe view drill
   attached_faults = refl
 
   attached_both : takes (words_by p q) (one_word name listen workers connections file) ≡ passes_by (accepts false p workers) (accepts false q connections)
-  unfolding clap_on_literals pipe view
+  unfolding clap_on_literals pipe view drill
   attached_both = refl
 
   attached_named : job_by p q (one_word name listen workers connections file) ≡ with_all (Some listen) (number_of workers) (number_of connections) (Some file)
-  unfolding clap_on_literals pipe view
+  unfolding clap_on_literals pipe view drill
   attached_named = refl
 
 module _ (name listen workers connections file : Text) where
@@ -66,19 +66,19 @@ module _ (name listen workers connections file : Text) where
 
 -- ---- options as two words: a level by its walk and by where that ends
 
-abbrev level_by : Shape → Kinds → Held → Kinds
+abbrev pub level_by : Shape → Kinds → Held → Kinds
 level_by s walks end = or_else walks (or_else [] (or_else (settle_fault s.rules s.args_override_self end)
     (or_else (defaults_fault (settled s.rules end).rows s.rules) (check_fault s (finished s.rules end) false))))
 
-abbrev level_passes_by : Shape → Bool → Held → Bool
+abbrev pub level_passes_by : Shape → Bool → Held → Bool
 level_passes_by s walks end =
     walks && (settle_passes s.rules s.args_override_self end && (list_all default_passes s.rules && is_valid s (finished s.rules end) false))
 
-abbrev row : Text → Text → Reading → Row
+abbrev pub row : Text → Text → Reading → Row
 row id v how = record { id = id; values = v ∷ []; count = None; source = Some CommandLine; reading = how }
 
 -- these rows, and an option that waits
-abbrev held_with : List Row → Text → Held
+abbrev pub held_with : List Row → Text → Held
 held_with rows id = record { rows = rows; pending = Some (id, []); skip = 0 }
 
 module _ (p q : ValueParser) (name listen workers connections file : Text) (listen_plain : is_plain_text listen ≡ true)
@@ -110,7 +110,7 @@ module _ (p q : ValueParser) (name listen workers connections file : Text) (list
   last = after_value leaf.rules (codes "store") file (held_with three_rows (codes "store"))
 
   ends : walk leaf.rules [] nothing_held words ≡ last
-  unfolding clap_on_literals pipe view
+  unfolding clap_on_literals pipe view drill
   ends = goes_on leaf (codes "listen") listen (held_with [] (codes "listen")) from_workers listen_plain
       ∙ (goes_on leaf (codes "workers") workers (held_with one_row (codes "workers")) from_connections workers_plain
       ∙ (goes_on leaf (codes "connections") connections (held_with two_rows (codes "connections")) (store_words file) connections_plain
@@ -124,7 +124,7 @@ module _ (p q : ValueParser) (name listen workers connections file : Text) (list
 
   faults_walked : walk_fault leaf [] (walk_from nothing_held) words
       ≡ walk_faults (refused_kind p) (refused_kind q) (accepts false p workers) (accepts false q connections)
-  unfolding clap_on_literals pipe view
+  unfolding clap_on_literals pipe view drill
   faults_walked = faults_go_on leaf (codes "listen") listen (held_with [] (codes "listen")) from_workers listen_plain
       ∙ (faults_go_on leaf (codes "workers") workers (held_with one_row (codes "workers")) from_connections workers_plain
       ∙ (ap (or_else first_fault) (faults_go_on leaf (codes "connections") connections (held_with two_rows (codes "connections"))
@@ -139,7 +139,7 @@ module _ (p q : ValueParser) (name listen workers connections file : Text) (list
   second_passes = number_passes (accepts false q connections)
 
   passes_walked : walk_passes leaf [] (walk_from nothing_held) words ≡ walk_passes_by (accepts false p workers) (accepts false q connections)
-  unfolding clap_on_literals pipe view
+  unfolding clap_on_literals pipe view drill
   passes_walked = passes_on leaf (codes "listen") listen (held_with [] (codes "listen")) from_workers listen_plain
       ∙ (passes_on leaf (codes "workers") workers (held_with one_row (codes "workers")) from_connections workers_plain
       ∙ (ap (λ (b : Bool). first_passes && b) (passes_on leaf (codes "connections") connections (held_with two_rows (codes "connections"))
@@ -149,12 +149,12 @@ module _ (p q : ValueParser) (name listen workers connections file : Text) (list
   -- the whole is its one level below the top
   level_faults : fault_of (words_by p q) (two_words name listen workers connections file)
       ≡ or_else (level_by leaf (walk_fault leaf [] (walk_from nothing_held) words) (walk leaf.rules [] nothing_held words).held) []
-  unfolding clap_on_literals pipe view
+  unfolding clap_on_literals pipe view drill
   level_faults = refl
 
   last_faults : or_else (level_by leaf (walk_faults (refused_kind p) (refused_kind q) (accepts false p workers) (accepts false q connections)) last.held) []
       ≡ faults_by (refused_kind p) (refused_kind q) (accepts false p workers) (accepts false q connections)
-  unfolding clap_on_literals pipe view
+  unfolding clap_on_literals pipe view drill
   last_faults = refl
 
   faults : fault_of (words_by p q) (two_words name listen workers connections file)
@@ -163,12 +163,12 @@ module _ (p q : ValueParser) (name listen workers connections file : Text) (list
 
   level_passes : takes (words_by p q) (two_words name listen workers connections file)
       ≡ (level_passes_by leaf (walk_passes leaf [] (walk_from nothing_held) words) (walk leaf.rules [] nothing_held words).held && true)
-  unfolding clap_on_literals pipe view
+  unfolding clap_on_literals pipe view drill
   level_passes = refl
 
   last_passes : (level_passes_by leaf (walk_passes_by (accepts false p workers) (accepts false q connections)) last.held && true)
       ≡ passes_by (accepts false p workers) (accepts false q connections)
-  unfolding clap_on_literals pipe view
+  unfolding clap_on_literals pipe view drill
   last_passes = refl
 
   both : takes (words_by p q) (two_words name listen workers connections file) ≡ passes_by (accepts false p workers) (accepts false q connections)
@@ -176,11 +176,11 @@ module _ (p q : ValueParser) (name listen workers connections file : Text) (list
 
   level_named : job_by p q (two_words name listen workers connections file)
       ≡ job_named (codes "serve", finished leaf.rules (walk leaf.rules [] nothing_held words).held)
-  unfolding clap_on_literals pipe view
+  unfolding clap_on_literals pipe view drill
   level_named = refl
 
   last_named : job_named (codes "serve", finished leaf.rules last.held) ≡ with_all (Some listen) (number_of workers) (number_of connections) (Some file)
-  unfolding clap_on_literals pipe view
+  unfolding clap_on_literals pipe view drill
   last_named = refl
 
   named : job_by p q (two_words name listen workers connections file) ≡ with_all (Some listen) (number_of workers) (number_of connections) (Some file)

@@ -4,10 +4,10 @@ use Rattle.clap.specs.Words.{App, Text, is_simple_and_free, HasKind, Kinds, kind
 use Rattle.clap.specs.declared.Error.{Error}
 use Rattle.clap.specs.declared.error.ErrorKind.TheVariants.{OutOfMemory}
 use Rattle.clap.proofs.OnLiterals.{clap_on_literals}
-use Rattle.cr_words.specs.Words.{pipe, serve, view, confd_words}
+use Rattle.cr_words.specs.Words.{pipe, serve, view, drill, confd_words}
 
 pub simple : is_simple_and_free confd_words ≡ true
-unfolding clap_on_literals confd_words pipe serve view
+unfolding clap_on_literals confd_words pipe serve view drill
 simple = refl
 
 pub no_fault : (kinds : Kinds) (e : Error) → HasKind kinds e → (kind_of e ≡ OutOfMemory → ⊥) → kinds ≡ [] → ⊥

@@ -5,7 +5,7 @@ use Rattle.std.specs.Str.{bytes_eq}
 use Rattle.clap.specs.Lexer.{strip_byte}
 use Rattle.clap.specs.Words.{Text}
 use Rattle.clap.proofs.OnLiterals.{clap_on_literals}
-use Rattle.cr_words.specs.Words.{pipe, serve, view, confd_words, is_plain_text, store_word, user_word, store_words, user_words}
+use Rattle.cr_words.specs.Words.{pipe, serve, view, drill, confd_words, is_plain_text, store_word, user_word, store_words, user_words}
 use Rattle.cr_words.specs.Job.{AreTakenFor, pipe_job, view_job}
 
 -- ---- what clap tests of a word that may be an option
@@ -25,7 +25,7 @@ not_stripped (b ∷ rest) plain = ap (λ t. cond t (Some rest) None) (no_hyphen 
 -- ---- options as two words
 
 pub pipe_store_taken : (name file : Text) → is_plain_text file ≡ true → AreTakenFor (name ∷ codes "pipe" ∷ store_words file) (pipe_job (Some file))
-unfolding clap_on_literals confd_words pipe serve view
+unfolding clap_on_literals confd_words pipe serve view drill
 pipe_store_taken name file file_plain =
     let d = not_dashes file file_plain in
     let s = not_stripped file file_plain in
@@ -33,7 +33,7 @@ pipe_store_taken name file file_plain =
 
 pub view_taken : (name file user : Text) → is_plain_text file ≡ true → is_plain_text user ≡ true
     → AreTakenFor (name ∷ codes "view" ∷ store_words file ++ user_words user) (view_job file user)
-unfolding clap_on_literals confd_words pipe serve view
+unfolding clap_on_literals confd_words pipe serve view drill
 view_taken name file user file_plain user_plain =
     let d = not_dashes file file_plain in
     let s = not_stripped file file_plain in
@@ -43,7 +43,7 @@ view_taken name file user file_plain user_plain =
 
 pub user_first_taken : (name file user : Text) → is_plain_text file ≡ true → is_plain_text user ≡ true
     → AreTakenFor (name ∷ codes "view" ∷ user_words user ++ store_words file) (view_job file user)
-unfolding clap_on_literals confd_words pipe serve view
+unfolding clap_on_literals confd_words pipe serve view drill
 user_first_taken name file user file_plain user_plain =
     let d = not_dashes file file_plain in
     let s = not_stripped file file_plain in
@@ -54,9 +54,9 @@ user_first_taken name file user file_plain user_plain =
 -- ---- options as one word
 
 pub pipe_attached_taken : (name file : Text) → AreTakenFor (name ∷ codes "pipe" ∷ store_word file ∷ []) (pipe_job (Some file))
-unfolding clap_on_literals confd_words pipe serve view
+unfolding clap_on_literals confd_words pipe serve view drill
 pipe_attached_taken name file = record { taken = refl; passes = refl; named = refl }
 
 pub view_attached_taken : (name file user : Text) → AreTakenFor (name ∷ codes "view" ∷ store_word file ∷ user_word user ∷ []) (view_job file user)
-unfolding clap_on_literals confd_words pipe serve view
+unfolding clap_on_literals confd_words pipe serve view drill
 view_attached_taken name file user = record { taken = refl; passes = refl; named = refl }

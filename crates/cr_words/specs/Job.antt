@@ -3,10 +3,10 @@ use Rattle.std.specs.Prelude.{◌≡◌, ℕ, ◌≤◌, ⊤, List, [], true, Op
 use Rattle.std.specs.Option.{option_and_then}
 use Rattle.std.specs.Str.{bytes_eq}
 use Rattle.clap.specs.Words.{Row, Text, fault_of, first_of, subcommand_of, takes}
-use Rattle.cr_words.specs.Words.{confd_words, most_workers, most_connections}
+use Rattle.cr_words.specs.Words.{confd_words, most_workers, most_connections, greatest_seed, most_steps}
 use Rattle.cr_words.specs.Numbers.{number_of}
 use Rattle.cr_words.specs.declared.read.Job.{Job}
-use Rattle.cr_words.specs.declared.read.Job.TheVariants.{Pipe, Serve, View}
+use Rattle.cr_words.specs.declared.read.Job.TheVariants.{Pipe, Serve, View, Drill}
 
 -- a job as the texts of its options
 pub data NamedJob : Type 0 where
@@ -16,17 +16,21 @@ pub data NamedJob : Type 0 where
   serve_job : Text → ℕ → ℕ → Text → NamedJob
   -- the store and the user's name
   view_job : Text → Text → NamedJob
+  -- the number that the choices begin with, and how many steps
+  drill_job : ℕ → ℕ → NamedJob
 
 -- the job that the program is handed, whose texts are lent
 abbrev pub job_seen : Job → NamedJob
 job_seen (Pipe store) = pipe_job (option_map (λ s. s.now) store)
 job_seen (Serve listen workers connections store) = serve_job listen.now workers connections store.now
 job_seen (View store user) = view_job store.now user.now
+job_seen (Drill seed steps) = drill_job seed steps
 
 -- its numbers lie within their ranges
 abbrev pub IsInRange : NamedJob → Type 0
 IsInRange (serve_job listen workers connections store) =
     (1 ≤ workers) × (workers ≤ most_workers) × (1 ≤ connections) × (connections ≤ most_connections)
+IsInRange (drill_job seed steps) = (seed ≤ greatest_seed) × (1 ≤ steps) × (steps ≤ most_steps)
 IsInRange _ = ⊤
 
 -- a job is named, and it is one whose numbers lie within their ranges
@@ -51,12 +55,20 @@ with_both _ _ = None
 abbrev pub view_named : List Row → Option NamedJob
 view_named rows = with_both (first_of (codes "store") rows) (first_of (codes "user") rows)
 
+abbrev pub with_numbers : Option ℕ → Option ℕ → Option NamedJob
+with_numbers (Some seed) (Some steps) = Some (drill_job seed steps)
+with_numbers _ _ = None
+
+abbrev pub drill_named : List Row → Option NamedJob
+drill_named rows = with_numbers (number_at (codes "seed") rows) (number_at (codes "steps") rows)
+
 -- the job of a subcommand, by its name and the values of its options
 abbrev pub job_named : Text × List Row → Option NamedJob
 job_named sub =
     if bytes_eq sub.0 (codes "pipe") then Some (pipe_job (first_of (codes "store") sub.1))
     else (if bytes_eq sub.0 (codes "serve") then serve_named sub.1
-    else (if bytes_eq sub.0 (codes "view") then view_named sub.1 else None))
+    else (if bytes_eq sub.0 (codes "view") then view_named sub.1
+    else (if bytes_eq sub.0 (codes "drill") then drill_named sub.1 else None)))
 
 -- the job of the subcommand that clap finds among the words
 abbrev pub job_of : List Text → Option NamedJob

@@ -3,7 +3,7 @@ use Rattle.std.specs.Prelude.{ℕ, Bool, Option, Some, None, if◌then◌else◌
 use Rattle.std.specs.Str.Parse.{digits_value, without_leading_plus}
 use Rattle.clap.specs.ValueTests.{is_unsigned_in}
 use Rattle.clap.specs.Words.{Text}
-use Rattle.cr_words.specs.Words.{most_workers, most_connections}
+use Rattle.cr_words.specs.Words.{most_workers, most_connections, greatest_seed, most_steps}
 
 -- the number that the digits spell
 abbrev pub spelt : Text → ℕ
@@ -19,3 +19,10 @@ are_workers = is_unsigned_in 1 most_workers
 
 abbrev pub are_connections : Text → Bool
 are_connections = is_unsigned_in 1 most_connections
+
+-- clap takes the text behind `--seed`, and behind `--steps`
+abbrev pub is_seed : Text → Bool
+is_seed = is_unsigned_in 0 greatest_seed
+
+abbrev pub are_steps : Text → Bool
+are_steps = is_unsigned_in 1 most_steps

@@ -23,6 +23,13 @@ most_workers = 64
 abbrev pub most_connections : ℕ
 most_connections = 65536
 
+-- the greatest number that a drill's choices begin with, and how many steps it may have
+abbrev pub greatest_seed : ℕ
+greatest_seed = 2147483647
+
+abbrev pub most_steps : ℕ
+most_steps = 100000
+
 -- one connection over standard input and output
 unfoldable pub pipe : App
 pipe = with_rule (new_app (codes "pipe")) (text_option (codes "store") false)
@@ -36,13 +43,18 @@ serve = with_rules (new_app (codes "serve")) (text_option (codes "listen") true 
 unfoldable pub view : App
 view = with_rule (with_rule (new_app (codes "view")) (text_option (codes "store") true)) (text_option (codes "user") true)
 
+-- commands that are made up from a number
+unfoldable pub drill : App
+drill = with_rules (new_app (codes "drill")) (number_option (codes "seed") 0 greatest_seed ∷ number_option (codes "steps") 1 most_steps ∷ [])
+
 -- one of the subcommands has to be named, and clap's own `help` is none of them
 abbrev pub required : App → App
 required a = record a { top = record a.top { subcommand_required = true; disable_help_subcommand = true } }
 
 -- the program: one line for each subcommand
 unfoldable pub confd_words : App
-confd_words = with_subcommand (with_subcommand (with_subcommand (required (new_app (codes "confd"))) pipe.top) serve.top) view.top
+confd_words = with_subcommand (with_subcommand (with_subcommand (with_subcommand (required (new_app (codes "confd"))) pipe.top) serve.top) view.top)
+    drill.top
 
 -- ---- options among the words
 
@@ -74,3 +86,11 @@ user_word user = codes "--user=" ++ user
 abbrev pub serve_word : Text → Text → Text → Text → List Text
 serve_word listen workers connections file =
     (codes "--listen=" ++ listen) ∷ (codes "--workers=" ++ workers) ∷ (codes "--connections=" ++ connections) ∷ store_word file ∷ []
+
+-- the two options of `drill`, four words
+abbrev pub drill_words : Text → Text → List Text
+drill_words seed steps = codes "--seed" ∷ seed ∷ codes "--steps" ∷ steps ∷ []
+
+-- and a word each
+abbrev pub drill_word : Text → Text → List Text
+drill_word seed steps = (codes "--seed=" ++ seed) ∷ (codes "--steps=" ++ steps) ∷ []

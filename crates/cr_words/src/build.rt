@@ -2,11 +2,17 @@
 ghost use Rattle.std.specs.Prelude.{◌≡◌, IfOk, false};
 ghost use Rattle.clap.specs.Words.{app_of, rule_of};
 ghost use Rattle.clap.specs.declared.Command.TheViews.{out-Command as fields_of};
-ghost use Rattle.cr_words.specs.Words.{text_option, number_option, pipe, serve, view, confd_words};
+ghost use Rattle.cr_words.specs.Words.{text_option, number_option, pipe, serve, view, drill, confd_words};
 
 use clap::builder::ValueParser;
 use clap::{Arg, Command};
 use std::alloc::{AllocError, Global};
+
+/// The greatest number that a drill's choices begin with.
+pub const GREATEST_SEED: u64 = 2_147_483_647;
+
+/// How many steps a drill may have.
+pub const MOST_STEPS: u64 = 100_000;
 
 /// The option `--id VALUE`, where VALUE is any text.
 fn text_arg<'a>(alloc: Global, id: &'a str, is_required: bool) -> Arg<'a>
@@ -54,6 +60,16 @@ fn view_command<'a>(alloc: Global) -> Result<Command<'a>, AllocError>
         .arg(text_arg(alloc, "user", true))
 }
 
+#[tactic(auto, unfolding(crate::specs::Words::drill))]
+fn drill_command<'a>(alloc: Global) -> Result<Command<'a>, AllocError>
+    ensures shape { IfOk result (λ c. app_of c ≡ drill) }
+    ensures local { IfOk result (λ c. (fields_of c).has_globals ≡ false) }
+{
+    Command::new(alloc, "drill")
+        .arg(number_arg(alloc, "seed", 0, GREATEST_SEED))?
+        .arg(number_arg(alloc, "steps", 1, MOST_STEPS))
+}
+
 /// The program with its subcommands. It takes memory, and fails for want of it only.
 pub(crate) fn confd_command<'a>(alloc: Global) -> Result<Command<'a>, AllocError>
     ensures { IfOk result (λ c. app_of c ≡ confd_words) }
@@ -63,5 +79,6 @@ pub(crate) fn confd_command<'a>(alloc: Global) -> Result<Command<'a>, AllocError
         .disable_help_subcommand(true)
         .subcommand(pipe_command(alloc)?)?
         .subcommand(serve_command(alloc)?)?
-        .subcommand(view_command(alloc)?)
+        .subcommand(view_command(alloc)?)?
+        .subcommand(drill_command(alloc)?)
 }

@@ -2,9 +2,10 @@
 ghost use Rattle.std.specs.Prelude.{◌≡◌, [], ◌∷◌, ◌++◌, Some, None, codes, true, false, List};
 ghost use Rattle.clap.specs.Words.{Text, fault_of};
 ghost use Rattle.clap.specs.declared.error.kind.ErrorKind.TheVariants.{ValueValidation};
-ghost use Rattle.cr_words.specs.Job.{AreTakenFor, IsNamed, job_of, pipe_job, serve_job, view_job};
-ghost use Rattle.cr_words.specs.Numbers.{spelt, are_workers, are_connections};
+ghost use Rattle.cr_words.specs.Job.{AreTakenFor, IsNamed, job_of, pipe_job, serve_job, view_job, drill_job};
+ghost use Rattle.cr_words.specs.Numbers.{spelt, are_workers, are_connections, is_seed, are_steps};
 ghost use Rattle.cr_words.specs.Words.{confd_words, is_plain_text, serve_word, serve_words, store_word, user_word, store_words, user_words};
+ghost use Rattle.cr_words.specs.Words.{drill_word, drill_words};
 
 /// `pipe` alone, behind the program's name, whatever that is.
 pub fn law_pipe()
@@ -54,6 +55,27 @@ pub fn law_serve_attached()
         → fault_of confd_words (name ∷ codes "serve" ∷ serve_word listen workers connections file) ≡ ValueValidation ∷ [] }
     ensures bad_connections { (name listen workers connections file : Text) → are_workers workers ≡ true → are_connections connections ≡ false
         → fault_of confd_words (name ∷ codes "serve" ∷ serve_word listen workers connections file) ≡ ValueValidation ∷ [] }
+{}
+
+/// `drill` with its two options as two words each: numbers within their ranges, of which none begins with a hyphen. Where one
+/// isn't, the words are refused.
+pub fn law_drill()
+    ensures taken { (name seed steps : Text) → is_seed seed ≡ true → are_steps steps ≡ true
+        → AreTakenFor (name ∷ codes "drill" ∷ drill_words seed steps) (drill_job (spelt seed) (spelt steps)) }
+    ensures bad_seed { (name seed steps : Text) → is_plain_text seed ≡ true → is_plain_text steps ≡ true → is_seed seed ≡ false
+        → fault_of confd_words (name ∷ codes "drill" ∷ drill_words seed steps) ≡ ValueValidation ∷ [] }
+    ensures bad_steps { (name seed steps : Text) → is_plain_text steps ≡ true → is_seed seed ≡ true → are_steps steps ≡ false
+        → fault_of confd_words (name ∷ codes "drill" ∷ drill_words seed steps) ≡ ValueValidation ∷ [] }
+{}
+
+/// `drill` with a word for each of its options: the same.
+pub fn law_drill_attached()
+    ensures taken { (name seed steps : Text) → is_seed seed ≡ true → are_steps steps ≡ true
+        → AreTakenFor (name ∷ codes "drill" ∷ drill_word seed steps) (drill_job (spelt seed) (spelt steps)) }
+    ensures bad_seed { (name seed steps : Text) → is_seed seed ≡ false
+        → fault_of confd_words (name ∷ codes "drill" ∷ drill_word seed steps) ≡ ValueValidation ∷ [] }
+    ensures bad_steps { (name seed steps : Text) → is_seed seed ≡ true → are_steps steps ≡ false
+        → fault_of confd_words (name ∷ codes "drill" ∷ drill_word seed steps) ≡ ValueValidation ∷ [] }
 {}
 
 /// Words that `clap` takes name a job, whose numbers lie within their ranges.

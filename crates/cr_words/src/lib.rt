@@ -9,9 +9,10 @@ mod laws;
 mod read;
 mod usage;
 
+pub use build::{GREATEST_SEED, MOST_STEPS};
 pub use laws::{
-    law_attached, law_pipe, law_pipe_store, law_serve, law_serve_attached, law_taken_words,
-    law_view,
+    law_attached, law_drill, law_drill_attached, law_pipe, law_pipe_store, law_serve,
+    law_serve_attached, law_taken_words, law_view,
 };
 pub use read::{Job, WordsError, read_words};
 pub use usage::usage_text;

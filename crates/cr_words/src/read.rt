@@ -4,7 +4,7 @@ ghost use Rattle.std.specs.Option.{option_and_then};
 ghost use Rattle.clap.specs.Words.{takes, fault_of, first_of, found_of, rows_of, subcommand_rows_of};
 ghost use Rattle.cr_words.specs.Words.{confd_words};
 ghost use Rattle.cr_words.specs.Numbers.{number_of};
-ghost use Rattle.cr_words.specs.Job.{IsInRange, job_named, job_of, job_seen, number_at, serve_named, view_named};
+ghost use Rattle.cr_words.specs.Job.{IsInRange, drill_named, job_named, job_of, job_seen, number_at, serve_named, view_named};
 
 use crate::build::confd_command;
 use clap::ArgMatches;
@@ -36,6 +36,13 @@ pub enum Job<'a> {
         store: &'a str,
         /// The user's name.
         user: &'a str,
+    },
+    /// Commands that are made up, and what they come to.
+    Drill {
+        /// What the choices begin with, from 0 to `GREATEST_SEED`.
+        seed: u32,
+        /// How many steps are made, from 1 to `MOST_STEPS`.
+        steps: u32,
     },
 }
 
@@ -95,6 +102,16 @@ fn view_job<'a>(options: &ArgMatches<'a>) -> Option<Job<'a>>
     })
 }
 
+/// The job of `drill`, whose options are both there.
+fn drill_job<'a>(options: &ArgMatches<'a>) -> Option<Job<'a>>
+    ensures { option_map job_seen result ≡ drill_named (rows_of (found_of options.now)) }
+{
+    Some(Job::Drill {
+        seed: number_at(options, "seed")?,
+        steps: number_at(options, "steps")?,
+    })
+}
+
 /// The job of the subcommand that was used.
 fn named_job<'a>(matches: &ArgMatches<'a>) -> Option<Job<'a>>
     ensures { option_map job_seen result ≡ option_and_then job_named (subcommand_rows_of matches.now) }
@@ -106,6 +123,7 @@ fn named_job<'a>(matches: &ArgMatches<'a>) -> Option<Job<'a>>
         }),
         "serve" => serve_job(options),
         "view" => view_job(options),
+        "drill" => drill_job(options),
         _ => None,
     }
 }

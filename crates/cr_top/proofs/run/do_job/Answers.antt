@@ -2,7 +2,7 @@ use Rattle.std.proofs.Common.{◌≡◌, ◌∙◌, ◌<◌, ◌⊎◌, ℕ, Lis
 use Rattle.std.specs.Prelude.{option_map}
 use Rattle.cr_base.specs.History.{History}
 use Rattle.cr_ports.specs.Count.{Rises}
-use Rattle.cr_words.specs.Job.{pipe_job, serve_job, view_job, job_seen}
+use Rattle.cr_words.specs.Job.{pipe_job, serve_job, view_job, drill_job, job_seen}
 use Rattle.cr_top.specs.declared.exit.Exit.{Exit}
 use Rattle.cr_top.specs.declared.exit.Exit.TheVariants as exits
 use Rattle.cr_top.specs.Runs.{Outside, ServesPipe, AnswersAll, outside_of}
@@ -65,3 +65,8 @@ returns-in-View-clause-answers g c =
     let seen : job_seen c.args.job ≡ view_job c.in-View.store.now c.in-View.user.now = ap job_seen c.in-View.is in
     answers-named _ _ (view_job c.in-View.store.now c.in-View.user.now) _ _ _ seen
     (λ quiet H has. c.view_store.ensures.answers quiet has.faultless has.files has.told H has.legal has.spells)
+
+pub returns-in-Drill-clause-answers : goal.returns-in-Drill-clause-answers
+returns-in-Drill-clause-answers g c =
+    let seen : job_seen c.args.job ≡ drill_job c.in-Drill.seed c.in-Drill.steps = ap job_seen c.in-Drill.is in
+    answers-named _ _ (drill_job c.in-Drill.seed c.in-Drill.steps) _ _ _ seen c.drill.ensures.answers

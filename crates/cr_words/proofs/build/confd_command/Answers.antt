@@ -15,5 +15,7 @@ returns c =
     ∙ ap₂ with_subcommand program (ap top c.in_ok-pipe_command.ensures.shape) in
     let with_serve = c.in_ok-subcommand-2.ensures.shape c.in_ok-serve_command.ensures.local
     ∙ ap₂ with_subcommand with_pipe (ap top c.in_ok-serve_command.ensures.shape) in
-    IfOk-weaker c.subcommand-3.result _ _
-    (λ m h. h.shape c.in_ok-view_command.ensures.local ∙ ap₂ with_subcommand with_serve (ap top c.in_ok-view_command.ensures.shape)) c.subcommand-3.ensures
+    let with_view = c.in_ok-subcommand-3.ensures.shape c.in_ok-view_command.ensures.local
+    ∙ ap₂ with_subcommand with_serve (ap top c.in_ok-view_command.ensures.shape) in
+    IfOk-weaker c.subcommand-4.result _ _
+    (λ m h. h.shape c.in_ok-drill_command.ensures.local ∙ ap₂ with_subcommand with_view (ap top c.in_ok-drill_command.ensures.shape)) c.subcommand-4.ensures
