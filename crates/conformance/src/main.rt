@@ -16,6 +16,7 @@
 //! | `< CODE HEAD CONTENT` | an answer to HEAD is due: the head alone of what GET would be answered |
 //! | `< CODE Allow: METHODS; CONTENT` | the same with the field Allow |
 //! | `< CODE bytes: CONTENT` | an answer with a paper's content is due, which is no JSON; behind `HEAD` too |
+//! | `< CODE text: CONTENT` | an answer with a report is due, which is plain text; behind `HEAD` too |
 //! | `>>[N] TEXT`, `<<[N] TEXT` | bytes are sent, are due, N times |
 //! | `*N LINE` | N times that line, with the number of the time, from 1, in place of each `\#` |
 //! | `!read [N]`, `!write [N]` | the input fails behind what is sent so far, the output behind what is due so far, or N bytes later |

@@ -91,9 +91,9 @@ fn add_allow<'a>(into: &mut Vec<u8>, text: &'a str) -> Result<&'a str, LineError
     Ok(rest)
 }
 
-/// Adds the answer that `CODE [Allow: METHODS; ][HEAD ][bytes: ]CONTENT` tells. Behind `HEAD` stands the content
+/// Adds the answer that `CODE [Allow: METHODS; ][HEAD ][bytes: |text: ]CONTENT` tells. Behind `HEAD` stands the content
 /// that GET would be answered, of which an answer to HEAD has the length alone. Behind `bytes:` stands a paper's
-/// content, which is sent as it is, and else an object of JSON.
+/// content, which is sent as it is, behind `text:` a report, and else an object of JSON.
 pub fn add_answer(
     alloc: Global,
     into: &mut Vec<u8>,
@@ -110,9 +110,15 @@ pub fn add_answer(
 
 // What kind of content a text tells, and the text behind that.
 fn media_type(text: &str) -> (&'static str, &str) {
-    match text.strip_prefix("bytes:") {
-        Some(rest) => (
+    if let Some(rest) = text.strip_prefix("bytes:") {
+        return (
             "application/octet-stream",
+            rest.strip_prefix(' ').unwrap_or(rest),
+        );
+    }
+    match text.strip_prefix("text:") {
+        Some(rest) => (
+            "text/plain; charset=utf-8",
             rest.strip_prefix(' ').unwrap_or(rest),
         ),
         None => ("application/json", text),
