@@ -5,7 +5,9 @@ beside it. It is slow and short, and stands against the program in `random_runs.
 well formed; what is wrong with a body or a head stands in cases. Below, `u` and `v` are users' numbers, `p` is a paper's, and
 `t` is the user whom a command names; nobody's number is None.
 """
+import csv
 import hashlib
+import io
 import json
 import re
 import urllib.parse
@@ -143,6 +145,9 @@ class Conference:
     def comments(self, p):
         return [(m, f) for m, f in self.entries_of("commented") if f[0] == p]
 
+    def own_papers(self, u):
+        return len([1 for m, f in self.entries_of("submitted") if m == u])
+
     def own_comments(self, u):
         return len([1 for m, f in self.entries_of("commented") if m == u])
 
@@ -193,6 +198,10 @@ class Conference:
             return self.me(u)
         if path.split("?")[0] == "/search":
             return self.search(u, path.partition("?")[2])
+        if path == "/assign":
+            return self.bulk(u, body)
+        if parts[0] == "reports":
+            return self.report(u, parts[1:])
         if path == "/papers":
             return self.submit(u, body)
         p, rest = self.paper_told(parts[1]), parts[2:]
@@ -278,7 +287,7 @@ class Conference:
 
     def submit(self, u, body):
         co = [self.number_of(n) for n in body.get("authors", [])]
-        r = self.first((None in co, "no_user"), (self.phase != "submission", "wrong_phase"))
+        r = self.first((None in co, "no_user"), (self.phase != "submission", "wrong_phase"), (self.own_papers(u) >= 20, "quota_papers"))
         if r:
             return r
         p = len(self.papers()) + 1
@@ -390,6 +399,93 @@ class Conference:
             return r
         self.history.append((u, "unassigned", (p, t, self.seat_of(t, p))))
         return 200, dump({"paper": p})
+
+    # ---- bulks
+    def bulk(self, u, text):
+        """Each row on the state behind those before it; a broken one takes all back."""
+        r = self.first((self.role_of(u) != "chair", "not_chair"), (not self.committee(), "wrong_phase"))
+        if r:
+            return r
+        before = list(self.history)
+        rows = [row for row in csv.reader(io.StringIO(text.removeprefix("\ufeff"), newline="")) if row][1:]
+        for number, row in enumerate(rows, 1):
+            code, answer = self.row(u, *row)
+            if code >= 400:
+                self.history = before
+                return 409, dump({"error": "bulk_row", "row": number, "rule": json.loads(answer)["error"]})
+        return 200, dump({"rows": len(rows)})
+
+    def row(self, u, paper, action, user, tag):
+        kinds = {"primary": "primary", "secondary": "secondary", "pcreview": "pc"}
+        if action not in [*kinds, "clearreview", "conflict", "clearconflict", "tag", "cleartag"]:
+            return err(409, "bad_action")
+        p = self.paper_told(paper)
+        if action in ("tag", "cleartag"):
+            return self.tag(u, p, tag, action == "tag") if re.fullmatch(r"(~|~~)?[a-z0-9-]{1,32}", tag) else err(409, "bad_tag")
+        if action in ("conflict", "clearconflict"):
+            return err(409, "bulk_self") if self.number_of(user) == u else self.conflict(u, p, {"on": action == "conflict", "user": user})
+        return self.unassign(u, p, user) if action == "clearreview" else self.assign(u, p, {"kind": kinds[action], "user": user})
+
+    # ---- reports
+    def report(self, u, parts):
+        """A report's text; the lines are those of docs/SPEC.md."""
+        chair, member = self.role_of(u) == "chair", self.role_of(u) != "account"
+        if parts[0] == "letter":
+            p = self.paper_told(parts[1])
+            author = self.is_there(p) and u in self.authors(p)
+            r = self.first((not self.is_there(p), "no_paper"), (not author, "not_author"), (not self.is_from("notification"), "wrong_phase"))
+            return r or (200, "text: " + self.letter(p))
+        first = "discussion" if parts[0] in ("scores", "decisions") else "bidding"
+        who = (not chair, "not_chair") if parts[0] == "load" else (not member, "not_member")
+        r = self.first(who, (not self.is_from(first), "wrong_phase"))
+        return r or (200, "text: " + getattr(self, f"{parts[0]}_report")(u))
+
+    def title(self, p):
+        return self.last_texts(p)[0]
+
+    def papers_report(self, u):
+        mark = lambda p: "W" if self.withdrawn(p) else "C" if self.conflicted(u, p) else "-"
+        return "".join(f"{p:4} {mark(p)} {self.title(p)}\n" for p in self.papers()) + f"{len(self.papers())} papers\n"
+
+    def listed(self, u):
+        """The papers that a report of scores or of decisions lists."""
+        return [p for p in self.papers() if not self.conflicted(u, p) and not self.withdrawn(p)]
+
+    def last_forms(self, p):
+        """The last form of each label that has one, with its label's number."""
+        return [(o, self.forms(p, o)[-1][1]) for o in range(1, self.labels(p) + 1) if self.forms(p, o)]
+
+    def scores_report(self, u):
+        lines = []
+        for p in self.listed(u):
+            scores = [form["score"] for o, form in self.last_forms(p)]
+            if scores:
+                h = (200 * sum(scores) + len(scores)) // (2 * len(scores))
+                lines.append(f"{p:4} {len(scores):2} {h // 100}.{h % 100:02} {self.title(p)}\n")
+        return "".join(lines)
+
+    def load_report(self, u):
+        seats = [(seat[1], seat[2], bool(self.forms(p, seat[3]))) for p in self.papers() if not self.conflicted(u, p) for seat in self.reviewers(p)]
+        lines = []
+        for v, name in self.users():
+            if self.role_of(v) != "account":
+                counts = [len([1 for w, k, _ in seats if (w, k) == (v, kind)]) for kind in ("primary", "secondary", "pc")]
+                counts.append(len([1 for w, _, done in seats if w == v and done]))
+                lines.append(f"{name:32}" + "".join(f" {count:4}" for count in counts) + "\n")
+        return "".join(lines)
+
+    def decisions_report(self, u):
+        listed = [(p, self.decision(p)) for p in self.listed(u)]
+        count = lambda word: len([1 for p, told in listed if told == word])
+        lines = "".join(f"{p:4} {told:6} {self.title(p)}\n" for p, told in listed)
+        return lines + f"accept {count('accept')}, reject {count('reject')}, none {count('none')}\n"
+
+    def letter(self, p):
+        text = f"Paper {p}: {self.title(p)}\nDecision: {self.decision(p)}\n"
+        for o, form in self.last_forms(p):
+            by = f" by {self.name_of(self.assigned_to(p, o))}" if self.mode == "open" else ""
+            text += f"\nReview {chr(64 + o)}{by}\nScore {form['score']}, confidence {form['confidence']}\n{form['to_authors']}\n"
+        return text
 
     def members_rules(self, u, p):
         return ((not self.is_there(p), "no_paper"), (self.role_of(u) == "account", "not_member"), (self.conflicted(u, p), "conflict"))

@@ -110,20 +110,30 @@ class Run:
         form = choose.choice(["({})", "({})", "-({})", "NOT ({})", "{}"])
         return form.format(choose.choice([" ", " ", " AND ", " OR ", " OR ", "  "]).join(parts)).replace(") (", choose.choice([") (", ")("]))
 
+    def rows(self):
+        """The rows of a bulk, most of which may be accepted: a few on the same papers and users."""
+        choose, told = self.random, ["paper,action,user,tag"]
+        papers, names = [self.paper(), self.paper()], [self.name(), self.name(), choose.choice(NAMES)]
+        actions = ["primary", "secondary", "pcreview", "clearreview", "conflict", "clearconflict", "tag", "cleartag"] * 5 + ["frob"]
+        for _ in range(choose.choice([0, 1, 1, 1, 2, 3, 5])):
+            tag = choose.choice(["hot", "a-1", "~mine", "~~chairs", "#hot"])
+            told.append(",".join([choose.choice(papers), choose.choice(actions), choose.choice(names), tag]))
+        return "\n".join(told) + choose.choice(["", "\n"])
+
     def deeds(self):
         """What is asked for, as often as the phase suggests."""
-        asked = ["page"] * 6 + ["reviews", "comments"] * 3 + ["search"] * 6
+        asked = ["page"] * 6 + ["reviews", "comments"] * 3 + ["search"] * 6 + ["report"] * 4
         asked += ["me", "conflict", "content", "version", "member", "accounts", "phase", "back", "tag", "decide", "accepted"]
         if self.model.phase == "submission":
             return asked + ["submit"] * 6 + ["upload", "revise", "conflict"] * 3 + ["withdraw", "bid", "assign", "unassign"]
         if self.model.phase == "bidding":
-            return asked + ["bid", "assign", "tag"] * 5 + ["unassign", "conflict"] * 3 + ["submit", "upload", "revise", "withdraw", "review"]
+            return asked + ["bid", "assign", "tag"] * 5 + ["unassign", "conflict", "bulk"] * 3 + ["submit", "upload", "revise", "withdraw", "review"]
         if self.model.phase == "discussion":
-            return asked + ["review", "comment", "tag"] * 6 + ["decide"] * 10 + ["assign", "unassign", "conflict"] * 2 + ["bid", "submit", "upload", "revise", "withdraw"]
+            return asked + ["review", "comment", "tag"] * 6 + ["decide"] * 10 + ["assign", "unassign", "conflict", "bulk"] * 2 + ["bid", "submit", "upload", "revise", "withdraw"]
         if self.model.is_from("notification"):
             asked += ["bid", "assign", "unassign", "review", "comment", "submit", "upload", "revise", "withdraw"]
-            return asked + ["page", "content", "version"] * 9 + ["accepted"] * 3
-        return asked + ["review"] * 8 + ["assign", "tag"] * 4 + ["unassign", "conflict"] * 3 + ["bid", "submit", "upload", "revise", "withdraw", "comment"]
+            return asked + ["page", "content", "version"] * 9 + ["accepted", "bulk"] * 3 + ["report"] * 6
+        return asked + ["review"] * 8 + ["assign", "tag"] * 4 + ["unassign", "conflict", "bulk"] * 3 + ["bid", "submit", "upload", "revise", "withdraw", "comment"]
 
     def step(self):
         choose, p = self.random, self.paper()
@@ -145,6 +155,11 @@ class Run:
         elif deed == "unassign":
             reviewers = [self.model.name_of(seat[1]) for seat in self.model.reviewers(int(p))] if p.isdigit() else []
             self.ask(self.chair(p), "DELETE", f"/papers/{p}/reviewers/{choose.choice(reviewers + [choose.choice(NAMES + ['zoe'])])}")
+        elif deed == "bulk":
+            self.ask(self.chair(), "POST", "/assign", self.rows())
+        elif deed == "report":
+            report = choose.choice(["papers", "scores", "load", "decisions", f"letter/{p}", f"letter/{p}"])
+            self.ask(self.author(p) if report.startswith("letter") else choose.choice([anybody, self.chair()]), read, f"/reports/{report}")
         elif deed == "conflict":
             self.ask(self.chair(p), "POST", f"/papers/{p}/conflicts", {"on": choose.random() < 0.6, "user": self.name()})
         elif deed == "submit":
@@ -199,7 +214,7 @@ def spelled(who, method, path, body):
 
 def without(content):
     """What HEAD is answered where GET is answered this."""
-    return f"{len(content.removeprefix('bytes: ').encode())} bytes"
+    return f"{len(content.removeprefix('bytes: ').removeprefix('text: ').encode())} bytes"
 
 
 def answers(text, methods):
@@ -218,6 +233,8 @@ def answers(text, methods):
         content = rest[:length].decode()
         if "Content-Type: application/octet-stream" in lines:
             content = "bytes: " + content
+        if "Content-Type: text/plain; charset=utf-8" in lines:
+            content = "text: " + content
         told.append((int(lines[0].split()[1]), content))
         text = rest[length:]
     return told if not text else told + [(0, f"{len(text)} bytes more")]
