@@ -152,4 +152,5 @@ def main():
     print(f"SQLite: the bids and reviewers of a paper {page:.2f} us, the papers of a reviewer {me:.2f}")
 
 
-main()
+if __name__ == "__main__":
+    main()

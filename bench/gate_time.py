@@ -7,9 +7,10 @@ have to be refused. Prints a table in Markdown.
     bench/gate_time.py --pid 1234          joins a run that is under way
 
 It looks at /proc every half second, so what starts and ends between two looks is missed; a prover runs
-for seconds at least.
+for seconds at least. Where it is stopped (SIGTERM, or Control-C) it prints what it saw by then.
 """
 import os
+import signal
 import subprocess
 import sys
 import time
@@ -100,9 +101,13 @@ def main():
         run = subprocess.Popen(words)
         root = run.pid
         alive = lambda: run.poll() is None
-    while alive():
-        look(root, seen)
-        time.sleep(0.5)
+    signal.signal(signal.SIGTERM, signal.default_int_handler)
+    try:
+        while alive():
+            look(root, seen)
+            time.sleep(0.5)
+    except KeyboardInterrupt:
+        print("stopped before its end")
     print(table(seen), flush=True)
     if os.environ.get("GATE_TIME_PLACES"):
         for crate, part, where, seconds in sorted(seen.values()):
