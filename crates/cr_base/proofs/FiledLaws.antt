@@ -18,6 +18,18 @@ filter-constant false (x ∷ xs) = filter-constant false xs
 filter-constant true [] = refl
 filter-constant false [] = refl
 
+-- what passes one test and then another passes both
+pub filter-filter : {A : Type 0} (q r : A → Bool) (xs : List A) → filter (λ x. q x && r x) xs ≡ filter r (filter q xs)
+filter-filter q r [] = refl
+filter-filter {A} q r (x ∷ xs) = by (q x) (filter-filter q r xs)
+  where
+    both : List A
+    both = filter (λ y. q y && r y) xs
+
+    by : (b : Bool) → both ≡ filter r (filter q xs) → cond (b && r x) (x ∷ both) both ≡ filter r (cond b (x ∷ filter q xs) (filter q xs))
+    by true h = ap (λ (ys : List A). cond (r x) (x ∷ ys) ys) h
+    by false h = h
+
 -- ---- elements of a number
 
 module _ {A : Type 0} (number : A → ℕ) where

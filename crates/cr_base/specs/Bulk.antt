@@ -82,8 +82,8 @@ IsRowEntry entry = ⊥
 
 -- ---- one row
 
--- the command turns a conflict of the caller's own on or off, which a bulk may not: so no row changes what the caller of its bulk is to a
--- paper
+-- the command turns a conflict of the caller's own on or off, which a bulk may not: so no row changes with which papers its bulk's caller is
+-- in conflict
 abbrev pub turns_own_conflict : Facts → ℕ → Command → Bool
 turns_own_conflict facts user (commands.SetConflict paper name on) = is_number (user_among facts.accounts name) user
 turns_own_conflict facts user _ = false

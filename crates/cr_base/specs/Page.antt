@@ -29,8 +29,8 @@ gets_title by accepted = by.author || (is_member by.role && is_from Bidding by.p
 abbrev pub gets_abstract : Standing → Bool → Bool
 gets_abstract by accepted = by.author || (is_clear_member by && is_from Bidding by.phase) || is_published by.phase accepted
 
--- the authors: authors; clear chairs from bidding; clear members from bidding unless anonymous; everyone, where the
--- paper is accepted
+-- who wrote it, to its authors; from bidding on to chairs in no conflict, and unless the mode is anonymous to such members; and to
+-- everyone, where the paper is accepted
 abbrev pub shows_author : Standing → Bool → Bool
 shows_author by accepted =
     by.author
@@ -90,7 +90,8 @@ shows_writer by = is_clear_member by && (is_chair by.role || not (is_anonymous b
 abbrev pub gets_tags : Standing → Bool
 gets_tags by = is_clear_member by && is_from Bidding by.phase
 
--- the decision: clear members from discussion; authors from notification; everyone, where the paper is accepted
+-- the decision, to members in no conflict from discussion on, to its authors from notification on, and to everyone where the paper is
+-- accepted
 abbrev pub gets_decision : Standing → Bool → Bool
 gets_decision by accepted = (is_clear_member by && is_from Discussion by.phase) || (by.author && is_from Notification by.phase) || accepted
 

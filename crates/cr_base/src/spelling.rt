@@ -503,7 +503,7 @@ fn entry_from(kind: EntryKind, row: &Row) -> Result<Entry, AllocError>
 
 impl Stamped {
     /// The entry of a row, with its maker and its mark, and none exactly where the row is no
-    /// entry's: another kind, a number out of its range, bytes out of their grammar, or an unused
+    /// entry's: no known kind, a number beyond what its kind allows, bytes out of their grammar, or an unused
     /// field that isn't empty. An error only for lack of memory.
     pub fn from_row(row: &Row) -> Result<Option<Stamped>, AllocError>
         ensures spells { IfOk result (λ found. IfSome found (λ s. IsBoundedEntry s × (row_of s ≡ row.now))) }

@@ -301,7 +301,7 @@ fn all_title_bytes(bytes: &[u8]) -> bool
     bytes.iter().all(|byte| is_title_byte(*byte))
 }
 
-/// Whether these bytes are a paper's title: UTF-8, 1 to 200 bytes, no character below U+0020 and no
+/// Whether these bytes are a paper's title: UTF-8 of 1 to 200 bytes, with no character below U+0020 and no
 /// U+007F.
 pub fn is_title(bytes: &[u8]) -> bool
     ensures title { IsTrue result ↔ IsTitle bytes.now }
