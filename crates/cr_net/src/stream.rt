@@ -29,7 +29,7 @@ const PIECE: usize = 16_384;
 #[derive(Drop)]
 pub(crate) struct SharedStream {
     stream: TcpStream,
-    // Whether an answer went out whole since the last read.
+    // Whether a piece went out whole since the last read, and so an answer did: nobody reads in the midst of one.
     answered: AtomicBool,
 }
 
@@ -177,7 +177,7 @@ impl Source for TcpSource {
     }
 }
 
-/// What a client is sent. Each answer has 60 seconds to go, from its first write on; past that a write fails.
+/// What a client is sent. Each answer has 60 seconds to go, all its pieces together, from its first write on; past that a write fails.
 ///
 /// Contracts see the count of faults.
 #[derive(Drop)]
@@ -216,12 +216,10 @@ impl Sink for TcpSink {
 
     ghost faults = { λ s. s };
 
-    /// Each `Err` is a fault, the end of the time among them, and so is a write that takes nothing. A piece of which
-    /// all was taken ends an answer.
+    /// Each `Err` is a fault, the end of the time among them, and so is a write that takes nothing.
     fn write(&mut self, piece: &[u8]) -> WriteStep {
         match self.write_in_time(piece) {
             Ok(n) if n == piece.len() => {
-                self.half.time.reset();
                 self.half.shared.answered.store(true, Ordering::SeqCst);
                 WriteStep::Took(n)
             }
@@ -231,5 +229,10 @@ impl Sink for TcpSink {
                 WriteStep::Failed
             }
         }
+    }
+
+    /// From the next write on the answer's time is measured.
+    fn begin_answer(&mut self) {
+        self.half.time.reset();
     }
 }

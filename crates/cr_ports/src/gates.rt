@@ -32,8 +32,8 @@ pub trait Gates {
 
     /// Doors at the address, one a worker, which give so many connections together.
     ///
-    /// Door number i, from 0, gives the quotient of `connections` by `workers`, and one more where i is
-    /// below the remainder. Each door is new: nothing is out, and no fault was counted.
+    /// Doors are counted from 0. Each gives the quotient of `connections` by `workers`, and the first of them, as many as the
+    /// remainder tells, one more. Each door is new: nothing is out, and no fault was counted.
     ///
     /// `Failed` comes only where the count of faults rose, or stands at its last value, and
     /// `OutOfMemory` only where it is as it was. In memory it costs a look at each connection; an

@@ -1,5 +1,5 @@
-//! The outside as traits: what is read from, what is written to, what keeps rows, and what opens such
-//! keepers by their paths; each with a meaning and a count of faults.
+//! The outside as traits: what is read from, what is written to, what keeps rows, what opens such
+//! keepers by their paths, and what gives connections; each with a meaning and a count of faults.
 //!
 //! A meaning is optional: what stands in memory tells its content, an adapter over a real stream
 //! doesn't. A count of faults never falls, and a call answers that it failed only where the count

@@ -2,8 +2,8 @@
 ghost use Rattle.std.specs.Prelude.{◌≡◌, ◌<◌, length, sum};
 ghost use Rattle.cr_ports.specs.Doors.{share_of, shares};
 
-/// How many of so many connections door number `i`, from 0, of `workers` gives: the quotient, and
-/// one more where `i` is below the remainder.
+/// How many of so many connections door number `i`, from 0, of `workers` gives: the quotient of the two,
+/// and one more for the first doors, as many as the remainder tells.
 pub fn share(i: u32, workers: u32, connections: u32) -> u32
     requires { 0 < workers }
     ensures { result ≡ share_of i workers connections }
