@@ -3,6 +3,7 @@ pub mod FollowLaws
 pub mod ParseLaws
 pub mod PlaceLaws
 pub mod ReaderLaws
+pub mod ReadingLaws
 pub mod RunLaws
 pub mod Sound
 pub mod StopLaws

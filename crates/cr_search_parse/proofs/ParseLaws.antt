@@ -74,7 +74,7 @@ told-bad text told.OutOfMemory place few stop is = absurd cc
 -- ---- as a function of the text
 
 -- a text that isn't too long is read run by run
-few-read : (text : List ℕ) → length text ≤ most_bytes → text_read text ≡ runs_read (runs_of text) 0 start
+pub few-read : (text : List ℕ) → length text ≤ most_bytes → text_read text ≡ runs_read (runs_of text) 0 start
 few-read text few = ap (λ (b : Bool). if b then Err most_bytes else runs_read (runs_of text) 0 start) (le-ltb most_bytes (length text) few)
 
 pub gives-exact : (text : List ℕ) (steps : List Step) → length text ≤ most_bytes → Gives (runs_of text) steps → text_read text ≡ Ok steps

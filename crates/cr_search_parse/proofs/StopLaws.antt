@@ -1,6 +1,6 @@
 -- How far a text is read, run by run.
-use Rattle.std.proofs.Common.{◌≡◌, inl, inr, ℕ, ◌+◌, List, [], ◌∷◌, ◌++◌, length, take, drop, Option, Some}
-use Rattle.std.proofs.Common.{None, Ok, Err, option_and_then, refl, ap, sym, ◌∙◌, append_assoc, append-nil, length-append, arith}
+use Rattle.std.proofs.Common.{◌≡◌, ◌⊎◌, inl, inr, ℕ, ◌+◌, List, [], ◌∷◌, ◌++◌, length, take, drop, Option, Some}
+use Rattle.std.proofs.Common.{None, Ok, Err, option_and_then, refl, ap, sym, subst, ◌∙◌, append_assoc, append-nil, length-append, arith}
 use Rattle.std.proofs.lemmas.List.{take_at, flat_map_more, drop-drop}
 use Rattle.std.specs.Option.{option_map_or}
 use Rattle.std.proofs.lemmas.Option.{none-some}
@@ -76,27 +76,33 @@ stops-read runs place (inr stop) = read-all runs stop.state stop.leads ∙ ap (e
 -- ---- stops
 
 -- the run that comes leads to no state
+stuck-behind : (front rest : List Run) (run : Run) (s : State) → LeadTo front s → after_symbols s (run_symbols run) ≡ None
+    → StopsAt (front ++ (run ∷ rest)) (runs_length front)
+stuck-behind front rest run s leads stuck =
+    let runs = front ++ (run ∷ rest) in
+    let n = length front in
+    let before : take n runs ≡ front = take_at front (run ∷ rest) n refl in
+    let with_it : take (n + 1) runs ≡ front ++ (run ∷ []) =
+    ap (take (n + 1)) (sym (append_assoc front (run ∷ []) rest)) ∙ take_at (front ++ (run ∷ [])) rest (n + 1) (length-append front (run ∷ [])) in
+    inl (record {
+      before = n;
+      more = omega (arith, length-append front (run ∷ rest));
+      there = ap runs_length (sym before);
+      state = s;
+      leads = ap (λ (runs : List Run). after_symbols start (symbols_of runs)) before ∙ leads;
+      stuck = ap (λ (runs : List Run). after_symbols start (symbols_of runs)) with_it ∙ (leads-more front run s leads ∙ stuck);
+      read =
+          read-front front (run ∷ rest) 0 start s leads
+          ∙ ap (λ (o : Option State). option_map_or (runs_read rest (0 + runs_length front + run_length run)) o (Err (0 + runs_length front))) stuck
+          ∙ ap (λ (n : ℕ). Err n) (omega arith);
+    })
+
 pub stops-before : (text : List ℕ) (at : ℕ) (s : State) (run : Run) (rest : List Run) → ReadTo text at s
     → runs_of (drop at text) ≡ run ∷ rest → after_symbols s (run_symbols run) ≡ None → StopsAt (runs_of text) at
 stops-before text at s run rest so falls stuck =
     let all = so.falls ∙ ap (λ (runs : List Run). so.runs ++ runs) falls in
-    let more = all ∙ sym (append_assoc so.runs (run ∷ []) rest) in
-    let n = length so.runs in
-    let before : take n (runs_of text) ≡ so.runs = ap (take n) all ∙ take_at so.runs (run ∷ rest) n refl in
-    let with_it : take (n + 1) (runs_of text) ≡ so.runs ++ (run ∷ []) =
-    ap (take (n + 1)) more ∙ take_at (so.runs ++ (run ∷ [])) rest (n + 1) (length-append so.runs (run ∷ [])) in
-    inl (record {
-      before = n;
-      more = omega (arith, ap length all, length-append so.runs (run ∷ rest));
-      there = so.place ∙ ap runs_length (sym before);
-      state = s;
-      leads = ap (λ (runs : List Run). after_symbols start (symbols_of runs)) before ∙ so.leads;
-      stuck = ap (λ (runs : List Run). after_symbols start (symbols_of runs)) with_it ∙ (leads-more so.runs run s so.leads ∙ stuck);
-      read =
-          ap (λ (runs : List Run). runs_read runs 0 start) all ∙ read-front so.runs (run ∷ rest) 0 start s so.leads
-          ∙ ap (λ (o : Option State). option_map_or (runs_read rest (0 + runs_length so.runs + run_length run)) o (Err (0 + runs_length so.runs))) stuck
-          ∙ ap (λ (n : ℕ). Err n) (omega (arith, so.place));
-    })
+    subst (λ (runs : List Run). StopsAt runs at) (sym all)
+    (subst (StopsAt (so.runs ++ (run ∷ rest))) (sym so.place) (stuck-behind so.runs rest run s so.leads stuck))
 
 -- the whole text is read
 all-runs : (text : List ℕ) (at : ℕ) (s : State) (so : ReadTo text at s) → drop at text ≡ [] → runs_of text ≡ so.runs
@@ -131,3 +137,25 @@ pub stop-reads : (text : List ℕ) (at : ℕ) (s : State) (run : Run) (rest : Li
     → runs_of (drop at text) ≡ run ∷ rest → Refuses why (after_symbols s (run_symbols run)) → Reads (Err (stopped_at why at)) text
 stop-reads text at s run rest stop.Misplaced so falls stuck = stops-before text at s run rest so falls stuck
 stop-reads text at s run rest stop.OutOfMemory so falls stuck = tt
+
+-- ---- all runs
+
+-- reading them gives steps, or stops
+abbrev pub Ends : List Run → Type 0
+Ends runs = ((steps : List Step) × Gives runs steps) ⊎ ((place : ℕ) × StopsAt runs place)
+
+all-read : (runs : List Run) (s : State) → LeadTo runs s → (read : Option (List Step)) → steps_read s ≡ read → Ends runs
+all-read runs s leads (Some steps) is = inl (steps, (s, leads, is))
+all-read runs s leads None is = inr (runs_length runs, inr (record { there = refl; state = s; leads = leads; short = is }))
+
+ends-behind : (front rest : List Run) (s : State) → LeadTo front s → Ends (front ++ rest)
+ends-behind front [] s leads = subst Ends (sym (append-nil front)) (all-read front s leads (steps_read s) refl)
+ends-behind front (run ∷ rest) s leads = one_more (after_symbols s (run_symbols run)) refl (λ t. ends-behind (front ++ (run ∷ [])) rest t)
+  where
+    one_more : (after : Option State) → after_symbols s (run_symbols run) ≡ after
+        → ((t : State) → LeadTo (front ++ (run ∷ [])) t → Ends ((front ++ (run ∷ [])) ++ rest)) → Ends (front ++ (run ∷ rest))
+    one_more None stuck more = inr (runs_length front, stuck-behind front rest run s leads stuck)
+    one_more (Some t) taken more = subst Ends (append_assoc front (run ∷ []) rest) (more t (leads-more front run s leads ∙ taken))
+
+pub all-end : (runs : List Run) → Ends runs
+all-end runs = ends-behind [] runs start refl

@@ -1,5 +1,6 @@
 pub mod Cutting
 pub mod Grammar
+pub mod Laws
 pub mod Outcome
 pub mod Places
 pub mod Reading

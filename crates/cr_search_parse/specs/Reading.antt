@@ -1,5 +1,5 @@
 -- The reader's states: a text is read symbol by symbol, and the steps of its search are written as its operands end (Dijkstra's
--- shunting-yard algorithm). Laws tie it to the grammar.
+-- shunting-yard algorithm). What they come to is what the grammar says: see `law_reading`.
 use Rattle.std.specs.Prelude.{ℕ, ◌+◌, nat_lt, List, [], ◌∷◌, ◌++◌, length, Option, Some, None, Result, Ok, Err, replicate, if◌then◌else◌}
 use Rattle.std.specs.Option.{option_and_then, option_map_or}
 use Rattle.cr_base.specs.declared.search.Step.{Step}

@@ -7,5 +7,5 @@ mod reader;
 mod runs;
 mod terms;
 
-pub use laws::law_one_tree;
+pub use laws::{law_one_tree, law_reading};
 pub use parsing::{ParseError, parse};
