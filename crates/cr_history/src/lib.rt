@@ -12,7 +12,8 @@ ghost use Rattle.cr_history.specs.Laws.{TablesTell, FormsTell, GrowthKeeps};
 /// and who has it with a digest; the papers with their titles, abstracts, authors and uploads, and which are withdrawn;
 /// how many of the papers, and how many uploaded bytes, are a user's own; whose conflict with a paper is on, and whom its
 /// authors declared; each user's last bid on it; its reviewers, under which ordinal a user reviews it, and how many labels were
-/// given, and to whom; the forms under each label; the comments on a paper, and how many a user has written; and a paper's tags.
+/// given, and to whom; the forms under each label; the comments on a paper, and how many a user has written; a paper's tags; the last
+/// decision on it, and which papers are accepted.
 pub fn law_tables()
     ensures { TablesTell }
 {}

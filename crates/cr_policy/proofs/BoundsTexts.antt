@@ -160,9 +160,7 @@ one-title u p H stranger = one-view u p H (gives_texts p) title_given (may p) (p
     may : ℕ → Bool
     may n = serves u H || is_in_programme n H
 
-    shows : (before later : History) (maker : ℕ) (e : Entry)
-        → part_shown (λ (s : Sighting). s.title) p (shown_to u H before later maker e)
-        ≡ told_of (gives_texts p e) (is_number u maker) (not (is_replaced p later) && may p) (title_given e)
+    shows : ShowsLast u p H (gives_texts p) title_given (may p) (part_shown (λ (s : Sighting). s.title) p)
     shows before later maker (Submitted paper title abstract) =
         author-known u p H (λ n. is_author u n H) (λ n. is_replaced n later) may stranger (is_number u maker) paper title
     shows before later maker (Revised paper title abstract) =
@@ -175,9 +173,7 @@ one-abstract u p H stranger = one-view u p H (gives_texts p) abstract_given (may
     may : ℕ → Bool
     may n = handles u n H || appears n H
 
-    shows : (before later : History) (maker : ℕ) (e : Entry)
-        → part_shown (λ (s : Sighting). s.abstract) p (shown_to u H before later maker e)
-        ≡ told_of (gives_texts p e) (is_number u maker) (not (is_replaced p later) && may p) (abstract_given e)
+    shows : ShowsLast u p H (gives_texts p) abstract_given (may p) (part_shown (λ (s : Sighting). s.abstract) p)
     shows before later maker (Submitted paper title abstract) =
         author-known u p H (λ n. is_author u n H) (λ n. is_replaced n later) may stranger (is_number u maker) paper abstract
     shows before later maker (Revised paper title abstract) =
@@ -190,9 +186,7 @@ one-content u p H stranger = one-view u p H (gives_content p) content_given (may
     may : ℕ → Bool
     may n = handles u n H || appears n H
 
-    shows : (before later : History) (maker : ℕ) (e : Entry)
-        → part_shown (λ (s : Sighting). s.content) p (shown_to u H before later maker e)
-        ≡ told_of (gives_content p e) (is_number u maker) (not (is_superseded p later) && may p) (content_given e)
+    shows : ShowsLast u p H (gives_content p) content_given (may p) (part_shown (λ (s : Sighting). s.content) p)
     shows before later maker (Uploaded paper version content) =
         owner-known u p H (λ n. is_author u n H) (λ n. is_superseded n later) may stranger (is_number u maker) paper content
     shows before later maker e = sym (only-false _)
@@ -203,9 +197,7 @@ one-decision u p H silent = one-view u p H (decides p) decision_given (may p) (p
     may : ℕ → Bool
     may n = is_notified u n H
 
-    shows : (before later : History) (maker : ℕ) (e : Entry)
-        → part_shown (λ (s : Sighting). s.decision) p (shown_to u H before later maker e)
-        ≡ told_of (decides p e) (is_number u maker) (not (is_decided_again p later) && may p) (decision_given e)
+    shows : ShowsLast u p H (decides p) decision_given (may p) (part_shown (λ (s : Sighting). s.decision) p)
     shows before later maker (Decided paper decision) =
         owner-known u p H (λ n. discusses u n H) (λ n. is_decided_again n later) may silent (is_number u maker) paper decision
     shows before later maker e = sym (only-false _)

@@ -89,24 +89,27 @@ is_name-bounded name h =
     record { some = leb-true 1 (length name) sized.0; few = leb-true (length name) 32 sized.1; bytes = bytes.1 }
 
 -- of texts whose bytes are below 128
-pub ascii-title : (text : List ℕ)
-    → (nat_le 1 (length text) && nat_le (length text) 200 && list_all is_title_byte text && list_all (λ b. nat_le b 127) text) ≡ true
-    → IsTitle text
+abbrev pub is_plain_title : List ℕ → Bool
+is_plain_title text = nat_le 1 (length text) && nat_le (length text) 200 && list_all is_title_byte text && list_all (λ b. nat_le b 127) text
+
+abbrev pub is_plain : ℕ → List ℕ → Bool
+is_plain limit text = nat_le (length text) limit && list_all (λ b. nat_le b 127) text
+
+pub ascii-title : (text : List ℕ) → is_plain_title text ≡ true → IsTitle text
 ascii-title text h =
     let p = and_parts (nat_le 1 (length text) && nat_le (length text) 200 && list_all is_title_byte text) (list_all (λ b. nat_le b 127) text) h in
     let q = and_parts (nat_le 1 (length text) && nat_le (length text) 200) (list_all is_title_byte text) p.0 in
     let sized = and_parts (nat_le 1 (length text)) (nat_le (length text) 200) q.0 in
     record { some = leb-true 1 (length text) sized.0; few = leb-true (length text) 200 sized.1; bytes = q.1; utf8 = ascii-utf8 text p.1 }
 
-pub few-ascii : (limit : ℕ) (text : List ℕ) → (nat_le (length text) limit && list_all (λ b. nat_le b 127) text) ≡ true
-    → (length text ≤ limit) × IsTrue (is_utf8 text)
+pub few-ascii : (limit : ℕ) (text : List ℕ) → is_plain limit text ≡ true → (length text ≤ limit) × IsTrue (is_utf8 text)
 few-ascii limit text h =
     let p = and_parts (nat_le (length text) limit) (list_all (λ b. nat_le b 127) text) h in (leb-true (length text) limit p.0, ascii-utf8 text p.1)
 
-pub ascii-abstract : (text : List ℕ) → (nat_le (length text) 5000 && list_all (λ b. nat_le b 127) text) ≡ true → IsAbstract text
+pub ascii-abstract : (text : List ℕ) → is_plain 5000 text ≡ true → IsAbstract text
 ascii-abstract text h = let p = few-ascii 5000 text h in record { few = p.0; utf8 = p.1 }
 
-pub ascii-review : (text : List ℕ) → (nat_le (length text) 20000 && list_all (λ b. nat_le b 127) text) ≡ true → IsReviewText text
+pub ascii-review : (text : List ℕ) → is_plain 20000 text ≡ true → IsReviewText text
 ascii-review text h = let p = few-ascii 20000 text h in record { few = p.0; utf8 = p.1 }
 
 pub agreed-bounded : IsCommentText agreed
@@ -114,7 +117,7 @@ agreed-bounded = let p = few-ascii 10000 agreed refl in record { some = omega ar
 
 -- of forms whose text to the committee is
 pub bounded-form : (form : Form) → (nat_le 1 form.score && nat_le form.score 5) ≡ true → (nat_le 1 form.confidence && nat_le form.confidence 5) ≡ true
-    → (nat_le (length form.to_authors) 20000 && list_all (λ b. nat_le b 127) form.to_authors) ≡ true → IsReviewText form.to_pc → IsForm form
+    → is_plain 20000 form.to_authors ≡ true → IsReviewText form.to_pc → IsForm form
 bounded-form form score confidence to_authors to_pc = record {
   score = grade form.score score;
   confidence = grade form.confidence confidence;

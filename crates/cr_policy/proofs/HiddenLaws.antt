@@ -25,7 +25,7 @@ use Rattle.cr_base.specs.HistoryFacts.{phase_of, mode_of, role_of, authors_of, i
 use Rattle.cr_base.specs.Phases.{is_phase}
 use Rattle.cr_policy.specs.Part as part
 use Rattle.cr_policy.specs.Part.{Part, whole}
-use Rattle.cr_policy.specs.Sighting.{Sighting, where_shown, masked}
+use Rattle.cr_policy.specs.Sighting.{Sighting, where_shown, masked, entire}
 use Rattle.cr_policy.specs.Triggers.{Reader, reader, Around, Position, position_of, TriggerRow, rows, ◌see◌, applies_any, shows, none_in, none_alike, user_named}
 use Rattle.cr_policy.specs.View.{rows_at, sight, sights}
 use Rattle.cr_policy.specs.ViewFacts.{only, is_user}
@@ -441,46 +441,30 @@ seen_by shown mine e = given (applies_any shown) (masked (shows shown) mine (all
 abbrev with_makers : Reader → ℕ → List TriggerRow → List TriggerRow
 with_makers r maker table = table ++ user_named r maker see whole ∷ []
 
--- what everyone is shown isn't masked
-phase-shown : (r : Reader) (at : Position) (by maker : ℕ) (e : Stamped)
-    → where_shown (shows (with_makers r maker (rows r at by e.entry)) part.phase) (all_of e).phase ≡ (all_of e).phase
-phase-shown r at by maker e = of e.entry
-  where
-    of : (entry : Entry) → where_shown (shows (with_makers r maker (rows r at by entry)) part.phase) (all_of (record { maker = e.maker; more = e.more; entry = entry })).phase
-        ≡ (all_of (record { maker = e.maker; more = e.more; entry = entry })).phase
-    of (PhaseSet phase) = refl
-    of entry = refl
+-- of an entry that `maker` made, the rows for one that `by` made and the line of hers mask nothing of this part
+abbrev IsShown : {A : Type 0} → Part → (Sighting → Option A) → Reader → Position → (by maker : ℕ) → Entry → Type 0
+IsShown p part_of r at by maker e = where_shown (shows (with_makers r by (rows r at by e)) p) (part_of (entire maker e)) ≡ part_of (entire maker e)
 
-mode-shown : (r : Reader) (at : Position) (by maker : ℕ) (e : Stamped)
-    → where_shown (shows (with_makers r maker (rows r at by e.entry)) part.mode) (all_of e).mode ≡ (all_of e).mode
-mode-shown r at by maker e = of e.entry
-  where
-    of : (entry : Entry) → where_shown (shows (with_makers r maker (rows r at by entry)) part.mode) (all_of (record { maker = e.maker; more = e.more; entry = entry })).mode
-        ≡ (all_of (record { maker = e.maker; more = e.more; entry = entry })).mode
-    of (ModeSet mode) = refl
-    of entry = refl
+-- so it is of what everyone is shown
+phase-shown : (r : Reader) (at : Position) (by maker : ℕ) (e : Entry) → IsShown part.phase (λ (s : Sighting). s.phase) r at by maker e
+phase-shown r at by maker (PhaseSet phase) = refl
+phase-shown r at by maker e = refl
 
-role-shown : (r : Reader) (at : Position) (by maker : ℕ) (e : Stamped)
-    → where_shown (shows (with_makers r maker (rows r at by e.entry)) part.role) (all_of e).role ≡ (all_of e).role
-role-shown r at by maker e = of e.entry
-  where
-    of : (entry : Entry) → where_shown (shows (with_makers r maker (rows r at by entry)) part.role) (all_of (record { maker = e.maker; more = e.more; entry = entry })).role
-        ≡ (all_of (record { maker = e.maker; more = e.more; entry = entry })).role
-    of (Named user role) = refl
-    of entry = refl
+mode-shown : (r : Reader) (at : Position) (by maker : ℕ) (e : Entry) → IsShown part.mode (λ (s : Sighting). s.mode) r at by maker e
+mode-shown r at by maker (ModeSet mode) = refl
+mode-shown r at by maker e = refl
 
--- nor is whether a conflict of hers is on
-on-shown : (r : Reader) (at : Position) (by maker : ℕ) (e : Stamped) → names r.number e ≡ true
-    → where_shown (shows (with_makers r maker (rows r at by e.entry)) part.on) (all_of e).on ≡ (all_of e).on
-on-shown r at by maker e = of e.entry
-  where
-    of : (entry : Entry) → names r.number (record { maker = e.maker; more = e.more; entry = entry }) ≡ true
-        → where_shown (shows (with_makers r maker (rows r at by entry)) part.on) (all_of (record { maker = e.maker; more = e.more; entry = entry })).on
-        ≡ (all_of (record { maker = e.maker; more = e.more; entry = entry })).on
-    of (Conflict paper user on) h =
-        ap (λ named. where_shown (named || shows (with_makers r maker (behind (rows r at by (Conflict paper user on)))) part.on) (Some on)) h
-    of (Tagged paper tag on) h = absurd (true≢false (sym h))
-    of entry h = refl
+role-shown : (r : Reader) (at : Position) (by maker : ℕ) (e : Entry) → IsShown part.role (λ (s : Sighting). s.role) r at by maker e
+role-shown r at by maker (Named user role) = refl
+role-shown r at by maker e = refl
+
+-- and of whether a conflict of hers is on
+on-shown : (r : Reader) (at : Position) (by maker : ℕ) (e : Entry) → is_user r.number (entire maker e).user ≡ true
+    → IsShown part.on (λ (s : Sighting). s.on) r at by maker e
+on-shown r at by maker (Conflict paper user on) h =
+    ap (λ named. where_shown (named || shows (with_makers r by (behind (rows r at by (Conflict paper user on)))) part.on) (Some on)) h
+on-shown r at by maker (Tagged paper tag on) h = absurd (true≢false (sym h))
+on-shown r at by maker e h = refl
 
 -- a part that the rows show of the one entry, and so of the other, is the same
 module _ (r : Reader) (at : Around) (e other : Stamped) (alike : outline e ≡ outline other) (hidden : IsHiddenFrom r at e other) where
@@ -490,8 +474,8 @@ module _ (r : Reader) (at : Around) (e other : Stamped) (alike : outline e ≡ o
   part-same : {A : Type 0} (p : Part) (part_of : Sighting → Option A)
       → (part_of (masked (shows (rows_at r at e)) false (all_of e)) ≡ where_shown (shows (rows_at r at e) p) (part_of (all_of e)))
       → (part_of (masked (shows (rows_at r at e)) false (all_of other)) ≡ where_shown (shows (rows_at r at e) p) (part_of (all_of other)))
-      → (where_shown (shows (rows_at r at e) p) (part_of (all_of e)) ≡ part_of (all_of e))
-      → (where_shown (shows (with_makers r e.maker (rows r (position_of at e.entry) e.maker other.entry)) p) (part_of (all_of other)) ≡ part_of (all_of other))
+      → IsShown p part_of r (position_of at e.entry) e.maker e.maker e.entry
+      → IsShown p part_of r (position_of at e.entry) e.maker other.maker other.entry
       → part_of (all_of e) ≡ part_of (all_of other)
   part-same p part_of one two first second =
       sym first
@@ -506,11 +490,11 @@ module _ (r : Reader) (at : Around) (e other : Stamped) (alike : outline e ≡ o
     alike = alike;
     maker = hidden.maker;
     named = hidden.user;
-    phase = part-same part.phase (λ s. s.phase) refl refl (phase-shown r pos e.maker e.maker e) (phase-shown r pos e.maker e.maker other);
-    mode = part-same part.mode (λ s. s.mode) refl refl (mode-shown r pos e.maker e.maker e) (mode-shown r pos e.maker e.maker other);
-    role = part-same part.role (λ s. s.role) refl refl (role-shown r pos e.maker e.maker e) (role-shown r pos e.maker e.maker other);
+    phase = part-same part.phase (λ s. s.phase) refl refl (phase-shown r pos e.maker e.maker e.entry) (phase-shown r pos e.maker other.maker other.entry);
+    mode = part-same part.mode (λ s. s.mode) refl refl (mode-shown r pos e.maker e.maker e.entry) (mode-shown r pos e.maker other.maker other.entry);
+    role = part-same part.role (λ s. s.role) refl refl (role-shown r pos e.maker e.maker e.entry) (role-shown r pos e.maker other.maker other.entry);
     on = λ named.
-        part-same part.on (λ s. s.on) refl refl (on-shown r pos e.maker e.maker e named) (on-shown r pos e.maker e.maker other (sym hidden.user ∙ named));
+        part-same part.on (λ s. s.on) refl refl (on-shown r pos e.maker e.maker e.entry named) (on-shown r pos e.maker other.maker other.entry (sym hidden.user ∙ named));
   }
     where
       pos : Position

@@ -1,14 +1,12 @@
 -- Pairs of legal histories that differ in what one kind of entry hides: one user sees the same of both, and another doesn't. Each
 -- goes on from the small conference's users and papers.
-use Rattle.std.specs.Prelude.{ℕ, ◌≡◌, true, false, List, [], ◌∷◌, ◌++◌, length, Some, None, codes, Bool}
-use Rattle.cr_base.specs.declared.entry.Entry.TheVariants.{Named, PhaseSet, ModeSet, Submitted}
+use Rattle.std.specs.Prelude.{ℕ, ◌≡◌, true, false, List, [], ◌∷◌, ◌++◌, length, take, Some, None, codes}
+use Rattle.cr_base.specs.declared.entry.Entry.TheVariants.{Registered, Named, PhaseSet, ModeSet, Submitted}
 use Rattle.cr_base.specs.declared.entry.Entry.TheVariants.{Coauthor, Revised, Uploaded, Withdrawn, Conflict}
 use Rattle.cr_base.specs.declared.entry.Entry.TheVariants.{Bid, Assigned, Unassigned, Reviewed, Commented, Tagged, Decided}
 use Rattle.cr_base.specs.declared.entry.Stamped.{Stamped}
 use Rattle.cr_base.specs.declared.form.Form.{Form}
-use Rattle.cr_base.specs.declared.words.Decision.{Decision}
 use Rattle.cr_base.specs.declared.words.Decision.TheVariants.{Accept, Reject}
-use Rattle.cr_base.specs.declared.words.Kind.{Kind}
 use Rattle.cr_base.specs.declared.words.Kind.TheVariants.{Primary, Secondary}
 use Rattle.cr_base.specs.declared.words.Mode.{Mode}
 use Rattle.cr_base.specs.declared.words.Mode.TheVariants.{Blind, Anonymous}
@@ -26,272 +24,215 @@ use Rattle.cr_policy.specs.View.{sight, view}
 
 -- ---- pairs
 
--- both are legal, they meet the four conditions, the first user sees the same of them, and the second user doesn't
-pub record IsPair (to from : ℕ) (H H' : History) : Type 0 where
-  pub legal : Legal H
-  pub other : Legal H'
-  pub hidden : DiffersHidden (Some to) H H'
-  pub same : view (Some to) H ≡ view (Some to) H'
-  pub told : view (Some from) H ≡ view (Some from) H' → ⊥
+-- these entries, or those, stand between the others: both histories are legal, they meet the four conditions, the first user sees the
+-- same of them, and the second user doesn't
+pub record IsPair (to from : ℕ) (before these those after : History) : Type 0 where
+  pub legal : Legal (before ++ (these ++ after))
+  pub other : Legal (before ++ (those ++ after))
+  pub hidden : DiffersHidden (Some to) (before ++ (these ++ after)) (before ++ (those ++ after))
+  pub same : view (Some to) (before ++ (these ++ after)) ≡ view (Some to) (before ++ (those ++ after))
+  pub told : view (Some from) (before ++ (these ++ after)) ≡ view (Some from) (before ++ (those ++ after)) → ⊥
 
--- so it is of these two, whatever the digests are
-abbrev pub AlikeTo : ℕ → ℕ → (Digests → History) → (Digests → History) → Type 0
-AlikeTo to from one other = (d : Digests) → AreDigests d → IsPair to from (one d) (other d)
+-- so it is whatever the digests are
+abbrev pub AllAlikeTo : (to from : ℕ) → (Digests → History) → (these those after : History) → Type 0
+AllAlikeTo to from before these those after = (d : Digests) → AreDigests d → IsPair to from (before d) these those after
+
+-- and of one entry or another
+abbrev pub AlikeTo : (to from : ℕ) → (Digests → History) → (one other : Stamped) → (after : History) → Type 0
+AlikeTo to from before one other after = AllAlikeTo to from before (one ∷ []) (other ∷ []) after
+
+-- ---- where they begin
+
+-- users may submit
+abbrev pub in_submission : Mode → Digests → History
+in_submission mode d = opened d mode
+
+-- three papers are submitted
+abbrev pub in_papers : Digests → History
+in_papers d = submitted d Blind
+
+-- the bidding is opened
+abbrev pub bids_open : History
+bids_open = alice adds PhaseSet Bidding ∷ []
+
+abbrev pub in_bids : Mode → Digests → History
+in_bids mode d = submitted d mode ++ bids_open
+
+-- dave is assigned to paper 1, and then the reviewing is opened
+abbrev pub assigned : Digests → History
+assigned d = in_bids Blind d ++ alice adds Assigned 1 dave Primary 1 ∷ []
+
+abbrev pub in_reviews : Digests → History
+in_reviews d = assigned d ++ alice adds PhaseSet Reviewing ∷ []
+
+-- the discussion is opened, and nobody reviews
+abbrev pub in_talk : Mode → Digests → History
+in_talk mode d = in_bids mode d ++ alice adds PhaseSet Reviewing ∷ alice adds PhaseSet Discussion ∷ []
 
 -- ---- who registers, and what the chairs set
 
--- hal's digest is this one
-abbrev pub with_digest : Digests → List ℕ → Digests
-with_digest d digest = record d { hal = digest }
-
--- the digest of a registration, but to who registers
+-- the digest of a registration, but to who registers: hal is the last who does
 abbrev pub DigestHidden : Type 0
 DigestHidden = (d : Digests) (other : List ℕ) → AreDigests d → length other ≡ 32 → (d.hal ≡ other → ⊥)
-    → IsPair alice hal (registered d) (registered (with_digest d other))
+    → IsPair alice hal (take 8 (registered d))
+    (hal adds Registered hal (codes "hal") d.hal ∷ []) (hal adds Registered hal (codes "hal") other ∷ []) []
 
 -- which chair names a member
-abbrev pub named_by : ℕ → Digests → History
-named_by chair d = opened d Blind ++ chair adds Named erin Member ∷ []
-
 abbrev pub NamerHidden : Type 0
-NamerHidden = AlikeTo erin alice (named_by alice) (named_by fay)
+NamerHidden = AlikeTo erin alice (in_submission Blind) (alice adds Named erin Member) (fay adds Named erin Member) []
 
 -- which chair sets the mode, once there are two
-abbrev pub mode_set_by : ℕ → Digests → History
-mode_set_by chair d = registered d ++ alice adds Named fay Chair ∷ chair adds ModeSet Anonymous ∷ []
+abbrev pub having_chairs : Digests → History
+having_chairs d = registered d ++ alice adds Named fay Chair ∷ []
 
 abbrev pub ModeSetterHidden : Type 0
-ModeSetterHidden = AlikeTo bob alice (mode_set_by alice) (mode_set_by fay)
+ModeSetterHidden = AlikeTo bob alice having_chairs (alice adds ModeSet Anonymous) (fay adds ModeSet Anonymous) []
 
 -- which chair opens the bidding
-abbrev pub opened_by : ℕ → Digests → History
-opened_by chair d = submitted d Blind ++ chair adds PhaseSet Bidding ∷ []
-
 abbrev pub PhaseSetterHidden : Type 0
-PhaseSetterHidden = AlikeTo bob alice (opened_by alice) (opened_by fay)
+PhaseSetterHidden = AlikeTo bob alice in_papers (alice adds PhaseSet Bidding) (fay adds PhaseSet Bidding) []
 
 -- ---- papers
 
 -- a title, before the bidding, to a member; and an abstract, in the bidding, to a member in conflict with the paper
-abbrev pub titled : List ℕ → Digests → History
-titled title d = opened d Blind ++ bob adds Submitted 1 title we_prove ∷ []
-
 abbrev pub TitleHidden : Type 0
-TitleHidden = AlikeTo dave bob (titled proofs) (titled types)
-
-abbrev pub summed_up : List ℕ → Digests → History
-summed_up abstract d =
-    opened d Blind
-    ++ bob adds Submitted 1 proofs abstract
-    ∷ bob adds Conflict 1 carol true
-    ∷ alice adds PhaseSet Bidding
-    ∷ []
+TitleHidden = AlikeTo dave bob (in_submission Blind) (bob adds Submitted 1 proofs we_prove) (bob adds Submitted 1 types we_prove) []
 
 abbrev pub AbstractHidden : Type 0
-AbstractHidden = AlikeTo carol dave (summed_up we_prove) (summed_up we_type)
+AbstractHidden = AlikeTo carol dave (in_submission Blind)
+    (bob adds Submitted 1 proofs we_prove) (bob adds Submitted 1 proofs we_type) (bob adds Conflict 1 carol true ∷ bids_open)
 
 -- in the anonymous mode, to a member, who submitted a paper, and with whom
-abbrev pub submitted_by : ℕ → Digests → History
-submitted_by author d = opened d Anonymous ++ author adds Submitted 1 proofs we_prove ∷ alice adds PhaseSet Bidding ∷ []
-
 abbrev pub SubmitterHidden : Type 0
-SubmitterHidden = AlikeTo dave alice (submitted_by bob) (submitted_by gus)
+SubmitterHidden = AlikeTo dave alice (in_submission Anonymous)
+    (bob adds Submitted 1 proofs we_prove) (gus adds Submitted 1 proofs we_prove) bids_open
 
-abbrev pub submitted_with : ℕ → Digests → History
-submitted_with coauthor d =
-    opened d Anonymous
-    ++ record { maker = bob; more = true; entry = Submitted 1 proofs we_prove }
-    ∷ bob adds Coauthor 1 coauthor
-    ∷ alice adds PhaseSet Bidding
-    ∷ []
+abbrev pub submitted_with : ℕ → History
+submitted_with coauthor = record { maker = bob; more = true; entry = Submitted 1 proofs we_prove } ∷ bob adds Coauthor 1 coauthor ∷ []
 
 abbrev pub CoauthorHidden : Type 0
-CoauthorHidden = AlikeTo dave alice (submitted_with gus) (submitted_with erin)
+CoauthorHidden = AllAlikeTo dave alice (in_submission Anonymous) (submitted_with gus) (submitted_with erin) bids_open
 
 -- the texts of a revision that another follows, and who revised
-abbrev pub revised_to : List ℕ → List ℕ → Digests → History
-revised_to title abstract d =
-    submitted d Blind
-    ++ bob adds Revised 1 title abstract
-    ∷ bob adds Revised 1 more_proofs we_prove_more
-    ∷ alice adds PhaseSet Bidding
-    ∷ []
-
 abbrev pub RevisionHidden : Type 0
-RevisionHidden = AlikeTo dave gus (revised_to fewer_proofs we_prove_less) (revised_to types we_type)
-
-abbrev pub revised_by : ℕ → Digests → History
-revised_by author d = submitted d Blind ++ author adds Revised 1 more_proofs we_prove_more ∷ alice adds PhaseSet Bidding ∷ []
+RevisionHidden = AlikeTo dave gus in_papers
+    (bob adds Revised 1 fewer_proofs we_prove_less) (bob adds Revised 1 types we_type) (bob adds Revised 1 more_proofs we_prove_more ∷ bids_open)
 
 abbrev pub ReviserHidden : Type 0
-ReviserHidden = AlikeTo dave bob (revised_by bob) (revised_by gus)
+ReviserHidden = AlikeTo dave bob in_papers
+    (bob adds Revised 1 more_proofs we_prove_more) (gus adds Revised 1 more_proofs we_prove_more) bids_open
 
 -- the content of a version that another follows, and who uploaded
-abbrev pub uploaded_first : List ℕ → Digests → History
-uploaded_first content d =
-    submitted d Blind
-    ++ bob adds Uploaded 1 1 content
-    ∷ bob adds Uploaded 1 2 second_version
-    ∷ alice adds PhaseSet Bidding
-    ∷ []
-
 abbrev pub ContentHidden : Type 0
-ContentHidden = AlikeTo dave gus (uploaded_first first_version) (uploaded_first only_version)
-
-abbrev pub uploaded_by : ℕ → Digests → History
-uploaded_by author d = submitted d Blind ++ author adds Uploaded 1 1 first_version ∷ alice adds PhaseSet Bidding ∷ []
+ContentHidden = AlikeTo dave gus in_papers
+    (bob adds Uploaded 1 1 first_version) (bob adds Uploaded 1 1 only_version) (bob adds Uploaded 1 2 second_version ∷ bids_open)
 
 abbrev pub UploaderHidden : Type 0
-UploaderHidden = AlikeTo dave bob (uploaded_by bob) (uploaded_by gus)
+UploaderHidden = AlikeTo dave bob in_papers (bob adds Uploaded 1 1 first_version) (gus adds Uploaded 1 1 first_version) bids_open
 
 -- which author withdrew
-abbrev pub withdrawn_by : ℕ → Digests → History
-withdrawn_by author d = submitted d Blind ++ author adds Withdrawn 1 ∷ alice adds PhaseSet Bidding ∷ []
-
 abbrev pub WithdrawerHidden : Type 0
-WithdrawerHidden = AlikeTo dave bob (withdrawn_by bob) (withdrawn_by gus)
+WithdrawerHidden = AlikeTo dave bob in_papers (bob adds Withdrawn 1) (gus adds Withdrawn 1) bids_open
 
 -- ---- conflicts
 
 -- whom an author declares, to the other members
-abbrev pub declared_member : ℕ → Digests → History
-declared_member member d = submitted d Blind ++ bob adds Conflict 1 member true ∷ alice adds PhaseSet Bidding ∷ []
-
 abbrev pub DeclaredHidden : Type 0
-DeclaredHidden = AlikeTo hal alice (declared_member carol) (declared_member dave)
+DeclaredHidden = AlikeTo hal alice in_papers (bob adds Conflict 1 carol true) (bob adds Conflict 1 dave true) bids_open
 
 -- whether a chair turns it off, to the paper's authors
-abbrev pub turned : Bool → Digests → History
-turned on d = declared_member carol d ++ alice adds Conflict 1 carol on ∷ []
+abbrev pub declared : Digests → History
+declared d = in_papers d ++ bob adds Conflict 1 carol true ∷ bids_open
 
 abbrev pub SwitchHidden : Type 0
-SwitchHidden = AlikeTo bob carol (turned true) (turned false)
+SwitchHidden = AlikeTo bob carol declared (alice adds Conflict 1 carol true) (alice adds Conflict 1 carol false) []
 
 -- which author declares
-abbrev pub declared_by : ℕ → Digests → History
-declared_by author d = submitted d Blind ++ author adds Conflict 1 carol true ∷ []
-
 abbrev pub DeclarerHidden : Type 0
-DeclarerHidden = AlikeTo carol bob (declared_by bob) (declared_by gus)
+DeclarerHidden = AlikeTo carol bob in_papers (bob adds Conflict 1 carol true) (gus adds Conflict 1 carol true) []
 
 -- ---- the bidding
 
-abbrev pub in_bids : Mode → Digests → History
-in_bids mode d = submitted d mode ++ alice adds PhaseSet Bidding ∷ []
-
 -- a bid, and whose it is, to the other members
-abbrev pub bid_of : ℕ → ℕ → Digests → History
-bid_of member value d = in_bids Blind d ++ member adds Bid 1 value ∷ []
-
 abbrev pub BidHidden : Type 0
-BidHidden = AlikeTo hal alice (bid_of dave 25) (bid_of dave 40)
+BidHidden = AlikeTo hal alice (in_bids Blind) (dave adds Bid 1 25) (dave adds Bid 1 40) []
 
 abbrev pub BidderHidden : Type 0
-BidderHidden = AlikeTo carol alice (bid_of dave 25) (bid_of hal 25)
+BidderHidden = AlikeTo carol alice (in_bids Blind) (dave adds Bid 1 25) (hal adds Bid 1 25) []
 
 -- whether a private tag is on, and whose it is, to a chair
 abbrev pub private_tag : List ℕ
 private_tag = codes "~x"
 
-abbrev pub tagged : Bool → Digests → History
-tagged on d = in_bids Blind d ++ dave adds Tagged 1 private_tag true ∷ dave adds Tagged 1 private_tag on ∷ []
+abbrev pub tagged : Digests → History
+tagged d = in_bids Blind d ++ dave adds Tagged 1 private_tag true ∷ []
 
 abbrev pub TagHidden : Type 0
-TagHidden = AlikeTo alice dave (tagged true) (tagged false)
-
-abbrev pub tagged_by : ℕ → Digests → History
-tagged_by member d = in_bids Blind d ++ member adds Tagged 1 private_tag true ∷ []
+TagHidden = AlikeTo alice dave tagged (dave adds Tagged 1 private_tag true) (dave adds Tagged 1 private_tag false) []
 
 abbrev pub TaggerHidden : Type 0
-TaggerHidden = AlikeTo alice dave (tagged_by dave) (tagged_by hal)
+TaggerHidden = AlikeTo alice dave (in_bids Blind) (dave adds Tagged 1 private_tag true) (hal adds Tagged 1 private_tag true) []
 
 -- who is assigned and as what, to the paper's authors; and by whom, to who is
-abbrev pub assigned : ℕ → ℕ → Kind → Digests → History
-assigned chair member kind d = in_bids Blind d ++ chair adds Assigned 1 member kind 1 ∷ []
-
 abbrev pub AssignedHidden : Type 0
-AssignedHidden = AlikeTo bob dave (assigned alice dave Primary) (assigned alice hal Primary)
+AssignedHidden = AlikeTo bob dave (in_bids Blind) (alice adds Assigned 1 dave Primary 1) (alice adds Assigned 1 hal Primary 1) []
 
 abbrev pub SeatHidden : Type 0
-SeatHidden = AlikeTo bob dave (assigned alice dave Primary) (assigned alice dave Secondary)
+SeatHidden = AlikeTo bob dave (in_bids Blind) (alice adds Assigned 1 dave Primary 1) (alice adds Assigned 1 dave Secondary 1) []
 
 abbrev pub AssignerHidden : Type 0
-AssignerHidden = AlikeTo dave alice (assigned alice dave Primary) (assigned fay dave Primary)
+AssignerHidden = AlikeTo dave alice (in_bids Blind) (alice adds Assigned 1 dave Primary 1) (fay adds Assigned 1 dave Primary 1) []
 
 -- who is unassigned, and by whom
-abbrev pub unassigned : ℕ → ℕ → Digests → History
-unassigned chair member d = assigned alice member Primary d ++ chair adds Unassigned 1 member 1 ∷ []
+abbrev pub unassigned : ℕ → History
+unassigned member = alice adds Assigned 1 member Primary 1 ∷ alice adds Unassigned 1 member 1 ∷ []
 
 abbrev pub UnassignedHidden : Type 0
-UnassignedHidden = AlikeTo bob dave (unassigned alice dave) (unassigned alice hal)
+UnassignedHidden = AllAlikeTo bob dave (in_bids Blind) (unassigned dave) (unassigned hal) []
 
 abbrev pub UnassignerHidden : Type 0
-UnassignerHidden = AlikeTo dave alice (unassigned alice dave) (unassigned fay dave)
+UnassignerHidden = AlikeTo dave alice assigned (alice adds Unassigned 1 dave 1) (fay adds Unassigned 1 dave 1) []
 
 -- ---- reviews
 
--- dave reviews paper 1, and writes this form
-abbrev pub reviewed : Form → Digests → History
-reviewed form d =
-    assigned alice dave Primary d
-    ++ alice adds PhaseSet Reviewing
-    ∷ dave adds Reviewed 1 1 1 form
-    ∷ []
-
--- all of it to the authors, and to the other members, in the reviewing
+-- all of a form to the authors, and to the other members, in the reviewing
 abbrev pub FormHidden : Type 0
-FormHidden = AlikeTo bob dave (reviewed first_form) (reviewed second_form)
+FormHidden = AlikeTo bob dave in_reviews (dave adds Reviewed 1 1 1 first_form) (dave adds Reviewed 1 1 1 second_form) []
 
 abbrev pub FormHiddenFromMembers : Type 0
-FormHiddenFromMembers = AlikeTo hal dave (reviewed first_form) (reviewed second_form)
+FormHiddenFromMembers = AlikeTo hal dave in_reviews (dave adds Reviewed 1 1 1 first_form) (dave adds Reviewed 1 1 1 second_form) []
 
 -- what it tells the committee alone, to the authors at the notification
 abbrev pub other_to_pc : Form
 other_to_pc = record first_form { to_pc = codes "Old to me." }
 
-abbrev pub notified : Form → Digests → History
-notified form d = reviewed form d ++ alice adds PhaseSet Discussion ∷ alice adds PhaseSet Notification ∷ []
-
 abbrev pub ToPcHidden : Type 0
-ToPcHidden = AlikeTo bob hal (notified first_form) (notified other_to_pc)
+ToPcHidden = AlikeTo bob hal in_reviews
+    (dave adds Reviewed 1 1 1 first_form) (dave adds Reviewed 1 1 1 other_to_pc)
+    (alice adds PhaseSet Discussion ∷ alice adds PhaseSet Notification ∷ [])
 
 -- in the anonymous mode, who reviews: this member is assigned and writes the form, and the discussion is opened
-abbrev pub reviewed_by : ℕ → Digests → History
-reviewed_by member d =
-    in_bids Anonymous d
-    ++ alice adds Assigned 1 member Primary 1
-    ∷ alice adds PhaseSet Reviewing
-    ∷ member adds Reviewed 1 1 1 first_form
-    ∷ alice adds PhaseSet Discussion
-    ∷ []
+abbrev pub reviewed_by : ℕ → History
+reviewed_by member = alice adds Assigned 1 member Primary 1 ∷ alice adds PhaseSet Reviewing ∷ member adds Reviewed 1 1 1 first_form ∷ []
 
 abbrev pub ReviewerHidden : Type 0
-ReviewerHidden = AlikeTo carol alice (reviewed_by dave) (reviewed_by hal)
+ReviewerHidden = AllAlikeTo carol alice (in_bids Anonymous) (reviewed_by dave) (reviewed_by hal) (alice adds PhaseSet Discussion ∷ [])
 
 -- ---- the discussion
 
-abbrev pub in_talk : Mode → Digests → History
-in_talk mode d = in_bids mode d ++ alice adds PhaseSet Reviewing ∷ alice adds PhaseSet Discussion ∷ []
-
 -- a comment to the authors; and in the anonymous mode who wrote it, to the other members
-abbrev pub commented : Mode → ℕ → List ℕ → Digests → History
-commented mode member text d = in_talk mode d ++ member adds Commented 1 1 None text ∷ []
-
 abbrev pub CommentHidden : Type 0
-CommentHidden = AlikeTo bob dave (commented Blind carol agreed) (commented Blind carol we_prove)
+CommentHidden = AlikeTo bob dave (in_talk Blind) (carol adds Commented 1 1 None agreed) (carol adds Commented 1 1 None we_prove) []
 
 abbrev pub WriterHidden : Type 0
-WriterHidden = AlikeTo hal alice (commented Anonymous carol agreed) (commented Anonymous dave agreed)
+WriterHidden = AlikeTo hal alice (in_talk Anonymous) (carol adds Commented 1 1 None agreed) (dave adds Commented 1 1 None agreed) []
 
 -- a decision to the authors, and which chair made it to members
-abbrev pub decided : ℕ → Decision → Digests → History
-decided chair decision d = in_talk Blind d ++ chair adds Decided 1 decision ∷ []
-
 abbrev pub DecisionHidden : Type 0
-DecisionHidden = AlikeTo bob dave (decided alice Accept) (decided alice Reject)
+DecisionHidden = AlikeTo bob dave (in_talk Blind) (alice adds Decided 1 Accept) (alice adds Decided 1 Reject) []
 
 abbrev pub DeciderHidden : Type 0
-DeciderHidden = AlikeTo dave alice (decided alice Accept) (decided fay Accept)
+DeciderHidden = AlikeTo dave alice (in_talk Blind) (alice adds Decided 1 Accept) (fay adds Decided 1 Accept) []
 
 -- ---- what may be taken out
 
@@ -313,9 +254,9 @@ CommentRemovable =
 
 -- the last version of a content, behind another, to a member in conflict with the paper: without it the other is the last
 abbrev pub uploaded_once : Digests → History
-uploaded_once d = submitted d Blind ++ bob adds Conflict 1 carol true ∷ bob adds Uploaded 1 1 first_version ∷ []
+uploaded_once d = in_papers d ++ bob adds Conflict 1 carol true ∷ bob adds Uploaded 1 1 first_version ∷ []
 
 abbrev pub VersionRemovable : Type 0
 VersionRemovable =
     (d : Digests) → AreDigests d
-    → IsRemovable carol dave (uploaded_once d) (alice adds PhaseSet Bidding ∷ []) (bob adds Uploaded 1 2 second_version)
+    → IsRemovable carol dave (uploaded_once d) bids_open (bob adds Uploaded 1 2 second_version)

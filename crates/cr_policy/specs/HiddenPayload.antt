@@ -67,7 +67,7 @@ DifferHidden u H H' = PlaceByPlace (IsHiddenFrom (reader u H)) [] H H'
 abbrev pub AcceptedAlike : History → History → Type 0
 AcceptedAlike H H' = (p : ℕ) → is_accepted p H ≡ is_accepted p H'
 
--- a conflict with a paper of the user's is declared by one of its authors in both or in neither
+-- of a conflict with a paper of the user's it is the same in both histories whether an author of that declared it
 abbrev pub IsDeclaredAlike : Option ℕ → History → History → Entry → ℕ → ℕ → Type 0
 IsDeclaredAlike u H H' (Conflict paper user on) maker other =
     IsTrue (is_author u paper H) → is_author (Some maker) paper H ≡ is_author (Some other) paper H'

@@ -268,8 +268,8 @@ is_conflict_on_in_view u p V = last_or false (flat_map (conflict_seen u p) V)
 abbrev pub is_conflicted_in_view : Option ℕ → ℕ → View → Bool
 is_conflicted_in_view u p V = is_author_in_view u p V || is_conflict_on_in_view u p V
 
--- DeclaredOf, for an author: whom the conflicts name that are her own, or name another than her, or stand before the
--- bidding was opened; in a legal history these are the ones that an author made
+-- DeclaredOf, for an author: whom those conflicts name that are her own, or name another than her, or stand before the
+-- bidding was opened. Where the history is legal, an author made each of these, and no others
 abbrev pub declared_in_view : Option ℕ → ℕ → View → List ℕ
 declared_in_view u p V = flat_map (conflict_user_seen p) (until bidding_seen V) ++ flat_map (own_or_other_seen u p) (since bidding_seen V)
 

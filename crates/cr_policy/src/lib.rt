@@ -192,10 +192,9 @@ pub fn law_bounds()
 {}
 
 /// Two histories that differ in nothing that a user is shown look the same to her; and so they do to an unauthenticated caller, of what
-/// she isn't shown. Place by place they have the same
-/// kinds of entry, papers, ordinals, versions, numbers and tags; they differ only in parts that the table doesn't show her, or in
-/// users and makers of whom neither is she; the same papers are accepted; and each conflict with a paper of hers is declared by
-/// one of its authors in both or in neither. They need not be legal.
+/// she isn't shown. Their entries are alike one by one: of the same kind and on the same paper, with the same label, version, number and tag.
+/// What differs is a part that the table doesn't show her, or who made an entry or is named by it, where she is neither. The same papers are
+/// accepted, and of each conflict with a paper of hers it is the same whether an author of that declared it. They need not be legal.
 pub fn law_hidden_payload()
     ensures { HiddenPayload }
 {}
