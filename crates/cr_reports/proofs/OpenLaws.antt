@@ -5,25 +5,14 @@ use Rattle.std.specs.List.{flat_map}
 use Rattle.std.proofs.lemmas.List.Elements.{filter-append}
 use Rattle.cr_base.specs.declared.words.Decision.{Decision}
 use Rattle.cr_base.specs.Papers.{paper_numbers}
-use Rattle.cr_base.specs.Reports.{decision_line, decisions_end, decisions_told, is_accepting, is_clear_of, is_undecided, is_rejecting, open_papers, scores_line}
-use Rattle.cr_base.specs.Sources.{decision_by, facts_of_tables, shown_in_tables}
+use Rattle.cr_base.specs.Reports.{decisions_end, decisions_told, is_accepting, is_clear_of, is_undecided, is_rejecting, open_papers, scores_line}
+use Rattle.cr_base.specs.Sources.{facts_of_tables, shown_in_tables}
 use Rattle.cr_base.specs.Tables.{Tables}
+use Rattle.cr_base.proofs.FiledLaws.{filter-filter}
 use Rattle.cr_view.specs.Reports.{score_sum}
 use Rattle.cr_view.specs.declared.reports.ScoreSum.{ScoreSum}
-use Rattle.cr_reports.specs.Told.{is_open_to, one, scored_line}
+use Rattle.cr_reports.specs.Told.{decided, decision_line_at, is_open_to, one, scored_line}
 use Rattle.cr_reports.proofs.WalkLaws.{first, first-all, where_so, flat_map-filter}
-
--- what passes one test and then another passes both
-filter-filter : (q r : ℕ → Bool) (xs : List ℕ) → filter (λ (x : ℕ). q x && r x) xs ≡ filter r (filter q xs)
-filter-filter q r [] = refl
-filter-filter q r (x ∷ xs) = by (q x) (filter-filter q r xs)
-  where
-    both : List ℕ
-    both = filter (λ (y : ℕ). q y && r y) xs
-
-    by : (b : Bool) → both ≡ filter r (filter q xs) → cond (b && r x) (x ∷ both) both ≡ filter r (cond b (x ∷ filter q xs) (filter q xs))
-    by true h = ap (λ (ys : List ℕ). cond (r x) (x ∷ ys) ys) h
-    by false h = h
 
 module _ (t : Tables) (user : ℕ) where
   -- those that the reports list
@@ -73,13 +62,6 @@ scores_none p (score ∷ scores) title s is none = absurd (never (length scores)
 
 -- ---- decisions
 
--- what was decided of a paper, and its line
-abbrev pub decided : Tables → ℕ → Option Decision
-decided t p = decision_by (facts_of_tables t None) (shown_in_tables t) p
-
-abbrev pub line_at : Tables → ℕ → List ℕ
-line_at t p = decision_line (facts_of_tables t None) (shown_in_tables t) p
-
 -- how many of the papers up to one are told and pass a test
 abbrev pub passing : Tables → ℕ → (ℕ → Bool) → ℕ → ℕ
 passing t user test i = length (filter (λ (p : ℕ). is_open_to t user p && test p) (first t.papers.papers i))
@@ -100,11 +82,11 @@ passing-all t user test i n past h =
 pub decided-all : (t : Tables) (user : ℕ) (start : List ℕ) (accepted rejected undecided i : ℕ) → length t.papers.papers ≤ i
     → accepted ≡ passing t user (λ p. is_accepting (decided t p)) i → rejected ≡ passing t user (λ p. is_rejecting (decided t p)) i
     → undecided ≡ passing t user (λ p. is_undecided (decided t p)) i
-    → start ++ (flat_map (line_at t) (open_papers (facts_of_tables t (Some user)) (shown_in_tables t)) ++ decisions_end accepted rejected undecided)
+    → start ++ (flat_map (decision_line_at t) (open_papers (facts_of_tables t (Some user)) (shown_in_tables t)) ++ decisions_end accepted rejected undecided)
     ≡ start ++ decisions_told (facts_of_tables t (Some user)) (shown_in_tables t)
 decided-all t user start accepted rejected undecided i past are were left =
     let told : ℕ → ℕ → ℕ → List ℕ =
-    λ a r u. start ++ (flat_map (line_at t) (open_papers (facts_of_tables t (Some user)) (shown_in_tables t)) ++ decisions_end a r u) in
+    λ a r u. start ++ (flat_map (decision_line_at t) (open_papers (facts_of_tables t (Some user)) (shown_in_tables t)) ++ decisions_end a r u) in
     ap (λ (n : ℕ). told n rejected undecided) (passing-all t user (λ p. is_accepting (decided t p)) i accepted past are)
     ∙ ap (λ (n : ℕ). told (all is_accepting) n undecided) (passing-all t user (λ p. is_rejecting (decided t p)) i rejected past were)
     ∙ ap (λ (n : ℕ). told (all is_accepting) (all is_rejecting) n) (passing-all t user (λ p. is_undecided (decided t p)) i undecided past left)

@@ -1,17 +1,20 @@
 -- What a user is told as a report, by the tables.
-use Rattle.std.specs.Prelude.{ℕ, Bool, true, false, not, ◌≡◌, ◌+◌, ◌&&◌, List, [], ◌∷◌, ◌++◌, decimal, codes, Option, Some, Result, Ok}
+use Rattle.std.specs.Prelude.{ℕ, Bool, true, false, not, ◌≡◌, ◌+◌, ◌&&◌, List, [], ◌∷◌, ◌++◌}
+use Rattle.std.specs.Prelude.{decimal, codes, Option, Some, None, Result, Ok}
 use Rattle.std.specs.List.{flat_map}
 use Rattle.std.specs.Option.{option_map}
 use Rattle.cr_base.specs.declared.report.Report.{Report}
 use Rattle.cr_base.specs.declared.reply.Rule.{Rule}
 use Rattle.cr_base.specs.declared.standing.Standing.{Standing}
+use Rattle.cr_base.specs.declared.words.Decision.{Decision}
 use Rattle.cr_base.specs.Checks.{judged}
 use Rattle.cr_base.specs.History.{FormTold}
 use Rattle.cr_base.specs.Lists.{listed}
 use Rattle.cr_base.specs.Page.{shows_reviewer}
-use Rattle.cr_base.specs.Reports.{hundredths, in_four, in_two, is_clear_of, last_scores, letter_form, line_end, report_checks, report_told, scores_line, space, title_by, two_places, writer_named}
+use Rattle.cr_base.specs.Reports.{decision_line, hundredths, in_four, in_two, is_clear_of, last_scores, letter_form, line_end}
+use Rattle.cr_base.specs.Reports.{report_checks, report_told, scores_line, space, title_by, two_places, writer_named}
 use Rattle.cr_base.specs.Reviews.{last_form_in, written_told}
-use Rattle.cr_base.specs.Sources.{facts_of_tables, shown_in_tables}
+use Rattle.cr_base.specs.Sources.{decision_by, facts_of_tables, shown_in_tables}
 use Rattle.cr_base.specs.Tables.{Tables}
 use Rattle.cr_view.specs.declared.reports.ScoreSum.{ScoreSum}
 use Rattle.cr_view.specs.Reviews.{label_name}
@@ -38,6 +41,17 @@ scores_line_at t p = scores_line p (last_scores (shown_in_tables t) p) (title_by
 abbrev pub one : Bool → ℕ
 one true = 1
 one false = 0
+
+-- what was decided of a paper, and the line of that
+abbrev pub decided : Tables → ℕ → Option Decision
+decided t p = decision_by (facts_of_tables t None) (shown_in_tables t) p
+
+abbrev pub decision_line_at : Tables → ℕ → List ℕ
+decision_line_at t p = decision_line (facts_of_tables t None) (shown_in_tables t) p
+
+-- 1 where the paper is told to the user and its decision is such a one, else 0
+abbrev pub counted : Tables → ℕ → (Option Decision → Bool) → ℕ → ℕ
+counted t user is_such p = one (is_open_to t user p && is_such (decided t p))
 
 -- the last form under a label of a paper, for one who stands so to it
 abbrev pub forms_under : Tables → Standing → ℕ → ℕ → List ℕ

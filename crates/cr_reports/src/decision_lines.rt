@@ -1,8 +1,8 @@
 //! The report of decisions.
-ghost use Rattle.std.specs.Prelude.{◌≡◌, ◌++◌, ◌+◌, ◌<◌, ◌^◌, ◌&&◌, None, OnOk, Some, if◌then◌else◌, []};
-ghost use Rattle.cr_base.specs.Reports.{decision_line, decision_word, decisions_end, decisions_told, is_accepting, is_undecided, is_rejecting};
-ghost use Rattle.cr_base.specs.Sources.{decision_by, facts_of_tables, shown_in_tables};
-ghost use Rattle.cr_reports.specs.Told.{is_open_to, one};
+ghost use Rattle.std.specs.Prelude.{◌≡◌, ◌++◌, ◌+◌, ◌<◌, ◌^◌, OnOk, Some, if◌then◌else◌, []};
+ghost use Rattle.cr_base.specs.Reports.{decision_word, decisions_end, decisions_told, is_accepting, is_undecided, is_rejecting};
+ghost use Rattle.cr_base.specs.Sources.{facts_of_tables, shown_in_tables};
+ghost use Rattle.cr_reports.specs.Told.{counted, decided, decision_line_at, is_open_to};
 
 use crate::columns::{append_in_four, append_left};
 use crate::listed::is_open_to;
@@ -29,9 +29,8 @@ fn append_line(
     paper: PaperNo,
     decision: &Option<Decision>,
 ) -> Result<(), AllocError>
-    requires { decision.now ≡ decision_by (facts_of_tables live.now.tables None) (shown_in_tables live.now.tables) paper }
-    ensures { OnOk result (into.new.items
-        ≡ into.old.items ++ decision_line (facts_of_tables live.now.tables None) (shown_in_tables live.now.tables) paper) }
+    requires { decision.now ≡ decided live.now.tables paper }
+    ensures { OnOk result (into.new.items ≡ into.old.items ++ decision_line_at live.now.tables paper) }
 {
     append_in_four(into, paper.number())?;
     append_space(into)?;
@@ -52,14 +51,11 @@ fn append_paper(
     requires accepted { tally.old.accepted < 2 ^ 32 }
     requires rejected { tally.old.rejected < 2 ^ 32 }
     requires undecided { tally.old.undecided < 2 ^ 32 }
-    ensures text { OnOk result (into.new.items ≡ into.old.items
-        ++ (if is_open_to live.now.tables user paper then decision_line (facts_of_tables live.now.tables None) (shown_in_tables live.now.tables) paper else [])) }
-    ensures accepted { OnOk result (tally.new.accepted ≡ tally.old.accepted
-        + one (is_open_to live.now.tables user paper && is_accepting (decision_by (facts_of_tables live.now.tables None) (shown_in_tables live.now.tables) paper))) }
-    ensures rejected { OnOk result (tally.new.rejected ≡ tally.old.rejected
-        + one (is_open_to live.now.tables user paper && is_rejecting (decision_by (facts_of_tables live.now.tables None) (shown_in_tables live.now.tables) paper))) }
-    ensures undecided { OnOk result (tally.new.undecided ≡ tally.old.undecided
-        + one (is_open_to live.now.tables user paper && is_undecided (decision_by (facts_of_tables live.now.tables None) (shown_in_tables live.now.tables) paper))) }
+    ensures text { OnOk result (into.new.items
+        ≡ into.old.items ++ (if is_open_to live.now.tables user paper then decision_line_at live.now.tables paper else [])) }
+    ensures accepted { OnOk result (tally.new.accepted ≡ tally.old.accepted + counted live.now.tables user is_accepting paper) }
+    ensures rejected { OnOk result (tally.new.rejected ≡ tally.old.rejected + counted live.now.tables user is_rejecting paper) }
+    ensures undecided { OnOk result (tally.new.undecided ≡ tally.old.undecided + counted live.now.tables user is_undecided paper) }
 {
     if !is_open_to(live, user, paper) {
         return Ok(());

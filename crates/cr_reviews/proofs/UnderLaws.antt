@@ -7,6 +7,7 @@ use Rattle.std.proofs.lemmas.List.{reverse-append}
 use Rattle.std.proofs.lemmas.List.Folds.{find-append}
 use Rattle.std.proofs.lemmas.List.Sums.{length-filter}
 use Rattle.cr_base.specs.Lists.{last, last_from, is_nothing}
+use Rattle.cr_base.proofs.FiledLaws.{filter-filter}
 
 module _ {A B : Type 0} (v : A → B) (q : B → Bool) where
   abbrev test : A → Bool
@@ -21,17 +22,20 @@ module _ {A B : Type 0} (v : A → B) (q : B → Bool) where
       by true h = ap suc h
       by false h = h
 
-  pub counted : (xs : List A) → count_by test xs ≡ length (filter q (map v xs))
-  counted xs = sym (length-filter test xs) ∙ lengths xs
+  pub counted : (xs : List A) (ys : List B) → map v xs ≡ ys → count_by test xs ≡ length (filter q ys)
+  counted xs ys kept = sym (length-filter test xs) ∙ lengths xs ∙ ap (λ (zs : List B). length (filter q zs)) kept
 
-  pub found : (xs : List A) → list_any test xs ≡ not (is_nothing (filter q (map v xs)))
-  found [] = refl
-  found (x ∷ xs) = by (q (v x)) (found xs)
+  any : (xs : List A) → list_any test xs ≡ not (is_nothing (filter q (map v xs)))
+  any [] = refl
+  any (x ∷ xs) = by (q (v x)) (any xs)
     where
       by : (b : Bool) → list_any test xs ≡ not (is_nothing (filter q (map v xs)))
           → (b || list_any test xs) ≡ not (is_nothing (cond b (v x ∷ filter q (map v xs)) (filter q (map v xs))))
       by true h = refl
       by false h = h
+
+  pub found : (xs : List A) (ys : List B) → map v xs ≡ ys → list_any test xs ≡ not (is_nothing (filter q ys))
+  found xs ys kept = any xs ∙ ap (λ (zs : List B). not (is_nothing (filter q zs))) kept
 
   -- a walk back finds the last, or else there is the one from before
   last-or : (xs : List A) (o : Option B) → option_or (option_map v (find test (reverse xs))) o ≡ last_from o (filter q (map v xs))
@@ -48,21 +52,15 @@ module _ {A B : Type 0} (v : A → B) (q : B → Bool) where
       by false None rest = rest o
       by false (Some y) rest = rest o
 
-  pub last-found : (xs : List A) → option_map v (find test (reverse xs)) ≡ last (filter q (map v xs))
-  last-found xs = by (find test (reverse xs)) (last-or xs None)
+  pub last-found : (xs : List A) (ys : List B) → map v xs ≡ ys → option_map v (find test (reverse xs)) ≡ last (filter q ys)
+  last-found xs ys kept = by (find test (reverse xs)) (last-or xs None) ∙ ap (λ (zs : List B). last (filter q zs)) kept
     where
       by : (r : Option A) → option_or (option_map v r) None ≡ last (filter q (map v xs)) → option_map v r ≡ last (filter q (map v xs))
       by None h = h
       by (Some x) h = h
 
--- what passes one test and then another passes both
-pub filter-filter : {A : Type 0} (q r : A → Bool) (xs : List A) → filter (λ x. q x && r x) xs ≡ filter r (filter q xs)
-filter-filter q r [] = refl
-filter-filter {A} q r (x ∷ xs) = by (q x) (filter-filter q r xs)
-  where
-    both : List A
-    both = filter (λ y. q y && r y) xs
-
-    by : (b : Bool) → both ≡ filter r (filter q xs) → cond (b && r x) (x ∷ both) both ≡ filter r (cond b (x ∷ filter q xs) (filter q xs))
-    by true h = ap (λ (ys : List A). cond (r x) (x ∷ ys) ys) h
-    by false h = h
+-- the last of what passes one test and then another
+pub last-both : {A B : Type 0} (v : A → B) (q r : B → Bool) (xs : List A) (ys : List B) → map v xs ≡ ys
+    → option_map v (find (λ x. q (v x) && r (v x)) (reverse xs)) ≡ last (filter r (filter q ys))
+last-both {A} {B} v q r xs ys kept =
+    last-found v (λ (y : B). q y && r y) xs ys kept ∙ ap (λ (zs : List B). last zs) (filter-filter q r ys)

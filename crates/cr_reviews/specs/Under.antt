@@ -1,10 +1,29 @@
 -- The forms of a paper that were written under a label.
-use Rattle.std.specs.Prelude.{ℕ, List, map, Option}
+use Rattle.std.specs.Prelude.{ℕ, Bool, not, ◌&&◌, ◌==◌, List, find, map, reverse, Option}
 use Rattle.std.specs.List.{flat_map}
+use Rattle.std.specs.Option.{option_map}
+use Rattle.cr_base.specs.declared.filed.Filed.{Filed}
+use Rattle.cr_base.specs.declared.review.WrittenForm.{WrittenForm}
+use Rattle.cr_base.specs.declared.words.Phase.{Phase}
 use Rattle.cr_base.specs.History.{FormTold}
 use Rattle.cr_base.specs.Lists.{listed}
+use Rattle.cr_base.specs.Phases.{is_from}
 use Rattle.cr_base.specs.Reviews.{ReviewsState, forms_in, written_told}
 
 -- those under the label of this ordinal, where one is told, as a user is told them
 abbrev pub forms_by : ReviewsState → ℕ → Option ℕ → List FormTold
 forms_by reviews p ordinal = flat_map (λ (o : ℕ). map written_told (forms_in reviews p o)) (listed ordinal)
+
+-- the form was written under that label; and before the phase began, or in the phase or later
+abbrev pub is_under : ℕ → WrittenForm → Bool
+is_under ordinal form = form.ordinal == ordinal
+
+abbrev pub is_before : ℕ → Phase → WrittenForm → Bool
+is_before ordinal phase form = is_under ordinal form && not (is_from phase form.phase)
+
+abbrev pub is_since : ℕ → Phase → WrittenForm → Bool
+is_since ordinal phase form = is_under ordinal form && is_from phase form.phase
+
+-- the last of these forms that passes a test
+abbrev pub last_that : (WrittenForm → Bool) → List (Filed WrittenForm) → Option WrittenForm
+last_that passes forms = option_map (λ (x : Filed WrittenForm). x.value) (find (λ (x : Filed WrittenForm). passes x.value) (reverse forms))

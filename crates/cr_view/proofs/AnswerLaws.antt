@@ -89,11 +89,20 @@ abbrev pub as_reply : {A : Type 0} → (A → Reply) → Result A AnswerError �
 as_reply made (Ok shown) = Ok (made shown)
 as_reply made (Err error) = Err error
 
--- whoever may read may ask
-pub allowed : {A : Type 0} (checks : List Check) (x : A) (r : Result A Rule) → r ≡ judged checks x
-    → ◌≡◌ {A = Result (Unit {0}) Rule} (result_and r (Ok tt)) (judged checks tt)
-allowed checks x (Ok given) h = passed checks (λ y. tt) x given h
-allowed checks x (Err rule) h = refused checks x tt rule h
+-- whoever may read a paper may ask for what is told of it
+pub reader-may : (asked : Option ℕ → Query) (t : Tables) (user paper : Option ℕ) (query : Query) (reader : Result Standing Rule) (r : Result (Unit {0}) Rule)
+    → query ≡ asked paper → reader ≡ reader_at asked t user paper → r ≡ result_and reader (Ok tt)
+    → r ≡ judged (query_checks (facts_of_tables t user) (shown_in_tables t) query) tt
+reader-may asked t user paper query reader r is reads told =
+    told ∙ by reader reads ∙ sym (ap (λ (q : Query). judged (query_checks (facts_of_tables t user) (shown_in_tables t) q) tt) is)
+  where
+    checks : List Check
+    checks = query_checks (facts_of_tables t user) (shown_in_tables t) (asked paper)
+
+    by : (reader : Result Standing Rule) → reader ≡ reader_at asked t user paper
+        → ◌≡◌ {A = Result (Unit {0}) Rule} (result_and reader (Ok tt)) (judged checks tt)
+    by (Ok given) h = passed checks (λ y. tt) (standing_at t user paper) given h
+    by (Err rule) h = refused checks (standing_at t user paper) tt rule h
 
 -- what is told of a paper to one who stands so to it is what is due
 module _ {A : Type 0} (asked : Option ℕ → Query) (told : Facts → Shown → ℕ → A) (t : Tables) (user paper : Option ℕ) where
@@ -146,15 +155,29 @@ module _ {A : Type 0} (checks : List Check) (x : A) (made : A → Reply) (serves
   shown-answered (Err (errors.Rule rule)) h = ap reply_or_rule (sym (refused checks x (made x) rule (sym h)))
   shown-answered (Err errors.OutOfMemory) h = shown-served (judged checks x) refl h
 
--- a page, a content, reviews and comments
+-- so it is with what is told of a paper: a page, reviews and comments
+told-answered : {A : Type 0} (asked : Option ℕ → Query) (told : Facts → Shown → ℕ → A) (made : A → Reply) (serves : (a : A) → IsNoRefusal (made a))
+    (t : Tables) (caller paper : Option ℕ) (r : Result A AnswerError) → ShowsAsDue r (due_at asked told t caller paper)
+    → AnswersAsDue (as_reply made r)
+    (reply_or_rule (judged (query_checks (facts_of_tables t caller) (shown_in_tables t) (asked paper)) (made (told (facts_of_tables t caller) (shown_in_tables t) (unwrap_or paper 0)))))
+told-answered asked told made serves t caller paper r h =
+    let facts : Facts = facts_of_tables t caller in
+    shown-answered (query_checks facts (shown_in_tables t) (asked paper)) (told facts (shown_in_tables t) (unwrap_or paper 0)) made serves r h
+
 pub page-answered : (t : Tables) (caller paper : Option ℕ) (r : Result Page AnswerError) → ShowsAsDue r (page_due t caller paper)
     → AnswersAsDue (as_reply (λ (p : Page). replies.Page p) r) (answer_by_role t caller (queries.Page paper))
 page-answered t caller paper r h =
-    let facts : Facts = facts_of_tables t caller in
-    shown-answered
-    (query_checks facts (shown_in_tables t) (queries.Page paper)) (page_by facts (shown_in_tables t) caller (unwrap_or paper 0))
-    (λ (p : Page). replies.Page p) (λ p rule e. cc) r h
+    told-answered queries.Page (λ (facts : Facts) (shown : Shown). page_by facts shown caller) (λ (p : Page). replies.Page p) (λ p rule e. cc) t caller paper r h
 
+pub reviews-answered : (t : Tables) (caller paper : Option ℕ) (r : Result (List ReviewLine) AnswerError) → ShowsAsDue r (reviews_due t caller paper)
+    → AnswersAsDue (as_reply (λ (l : List ReviewLine). replies.Reviews l) r) (answer_by_role t caller (queries.Reviews paper))
+reviews-answered t caller paper r h = told-answered queries.Reviews reviews_by (λ (l : List ReviewLine). replies.Reviews l) (λ l rule e. cc) t caller paper r h
+
+pub comments-answered : (t : Tables) (caller paper : Option ℕ) (r : Result (List CommentLine) AnswerError) → ShowsAsDue r (comments_due t caller paper)
+    → AnswersAsDue (as_reply (λ (l : List CommentLine). replies.Comments l) r) (answer_by_role t caller (queries.Comments paper))
+comments-answered t caller paper r h = told-answered queries.Comments comments_by (λ (l : List CommentLine). replies.Comments l) (λ l rule e. cc) t caller paper r h
+
+-- and with a content
 pub content-answered : (t : Tables) (caller paper version : Option ℕ) (r : Result (List ℕ) AnswerError) → ShowsAsDue r (content_due t caller paper version)
     → AnswersAsDue (as_reply (λ (c : List ℕ). replies.Content c) r) (content_reply_at t caller paper version)
 content-answered t caller paper version r h =
@@ -162,22 +185,6 @@ content-answered t caller paper version r h =
     shown-answered
     (content_asked facts (shown_in_tables t) paper version) (unwrap_or (content_by facts (shown_in_tables t) paper version) [])
     (λ (c : List ℕ). replies.Content c) (λ c rule e. cc) r h
-
-pub reviews-answered : (t : Tables) (caller paper : Option ℕ) (r : Result (List ReviewLine) AnswerError) → ShowsAsDue r (reviews_due t caller paper)
-    → AnswersAsDue (as_reply (λ (l : List ReviewLine). replies.Reviews l) r) (answer_by_role t caller (queries.Reviews paper))
-reviews-answered t caller paper r h =
-    let facts : Facts = facts_of_tables t caller in
-    shown-answered
-    (query_checks facts (shown_in_tables t) (queries.Reviews paper)) (reviews_by facts (shown_in_tables t) (unwrap_or paper 0))
-    (λ (l : List ReviewLine). replies.Reviews l) (λ l rule e. cc) r h
-
-pub comments-answered : (t : Tables) (caller paper : Option ℕ) (r : Result (List CommentLine) AnswerError) → ShowsAsDue r (comments_due t caller paper)
-    → AnswersAsDue (as_reply (λ (l : List CommentLine). replies.Comments l) r) (answer_by_role t caller (queries.Comments paper))
-comments-answered t caller paper r h =
-    let facts : Facts = facts_of_tables t caller in
-    shown-answered
-    (query_checks facts (shown_in_tables t) (queries.Comments paper)) (comments_by facts (shown_in_tables t) (unwrap_or paper 0))
-    (λ (l : List CommentLine). replies.Comments l) (λ l rule e. cc) r h
 
 pub conference-told : (t : Tables) (caller : Option ℕ) (query : Query) (conference : Conference) → conference ≡ record { mode = t.stage.mode; papers = paper_count t.papers; phase = t.stage.phase } → query ≡ queries.Phase → replies.Conference conference ≡ answer_by_role t caller query
 conference-told t caller query conference is asked =

@@ -1,5 +1,6 @@
 -- What a command draws, by reads of the tables.
 use Rattle.std.proofs.Common.{ℕ, ◌≡◌, List, sym, ap, ◌∙◌, Option, Result, Ok, Err}
+use Rattle.std.specs.Prelude.{IsErrAnd}
 use Rattle.cr_base.specs.declared.command.Command.{Command}
 use Rattle.cr_base.specs.declared.reply.Rule.{Rule}
 use Rattle.cr_base.specs.Checks.{Check, judged}
@@ -7,6 +8,8 @@ use Rattle.cr_base.specs.Drawn.{Drawn}
 use Rattle.cr_base.specs.Judging.{judge_by_role}
 use Rattle.cr_base.specs.Tables.{Tables}
 use Rattle.cr_base.proofs.CheckLaws.{judged-Ok, judged-none, judged-Err}
+use Rattle.cr_view.specs.declared.draw.Draw.{Draw}
+use Rattle.cr_view.specs.Draws.{drawn_or_rule}
 
 -- ---- a list of checks
 
@@ -32,6 +35,12 @@ pub judged-made : {A B : Type 0} (checks : List Check) (make : A → B) (x : A) 
     → r ≡ judged checks x → made_of make r ≡ judged checks (make x)
 judged-made checks make x (Ok given) h = passed checks make x given h
 judged-made checks make x (Err rule) h = refused checks x (make x) rule h
+
+-- a broken rule that is passed up is told
+pub passed-up : (r : Result Draw Rule) (rule : Rule) (due : Result Drawn Rule) → IsErrAnd r (λ (e : Rule). e ≡ rule)
+    → ◌≡◌ {A = Result Drawn Rule} (Err rule) due → drawn_or_rule r ≡ due
+passed-up (Ok draw) rule due is told = absurd is
+passed-up (Err e) rule due is told = ap (λ (x : Rule). Err x) is ∙ told
 
 -- ---- commands
 

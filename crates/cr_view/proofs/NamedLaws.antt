@@ -8,14 +8,12 @@ use Rattle.cr_base.specs.declared.reply.Rule.TheVariants as rules
 use Rattle.cr_base.specs.declared.standing.Standing.{Standing}
 use Rattle.cr_base.specs.Checks.{Check, NamedPaper, ◌breaks◌, judged}
 use Rattle.cr_base.specs.Drawn.{Drawn}
-use Rattle.cr_base.specs.Lists.{at_some}
-use Rattle.cr_base.specs.Papers.{is_withdrawn_at}
 use Rattle.cr_base.specs.Sources.{has_paper, standing_at, facts_of_tables}
 use Rattle.cr_base.specs.Tables.{Tables}
 use Rattle.cr_base.proofs.CheckLaws.{judged-Ok, judged-front}
 use Rattle.cr_view.specs.declared.assigning.Named.{Named}
 use Rattle.cr_view.specs.declared.draw.Draw.{Draw}
-use Rattle.cr_view.specs.ByTables.{named_at, asked_of}
+use Rattle.cr_view.specs.ByTables.{named_of, named_at, asked_of}
 use Rattle.cr_view.specs.Draws.{drawn_by, drawn_or_rule}
 use Rattle.cr_view.proofs.JudgeLaws.{made_of, judged-made}
 use Rattle.cr_view.proofs.TargetLaws.{drawn-and}
@@ -41,7 +39,7 @@ module _ (t : Tables) (maker : ℕ) (paper : Option ℕ) (named : Named) (given 
   pub named-there : not is_there ≡ false
   named-there = (judged-Ok (not is_there breaks rules.NoPaper ∷ []) _ named (sym given)).0.0
 
-  same-named : record { by = here; paper = unwrap_or paper 0; withdrawn = at_some (is_withdrawn_at t.papers) paper } ≡ named
+  pub same-named : named_of t maker paper ≡ named
   same-named = (judged-Ok (not is_there breaks rules.NoPaper ∷ []) _ named (sym given)).1
 
   -- it is the one that was told

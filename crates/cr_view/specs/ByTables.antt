@@ -1,26 +1,22 @@
--- What the rules make of each command, by reads of the tables; the caller is `maker`.
-use Rattle.std.specs.Prelude.{ℕ, Bool, not, ◌+◌, List, [], ◌∷◌, length, Option, Some, None, is_some, is_none, unwrap_or, Result}
+-- What the rules make of some commands, by reads of the tables; the caller is `maker`.
+use Rattle.std.specs.Prelude.{ℕ, not, ◌+◌, List, [], ◌∷◌, length, Option, Some, None, is_some, is_none, unwrap_or, Result}
 use Rattle.std.specs.List.{flat_map, list_any}
 use Rattle.std.specs.Option.{option_map, option_and_then}
 use Rattle.cr_base.specs.declared.reply.Rule.{Rule}
 use Rattle.cr_base.specs.declared.reply.Rule.TheVariants as rules
 use Rattle.cr_base.specs.declared.target.Target.{Target}
-use Rattle.cr_base.specs.declared.words.Kind.{Kind}
 use Rattle.cr_base.specs.declared.words.Role.{Role}
-use Rattle.cr_base.specs.Accounts.{number_at, role_at}
-use Rattle.cr_base.specs.Checks.{NamedPaper, ◌breaks◌, judged, of_role, register_checks}
-use Rattle.cr_base.specs.Checks.{submit_checks, name_checks, conflict_checks, assign_checks, unassign_checks, comment_checks}
-use Rattle.cr_base.specs.Drawn.{Drawn, registration_drawn, submission_drawn, naming_drawn, conflict_drawn, assignment_drawn, unassignment_drawn}
-use Rattle.cr_base.specs.Drawn.{comment_drawn}
-use Rattle.cr_base.specs.Lists.{listed, is_number, at_some}
+use Rattle.cr_base.specs.Accounts.{number_at, role_at, role_in, lines_of}
+use Rattle.cr_base.specs.Checks.{NamedPaper, ◌breaks◌, judged, of_role, register_checks, submit_checks, name_checks, comment_checks}
+use Rattle.cr_base.specs.Drawn.{Drawn, registration_drawn, submission_drawn, naming_drawn, comment_drawn}
+use Rattle.cr_base.specs.Lists.{listed, at_some}
 use Rattle.cr_base.specs.Papers.{paper_count, own_count, is_withdrawn_at}
-use Rattle.cr_base.specs.Reviews.{is_written_in}
-use Rattle.cr_base.specs.Seats.{labels_in, seat_in}
-use Rattle.cr_base.specs.Sources.{standing_at, facts_of_tables, shown_in_tables, has_paper, paper_named}
+use Rattle.cr_base.specs.Seats.{seat_in}
+use Rattle.cr_base.specs.Sources.{standing_at, facts_of_tables, shown_in_tables, has_paper, paper_named, target_named, user_among}
 use Rattle.cr_base.specs.Tables.{Tables}
 use Rattle.cr_base.specs.Talk.{comments_in, own_comments_in}
-use Rattle.cr_base.specs.Ties.{is_author_in, is_conflicted_in}
 use Rattle.cr_view.specs.declared.assigning.Named.{Named}
+use Rattle.cr_view.specs.declared.assigning.NamedPair.{NamedPair}
 use Rattle.cr_view.specs.Targets.{target_at, users_at}
 
 abbrev pub registration_at : Tables → List ℕ → List ℕ → Result Drawn Rule
@@ -48,12 +44,12 @@ naming_of t maker target name role =
 abbrev pub naming_at : Tables → ℕ → Option (List ℕ) → Role → Result Drawn Rule
 naming_at t maker name role = naming_of t maker (target_at t.accounts name) (unwrap_or name []) role
 
--- the paper that is named, with how `maker` stands to it, or that there is none
+-- the paper of this number, with how `maker` stands to it; and the paper that is named, or that there is none
+abbrev pub named_of : Tables → ℕ → Option ℕ → Named
+named_of t maker paper = record { by = standing_at t (Some maker) paper; paper = unwrap_or paper 0; withdrawn = at_some (is_withdrawn_at t.papers) paper }
+
 abbrev pub named_at : Tables → ℕ → Option ℕ → Result Named Rule
-named_at t maker paper =
-    judged
-    (not (has_paper (facts_of_tables t None) paper) breaks rules.NoPaper ∷ [])
-    (record { by = standing_at t (Some maker) paper; paper = unwrap_or paper 0; withdrawn = at_some (is_withdrawn_at t.papers) paper })
+named_at t maker paper = judged (not (has_paper (facts_of_tables t None) paper) breaks rules.NoPaper ∷ []) (named_of t maker paper)
 
 -- what the rules ask of that paper
 abbrev pub asked_of : Tables → Option ℕ → NamedPaper
@@ -61,46 +57,15 @@ asked_of t paper = paper_named (facts_of_tables t None) (shown_in_tables t) pape
 
 -- what the rules ask of this user, if there is one
 abbrev pub asked_at : Tables → ℕ → Option ℕ → Option ℕ → Option Target
-asked_at t maker paper user =
-    let wrote = at_some (is_author_in t.ties user) paper in
-    let conflicted = at_some (is_conflicted_in t.ties user) paper in
-    let reviews = at_some (λ p. is_some (seat_in t.seats user p)) paper in
-    option_map
-    (λ (role : Role). record { role = role; herself = is_number user maker; author = wrote; conflicted = conflicted; reviewer = reviews })
-    (option_and_then (role_at t.accounts) user)
+asked_at t maker paper user = target_named (facts_of_tables t (Some maker)) (shown_in_tables t) (Some maker) paper user
 
--- turning this user's conflict, if there is one, on or off; and that of the user of a name
-abbrev pub conflict_of : Tables → ℕ → Option ℕ → Option ℕ → Bool → Result Drawn Rule
-conflict_of t maker paper target on =
+-- the paper that is named and the user of the name, or that there is no such paper, else no such user
+abbrev pub pair_at : Tables → ℕ → Option ℕ → Option (List ℕ) → Result NamedPair Rule
+pair_at t maker paper name =
+    let user = user_among (lines_of t.accounts) name in
     judged
-    (conflict_checks (standing_at t (Some maker) paper) (asked_of t paper) (asked_at t maker paper target) on)
-    (conflict_drawn maker (unwrap_or paper 0) (unwrap_or target 0) on)
-
-abbrev pub conflict_at : Tables → ℕ → Option ℕ → Option (List ℕ) → Bool → Result Drawn Rule
-conflict_at t maker paper name on = conflict_of t maker paper (target_at t.accounts name) on
-
--- assigning this user, if there is one, to the paper; and the user of a name
-abbrev pub assignment_of : Tables → ℕ → Option ℕ → Option ℕ → Kind → Result Drawn Rule
-assignment_of t maker paper target kind =
-    let labels = labels_in t.seats (unwrap_or paper 0) in
-    judged
-    (assign_checks (standing_at t (Some maker) paper) (asked_of t paper) (asked_at t maker paper target) labels)
-    (assignment_drawn maker (unwrap_or paper 0) (unwrap_or target 0) kind (labels + 1))
-
-abbrev pub assignment_at : Tables → ℕ → Option ℕ → Option (List ℕ) → Kind → Result Drawn Rule
-assignment_at t maker paper name kind = assignment_of t maker paper (target_at t.accounts name) kind
-
--- taking this user, if there is one, off the paper; and the user of a name
-abbrev pub unassignment_of : Tables → ℕ → Option ℕ → Option ℕ → Result Drawn Rule
-unassignment_of t maker paper target =
-    let p = unwrap_or paper 0 in
-    let seat = seat_in t.seats target p in
-    judged
-    (unassign_checks (standing_at t (Some maker) paper) (asked_of t paper) (asked_at t maker paper target) (at_some (is_written_in t.reviews p) seat))
-    (unassignment_drawn maker p (unwrap_or target 0) (unwrap_or seat 0))
-
-abbrev pub unassignment_at : Tables → ℕ → Option ℕ → Option (List ℕ) → Result Drawn Rule
-unassignment_at t maker paper name = unassignment_of t maker paper (target_at t.accounts name)
+    (not (has_paper (facts_of_tables t None) paper) breaks rules.NoPaper ∷ is_none (asked_at t maker paper user) breaks rules.NoUser ∷ [])
+    (record { named = named_of t maker paper; user = unwrap_or user 0; role = role_in t.accounts user })
 
 -- commenting on the paper: its next comment, under the label of the maker, where she has one
 abbrev pub comment_at : Tables → ℕ → Option ℕ → List ℕ → Result Drawn Rule

@@ -1,6 +1,5 @@
 -- What reports read of a paper, by the tables.
 use Rattle.std.specs.Prelude.{ℕ, List, Option, length, map}
-use Rattle.std.specs.Option.{option_map}
 use Rattle.cr_base.specs.History.{FormTold}
 use Rattle.cr_base.specs.Lists.{last, listed, total}
 use Rattle.cr_base.specs.Reviews.{forms_discussed_in}

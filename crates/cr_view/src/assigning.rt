@@ -9,7 +9,7 @@ ghost use Rattle.cr_base.specs.Seats.{seat_in};
 ghost use Rattle.cr_base.specs.Sources.{standing_at};
 ghost use Rattle.cr_base.specs.Tables.{tables_from};
 ghost use Rattle.cr_base.specs.declared.command.Command.TheVariants as commands;
-ghost use Rattle.cr_view.specs.ByTables.{named_at, conflict_at, assignment_at, unassignment_at};
+ghost use Rattle.cr_view.specs.ByTables.{named_at, pair_at};
 ghost use Rattle.cr_view.specs.Draws.{drawn_or_rule, IsOfRow};
 ghost use Rattle.cr_view.specs.Rows.{AreEarlier};
 ghost use Rattle.cr_view.specs.Targets.{target_at};
@@ -27,6 +27,17 @@ pub(crate) struct Named {
     pub(crate) paper: PaperNo,
     /// Whether it was withdrawn.
     pub(crate) withdrawn: bool,
+}
+
+/// The paper and the user that a command names, where both are there.
+#[derive(Clone, Copy, Debug)]
+struct NamedPair {
+    /// The paper.
+    named: Named,
+    /// The user of the name.
+    user: UserNo,
+    /// Her role.
+    role: Role,
 }
 
 /// Whom and what a command names.
@@ -78,15 +89,36 @@ impl Live {
         }
     }
 
+    /// The paper and the user of the name behind earlier entries of the same bulk; else that there is no such
+    /// paper, else that there is no such user.
+    fn named_pair(
+        &self,
+        maker: UserNo,
+        paper: &Option<PaperNo>,
+        name: &Option<Short>,
+        earlier: &[Stamped],
+    ) -> Result<NamedPair, Rule>
+        requires { AreEarlier self.now.tables earlier.now }
+        ensures { result ≡ pair_at (tables_from self.now.tables earlier.now) maker paper.now name.now }
+    {
+        let named = self.named_behind(maker, paper, earlier)?;
+        let target = self.target(name);
+        let Some((user, role)) = &target else {
+            return Err(Rule::NoUser);
+        };
+        Ok(NamedPair {
+            named,
+            user: *user,
+            role: *role,
+        })
+    }
+
     /// The user of a name and her role, if somebody registered it.
     fn target(&self, name: &Option<Short>) -> Option<(UserNo, Role)>
         ensures user { option_map (λ t. t.0) result ≡ target_at self.now.tables.accounts name.now }
         ensures role { option_map (λ t. t.1) result ≡ option_and_then (role_at self.now.tables.accounts) (target_at self.now.tables.accounts name.now) }
     {
-        let Some(name) = name else {
-            return None;
-        };
-        let user = self.number_of(name)?;
+        let user = self.user_of(name)?;
         let role = self.accounts.role_given(user)?;
         Some((user, role))
     }
@@ -138,27 +170,24 @@ impl Live {
         earlier: &[Stamped],
     ) -> Result<Draw, Rule>
         requires { AreEarlier self.now.tables earlier.now }
-        ensures drawn { drawn_or_rule result ≡ conflict_at (tables_from self.now.tables earlier.now) maker paper.now name.now on }
+        ensures drawn { drawn_or_rule result
+            ≡ judge_by_role (tables_from self.now.tables earlier.now) (Some maker) (commands.SetConflict paper.now name.now on) }
         ensures row { IfOk result IsOfRow }
     {
-        let named = self.named_behind(maker, paper, earlier)?;
-        let target = self.target(name);
-        let Some((user, _)) = &target else {
-            return Err(Rule::NoUser);
-        };
+        let pair = self.named_pair(maker, paper, name, earlier)?;
         let kept = self.ties.judge_conflict(
-            &named.by,
+            &pair.named.by,
             maker,
-            &Some(named.paper),
-            &target,
+            &Some(pair.named.paper),
+            &Some((pair.user, pair.role)),
             on,
-            named.withdrawn,
+            pair.named.withdrawn,
             earlier,
         );
         kept.and(Ok(Draw::Conflict {
             maker,
-            paper: named.paper,
-            user: *user,
+            paper: pair.named.paper,
+            user: pair.user,
             on,
         }))
     }
@@ -172,32 +201,27 @@ impl Live {
         earlier: &[Stamped],
     ) -> Result<Draw, Rule>
         requires { AreEarlier self.now.tables earlier.now }
-        ensures drawn { drawn_or_rule result ≡ assignment_at (tables_from self.now.tables earlier.now) maker paper.now name.now kind }
+        ensures drawn { drawn_or_rule result
+            ≡ judge_by_role (tables_from self.now.tables earlier.now) (Some maker) (commands.Assign paper.now name.now kind) }
         ensures row { IfOk result IsOfRow }
     {
-        let named = self.named_behind(maker, paper, earlier)?;
-        let target = self.target(name);
-        let Some((user, _)) = &target else {
-            return Err(Rule::NoUser);
-        };
-        let conflicted = self.ties.is_conflicted(*user, named.paper, earlier);
-        match self.seats.judge_assign(
-            &named.by,
-            &Some(named.paper),
-            &target,
-            named.withdrawn,
-            conflicted,
+        let pair = self.named_pair(maker, paper, name, earlier)?;
+        let ordinal = self.seats.judge_assign(
+            &pair.named.by,
+            &Some(pair.named.paper),
+            &Some((pair.user, pair.role)),
+            pair.named.withdrawn,
+            self.ties
+                .is_conflicted(pair.user, pair.named.paper, earlier),
             earlier,
-        ) {
-            Ok(ordinal) => Ok(Draw::Assignment {
-                maker,
-                paper: named.paper,
-                user: *user,
-                kind,
-                ordinal,
-            }),
-            Err(rule) => Err(rule),
-        }
+        )?;
+        Ok(Draw::Assignment {
+            maker,
+            paper: pair.named.paper,
+            user: pair.user,
+            kind,
+            ordinal,
+        })
     }
 
     pub(crate) fn judge_unassignment(
@@ -208,29 +232,24 @@ impl Live {
         earlier: &[Stamped],
     ) -> Result<Draw, Rule>
         requires { AreEarlier self.now.tables earlier.now }
-        ensures drawn { drawn_or_rule result ≡ unassignment_at (tables_from self.now.tables earlier.now) maker paper.now name.now }
+        ensures drawn { drawn_or_rule result
+            ≡ judge_by_role (tables_from self.now.tables earlier.now) (Some maker) (commands.Unassign paper.now name.now) }
         ensures row { IfOk result IsOfRow }
     {
-        let named = self.named_behind(maker, paper, earlier)?;
-        let target = self.target(name);
-        let Some((user, _)) = &target else {
-            return Err(Rule::NoUser);
-        };
-        match self.seats.judge_unassign(
-            &named.by,
-            &Some(named.paper),
-            &target,
-            named.withdrawn,
-            self.has_written(*user, named.paper, earlier),
+        let pair = self.named_pair(maker, paper, name, earlier)?;
+        let ordinal = self.seats.judge_unassign(
+            &pair.named.by,
+            &Some(pair.named.paper),
+            &Some((pair.user, pair.role)),
+            pair.named.withdrawn,
+            self.has_written(pair.user, pair.named.paper, earlier),
             earlier,
-        ) {
-            Ok(ordinal) => Ok(Draw::Unassignment {
-                maker,
-                paper: named.paper,
-                user: *user,
-                ordinal,
-            }),
-            Err(rule) => Err(rule),
-        }
+        )?;
+        Ok(Draw::Unassignment {
+            maker,
+            paper: pair.named.paper,
+            user: pair.user,
+            ordinal,
+        })
     }
 }

@@ -1,5 +1,5 @@
 //! The co-authors that a submission tells.
-ghost use Rattle.std.specs.Prelude.{◌≡◌, ◌≤◌, ◌<◌, ◌∷◌, ◌++◌, ◌==◌, [], length, not};
+ghost use Rattle.std.specs.Prelude.{◌≡◌, ◌≤◌, ◌<◌, ◌∷◌, ◌++◌, ◌==◌, length, not};
 ghost use Rattle.std.specs.List.{list_any};
 ghost use Rattle.cr_base.specs.Lists.{given};
 ghost use Rattle.cr_view.specs.Targets.{coauthors_of, target_at, users_at};
@@ -25,7 +25,7 @@ impl Live {
     }
 
     /// The user of a name that may be none, if somebody registered it. One look-up by name.
-    fn user_of(&self, name: &Option<Short>) -> Option<UserNo>
+    pub(crate) fn user_of(&self, name: &Option<Short>) -> Option<UserNo>
         ensures { result ≡ target_at self.now.tables.accounts name.now }
     {
         match name {

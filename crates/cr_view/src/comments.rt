@@ -6,7 +6,7 @@ ghost use Rattle.cr_base.specs.Answering.{answer_by_role, comment_line};
 ghost use Rattle.cr_base.specs.Checks.{judged, of_there, comments_checks};
 ghost use Rattle.cr_base.specs.Talk.{comment_as_told};
 ghost use Rattle.cr_view.specs.Replies.{AnswersAsDue, ShowsAsDue, reader_at};
-ghost use Rattle.cr_view.specs.Comments.{comments_at, comments_due, lines_told, writer_label, writer_name};
+ghost use Rattle.cr_view.specs.Comments.{comments_due, lines_told, writer_label, writer_name};
 
 use crate::live::Live;
 use crate::queries::AnswerError;

@@ -1,5 +1,5 @@
 //! What is answered of a paper's content: the last version to members, any to authors.
-ghost use Rattle.std.specs.Prelude.{◌≡◌, IfOk, IfErr, Ok, Err, Some, true};
+ghost use Rattle.std.specs.Prelude.{◌≡◌, IfOk, IfErr, Ok, Err, Some};
 ghost use Rattle.std.specs.Option.{option_copied};
 ghost use Rattle.cr_base.specs.Answering.{content_asked};
 ghost use Rattle.cr_base.specs.Checks.{judged};

@@ -78,10 +78,7 @@ impl Live {
     fn is_name_of(&self, name: &Option<Short>, user: UserNo) -> bool
         ensures { result ≡ is_number (target_at self.now.tables.accounts name.now) user }
     {
-        let Some(name) = name else {
-            return false;
-        };
-        match self.number_of(name) {
+        match self.user_of(name) {
             Some(found) => found.number() == user.number(),
             None => false,
         }

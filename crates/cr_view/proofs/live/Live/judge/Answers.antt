@@ -3,7 +3,6 @@ use Rattle.cr_base.specs.declared.command.Command.TheVariants as commands
 use Rattle.cr_base.specs.Judging.{judge_by_role}
 use Rattle.cr_base.proofs.AccountLaws.{judge_by_role-register}
 use Rattle.cr_view.specs.Callers.{HasFewAuthors}
-use Rattle.cr_view.proofs.AssigningLaws.{judge-conflict, judge-assign, judge-unassign}
 use Rattle.cr_view.proofs.FitLaws.{draw-fits}
 use Rattle.cr_view.proofs.JudgeLaws.{along}
 use Rattle.cr_view.proofs.TargetLaws.{judge-submit, judge-name}
@@ -75,10 +74,10 @@ pub returns-in-SetMode-clause-fits : goal.returns-in-SetMode-clause-fits
 returns-in-SetMode-clause-fits c = draw-fits c.args.self.now.tables c.law_within.ensures.ties c.maker-in-SetMode.result (commands.SetMode c.in-SetMode.mode) c.judge_mode.result c.judge_mode.ensures
 
 pub returns-in-SetConflict-clause-drawn : goal.returns-in-SetConflict-clause-drawn
-returns-in-SetConflict-clause-drawn c = along c.args.self.now.tables c.args.caller.now (Some c.maker-in-SetConflict.result) c.args.command (commands.SetConflict c.in-SetConflict.paper c.in-SetConflict.user c.in-SetConflict.on) _ c.maker-in-SetConflict.ensures c.in-SetConflict.is (c.judge_conflict.ensures.drawn ∙ sym (judge-conflict c.args.self.now.tables c.maker-in-SetConflict.result c.in-SetConflict.paper c.in-SetConflict.user c.in-SetConflict.on))
+returns-in-SetConflict-clause-drawn c = along c.args.self.now.tables c.args.caller.now (Some c.maker-in-SetConflict.result) c.args.command (commands.SetConflict c.in-SetConflict.paper c.in-SetConflict.user c.in-SetConflict.on) _ c.maker-in-SetConflict.ensures c.in-SetConflict.is c.judge_conflict.ensures.drawn
 
 pub returns-in-SetConflict-clause-fits : goal.returns-in-SetConflict-clause-fits
-returns-in-SetConflict-clause-fits c = draw-fits c.args.self.now.tables c.law_within.ensures.ties c.maker-in-SetConflict.result (commands.SetConflict c.in-SetConflict.paper c.in-SetConflict.user c.in-SetConflict.on) c.judge_conflict.result (c.judge_conflict.ensures.drawn ∙ sym (judge-conflict c.args.self.now.tables c.maker-in-SetConflict.result c.in-SetConflict.paper c.in-SetConflict.user c.in-SetConflict.on))
+returns-in-SetConflict-clause-fits c = draw-fits c.args.self.now.tables c.law_within.ensures.ties c.maker-in-SetConflict.result (commands.SetConflict c.in-SetConflict.paper c.in-SetConflict.user c.in-SetConflict.on) c.judge_conflict.result c.judge_conflict.ensures.drawn
 
 pub returns-in-Bid-clause-drawn : goal.returns-in-Bid-clause-drawn
 returns-in-Bid-clause-drawn c = along c.args.self.now.tables c.args.caller.now (Some c.maker-in-Bid.result) c.args.command (commands.Bid c.in-Bid.paper c.in-Bid.value) _ c.maker-in-Bid.ensures c.in-Bid.is c.judge_bid.ensures
@@ -87,16 +86,16 @@ pub returns-in-Bid-clause-fits : goal.returns-in-Bid-clause-fits
 returns-in-Bid-clause-fits c = draw-fits c.args.self.now.tables c.law_within.ensures.ties c.maker-in-Bid.result (commands.Bid c.in-Bid.paper c.in-Bid.value) c.judge_bid.result c.judge_bid.ensures
 
 pub returns-in-Assign-clause-drawn : goal.returns-in-Assign-clause-drawn
-returns-in-Assign-clause-drawn c = along c.args.self.now.tables c.args.caller.now (Some c.maker-in-Assign.result) c.args.command (commands.Assign c.in-Assign.paper c.in-Assign.user c.in-Assign.kind) _ c.maker-in-Assign.ensures c.in-Assign.is (c.judge_assignment.ensures.drawn ∙ sym (judge-assign c.args.self.now.tables c.maker-in-Assign.result c.in-Assign.paper c.in-Assign.user c.in-Assign.kind))
+returns-in-Assign-clause-drawn c = along c.args.self.now.tables c.args.caller.now (Some c.maker-in-Assign.result) c.args.command (commands.Assign c.in-Assign.paper c.in-Assign.user c.in-Assign.kind) _ c.maker-in-Assign.ensures c.in-Assign.is c.judge_assignment.ensures.drawn
 
 pub returns-in-Assign-clause-fits : goal.returns-in-Assign-clause-fits
-returns-in-Assign-clause-fits c = draw-fits c.args.self.now.tables c.law_within.ensures.ties c.maker-in-Assign.result (commands.Assign c.in-Assign.paper c.in-Assign.user c.in-Assign.kind) c.judge_assignment.result (c.judge_assignment.ensures.drawn ∙ sym (judge-assign c.args.self.now.tables c.maker-in-Assign.result c.in-Assign.paper c.in-Assign.user c.in-Assign.kind))
+returns-in-Assign-clause-fits c = draw-fits c.args.self.now.tables c.law_within.ensures.ties c.maker-in-Assign.result (commands.Assign c.in-Assign.paper c.in-Assign.user c.in-Assign.kind) c.judge_assignment.result c.judge_assignment.ensures.drawn
 
 pub returns-in-Unassign-clause-drawn : goal.returns-in-Unassign-clause-drawn
-returns-in-Unassign-clause-drawn c = along c.args.self.now.tables c.args.caller.now (Some c.maker-in-Unassign.result) c.args.command (commands.Unassign c.in-Unassign.paper c.in-Unassign.user) _ c.maker-in-Unassign.ensures c.in-Unassign.is (c.judge_unassignment.ensures.drawn ∙ sym (judge-unassign c.args.self.now.tables c.maker-in-Unassign.result c.in-Unassign.paper c.in-Unassign.user))
+returns-in-Unassign-clause-drawn c = along c.args.self.now.tables c.args.caller.now (Some c.maker-in-Unassign.result) c.args.command (commands.Unassign c.in-Unassign.paper c.in-Unassign.user) _ c.maker-in-Unassign.ensures c.in-Unassign.is c.judge_unassignment.ensures.drawn
 
 pub returns-in-Unassign-clause-fits : goal.returns-in-Unassign-clause-fits
-returns-in-Unassign-clause-fits c = draw-fits c.args.self.now.tables c.law_within.ensures.ties c.maker-in-Unassign.result (commands.Unassign c.in-Unassign.paper c.in-Unassign.user) c.judge_unassignment.result (c.judge_unassignment.ensures.drawn ∙ sym (judge-unassign c.args.self.now.tables c.maker-in-Unassign.result c.in-Unassign.paper c.in-Unassign.user))
+returns-in-Unassign-clause-fits c = draw-fits c.args.self.now.tables c.law_within.ensures.ties c.maker-in-Unassign.result (commands.Unassign c.in-Unassign.paper c.in-Unassign.user) c.judge_unassignment.result c.judge_unassignment.ensures.drawn
 
 pub returns-in-Review-clause-drawn : goal.returns-in-Review-clause-drawn
 returns-in-Review-clause-drawn c =

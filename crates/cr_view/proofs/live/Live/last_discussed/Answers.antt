@@ -1,4 +1,4 @@
-use Rattle.std.proofs.Common.{◌∙◌, Option, List, ap}
+use Rattle.std.proofs.Common.{◌∙◌, ap}
 use Rattle.cr_base.specs.declared.words.Phase.TheVariants.{Discussion}
 use Rattle.cr_base.specs.Lists.{last}
 use Rattle.cr_base.specs.Reviews.{forms_from, last_form_before}
