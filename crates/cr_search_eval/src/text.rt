@@ -1,7 +1,8 @@
 //! Texts that have a value, letters of ASCII without regard to case.
 ghost use Rattle.std.specs.Prelude.{◌≡◌, ◌<◌, length, drop, slice_index};
-ghost use Rattle.std.specs.Char.{to_ascii_lowercase};
 ghost use Rattle.cr_base.specs.Searching.{begins_alike, contains};
+
+use memchr::memchr2_iter;
 
 /// Whether the text begins with the value. A look at each byte of the value, up to the first that isn't like the text's.
 fn begins_alike(value: &[u8], text: &[u8]) -> bool
@@ -18,28 +19,17 @@ fn begins_alike(value: &[u8], text: &[u8]) -> bool
     true
 }
 
-/// Whether the value, whose first byte is this one in lower case, stands at this place of the text. A look at one byte, where
-/// that isn't like the value's first.
-fn stands_at(value: &[u8], first: u8, text: &[u8], at: usize) -> bool
-    requires some { 0 < length value.now }
-    requires first { first ≡ to_ascii_lowercase (slice_index value.now 0) }
-    requires within { at < length text.now }
-    ensures { result ≡ begins_alike value.now (drop at text.now) }
-{
-    first == text[at].to_ascii_lowercase() && begins_alike(value, &text[at..])
-}
-
-/// Whether the value stands somewhere in the text. A look at each byte of the text, and at more where one is like the value's
-/// first.
+/// Whether the value stands somewhere in the text. Leaps from one byte that is like the value's first to the next, and looks at more behind
+/// each.
 pub(crate) fn contains(value: &[u8], text: &[u8]) -> bool
     ensures { result ≡ contains value.now text.now }
 {
     if value.is_empty() {
         return true;
     }
-    let first = value[0].to_ascii_lowercase();
-    for at in 0..text.len() {
-        if stands_at(value, first, text, at) {
+    let (lower, upper) = (value[0].to_ascii_lowercase(), value[0].to_ascii_uppercase());
+    for at in memchr2_iter(lower, upper, text) {
+        if begins_alike(value, &text[at..]) {
             return true;
         }
     }
