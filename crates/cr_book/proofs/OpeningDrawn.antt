@@ -20,7 +20,7 @@ use Rattle.cr_base.specs.Tables.{Tables, tables_after, tables_from}
 use Rattle.cr_base.proofs.RowLaws.{same_entry}
 use Rattle.cr_base.specs.Bulk.{IsRowCommand, IsRowEntry}
 use Rattle.cr_view.specs.Rows.{AreEarlier, AreRowEntries, group_or_rule, row_group, row_judged_at}
-use Rattle.cr_book.specs.BulkRebuilding.{row_command_told, IsDrawn}
+use Rattle.cr_book.specs.BulkRebuilding.{row_command_told, IsDrawn, IsTried}
 use Rattle.cr_book.proofs.JudgingLaws.{drawn-group, drawn-rule}
 use Rattle.cr_book.proofs.OpeningBulks.{none_some, some_is, one_is, err_ok, ok_is, drawn-of_row}
 
@@ -66,18 +66,18 @@ bounded-same s s' same bounded =
 
 -- ---- what is drawn
 
-module _ (t : Tables) (begun : History) (next : Stamped) (row : Row) (earlier : AreEarlier t begun) (bounded : IsBoundedEntry next) (is : row_of next ≡ row) where
+module _ (t : Tables) (begun : History) (next : Stamped) (row : Row) (tried : IsTried t begun next row) where
   abbrev Draws : Type 0
   Draws = IsDrawn (tables_from t begun) next.maker next.entry
 
   -- where no command is told, none draws the entry
   pub none-drawn : None ≡ row_command_told t next.entry → Draws → ⊥
-  none-drawn none d = none_some d.command (none ∙ sym (told-behind t begun next.entry earlier) ∙ d.told)
+  none-drawn none d = none_some d.command (none ∙ sym (told-behind t begun next.entry tried.earlier) ∙ d.told)
 
   module _ (command : Command) (told : Some command ≡ row_command_told t next.entry) where
     -- the command is the one that is told
     command-is : (d : Draws) → d.command ≡ command
-    command-is d = some_is d.command command (sym d.told ∙ told-behind t begun next.entry earlier ∙ sym told)
+    command-is d = some_is d.command command (sym d.told ∙ told-behind t begun next.entry tried.earlier ∙ sym told)
 
     accepted : (d : Draws) → row_judged_at (tables_from t begun) next.maker command ≡ Ok d.drawn
     accepted d = ap (λ (c : Command). row_judged_at (tables_from t begun) next.maker c) (sym (command-is d)) ∙ d.accepted
@@ -93,15 +93,15 @@ module _ (t : Tables) (begun : History) (next : Stamped) (row : Row) (earlier : 
       same-is : spelled ≡ row → drawn ≡ next.entry
       same-is same =
           let s : Stamped = record { maker = next.maker; more = next.more; entry = drawn } in
-          let rows = same ∙ sym is in
-          ap (λ (x : Stamped). x.entry) (same_entry s next (bounded-same s next rows bounded) bounded rows)
+          let rows = same ∙ sym tried.spells in
+          ap (λ (x : Stamped). x.entry) (same_entry s next (bounded-same s next rows tried.bounded) tried.bounded rows)
 
       pub row-drawn : spelled ≡ row → Draws
       row-drawn same =
           let d = drawn-group next.maker drawn (row_judged_at (tables_from t begun) next.maker command) judged in
           record {
             command = command;
-            told = told-behind t begun next.entry earlier ∙ sym told;
+            told = told-behind t begun next.entry tried.earlier ∙ sym told;
             drawn = d.0;
             accepted = d.1;
             adds = ap entries_of d.2 ∙ ap (λ (e : Entry). e ∷ []) (same-is same);
@@ -112,7 +112,7 @@ module _ (t : Tables) (begun : History) (next : Stamped) (row : Row) (earlier : 
           let g = drawn-group next.maker drawn (row_judged_at (tables_from t begun) next.maker command) judged in
           let same : g.0 ≡ d.drawn = ok_is g.0 d.drawn (sym g.1 ∙ accepted d) in
           let entry : drawn ≡ next.entry = one_is drawn next.entry (ap entries_of (sym g.2) ∙ ap (λ (x : Drawn). entries_of x.group) same ∙ d.adds) in
-          ap (λ (e : Entry). row_of (record { maker = next.maker; more = next.more; entry = e })) entry ∙ is
+          ap (λ (e : Entry). row_of (record { maker = next.maker; more = next.more; entry = e })) entry ∙ tried.spells
 
       -- so those that are begun and it may stand before another
       pub row-earlier : ((more : Bool) → AreEarlier t (begun ++ record { maker = next.maker; more = more; entry = drawn } ∷ [])) → spelled ≡ row → AreEarlier t (begun ++ next ∷ [])

@@ -91,6 +91,12 @@ is_makers (s ∷ begun) user = s.maker == user
 abbrev pub may_go_on : Tables → History → Stamped → Bool
 may_go_on t begun next = has_room begun next.more && is_makers begun next.maker && may_bulk t next.maker
 
+-- what is tried as the next of a bulk: an entry within its bounds and its row, behind entries that may stand before a row
+pub record IsTried (t : Tables) (begun : History) (next : Stamped) (row : Row) : Type 0 where
+  pub earlier : AreEarlier t begun
+  pub bounded : IsBoundedEntry next
+  pub spells : row_of next ≡ row
+
 -- the entry comes next in a bulk, behind those that are begun: its row adds it
 pub record GoesOn (t : Tables) (begun : History) (next : Stamped) : Type 0 where
   pub may : may_go_on t begun next ≡ true

@@ -5,8 +5,6 @@ use Rattle.cr_base.specs.declared.row.Row.{Row}
 use Rattle.cr_base.specs.History.{History}
 use Rattle.cr_base.specs.Rows.{rows_of}
 use Rattle.cr_policy.specs.Legal.{Legal}
-use Rattle.cr_ports.specs.declared.keeper.KeeperError.{KeeperError}
-use Rattle.cr_ports.specs.declared.keeper.KeeperError.TheVariants as refusals
 use Rattle.cr_book.specs.declared.opening.OpenError.{OpenError}
 use Rattle.cr_book.specs.declared.opening.OpenError.TheVariants as errors
 use Rattle.cr_book.specs.Seen.{SeenBook}
@@ -44,11 +42,6 @@ Opens rows (Ok book) = Legal book.log × (rows_of book.log ≡ rows) × ((H : Hi
 Opens rows (Err (errors.BadStore at found, keeper)) = IsBadAt rows at found × ((H : History) → Legal H → rows_of H ≢ rows)
 Opens rows (Err (errors.KeeperFault, keeper)) = Unit {0}
 Opens rows (Err (errors.OutOfMemory, keeper)) = Unit {0}
-
--- what a keeper's error comes to
-abbrev pub untold : KeeperError → OpenError
-untold refusals.Failed = errors.KeeperFault
-untold refusals.OutOfMemory = errors.OutOfMemory
 
 -- the keeper's count of faults rose where it is told that it failed, and nowhere else
 pub record IsCounted {T : Type 0} (before now : ℕ) (result : Result T OpenError) : Type 0 where

@@ -2,7 +2,6 @@
 ghost use Rattle.std.specs.Prelude.{◌≡◌, ◌≢◌, ◌≤◌, ◌++◌, ℕ, length};
 ghost use Rattle.std.specs.Prelude.{IfOk, IfErr, IsOk, OnOk, OnErr, IfSome, Ok, Err, None, Some};
 ghost use Rattle.cr_base.specs.declared.bulk.Broken.{Broken};
-ghost use Rattle.cr_base.specs.declared.reply.Receipt.TheVariants as receipts;
 ghost use Rattle.cr_base.specs.declared.reply.Rule.{Rule};
 ghost use Rattle.cr_base.specs.HistoryFacts.{number_of, caller_of};
 ghost use Rattle.cr_base.specs.Tables.{tables_of, FitInTurn};
@@ -14,7 +13,6 @@ ghost use Rattle.cr_ports.specs.Count.{Rises};
 ghost use Rattle.cr_ports.specs.Writing.{outlet_of};
 ghost use Rattle.cr_sights.specs.Lines.{lines_text};
 ghost use Rattle.cr_sights.specs.Walks.{WritesView};
-ghost use Rattle.cr_view.specs.Draws.{drawn_by};
 ghost use Rattle.cr_view.specs.Replies.{AnswersAsDue};
 ghost use Rattle.cr_book.specs.Kinds.{count_of_kind};
 ghost use Rattle.cr_book.specs.Opening.{Opens, IsCounted};
@@ -31,7 +29,7 @@ use cr_base::{
 use cr_lock::Stands;
 use cr_ports::{Keeper, KeeperError, Sink};
 use cr_sights::{ViewError, view_len, write_view};
-use cr_view::{AnswerError, Draw, Live};
+use cr_view::{AnswerError, Live};
 use std::alloc::{AllocError, Global};
 use std::marker::Model;
 
@@ -69,6 +67,22 @@ pub enum BookError {
     OutOfMemory,
 }
 
+/// What a keeper's error comes to, of a command.
+impl From<KeeperError> for BookError {
+    ghost use Rattle.std.specs.Prelude.{◌≡◌};
+    ghost use Rattle.cr_book.specs.Sound.{of_keeper};
+    ghost use Rattle.cr_book.specs.declared.book.BookError.TheVariants.{KeeperFault, OutOfMemory};
+
+    ghost from_gives = { λ error gives. gives ≡ of_keeper KeeperFault OutOfMemory error };
+
+    fn from(error: KeeperError) -> BookError {
+        match error {
+            KeeperError::Failed => BookError::KeeperFault,
+            KeeperError::OutOfMemory => BookError::OutOfMemory,
+        }
+    }
+}
+
 /// Why a bulk was not taken.
 #[derive(Clone, Copy, Debug, PartialEq, Eq)]
 pub enum BulkError {
@@ -78,6 +92,22 @@ pub enum BulkError {
     KeeperFault,
     /// Out of memory.
     OutOfMemory,
+}
+
+/// What a keeper's error comes to, of a bulk.
+impl From<KeeperError> for BulkError {
+    ghost use Rattle.std.specs.Prelude.{◌≡◌};
+    ghost use Rattle.cr_book.specs.Sound.{of_keeper};
+    ghost use Rattle.cr_book.specs.declared.book.BulkError.TheVariants.{KeeperFault, OutOfMemory};
+
+    ghost from_gives = { λ error gives. gives ≡ of_keeper KeeperFault OutOfMemory error };
+
+    fn from(error: KeeperError) -> BulkError {
+        match error {
+            KeeperError::Failed => BulkError::KeeperFault,
+            KeeperError::OutOfMemory => BulkError::OutOfMemory,
+        }
+    }
 }
 
 impl<K: Keeper> Book<K> {
@@ -160,34 +190,16 @@ impl<K: Keeper> Book<K> {
         ensures count { K.faults self.old.keeper ≤ K.faults self.new.keeper }
         ensures legal { Legal self.new.log }
     {
-        match self.live.judge(caller, command) {
-            Ok(draw) => self.keep_drawn(draw),
-            Err(rule) => Err(BookError::Rule(rule)),
-        }
-    }
-
-    /// Keeps what was drawn and applies it.
-    fn keep_drawn(&mut self, draw: Draw) -> Result<Receipt, BookError>
-        requires legal { Legal (self.old.log ++ (drawn_by draw).group) }
-        requires fits { FitInTurn (tables_of self.old.log) (drawn_by draw).group }
-        ensures kept { IfOk result (λ receipt. (receipt ≡ (drawn_by draw).receipt) × (self.new.log ≡ self.old.log ++ (drawn_by draw).group)) }
-        ensures no_rule { (rule : Rule) → result ≢ Err (BookError.Rule rule) }
-        ensures log_stays { OnErr result (self.new.log ≡ self.old.log) }
-        ensures rows_stay { OnErr result (K.rows self.new.keeper ≡ K.rows self.old.keeper) }
-        ensures fault { result ≡ Err BookError.KeeperFault → Rises (K.faults self.old.keeper) (K.faults self.new.keeper) }
-        ensures steady { result ≢ Err BookError.KeeperFault → K.faults self.new.keeper ≡ K.faults self.old.keeper }
-        ensures count { K.faults self.old.keeper ≤ K.faults self.new.keeper }
-        ensures legal { Legal self.new.log }
-    {
+        let draw = match self.live.judge(caller, command) {
+            Ok(draw) => draw,
+            Err(rule) => return Err(BookError::Rule(rule)),
+        };
         let receipt = draw.receipt();
         let Ok(group) = draw.group(self.alloc) else {
             return Err(BookError::OutOfMemory);
         };
-        match self.keep(group) {
-            Ok(()) => Ok(receipt),
-            Err(KeeperError::Failed) => Err(BookError::KeeperFault),
-            Err(KeeperError::OutOfMemory) => Err(BookError::OutOfMemory),
-        }
+        self.keep(group)?;
+        Ok(receipt)
     }
 
     /// Judges a bulk of this caller, each row behind those before it, and where no rule is broken, keeps the entries of all
@@ -223,31 +235,13 @@ impl<K: Keeper> Book<K> {
         ensures count { K.faults self.old.keeper ≤ K.faults self.new.keeper }
         ensures legal { Legal self.new.log }
     {
-        match judge_bulk(&self.live, caller, rows) {
-            Ok(group) => self.keep_rows(group),
-            Err(broken) => Err(BulkError::Broken(broken)),
-        }
-    }
-
-    /// Keeps the entries of a bulk and applies them.
-    fn keep_rows(&mut self, group: Vec<Stamped>) -> Result<Receipt, BulkError>
-        requires legal { Legal (self.old.log ++ group.items) }
-        requires fits { FitInTurn (tables_of self.old.log) group.items }
-        ensures kept { IfOk result (λ receipt. (receipt ≡ receipts.Rows (length group.items)) × (self.new.log ≡ self.old.log ++ group.items)) }
-        ensures none_broken { (broken : Broken) → result ≢ Err (BulkError.Broken broken) }
-        ensures log_stays { OnErr result (self.new.log ≡ self.old.log) }
-        ensures rows_stay { OnErr result (K.rows self.new.keeper ≡ K.rows self.old.keeper) }
-        ensures fault { result ≡ Err BulkError.KeeperFault → Rises (K.faults self.old.keeper) (K.faults self.new.keeper) }
-        ensures steady { result ≢ Err BulkError.KeeperFault → K.faults self.new.keeper ≡ K.faults self.old.keeper }
-        ensures count { K.faults self.old.keeper ≤ K.faults self.new.keeper }
-        ensures legal { Legal self.new.log }
-    {
+        let group = match judge_bulk(&self.live, caller, rows) {
+            Ok(group) => group,
+            Err(broken) => return Err(BulkError::Broken(broken)),
+        };
         let rows = group.len() as u64;
-        match self.keep(group) {
-            Ok(()) => Ok(Receipt::Rows { rows }),
-            Err(KeeperError::Failed) => Err(BulkError::KeeperFault),
-            Err(KeeperError::OutOfMemory) => Err(BulkError::OutOfMemory),
-        }
+        self.keep(group)?;
+        Ok(Receipt::Rows { rows })
     }
 
     /// Takes the room for a group, keeps it and applies it: after the keeper has kept it nothing can fail. The texts are in the

@@ -1,11 +1,11 @@
 //! The rows of a bulk that the entries of its group come of.
 ghost use Rattle.std.specs.Prelude.{◌≡◌, ◌↔◌, ◌++◌, ◌∷◌, [], IfOk, IfSome, IsTrue, length};
-ghost use Rattle.cr_base.specs.Rows.{row_of, IsBoundedEntry};
+ghost use Rattle.cr_base.specs.Rows.{row_of};
 ghost use Rattle.cr_base.specs.Tables.{tables_from};
 ghost use Rattle.cr_base.specs.Bulk.{IsRowCommand};
 ghost use Rattle.cr_view.specs.Rows.{AreEarlier};
 ghost use Rattle.cr_book.specs.BulkRebuilding.{begins_bulk, has_room, is_makers, is_of_bulk, is_of_row, may_bulk, may_go_on};
-ghost use Rattle.cr_book.specs.BulkRebuilding.{row_command_told, GoesOn, IsDrawn};
+ghost use Rattle.cr_book.specs.BulkRebuilding.{row_command_told, GoesOn, IsDrawn, IsTried};
 
 use crate::rebuilding::{is_known, paper_command_of};
 use cr_base::{Command, Entry, MOST_ROWS, Row, Stamped, UserNo};
@@ -104,9 +104,7 @@ fn is_drawn(
     next: &Stamped,
     row: &Row,
 ) -> Result<bool, AllocError>
-    requires earlier { AreEarlier live.now.tables begun.now }
-    requires bounded { IsBoundedEntry next.now }
-    requires row { row_of next.now ≡ row.now }
+    requires { IsTried live.now.tables begun.now next.now row.now }
     ensures drawn { IfOk result (λ drawn. IsTrue drawn ↔ IsDrawn (tables_from live.now.tables begun.now) next.now.maker next.now.entry) }
     ensures earlier { IfOk result (λ drawn. IsTrue drawn → AreEarlier live.now.tables (begun.now ++ next.now ∷ [])) }
 {
@@ -129,9 +127,7 @@ pub(crate) fn goes_on(
     next: &Stamped,
     row: &Row,
 ) -> Result<bool, AllocError>
-    requires earlier { AreEarlier live.now.tables begun.now }
-    requires bounded { IsBoundedEntry next.now }
-    requires row { row_of next.now ≡ row.now }
+    requires { IsTried live.now.tables begun.now next.now row.now }
     ensures on { IfOk result (λ on. IsTrue on ↔ GoesOn live.now.tables begun.now next.now) }
     ensures earlier { IfOk result (λ on. IsTrue on → AreEarlier live.now.tables (begun.now ++ next.now ∷ [])) }
 {

@@ -23,7 +23,8 @@ fn command_of(row: &BulkRow) -> Result<Command, Rule>
 fn judge_row(live: &Live, caller: UserNo, row: &BulkRow, earlier: &[Stamped]) -> Result<Entry, Rule>
     requires { AreEarlier live.now.tables earlier.now }
     ensures judged { row_group caller result ≡ group_or_rule (row_judged_behind live.now.tables earlier.now caller row.now) }
-    ensures next { IfOk result (λ entry. (more : Bool) → AreEarlier live.now.tables (earlier.now ++ record { maker = caller; more = more; entry = entry } ∷ [])) }
+    ensures next { IfOk result (λ entry. (more : Bool)
+        → AreEarlier live.now.tables (earlier.now ++ record { maker = caller; more = more; entry = entry } ∷ [])) }
 {
     match command_of(row) {
         Ok(command) => live.judge_row(caller, command, earlier),
@@ -77,7 +78,8 @@ pub(crate) fn judge_bulk(
     caller: UserNo,
     rows: BulkRows,
 ) -> Result<Vec<Stamped>, Broken>
-    ensures accepted { IfOk result (λ group. bulk_by_role live.now.tables caller rows ≡ Ok (bulk_drawn caller (length group.items) (entries_of group.items))) }
+    ensures accepted { IfOk result (λ group. bulk_by_role live.now.tables caller rows
+        ≡ Ok (bulk_drawn caller (length group.items) (entries_of group.items))) }
     ensures group { IfOk result (λ group. group.items ≡ grouped caller (entries_of group.items)) }
     ensures broken { IfErr result (λ broken. bulk_by_role live.now.tables caller rows ≡ Err broken) }
 {

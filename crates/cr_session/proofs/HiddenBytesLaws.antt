@@ -1,14 +1,13 @@
 -- What a user is answered doesn't tell what she isn't shown.
-use Rattle.std.proofs.Common.{◌≡◌, ◌∙◌, ℕ, List, [], ◌∷◌, ◌++◌, map, Bool, true, false, Option, refl, sym, ap}
+use Rattle.std.proofs.Common.{◌≡◌, ◌∙◌, ℕ, List, [], ◌∷◌, ◌++◌, map, Bool, true, false, Option, refl, sym}
 use Rattle.std.proofs.lemmas.List.{map-append}
 use Rattle.cr_base.specs.History.{History}
 use Rattle.cr_base.specs.Lists.{given}
 use Rattle.cr_policy.specs.View.{view}
 use Rattle.cr_policy.proofs.RemovedLaws.{looks-same}
-use Rattle.cr_wire.specs.declared.what.Wish.{Wish}
 use Rattle.cr_session.specs.Told.{after_wish}
-use Rattle.cr_session.specs.TwoRuns.{WishInTurn, Run, Moment, is_hers, meets, HearsAlike}
-use Rattle.cr_session.specs.HiddenBytes.{Asked, asks, AllAskedAlike, AsksAlike, HiddenBytes}
+use Rattle.cr_session.specs.TwoRuns.{WishInTurn, Moment, is_hers, meets}
+use Rattle.cr_session.specs.HiddenBytes.{Asked, asks, AllAskedAlike, HiddenBytes}
 use Rattle.cr_session.proofs.TwoRunsLaws.{two_runs}
 
 -- what she meets at a wish

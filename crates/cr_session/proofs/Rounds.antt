@@ -138,21 +138,22 @@ module _ {S : Type 0} (left : S → Option (List ℕ)) (gives : S → S → List
   -- ---- no memory
 
   -- a request was read, and memory ran out in its turn
-  pub round_no_memory : (n : ℕ) (wish : Wish) (i i' : List ℕ) (w w' : World KnownPass S) (s : Outlet)
+  pub round_no_memory : (ending : Ending) (n : ℕ) (wish : Wish) (i i' : List ℕ) (w w' : World KnownPass S) (s : Outlet) → ending ≡ endings.OutOfMemory
       → ReadsWish left gives w.source w'.source i i' (reads.Wish wish)
       → ServesRequest served.OutOfMemory n wish w.state w'.state w.sink s → TellsWantOfMemory [] wish.is_head s w'.sink → w'.read_faults ≡ w.read_faults
-      → ConnectionInHistory left gives endings.OutOfMemory n i w w'
-  round_no_memory n wish i i' w w' s x y notes counts =
-      no_memory TakesTurns TurnsInVain (λ p. refl) left gives n i x.got wish.is_head w w' (to_wish (i ++ x.got) wish i' x.says) (inr (wish, i', x.says, y.1))
+      → ConnectionInHistory left gives ending n i w w'
+  round_no_memory ending n wish i i' w w' s is x y notes counts =
+      no_memory TakesTurns TurnsInVain (λ p. refl) left gives ending n i x.got wish.is_head w w' is
+      (to_wish (i ++ x.got) wish i' x.says) (inr (wish, i', x.says, y.1))
       x.given (subst (λ (o : Outlet). TellsWantOfMemory [] wish.is_head o w'.sink) y.0 notes) counts
       (no_further-one left gives n [] w.source w'.source i (i ++ x.got) x.needed)
 
   -- memory ran out in reading
-  pub round_unread : (n : ℕ) (head : Bool) (i i' : List ℕ) (w w' : World KnownPass S) → ReadsWish left gives w.source w'.source i i' (reads.OutOfMemory head)
-      → w'.state ≡ w.state
-      → TellsWantOfMemory [] head w.sink w'.sink → w'.read_faults ≡ w.read_faults → ConnectionInHistory left gives endings.OutOfMemory n i w w'
-  round_unread n head i i' w w' x same notes counts =
-      no_memory TakesTurns TurnsInVain (λ p. refl) left gives n i x.got head w w' x.says.0 (inl (x.says.1, same)) x.given notes counts
+  pub round_unread : (ending : Ending) (n : ℕ) (head : Bool) (i i' : List ℕ) (w w' : World KnownPass S) → ending ≡ endings.OutOfMemory
+      → ReadsWish left gives w.source w'.source i i' (reads.OutOfMemory head) → w'.state ≡ w.state
+      → TellsWantOfMemory [] head w.sink w'.sink → w'.read_faults ≡ w.read_faults → ConnectionInHistory left gives ending n i w w'
+  round_unread ending n head i i' w w' is x same notes counts =
+      no_memory TakesTurns TurnsInVain (λ p. refl) left gives ending n i x.got head w w' is x.says.0 (inl (x.says.1, same)) x.given notes counts
       (no_further-one left gives n [] w.source w'.source i (i ++ x.got) x.needed)
 
   -- ---- no request

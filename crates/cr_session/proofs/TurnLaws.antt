@@ -31,35 +31,46 @@ use Rattle.cr_wire.specs.declared.what.Wish.{Wish}
 use Rattle.cr_wire.specs.Caller.{caller, reads_credentials, user_told}
 use Rattle.cr_session.specs.declared.turn.TurnResult.{TurnResult}
 use Rattle.cr_session.specs.declared.turn.TurnResult.TheVariants as turns
-use Rattle.cr_session.specs.Told.{form_of, told, told_to, served_to, as_bulk, is_unauthorized, refusal_of, reply_of, drawn, drawn_for, drawn_of, accepted, and_drawn, after_wish}
+use Rattle.cr_session.specs.Told.{form_of, told, told_to, served_to, as_bulk, is_unauthorized, refusal_of, reply_of, drawn, drawn_for, drawn_of, accepted, and_drawn}
 use Rattle.cr_session.specs.Replay.{Ledger}
 use Rattle.cr_session.specs.Turning.{Turns, AnswersWish, IsBulkCaller, JudgesChange, refused_for, AnswersQuery, WantsRoom, MayWantFor, MayWantMemory}
 use Rattle.cr_print.specs.Answers.{IsBrief}
 use Rattle.cr_base.specs.declared.reply.Reply.{Reply}
 use Rattle.cr_base.specs.declared.reply.Reply.TheVariants as replies
 
--- what a wish is told, by what it is and who gives it, where she may
-told-by : (H : History) (w : Wish) (u : Option ℕ) (what : What) (close : Bool) → w.what ≡ what → u ≡ caller H w → is_unauthorized u (view u H) what ≡ false
+-- what a wish is, who gives it, and that she may
+pub record MayWish (H : History) (w : Wish) (u : Option ℕ) (what : What) : Type 0 where
+  pub is : w.what ≡ what
+  pub by : u ≡ caller H w
+  pub may : is_unauthorized u (view u H) what ≡ false
+
+-- the same by a test of what is wished
+pub may-wish : (H : History) (w : Wish) (u : Option ℕ) (what : What) (test : Bool) → w.what ≡ what → u ≡ caller H w
+    → test ≡ is_unauthorized u (view u H) w.what → test ≡ false → MayWish H w u what
+may-wish H w u what test is by tested passed =
+    record { is = is; by = by; may = ap (λ (x : What). is_unauthorized u (view u H) x) (sym is) ∙ sym tested ∙ passed }
+
+-- what a wish is told, by what it is and who gives it
+told-by : (H : History) (w : Wish) (u : Option ℕ) (what : What) (close : Bool) → MayWish H w u what
     → told H w close ≡ served_to u (view u H) (form_of w close) what
 unfolding told
-told-by H w u what close is by may =
-    ap (told_to (caller H w) (view (caller H w) H) (form_of w close)) is
-    ∙ ap (λ v. told_to v (view v H) (form_of w close) what) (sym by)
-    ∙ ap (λ b. cond b (refusal_text refused.Unauthorized (form_of w close)) (served_to u (view u H) (form_of w close) what)) may
+told-by H w u what close wishes =
+    ap (told_to (caller H w) (view (caller H w) H) (form_of w close)) wishes.is
+    ∙ ap (λ v. told_to v (view v H) (form_of w close) what) (sym wishes.by)
+    ∙ ap (λ b. cond b (refusal_text refused.Unauthorized (form_of w close)) (served_to u (view u H) (form_of w close) what)) wishes.may
 
-drawn-by : (H : History) (w : Wish) (u : Option ℕ) (what : What) → w.what ≡ what → u ≡ caller H w → is_unauthorized u (view u H) what ≡ false
-    → drawn H w ≡ drawn_of u (view u H) what
+drawn-by : (H : History) (w : Wish) (u : Option ℕ) (what : What) → MayWish H w u what → drawn H w ≡ drawn_of u (view u H) what
 unfolding drawn
-drawn-by H w u what is by may =
-    ap (drawn_for (caller H w) (view (caller H w) H)) is
-    ∙ ap (λ v. drawn_for v (view v H) what) (sym by)
-    ∙ ap (λ b. cond b None (drawn_of u (view u H) what)) may
+drawn-by H w u what wishes =
+    ap (drawn_for (caller H w) (view (caller H w) H)) wishes.is
+    ∙ ap (λ v. drawn_for v (view v H) what) (sym wishes.by)
+    ∙ ap (λ b. cond b None (drawn_of u (view u H) what)) wishes.may
 
 -- who wishes it may, and it wants room
-may-want : (H : History) (w : Wish) (u : Option ℕ) (what : What) → w.what ≡ what → u ≡ caller H w → is_unauthorized u (view u H) what ≡ false
-    → WantsRoom u (view u H) what → MayWantMemory H w
-may-want H w u what is by may wants =
-    subst (λ (v : Option ℕ). MayWantFor v (view v H) w.what) by (subst (λ (x : What). MayWantFor u (view u H) x) (sym is) (may, wants))
+may-want : (H : History) (w : Wish) (u : Option ℕ) (what : What) → MayWish H w u what → WantsRoom u (view u H) what → MayWantMemory H w
+may-want H w u what wishes wants =
+    subst (λ (v : Option ℕ). MayWantFor v (view v H) w.what) wishes.by
+    (subst (λ (x : What). MayWantFor u (view u H) x) (sym wishes.is) (wishes.may, wants))
 
 -- ---- nobody, where a login is wanted
 
@@ -79,30 +90,29 @@ unauthorized w b u by is =
 -- ---- what is no command and no query
 
 -- a wish that is told a refusal, and adds nothing
-refused-turn : (r : Refused) (w : Wish) (u : Option ℕ) (what : What) (b : Ledger) → w.what ≡ what → u ≡ caller b.history w → is_unauthorized u (view u b.history) what ≡ false
+refused-turn : (r : Refused) (w : Wish) (u : Option ℕ) (what : What) (b : Ledger) → MayWish b.history w u what
     → ((close : Bool) → refusal_text r (form_of w close) ≡ served_to u (view u b.history) (form_of w close) what) → drawn_of u (view u b.history) what ≡ None
     → AnswersWish (turns.Refused r) w b b
-refused-turn r w u what b is by may text none = record {
-  told_is = λ close. text close ∙ sym (told-by b.history w u what close is by may);
-  stepped = sym (ap (and_drawn b.history) (drawn-by b.history w u what is by may ∙ none));
+refused-turn r w u what b wishes text none = record {
+  told_is = λ close. text close ∙ sym (told-by b.history w u what close wishes);
+  stepped = sym (ap (and_drawn b.history) (drawn-by b.history w u what wishes ∙ none));
   steady = refl;
 }
 
-pub no_route : (w : Wish) (u : Option ℕ) (b : Ledger) → w.what ≡ whats.NoRoute → u ≡ caller b.history w → is_unauthorized u (view u b.history) whats.NoRoute ≡ false
-    → AnswersWish (turns.Refused refused.NoRoute) w b b
-no_route w u b is by may = refused-turn refused.NoRoute w u whats.NoRoute b is by may (λ close. refl) refl
+pub no_route : (w : Wish) (u : Option ℕ) (b : Ledger) → MayWish b.history w u whats.NoRoute → AnswersWish (turns.Refused refused.NoRoute) w b b
+no_route w u b wishes = refused-turn refused.NoRoute w u whats.NoRoute b wishes (λ close. refl) refl
 
-pub wrong_method : (w : Wish) (u : Option ℕ) (b : Ledger) (place : Place) → w.what ≡ whats.WrongMethod place → u ≡ caller b.history w
-    → is_unauthorized u (view u b.history) (whats.WrongMethod place) ≡ false → AnswersWish (turns.Refused (refused.WrongMethod place)) w b b
-wrong_method w u b place is by may = refused-turn (refused.WrongMethod place) w u (whats.WrongMethod place) b is by may (λ close. refl) refl
+pub wrong_method : (w : Wish) (u : Option ℕ) (b : Ledger) (place : Place) → MayWish b.history w u (whats.WrongMethod place)
+    → AnswersWish (turns.Refused (refused.WrongMethod place)) w b b
+wrong_method w u b place wishes = refused-turn (refused.WrongMethod place) w u (whats.WrongMethod place) b wishes (λ close. refl) refl
 
-pub bad_body : (w : Wish) (u : Option ℕ) (b : Ledger) (ask : Ask) → w.what ≡ whats.BadBody ask → u ≡ caller b.history w
-    → is_unauthorized u (view u b.history) (whats.BadBody ask) ≡ false → AnswersWish (turns.Refused refused.BadBody) w b b
-bad_body w u b ask is by may = refused-turn refused.BadBody w u (whats.BadBody ask) b is by may (λ close. refl) refl
+pub bad_body : (w : Wish) (u : Option ℕ) (b : Ledger) (ask : Ask) → MayWish b.history w u (whats.BadBody ask)
+    → AnswersWish (turns.Refused refused.BadBody) w b b
+bad_body w u b ask wishes = refused-turn refused.BadBody w u (whats.BadBody ask) b wishes (λ close. refl) refl
 
-pub bad_query : (w : Wish) (u : Option ℕ) (b : Ledger) (place : ℕ) → w.what ≡ whats.BadQuery place → u ≡ caller b.history w
-    → is_unauthorized u (view u b.history) (whats.BadQuery place) ≡ false → AnswersWish (turns.Refused (refused.BadQuery place)) w b b
-bad_query w u b place is by may = refused-turn (refused.BadQuery place) w u (whats.BadQuery place) b is by may (λ close. refl) refl
+pub bad_query : (w : Wish) (u : Option ℕ) (b : Ledger) (place : ℕ) → MayWish b.history w u (whats.BadQuery place)
+    → AnswersWish (turns.Refused (refused.BadQuery place)) w b b
+bad_query w u b place wishes = refused-turn (refused.BadQuery place) w u (whats.BadQuery place) b wishes (λ close. refl) refl
 
 -- ---- commands and bulks
 
@@ -116,47 +126,46 @@ refusal-told (broken.Rule rule) form = sym (append-nil (refusal_text (refused.Ru
 refusal-told (broken.Row row rule) form = sym (append-nil (refusal_text (refused.Row row rule) form))
 
 -- a wish of which Judge gives this, where that is what she who wishes it is served, and what it draws
-pub change-turn : (turn : TurnResult) (w : Wish) (u : Option ℕ) (what : What) (judged : Result Drawn Broken) (b b' : Ledger) → w.what ≡ what
-    → u ≡ caller b.history w → is_unauthorized u (view u b.history) what ≡ false
+pub change-turn : (turn : TurnResult) (w : Wish) (u : Option ℕ) (what : What) (judged : Result Drawn Broken) (b b' : Ledger)
+    → MayWish b.history w u what
     → ((form : Form) → served_to u (view u b.history) form what ≡ reply_text (reply_of judged) form)
     → drawn_of u (view u b.history) what ≡ accepted judged
     → (IsOk judged → WantsRoom u (view u b.history) what)
     → JudgesChange turn judged b b' → Turns turn w b b'
-change-turn (turns.Refused r) w u what judged b b' is by may served draws wants j = record {
+change-turn (turns.Refused r) w u what judged b b' wishes served draws wants j = record {
   told_is = λ close.
       let form : Form = form_of w close in
       ap (λ x. refusal_text x form) j.refused_is ∙ refusal-told j.refusal form ∙ ap (λ x. reply_text (reply_of x) form) (sym j.judged_is) ∙ sym (served form)
-      ∙ sym (told-by b.history w u what close is by may);
-  stepped = ap (λ (x : Ledger). x.history) j.same ∙ sym (ap (and_drawn b.history) (drawn-by b.history w u what is by may ∙ draws ∙ ap accepted j.judged_is));
+      ∙ sym (told-by b.history w u what close wishes);
+  stepped = ap (λ (x : Ledger). x.history) j.same
+      ∙ sym (ap (and_drawn b.history) (drawn-by b.history w u what wishes ∙ draws ∙ ap accepted j.judged_is));
   steady = ap (λ (x : Ledger). x.faults) j.same;
 }
-change-turn (turns.Accepted receipt) w u what judged b b' is by may served draws wants j = record {
+change-turn (turns.Accepted receipt) w u what judged b b' wishes served draws wants j = record {
   told_is = λ close.
       let form : Form = form_of w close in
       ap (λ x. receipt_text x form) j.receipt_is ∙ sym (append-nil (receipt_text j.drawn.receipt form)) ∙ ap (λ x. reply_text (reply_of x) form) (sym j.judged_is)
-      ∙ sym (served form) ∙ sym (told-by b.history w u what close is by may);
-  stepped = j.added ∙ sym (ap (and_drawn b.history) (drawn-by b.history w u what is by may ∙ draws ∙ ap accepted j.judged_is));
+      ∙ sym (served form) ∙ sym (told-by b.history w u what close wishes);
+  stepped = j.added ∙ sym (ap (and_drawn b.history) (drawn-by b.history w u what wishes ∙ draws ∙ ap accepted j.judged_is));
   steady = j.steady;
 }
-change-turn (turns.Answered reply) w u what judged b b' is by may served draws wants j = absurd j
-change-turn turns.Lost w u what judged b b' is by may served draws wants j = (
-  subst (λ (o : Option Drawn). IsSome o) (sym (drawn-by b.history w u what is by may ∙ draws)) (is_ok-accepted judged j.0),
+change-turn (turns.Answered reply) w u what judged b b' wishes served draws wants j = absurd j
+change-turn turns.Lost w u what judged b b' wishes served draws wants j = (
+  subst (λ (o : Option Drawn). IsSome o) (sym (drawn-by b.history w u what wishes ∙ draws)) (is_ok-accepted judged j.0),
   j.1,
   j.2,
 )
-change-turn turns.OutOfMemory w u what judged b b' is by may served draws wants j = (j.0, may-want b.history w u what is by may (wants j.1))
+change-turn turns.OutOfMemory w u what judged b b' wishes served draws wants j = (j.0, may-want b.history w u what wishes (wants j.1))
 
-pub command-turn : (turn : TurnResult) (w : Wish) (u : Option ℕ) (command : Command) (b b' : Ledger) → w.what ≡ whats.Command command → u ≡ caller b.history w
-    → is_unauthorized u (view u b.history) (whats.Command command) ≡ false
+pub command-turn : (turn : TurnResult) (w : Wish) (u : Option ℕ) (command : Command) (b b' : Ledger) → MayWish b.history w u (whats.Command command)
     → JudgesChange turn (as_bulk (judge u (view u b.history) command)) b b' → Turns turn w b b'
-command-turn turn w u command b b' is by may j =
-    change-turn turn w u (whats.Command command) (as_bulk (judge u (view u b.history) command)) b b' is by may (λ form. refl) refl (λ ok. ok) j
+command-turn turn w u command b b' wishes j =
+    change-turn turn w u (whats.Command command) (as_bulk (judge u (view u b.history) command)) b b' wishes (λ form. refl) refl (λ ok. ok) j
 
-pub bulk-turn : (turn : TurnResult) (w : Wish) (u : Option ℕ) (rows : List BulkRow) (b b' : Ledger) → w.what ≡ whats.Bulk rows → u ≡ caller b.history w
-    → is_unauthorized u (view u b.history) (whats.Bulk rows) ≡ false
+pub bulk-turn : (turn : TurnResult) (w : Wish) (u : Option ℕ) (rows : List BulkRow) (b b' : Ledger) → MayWish b.history w u (whats.Bulk rows)
     → JudgesChange turn (judge_bulk (maker_of u) (view u b.history) rows) b b' → Turns turn w b b'
-bulk-turn turn w u rows b b' is by may j =
-    change-turn turn w u (whats.Bulk rows) (judge_bulk (maker_of u) (view u b.history) rows) b b' is by may (λ form. refl) refl (λ ok. ok) j
+bulk-turn turn w u rows b b' wishes j =
+    change-turn turn w u (whats.Bulk rows) (judge_bulk (maker_of u) (view u b.history) rows) b b' wishes (λ form. refl) refl (λ ok. ok) j
 
 -- ---- queries
 
@@ -164,22 +173,21 @@ bulk-turn turn w u rows b b' is by may j =
 not_refused : (reply told : Reply) (rule : Rule) → (IsBrief reply → ⊥) → reply ≡ told → told ≡ replies.Refused rule → ⊥
 not_refused reply told rule long is e = long (subst IsBrief (sym (is ∙ e)) tt)
 
-pub query-turn : (turn : TurnResult) (w : Wish) (u : Option ℕ) (query : Query) (b : Ledger) → w.what ≡ whats.Query query → u ≡ caller b.history w
-    → is_unauthorized u (view u b.history) (whats.Query query) ≡ false
+pub query-turn : (turn : TurnResult) (w : Wish) (u : Option ℕ) (query : Query) (b : Ledger) → MayWish b.history w u (whats.Query query)
     → AnswersQuery turn u query b.history → Turns turn w b b
-query-turn (turns.Refused r) w u query b is by may j = absurd j
-query-turn (turns.Accepted receipt) w u query b is by may j = absurd j
-query-turn (turns.Answered reply) w u query b is by may j = (
+query-turn (turns.Refused r) w u query b wishes j = absurd j
+query-turn (turns.Accepted receipt) w u query b wishes j = absurd j
+query-turn (turns.Answered reply) w u query b wishes j = (
   record {
-    told_is = λ close. ap (λ x. reply_text x (form_of w close)) j ∙ sym (told-by b.history w u (whats.Query query) close is by may);
-    stepped = sym (ap (and_drawn b.history) (drawn-by b.history w u (whats.Query query) is by may));
+    told_is = λ close. ap (λ x. reply_text x (form_of w close)) j ∙ sym (told-by b.history w u (whats.Query query) close wishes);
+    stepped = sym (ap (and_drawn b.history) (drawn-by b.history w u (whats.Query query) wishes));
     steady = refl;
   },
   refl,
-  λ long. may-want b.history w u (whats.Query query) is by may (λ rule e. not_refused reply (answer u (view u b.history) query) rule long j e),
+  λ long. may-want b.history w u (whats.Query query) wishes (λ rule e. not_refused reply (answer u (view u b.history) query) rule long j e),
 )
-query-turn turns.Lost w u query b is by may j = absurd j
-query-turn turns.OutOfMemory w u query b is by may j = (refl, may-want b.history w u (whats.Query query) is by may j)
+query-turn turns.Lost w u query b wishes j = absurd j
+query-turn turns.OutOfMemory w u query b wishes j = (refl, may-want b.history w u (whats.Query query) wishes j)
 
 -- ---- who calls
 
@@ -196,30 +204,30 @@ caller-registered : (H : History) (w : Wish) (v : ℕ) → caller H w ≡ Some v
 caller-registered H w v e = reads-user (reads_credentials w.what) w.credentials H v e
 
 -- who asks a query has registered, where it wants a login
-pub may-query : (H : History) (w : Wish) (u : Option ℕ) (query : Query) → u ≡ caller H w → is_unauthorized u (view u H) (whats.Query query) ≡ false
+pub may-query : (H : History) (w : Wish) (u : Option ℕ) (query : Query) → MayWish H w u (whats.Query query)
     → MayAsk H (needs_login (view None H) query) u
-may-query H w None query by may = may
-may-query H w (Some v) query by may = caller-registered H w v (sym by)
+may-query H w None query wishes = wishes.may
+may-query H w (Some v) query wishes = caller-registered H w v (sym wishes.by)
 
 -- who gives a command that wants a login has registered
-is-user : (H : History) (w : Wish) (u : Option ℕ) (command : Command) → command_wants_login command ≡ true → u ≡ caller H w
-    → is_unauthorized u (view u H) (whats.Command command) ≡ false → IsUser H u
-is-user H w None command wants by may = absurd (true≢false (sym wants ∙ may))
-is-user H w (Some v) command wants by may = caller-registered H w v (sym by)
+is-user : (H : History) (w : Wish) (u : Option ℕ) (command : Command) → command_wants_login command ≡ true
+    → MayWish H w u (whats.Command command) → IsUser H u
+is-user H w None command wants wishes = absurd (true≢false (sym wants ∙ wishes.may))
+is-user H w (Some v) command wants wishes = caller-registered H w v (sym wishes.by)
 
 -- nobody registers, and every other command is a registered user's
-pub caller-command : (H : History) (w : Wish) (u : Option ℕ) (command : Command) → w.what ≡ whats.Command command → u ≡ caller H w
-    → is_unauthorized u (view u H) (whats.Command command) ≡ false → IsCaller H u command
-caller-command H w u (Register name digest) is by may = by ∙ ap (λ (x : What). cond (reads_credentials x) (user_told w.credentials H) None) is
-caller-command H w u (Tag paper tag true) is by may = is-user H w u (Tag paper tag true) refl by may
-caller-command H w u (Tag paper tag false) is by may = is-user H w u (Tag paper tag false) refl by may
-caller-command H w u command is by may = is-user H w u command refl by may
+pub caller-command : (H : History) (w : Wish) (u : Option ℕ) (command : Command) → MayWish H w u (whats.Command command) → IsCaller H u command
+caller-command H w u (Register name digest) wishes =
+    wishes.by ∙ ap (λ (x : What). cond (reads_credentials x) (user_told w.credentials H) None) wishes.is
+caller-command H w u (Tag paper tag true) wishes = is-user H w u (Tag paper tag true) refl wishes
+caller-command H w u (Tag paper tag false) wishes = is-user H w u (Tag paper tag false) refl wishes
+caller-command H w u command wishes = is-user H w u command refl wishes
 
 -- a bulk is a registered user's
-pub caller-bulk : (H : History) (w : Wish) (u : Option ℕ) (rows : List BulkRow) → u ≡ caller H w → is_unauthorized u (view u H) (whats.Bulk rows) ≡ false
+pub caller-bulk : (H : History) (w : Wish) (u : Option ℕ) (rows : List BulkRow) → MayWish H w u (whats.Bulk rows)
     → IsBoundedBulk rows → IsBulkCaller H u rows
-caller-bulk H w None rows by may few = absurd (true≢false may)
-caller-bulk H w (Some user) rows by may few = record { caller = caller-registered H w user (sym by); bounded = few }
+caller-bulk H w None rows wishes few = absurd (true≢false wishes.may)
+caller-bulk H w (Some user) rows wishes few = record { caller = caller-registered H w user (sym wishes.by); bounded = few }
 
 -- ---- what a turn leaves
 

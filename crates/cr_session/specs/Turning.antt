@@ -14,6 +14,7 @@ use Rattle.cr_policy.specs.Judge.{judge, judge_bulk, answer}
 use Rattle.cr_policy.specs.Legal.{IsBulkAllowed}
 use Rattle.cr_policy.specs.View.{View, view}
 use Rattle.cr_base.specs.History.{History}
+use Rattle.cr_book.specs.Seen.{SeenBook}
 use Rattle.cr_print.specs.declared.form.Form.{Form}
 use Rattle.cr_print.specs.declared.refused.Refused.{Refused}
 use Rattle.cr_print.specs.declared.refused.Refused.TheVariants as refused
@@ -28,7 +29,7 @@ use Rattle.cr_session.specs.declared.serve.RequestOutcome.{RequestOutcome}
 use Rattle.cr_session.specs.declared.serve.RequestOutcome.TheVariants as served
 use Rattle.cr_session.specs.Told.{form_of, told, as_bulk, is_unauthorized, drawn, after_wish}
 use Rattle.cr_lock.specs.Passes.{after_turn}
-use Rattle.cr_session.specs.Replay.{JudgedWish, Ledger, CountsLoss, answer_to}
+use Rattle.cr_session.specs.Replay.{JudgedWish, Ledger, CountsLoss, answer_to, ledger_of}
 use Rattle.cr_session.specs.Passing.{KnownPass, TakesTurn}
 use Rattle.cr_ports.specs.Writing.{Outlet, Writes, BreaksOff}
 use Rattle.cr_wire.specs.Wishes.{closes}
@@ -112,6 +113,10 @@ JudgesChange (turns.Accepted receipt) judged b b' = AcceptsChange receipt judged
 JudgesChange (turns.Answered reply) judged b b' = ⊥
 JudgesChange turns.Lost judged b b' = IsOk judged × (b'.history ≡ b.history) × CountsLoss true b.faults b'.faults
 JudgesChange turns.OutOfMemory judged b b' = (b' ≡ b) × IsOk judged
+
+-- the same of a book, by what its ledger was and is
+abbrev pub ChangesBook : {K : Type 0} → (K → ℕ) → TurnResult → Result Drawn Broken → SeenBook K → SeenBook K → Type 0
+ChangesBook faults turn judged old new = JudgesChange turn judged (ledger_of faults old) (ledger_of faults new)
 
 -- a bulk's caller is a registered user, and it has no more rows than it may
 abbrev pub IsBulkCaller : History → Option ℕ → List BulkRow → Type 0

@@ -106,6 +106,7 @@ fn serve_request<R: Wait, K: Keeper, O: Sink>(
 fn send<O: Sink>(sink: &mut O, front: &[u8], block: &[u8], close: bool) -> RequestOutcome
     ensures { Sends result close (front.now ++ block.now) (outlet_of O.taken O.faults sink.old) (outlet_of O.taken O.faults sink.new) }
 {
+    sink.begin_answer();
     match write_all(sink, front) {
         Err(_) => return RequestOutcome::WriteFault,
         Ok(()) => {}
@@ -129,6 +130,7 @@ fn refuse<O: Sink>(sink: &mut O, reply: &mut Vec<u8>, why: Refusal, is_head: boo
         closes: true,
     };
     print_refusal(reply, Refused::Closing(why), form);
+    sink.begin_answer();
     match write_all(sink, reply) {
         Ok(()) => Ending::Closed(Why::Refused(why)),
         Err(_) => Ending::WriteFault,
@@ -140,6 +142,7 @@ pub fn note_no_memory<O: Sink>(sink: &mut O, is_head: bool) -> Ending
     ensures notes { TellsWantOfMemory [] is_head (outlet_of O.taken O.faults sink.old) (outlet_of O.taken O.faults sink.new) }
     ensures ending { result ≡ Ending.OutOfMemory }
 {
+    sink.begin_answer();
     let _ = write_all(sink, no_memory_text(is_head));
     Ending::OutOfMemory
 }
@@ -187,7 +190,7 @@ fn serve_next<R: Wait, K: Keeper, S: Source, O: Sink>(
 /// passes take theirs.
 ///
 /// Each answer is the one that is told on the history at its turn's place, which holds all that the pass had seen; what an
-/// accepted command adds stands there once. 503 comes only at a turn that is marked, for an accepted command, which then
+/// accepted command adds stands there once. 503 comes only at a turn that is marked, for an accepted command or bulk, which then
 /// adds nothing. The pass takes one turn a request, at most 1,048,576, and no other.
 ///
 /// Each ending's cause is in the contract: `Clean`, `Cut` and `Closed` exactly by what the bytes spell,

@@ -11,7 +11,7 @@ ghost use Rattle.cr_wire.specs.Bounds.{IsBoundedWhat};
 ghost use Rattle.cr_wire.specs.Caller.{caller};
 ghost use Rattle.cr_session.specs.Replay.{Ledger, ledger_of};
 ghost use Rattle.cr_session.specs.Told.{as_bulk, is_unauthorized};
-ghost use Rattle.cr_session.specs.Turning.{Turns, IsBulkCaller, JudgesChange, AnswersQuery, refused_for, turn_block, turn_front, MayWantToPrint};
+ghost use Rattle.cr_session.specs.Turning.{Turns, IsBulkCaller, ChangesBook, AnswersQuery, refused_for, turn_block, turn_front, MayWantToPrint};
 
 use cr_base::{Broken, BulkRows, Command, Query, Receipt, Reply, UserNo};
 use cr_book::{AnswerError, Book, BookError, BulkError};
@@ -104,7 +104,7 @@ fn caller_of<K: Keeper>(book: &Book<K>, wish: &Wish) -> Option<UserNo>
 /// Judges a command.
 fn judge<K: Keeper>(book: &mut Book<K>, caller: &Option<UserNo>, command: Command) -> TurnResult
     requires { IsAllowed book.old.log (record { caller = caller.now; command = command }) }
-    ensures { JudgesChange result (as_bulk (judge caller.now (view caller.now book.old.log) command)) (ledger_of K.faults book.old) (ledger_of K.faults book.new) }
+    ensures { ChangesBook K.faults result (as_bulk (judge caller.now (view caller.now book.old.log) command)) book.old book.new }
 {
     match book.command(caller, command) {
         Ok(receipt) => TurnResult::Accepted(receipt),
@@ -117,7 +117,7 @@ fn judge<K: Keeper>(book: &mut Book<K>, caller: &Option<UserNo>, command: Comman
 /// Judges a bulk, of which a registered user is the caller.
 fn judge_bulk<K: Keeper>(book: &mut Book<K>, caller: &Option<UserNo>, rows: BulkRows) -> TurnResult
     requires { IsBulkCaller book.old.log caller.now rows }
-    ensures { JudgesChange result (judge_bulk (maker_of caller.now) (view caller.now book.old.log) rows) (ledger_of K.faults book.old) (ledger_of K.faults book.new) }
+    ensures { ChangesBook K.faults result (judge_bulk (maker_of caller.now) (view caller.now book.old.log) rows) book.old book.new }
 {
     match caller {
         Some(user) => judge_rows(book, *user, rows),
@@ -128,7 +128,7 @@ fn judge_bulk<K: Keeper>(book: &mut Book<K>, caller: &Option<UserNo>, rows: Bulk
 /// Judges a bulk of this user.
 fn judge_rows<K: Keeper>(book: &mut Book<K>, user: UserNo, rows: BulkRows) -> TurnResult
     requires { IsBulkAllowed book.old.log (record { user = user; rows = rows }) }
-    ensures { JudgesChange result (judge_bulk user (view (Some user) book.old.log) rows) (ledger_of K.faults book.old) (ledger_of K.faults book.new) }
+    ensures { ChangesBook K.faults result (judge_bulk user (view (Some user) book.old.log) rows) book.old book.new }
 {
     match book.bulk(user, rows) {
         Ok(count_told) => TurnResult::Accepted(count_told),

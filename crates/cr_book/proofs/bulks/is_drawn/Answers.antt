@@ -9,7 +9,7 @@ pub returns-in_default-clause-drawn : goal.returns-in_default-clause-drawn
 returns-in_default-clause-drawn c =
     let t = c.args.live.now.tables in (
       λ h. absurd (true≢false (sym h)),
-      λ d. absurd (none-drawn t c.args.begun.now c.args.next.now c.args.row.now c.requires.earlier c.requires.bounded c.requires.row
+      λ d. absurd (none-drawn t _ _ _ c.requires
           (sym c.in_default.is ∙ c.row_command_of.ensures.told ∙ ap (row_command_told t) c.in_ok-entry.ensures) d),
     )
 
@@ -17,8 +17,8 @@ pub returns-in-Err-clause-drawn : goal.returns-in-Err-clause-drawn
 returns-in-Err-clause-drawn c =
     let t = c.args.live.now.tables in (
       λ h. absurd (true≢false (sym h)),
-      λ d. absurd (ruled-drawn t c.args.begun.now c.args.next.now c.args.row.now c.requires.earlier c.requires.bounded c.requires.row
-          c.in-Some.command (sym c.in-Some.is ∙ c.row_command_of.ensures.told ∙ ap (row_command_told t) c.in_ok-entry.ensures) _ c.in-Err.ensures.judged d),
+      λ d. absurd (ruled-drawn t _ _ _ c.requires c.in-Some.command
+          (sym c.in-Some.is ∙ c.row_command_of.ensures.told ∙ ap (row_command_told t) c.in_ok-entry.ensures) _ c.in-Err.ensures.judged d),
     )
 
 pub returns-in-Ok-clause-drawn : goal.returns-in-Ok-clause-drawn
@@ -27,8 +27,8 @@ returns-in-Ok-clause-drawn c =
     let told = sym c.in-Some.is ∙ c.row_command_of.ensures.told ∙ ap (row_command_told t) c.in_ok-entry.ensures in
     IfOk-weaker c.spells.result _ _
     (λ b same. (
-      λ h. row-drawn t c.args.begun.now c.args.next.now c.args.row.now c.requires.earlier c.requires.bounded c.requires.row c.in-Some.command told c.in-Ok.drawn c.in-Ok.ensures.judged (same.0 h),
-      λ d. same.1 (drawn-row t c.args.begun.now c.args.next.now c.args.row.now c.requires.earlier c.requires.bounded c.requires.row c.in-Some.command told c.in-Ok.drawn c.in-Ok.ensures.judged d),
+      λ h. row-drawn t _ _ _ c.requires c.in-Some.command told c.in-Ok.drawn c.in-Ok.ensures.judged (same.0 h),
+      λ d. same.1 (drawn-row t _ _ _ c.requires c.in-Some.command told c.in-Ok.drawn c.in-Ok.ensures.judged d),
     ))
     c.spells.ensures
 
@@ -37,5 +37,5 @@ returns-in-Ok-clause-earlier c =
     let t = c.args.live.now.tables in
     let told = sym c.in-Some.is ∙ c.row_command_of.ensures.told ∙ ap (row_command_told t) c.in_ok-entry.ensures in
     IfOk-weaker c.spells.result _ _
-    (λ b same h. row-earlier t c.args.begun.now c.args.next.now c.args.row.now c.requires.earlier c.requires.bounded c.requires.row c.in-Some.command told c.in-Ok.drawn c.in-Ok.ensures.judged c.in-Ok.ensures.next (same.0 h))
+    (λ b same h. row-earlier t _ _ _ c.requires c.in-Some.command told c.in-Ok.drawn c.in-Ok.ensures.judged c.in-Ok.ensures.next (same.0 h))
     c.spells.ensures

@@ -5,29 +5,32 @@ use Rattle.cr_book.proofs.OpeningBulkRows.{earlier-of, as-many}
 use Rattle.cr_book.proofs.OpeningLaws.{test-refused, test-last, test-more, test-fits}
 use Rattle.cr_book.proofs.reading.read_of_bulk.Goals as goal
 
-pub goes_on-requires-clause-earlier : goal.goes_on-requires-clause-earlier
-goes_on-requires-clause-earlier c =
-    subst (λ (h : History). AreEarlier c.args.live.tables h) (sym c.deref.ensures.value) (earlier-of c.args.live.tables c.args.pending.items c.args.begun.items c.requires.reading.bulk)
+pub goes_on-requires : goal.goes_on-requires
+goes_on-requires c = record {
+  earlier = subst (λ (h : History). AreEarlier c.args.live.tables h) (sym c.deref.ensures.value) (earlier-of _ _ _ c.requires.reading.bulk);
+  bounded = c.requires.bounded;
+  spells = c.requires.row;
+}
 
 pub with_next-requires-clause-last : goal.with_next-requires-clause-last
 with_next-requires-clause-last c =
-    test-last c.args.log.items c.args.live.tables c.args.pending.items c.args.begun.items c.deref.result.now c.args.row c.args.next c.requires.reading c.requires.bulk c.requires.bounded c.requires.row
-    c.deref.ensures.value c.in-Ok-true.field-0 c.in-Ok-true.ensures.on c.in-Ok-true.field-0-test
+    test-last _ _ _ _ _ _ _ c.requires.reading c.requires.bulk c.requires.bounded c.requires.row c.deref.ensures.value _ c.in-Ok-true.ensures.on
+    c.in-Ok-true.field-0-test
 
 pub with_next-requires-clause-more : goal.with_next-requires-clause-more
 with_next-requires-clause-more c =
-    test-more c.args.log.items c.args.live.tables c.args.pending.items c.args.begun.items c.deref.result.now c.args.row c.args.next c.requires.reading c.requires.bulk c.requires.bounded c.requires.row
-    c.deref.ensures.value c.in-Ok-true.field-0 c.in-Ok-true.ensures.on c.in-Ok-true.field-0-test c.in-Ok-true.ensures.earlier
+    test-more _ _ _ _ _ _ _ c.requires.reading c.requires.bulk c.requires.bounded c.requires.row c.deref.ensures.value _ c.in-Ok-true.ensures.on
+    c.in-Ok-true.field-0-test c.in-Ok-true.ensures.earlier
 
 pub with_next-requires-clause-fits : goal.with_next-requires-clause-fits
 with_next-requires-clause-fits c =
-    test-fits c.args.log.items c.args.live.tables c.args.pending.items c.args.begun.items c.deref.result.now c.args.row c.args.next c.requires.reading c.requires.bulk c.requires.bounded c.requires.row
-    c.deref.ensures.value c.in-Ok-true.field-0 c.in-Ok-true.ensures.on c.in-Ok-true.field-0-test c.in-Ok-true.ensures.earlier
+    test-fits _ _ _ _ _ _ _ c.requires.reading c.requires.bulk c.requires.bounded c.requires.row c.deref.ensures.value _ c.in-Ok-true.ensures.on
+    c.in-Ok-true.field-0-test c.in-Ok-true.ensures.earlier
 
 pub with_next-requires-clause-same : goal.with_next-requires-clause-same
-with_next-requires-clause-same c = as-many c.args.live.tables c.args.pending.items c.args.begun.items c.args.next c.requires.reading.bulk c.requires.bulk
+with_next-requires-clause-same c = as-many _ _ _ c.args.next c.requires.reading.bulk c.requires.bulk
 
 pub returns-in-Ok-false-clause-refused : goal.returns-in-Ok-false-clause-refused
 returns-in-Ok-false-clause-refused c =
-    test-refused c.args.log.items c.args.live.tables c.args.pending.items c.args.begun.items c.deref.result.now c.args.row c.args.next c.requires.reading c.requires.bulk c.requires.bounded c.requires.row
-    c.deref.ensures.value c.in-Ok-false.field-0 c.in-Ok-false.ensures.on c.in-Ok-false.field-0-test
+    test-refused _ _ _ _ _ _ _ c.requires.reading c.requires.bulk c.requires.bounded c.requires.row c.deref.ensures.value _ c.in-Ok-false.ensures.on
+    c.in-Ok-false.field-0-test

@@ -19,9 +19,7 @@ returns-in_default-clause-connection g c =
 
 pub returns-in_default-clause-whole : goal.returns-in_default-clause-whole
 returns-in_default-clause-whole g c b told =
-    let w = world_of g.S.Source.faults g.O.Sink.taken g.O.Sink.faults c.args.pass.now c.args.source.now c.args.sink.now in
-    let w' = world_of g.S.Source.faults g.O.Sink.taken g.O.Sink.faults c.args.pass.now c.args.source.now c.note_no_memory.new.sink in
-    whole_text TakesTurns TurnsInVain g.S.Source.left g.S.Source.read_gives c.note_no_memory.result b w w' (returns-in_default-clause-connection g c) told
+    whole_text TakesTurns TurnsInVain g.S.Source.left g.S.Source.read_gives _ b _ _ (returns-in_default-clause-connection g c) told
 
 pub returns-in_default-with_capacity-clause-connection : goal.returns-in_default-with_capacity-clause-connection
 returns-in_default-with_capacity-clause-connection g c =
@@ -33,10 +31,7 @@ returns-in_default-with_capacity-clause-connection g c =
 
 pub returns-in_default-with_capacity-clause-whole : goal.returns-in_default-with_capacity-clause-whole
 returns-in_default-with_capacity-clause-whole g c b told =
-    let w = world_of g.S.Source.faults g.O.Sink.taken g.O.Sink.faults c.args.pass.now c.args.source.now c.args.sink.now in
-    let w' = world_of g.S.Source.faults g.O.Sink.taken g.O.Sink.faults c.args.pass.now c.args.source.now c.note_no_memory-in_default-with_capacity.new.sink in
-    whole_text TakesTurns TurnsInVain g.S.Source.left g.S.Source.read_gives c.note_no_memory-in_default-with_capacity.result b w w'
-    (returns-in_default-with_capacity-clause-connection g c) told
+    whole_text TakesTurns TurnsInVain g.S.Source.left g.S.Source.read_gives _ b _ _ (returns-in_default-with_capacity-clause-connection g c) told
 
 pub serving-init : goal.serving-init
 serving-init g c =
@@ -51,41 +46,27 @@ serving-init g c =
 
 pub returns-in-Some-clause-connection : goal.returns-in-Some-clause-connection
 returns-in-Some-clause-connection g c =
-    let w = world_of g.S.Source.faults g.O.Sink.taken g.O.Sink.faults c.args.pass.now c.args.source.now c.args.sink.now in
-    let v = world_of g.S.Source.faults g.O.Sink.taken g.O.Sink.faults c.serving.pass c.serving.source c.serving.sink in
-    let u = world_of g.S.Source.faults g.O.Sink.taken g.O.Sink.faults c.serve_next.new.pass c.serve_next.new.source c.serve_next.new.sink in
-    ends_after g.S.Source.left g.S.Source.read_gives c.in-Some.ending c.serving.number [] c.serving.inbox w v u c.serving.invariant.goes_on
-    c.in-Some.ensures.round
+    ends_after g.S.Source.left g.S.Source.read_gives _ _ _ _ _ _ _ c.serving.invariant.goes_on c.in-Some.ensures.round
 
 pub returns-in-Some-clause-whole : goal.returns-in-Some-clause-whole
 returns-in-Some-clause-whole g c b told =
-    let w = world_of g.S.Source.faults g.O.Sink.taken g.O.Sink.faults c.args.pass.now c.args.source.now c.args.sink.now in
-    let u = world_of g.S.Source.faults g.O.Sink.taken g.O.Sink.faults c.serve_next.new.pass c.serve_next.new.source c.serve_next.new.sink in
-    whole_text TakesTurns TurnsInVain g.S.Source.left g.S.Source.read_gives c.in-Some.ending b w u (returns-in-Some-clause-connection g c) told
+    whole_text TakesTurns TurnsInVain g.S.Source.left g.S.Source.read_gives _ b _ _ (returns-in-Some-clause-connection g c) told
 
 pub returns-in-Some-clause-read_fault : goal.returns-in-Some-clause-read_fault
 returns-in-Some-clause-read_fault g c is =
-    let w = world_of g.S.Source.faults g.O.Sink.taken g.O.Sink.faults c.args.pass.now c.args.source.now c.args.sink.now in
-    let u = world_of g.S.Source.faults g.O.Sink.taken g.O.Sink.faults c.serve_next.new.pass c.serve_next.new.source c.serve_next.new.sink in
-    read_rises TakesTurns TurnsInVain g.S.Source.left g.S.Source.read_gives c.in-Some.ending 0 [] w u (returns-in-Some-clause-connection g c) is
+    read_rises TakesTurns TurnsInVain g.S.Source.left g.S.Source.read_gives _ _ _ _ _ (returns-in-Some-clause-connection g c) is
 
 pub returns-in-Some-clause-write_fault : goal.returns-in-Some-clause-write_fault
 returns-in-Some-clause-write_fault g c is =
-    let w = world_of g.S.Source.faults g.O.Sink.taken g.O.Sink.faults c.args.pass.now c.args.source.now c.args.sink.now in
-    let u = world_of g.S.Source.faults g.O.Sink.taken g.O.Sink.faults c.serve_next.new.pass c.serve_next.new.source c.serve_next.new.sink in
-    write_rises TakesTurns TurnsInVain g.S.Source.left g.S.Source.read_gives c.in-Some.ending 0 [] w u (returns-in-Some-clause-connection g c) is
+    write_rises TakesTurns TurnsInVain g.S.Source.left g.S.Source.read_gives _ _ _ _ _ (returns-in-Some-clause-connection g c) is
 
 pub serving-preserved : goal.serving-preserved
 serving-preserved g c =
-    let w = world_of g.S.Source.faults g.O.Sink.taken g.O.Sink.faults c.args.pass.now c.args.source.now c.args.sink.now in
-    let v = world_of g.S.Source.faults g.O.Sink.taken g.O.Sink.faults c.serving.pass c.serving.source c.serving.sink in
     let u = world_of g.S.Source.faults g.O.Sink.taken g.O.Sink.faults c.serve_next.new.pass c.serve_next.new.source c.serve_next.new.sink in
-    let last = not_last g.S.Source.left g.S.Source.read_gives c.serving.number c.serving.inbox c.serve_next.new.inbox v u
-    c.in_default-serve_next.ensures.round in
+    let last = not_last g.S.Source.left g.S.Source.read_gives c.serving.number _ _ _ u c.in_default-serve_next.ensures.round in
     let few = c.serving.invariant.few in
     record {
-      goes_on = goes_after g.S.Source.left g.S.Source.read_gives c.serving.number 1 [] c.serving.inbox c.serve_next.new.inbox w v u c.serving.invariant.goes_on
-          c.in_default-serve_next.ensures.round;
+      goes_on = goes_after g.S.Source.left g.S.Source.read_gives _ 1 _ _ _ _ _ u c.serving.invariant.goes_on c.in_default-serve_next.ensures.round;
       few = omega (arith, last, few);
       pass = stays-then c.serving.number 1 c.args.pass.now c.serving.pass c.serve_next.new.pass c.serving.invariant.pass c.serve_next.ensures.pass;
       room = c.serve_next.ensures.room;

@@ -2,12 +2,11 @@ use Rattle.std.proofs.Common.{ℕ, Option, subst, sym}
 use Rattle.cr_base.specs.Sources.{maker_of}
 use Rattle.cr_policy.specs.Judge.{judge_bulk}
 use Rattle.cr_policy.specs.View.{view}
-use Rattle.cr_session.specs.Replay.{ledger_of}
-use Rattle.cr_session.specs.Turning.{JudgesChange}
+use Rattle.cr_session.specs.Turning.{ChangesBook}
 use Rattle.cr_session.proofs.turn.judge_bulk.Goals as goal
 
 pub returns : goal.returns
 returns g c =
-    subst (λ (u : Option ℕ). JudgesChange c.judge_rows.result (judge_bulk (maker_of u) (view u c.args.book.now.log) c.args.rows)
-    (ledger_of g.K.Keeper.faults c.args.book.now) (ledger_of g.K.Keeper.faults c.judge_rows.new.book))
+    subst (λ (u : Option ℕ). ChangesBook g.K.Keeper.faults c.judge_rows.result (judge_bulk (maker_of u) (view u c.args.book.now.log) c.args.rows)
+    c.args.book.now c.judge_rows.new.book)
     (sym c.in-Some.is) c.judge_rows.ensures

@@ -1,10 +1,9 @@
-use Rattle.std.proofs.Common.{◌∙◌, ap, subst, sym}
-use Rattle.cr_policy.specs.View.{view}
+use Rattle.std.proofs.Common.{◌∙◌, subst, sym}
 use Rattle.cr_wire.specs.Bounds.{IsBoundedWhat}
 use Rattle.cr_wire.specs.declared.what.What.{What}
 use Rattle.cr_session.specs.Replay.{ledger_of}
-use Rattle.cr_session.specs.Told.{is_unauthorized}
-use Rattle.cr_session.proofs.TurnLaws.{unauthorized, no_route, wrong_method, bad_body, bad_query, command-turn, bulk-turn, query-turn, caller-command, caller-bulk, may-query}
+use Rattle.cr_session.proofs.TurnLaws.{unauthorized, no_route, wrong_method, bad_body, bad_query, command-turn, bulk-turn, query-turn}
+use Rattle.cr_session.proofs.TurnLaws.{may-wish, caller-command, caller-bulk, may-query}
 use Rattle.cr_session.proofs.turn.take_turn.Goals as goal
 
 pub returns-then-is_unauthorized : goal.returns-then-is_unauthorized
@@ -13,60 +12,56 @@ returns-then-is_unauthorized g c = unauthorized c.args.wish (ledger_of g.K.Keepe
 
 pub returns-in-NoRoute : goal.returns-in-NoRoute
 returns-in-NoRoute g c =
-    no_route c.args.wish _ (ledger_of g.K.Keeper.faults c.args.book.now) c.in-NoRoute.is c.caller_of-caller.ensures
-    (ap (λ (x : What). is_unauthorized c.caller_of-caller.result (view c.caller_of-caller.result c.args.book.now.log) x) (sym c.in-NoRoute.is) ∙ sym c.is_unauthorized.ensures ∙ c.if-is_unauthorized.false)
+    no_route _ _ (ledger_of g.K.Keeper.faults c.args.book.now)
+    (may-wish _ c.args.wish _ _ _ c.in-NoRoute.is c.caller_of-caller.ensures c.is_unauthorized.ensures c.if-is_unauthorized.false)
 
 pub returns-in-WrongMethod : goal.returns-in-WrongMethod
 returns-in-WrongMethod g c =
-    wrong_method c.args.wish _ (ledger_of g.K.Keeper.faults c.args.book.now) _ c.in-WrongMethod.is c.caller_of-caller.ensures
-    (ap (λ (x : What). is_unauthorized c.caller_of-caller.result (view c.caller_of-caller.result c.args.book.now.log) x) (sym c.in-WrongMethod.is) ∙ sym c.is_unauthorized.ensures ∙ c.if-is_unauthorized.false)
+    wrong_method _ _ (ledger_of g.K.Keeper.faults c.args.book.now) _
+    (may-wish _ c.args.wish _ _ _ c.in-WrongMethod.is c.caller_of-caller.ensures c.is_unauthorized.ensures c.if-is_unauthorized.false)
 
 pub returns-in-BadBody : goal.returns-in-BadBody
 returns-in-BadBody g c =
-    bad_body c.args.wish _ (ledger_of g.K.Keeper.faults c.args.book.now) _ c.in-BadBody.is c.caller_of-caller.ensures
-    (ap (λ (x : What). is_unauthorized c.caller_of-caller.result (view c.caller_of-caller.result c.args.book.now.log) x) (sym c.in-BadBody.is) ∙ sym c.is_unauthorized.ensures ∙ c.if-is_unauthorized.false)
+    bad_body _ _ (ledger_of g.K.Keeper.faults c.args.book.now) _
+    (may-wish _ c.args.wish _ _ _ c.in-BadBody.is c.caller_of-caller.ensures c.is_unauthorized.ensures c.if-is_unauthorized.false)
 
 pub returns-in-BadQuery : goal.returns-in-BadQuery
 returns-in-BadQuery g c =
-    bad_query c.args.wish _ (ledger_of g.K.Keeper.faults c.args.book.now) _ c.in-BadQuery.is c.caller_of-caller.ensures
-    (ap (λ (x : What). is_unauthorized c.caller_of-caller.result (view c.caller_of-caller.result c.args.book.now.log) x) (sym c.in-BadQuery.is) ∙ sym c.is_unauthorized.ensures ∙ c.if-is_unauthorized.false)
+    bad_query _ _ (ledger_of g.K.Keeper.faults c.args.book.now) _
+    (may-wish _ c.args.wish _ _ _ c.in-BadQuery.is c.caller_of-caller.ensures c.is_unauthorized.ensures c.if-is_unauthorized.false)
 
 pub judge-requires : goal.judge-requires
-judge-requires g c =
-    let may = ap (λ (x : What). is_unauthorized c.caller_of-caller.result (view c.caller_of-caller.result c.args.book.now.log) x) (sym c.in-Command.is) ∙ sym c.is_unauthorized.ensures
-    ∙ c.if-is_unauthorized.false in
-    record {
-      caller = caller-command c.args.book.now.log c.args.wish c.caller_of-caller.result c.in-Command.command c.in-Command.is c.caller_of-caller.ensures may;
-      bounded = subst (λ (x : What). IsBoundedWhat x) c.in-Command.is c.requires;
-    }
+judge-requires g c = record {
+  caller = caller-command _ _ _ _
+      (may-wish _ c.args.wish _ _ _ c.in-Command.is c.caller_of-caller.ensures c.is_unauthorized.ensures c.if-is_unauthorized.false);
+  bounded = subst (λ (x : What). IsBoundedWhat x) c.in-Command.is c.requires;
+}
 
 pub judge_bulk-requires : goal.judge_bulk-requires
 judge_bulk-requires g c =
-    caller-bulk c.args.book.now.log c.args.wish c.caller_of-caller.result c.in-Bulk.rows c.caller_of-caller.ensures
-    (ap (λ (x : What). is_unauthorized c.caller_of-caller.result (view c.caller_of-caller.result c.args.book.now.log) x) (sym c.in-Bulk.is) ∙ sym c.is_unauthorized.ensures ∙ c.if-is_unauthorized.false)
+    caller-bulk _ _ _ _
+    (may-wish _ c.args.wish _ _ _ c.in-Bulk.is c.caller_of-caller.ensures c.is_unauthorized.ensures c.if-is_unauthorized.false)
     (subst (λ (x : What). IsBoundedWhat x) c.in-Bulk.is c.requires)
 
 pub answer-requires : goal.answer-requires
 answer-requires g c =
-    may-query c.args.book.now.log c.args.wish c.caller_of-caller.result c.in-Query.query c.caller_of-caller.ensures
-    (ap (λ (x : What). is_unauthorized c.caller_of-caller.result (view c.caller_of-caller.result c.args.book.now.log) x) (sym c.in-Query.is) ∙ sym c.is_unauthorized.ensures ∙ c.if-is_unauthorized.false)
+    may-query _ _ _ _
+    (may-wish _ c.args.wish _ _ _ c.in-Query.is c.caller_of-caller.ensures c.is_unauthorized.ensures c.if-is_unauthorized.false)
 
 pub returns-in-Command : goal.returns-in-Command
 returns-in-Command g c =
-    command-turn _ c.args.wish _ _ (ledger_of g.K.Keeper.faults c.args.book.now)
-    (ledger_of g.K.Keeper.faults c.judge.new.book) c.in-Command.is c.caller_of-caller.ensures
-    (ap (λ (x : What). is_unauthorized c.caller_of-caller.result (view c.caller_of-caller.result c.args.book.now.log) x) (sym c.in-Command.is) ∙ sym c.is_unauthorized.ensures
-    ∙ c.if-is_unauthorized.false) c.judge.ensures
+    command-turn _ _ _ _ (ledger_of g.K.Keeper.faults c.args.book.now) (ledger_of g.K.Keeper.faults c.judge.new.book)
+    (may-wish _ c.args.wish _ _ _ c.in-Command.is c.caller_of-caller.ensures c.is_unauthorized.ensures c.if-is_unauthorized.false)
+    c.judge.ensures
 
 pub returns-in-Query : goal.returns-in-Query
 returns-in-Query g c =
-    query-turn _ c.args.wish _ _ (ledger_of g.K.Keeper.faults c.args.book.now) c.in-Query.is c.caller_of-caller.ensures
-    (ap (λ (x : What). is_unauthorized c.caller_of-caller.result (view c.caller_of-caller.result c.args.book.now.log) x) (sym c.in-Query.is) ∙ sym c.is_unauthorized.ensures
-    ∙ c.if-is_unauthorized.false) c.answer.ensures
+    query-turn _ _ _ _ (ledger_of g.K.Keeper.faults c.args.book.now)
+    (may-wish _ c.args.wish _ _ _ c.in-Query.is c.caller_of-caller.ensures c.is_unauthorized.ensures c.if-is_unauthorized.false)
+    c.answer.ensures
 
 pub returns-in-Bulk : goal.returns-in-Bulk
 returns-in-Bulk g c =
-    bulk-turn _ c.args.wish _ _ (ledger_of g.K.Keeper.faults c.args.book.now)
-    (ledger_of g.K.Keeper.faults c.judge_bulk.new.book) c.in-Bulk.is c.caller_of-caller.ensures
-    (ap (λ (x : What). is_unauthorized c.caller_of-caller.result (view c.caller_of-caller.result c.args.book.now.log) x) (sym c.in-Bulk.is) ∙ sym c.is_unauthorized.ensures
-    ∙ c.if-is_unauthorized.false) c.judge_bulk.ensures
+    bulk-turn _ _ _ _ (ledger_of g.K.Keeper.faults c.args.book.now) (ledger_of g.K.Keeper.faults c.judge_bulk.new.book)
+    (may-wish _ c.args.wish _ _ _ c.in-Bulk.is c.caller_of-caller.ensures c.is_unauthorized.ensures c.if-is_unauthorized.false)
+    c.judge_bulk.ensures
