@@ -8,7 +8,7 @@ pub enum Refusal {
     HeadTooLarge,
     /// The bytes of the head are no head of HTTP/1.0 or HTTP/1.1 (400).
     BadHttp,
-    /// HTTP/1.1 without exactly one Host, or HTTP/1.0 with more than one (400; RFC 9112, 3.2).
+    /// In HTTP/1.1 no field Host, or in either version several of them (400; RFC 9112, 3.2).
     NoHost,
     /// A body in a transfer coding (411; RFC 9112, 6.1).
     LengthRequired,

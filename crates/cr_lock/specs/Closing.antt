@@ -20,5 +20,5 @@ module _ {T E : Type 0} (list : T → List E) (faults : T → ℕ) (first : T) (
     pub whole : list x ≡ list first ++ groups_of p.mine
     -- the count of faults rose by what it rose in the turns
     pub count : faults x ≡ faults first + rises p.mine
-    -- and so by at least the number of marks, its last value aside
+    -- so by no less than there are marks, unless it ends at its last value
     pub marks : (faults first + marks p.mine ≤ faults x) ⊎ (last_count ≤ faults x)

@@ -56,7 +56,7 @@ module _ {T E : Type 0} (list : T → List E) (faults : T → ℕ) (first : T) w
   pub record Risen (states : List (PassState E)) (n : ℕ) : Type 0 where
     -- it has risen since `first` by what it rose in the turns of all passes
     pub count : n ≡ faults first + total (λ v. rises v.mine) states
-    -- and so by at least the number of marks, its last value aside
+    -- so by no less than there are marks, unless it ends at its last value
     pub marks : (faults first + total (λ v. marks v.mine) states ≤ n) ⊎ (last_count ≤ n)
 
   -- the value is in the slot and stands for the history, and no pass has it
@@ -81,7 +81,7 @@ module _ {T E : Type 0} (list : T → List E) (faults : T → ℕ) (first : T) w
     -- the tickets from `serving` to below `ticket` are each held by one pass, and no others are
     pub tickets : (t : ℕ) → total (λ v. holds_ticket t v.activity) s.views ≡ within serving ticket t
     pub shares : total (λ v. v.share) s.views ≡ 64
-    -- so a ticket is at most 64 times 2^40, and no word wraps
+    -- so no ticket is beyond 64 times 2^40, and none of the words overflows
     pub drawn : ticket ≤ total (λ v. v.share * v.turns) s.views
     -- each entry behind what was there at first is in one group of one pass
     pub groups : (k : ℕ) → total (λ v. groups_with k v.mine) s.views ≡ within (length (list first)) (length log) k

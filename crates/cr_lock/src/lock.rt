@@ -305,9 +305,9 @@ impl<T: Stands> HistoryLock<T> {
 
     /// The value, when all passes are one again.
     ///
-    /// It stands for what the pass has seen. Every entry since `new` is in exactly one group of the pass's turns, and the
-    /// groups in order are what came behind the first list. The count of faults rose by at least the number of marks,
-    /// unless it stands at its last value; it rose by exactly what it rose in the turns.
+    /// It stands for what the pass has seen. The groups of the pass's turns, in their order, are what came behind the first list, each
+    /// entry once. The count of faults rose by exactly what it rose in the turns, and so by no less than there are marks,
+    /// unless it ends at its last value.
     pub fn close(self, pass: Pass<T>) -> T
         requires own { pass.lock ≡ self.lock }
         requires whole { pass.share ≡ 64 }

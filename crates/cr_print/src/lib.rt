@@ -1,7 +1,7 @@
 //! The bytes of every answer.
 //!
-//! An answer is appended to a buffer whole or not at all; of a paper's content the head alone is, and the bytes are lent
-//! behind it. Refusals and receipts are written into room that was made before, so that writing them can't fail;
+//! An answer is appended to a buffer whole or not at all; of a paper's content and of a report the head alone is, and the
+//! bytes are lent behind it. Refusals and receipts are written into room that was made before, so that writing them can't fail;
 //! `print_reply` makes its own room.
 //!
 //! One writer of JSON serves all contents, objects and lists of any kind: each of its calls says what

@@ -32,7 +32,8 @@ pub enum Refused {
     BadBody,
     /// The search spells nothing that can be searched for (400); the answer tells where.
     BadQuery {
-        /// The byte at which what is wrong begins.
+        /// The last place in the search's text, in bytes from 0 to 1,024, up to which that can be the beginning of a search; 0 where
+        /// there is no text.
         place: usize,
     },
     /// A rule of the conference is broken.

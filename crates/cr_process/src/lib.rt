@@ -1,4 +1,5 @@
-//! The process: the top call over the words of the command line, standard input and standard output, and files as stores.
+//! The process: the top call over the words of the command line, standard input and standard output, files as
+//! stores, and sockets.
 //!
 //! A program's `main` hands its runtime to `run`, once as what it is and once as what may wait and start threads, and has nothing else in it.
 #![tactic(auto)]
@@ -85,6 +86,7 @@ pub fn run<R: Threads + Wait + Sync>(rt: &HostRuntime, handle: &R) -> ExitCode {
     let mut shelf = SqliteShelf::new(rt);
     let mut gates = TcpGates::new(rt);
     let Ok(words) = words(rt) else {
+        let _ = tell(rt, &[], Exit::OutOfMemory, &shelf, &gates);
         return ExitCode::from(Exit::OutOfMemory.code());
     };
     let exit = top(

@@ -108,8 +108,8 @@ impl Place {
         }
     }
 
-    /// The value of the field `Allow` here: the path's methods in alphabetical order, with a comma and a space between
-    /// them (RFC 9110, section 10.2.1). At most 32 bytes.
+    /// The value of the field `Allow` here: the path's methods, sorted as words are, `, ` between each two
+    /// (RFC 9110, section 10.2.1). At most 32 bytes.
     pub fn allow(self) -> &'static str
         ensures methods { result.now ≡ allow_text self }
         ensures short { length result.now ≤ 32 }

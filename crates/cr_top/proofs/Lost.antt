@@ -1,4 +1,4 @@
--- As many wishes at most were lost as turns are marked, so as the keeper's count rose by, its last value aside.
+-- No more wishes were lost than turns are marked, so no more than the keeper's count rose by, unless that ends at its last value.
 use Rattle.std.proofs.Common.{◌≡◌, ◌∙◌, ℕ, ◌+◌, ◌-◌, ◌^◌, ◌<◌, ◌≤◌, ◌⊎◌, inl, inr, ⊎_elim, List, [], ◌∷◌, ◌++◌, length, drop, Option, Some, None, ap}
 use Rattle.std.proofs.Common.{if◌then◌else◌, arith}
 use Rattle.cr_base.specs.declared.entry.Stamped.{Stamped}

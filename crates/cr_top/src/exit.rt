@@ -9,7 +9,7 @@ use cr_workers::Worked;
 #[derive(Clone, Copy, Debug, PartialEq, Eq)]
 pub enum Exit {
     /// The job was done: the connection's stream ended between requests, or the server closed it; each door gave its
-    /// share of connections; or the view was printed.
+    /// share of connections; or the view, or the drill's summary, was printed.
     Done,
     /// The connection's stream ended inside a request.
     Cut,

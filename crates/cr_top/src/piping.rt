@@ -17,8 +17,8 @@ use std::sync::Wait;
 ///
 /// It has the only pass of the lock that it makes round the book, so it waits for nobody.
 ///
-/// `ReadFault` and `WriteFault` come only where the count of `input`,
-/// of `out` rose, or stands at its last value, and no other ending lets a count rise. `OutOfMemory` comes
+/// `ReadFault` comes only where the count of `input` has risen, or stands at its last value, `WriteFault` so for `out`, and no other
+/// ending lets a count rise. `OutOfMemory` comes
 /// for lack of memory alone, and behind a wish that was read only where it wanted some: see
 /// `serve_connection`.
 pub fn pipe<R: Wait, K: Keeper, I: Source, O: Sink>(

@@ -118,7 +118,7 @@ pub fn top<R: Threads + Wait + Sync, I: Source, O: Sink, S: Shelf, G: Gates>(
     gates: &mut G,
 ) -> Exit
     // What the job that the words name did: one connection, or many, whose bytes are the answers that its wishes are told, each
-    // on the caller's view of the one history at its turn's place; or a user's view.
+    // on the caller's view of the one history at its turn's place; or a user's view; or a drill's summary.
     ensures does { let around = around_of I.faults O.taken O.faults S.rows S.faults G.faults G.logs in
         (job : NamedJob) → AreFor words.now job
         → Does S.Keeper.rows I.left I.read_gives (streams_of G.Door.In.left G.Door.In.read_gives G.Door.In.faults G.Door.Out.taken G.Door.Out.faults)

@@ -30,7 +30,7 @@ wants_login what = option_map_or ask_wants_login (ask_of what) false
 abbrev pub reads_credentials : What → Bool
 reads_credentials what = option_map_or ask_reads_credentials (ask_of what) false
 
--- the user of the name told whose registration has the digest of the secret told; else nobody
+-- who has the name that is told, and registered with the digest of the secret that is told; nobody where there is no such user
 abbrev pub user_told : Option Credentials → History → Option ℕ
 user_told None H = None
 user_told (Some c) H = caller_of c.name c.digest H

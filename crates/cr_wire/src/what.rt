@@ -16,8 +16,8 @@ pub enum What {
     BadBody(Ask),
     /// The query string tells no search: answered `bad_query`.
     BadQuery {
-        /// The last place in the search's text, in bytes, up to which that can be the beginning of a search; 0 where there
-        /// is no text.
+        /// The last place in the search's text, in bytes from 0 to 1,024, up to which that can be the beginning of a search; 0 where
+        /// there is no text.
         place: usize,
     },
     /// To change something.
