@@ -39,6 +39,8 @@ SOON = 20
 DEADLINE = 60
 # A body's most bytes.
 LARGEST = 4_194_304
+# The number of a connection's last request.
+LAST_REQUEST = 1_048_576
 # As many descriptors as serve a store and some of the workers.
 FEW = 40
 USAGE = re.compile(rb"usage: confd pipe\|serve\|view(\|drill)?\n")
@@ -233,6 +235,15 @@ def upload(who, paper, content):
         f"Content-Length: {len(content)}\r\n\r\n"
     )
     return head.encode() + content
+
+
+def last_request(program, folder):
+    """Request number 1,048,576 of a connection is its last: its answer closes, and nothing behind it is answered."""
+    out, status, _ = program.run(["pipe"], b"GET / HTTP/1.1\r\nHost: c\r\n\r\n" * (LAST_REQUEST + 1))
+    heads = out.split(b"HTTP/1.1 404 Not Found\r\n")
+    expect((status, len(heads) - 1) == (0, LAST_REQUEST), f"status {status}, {len(heads) - 1} answers")
+    closing = [number for number, head in enumerate(heads) if b"Connection: close" in head]
+    expect(closing == [LAST_REQUEST], f"answers {closing[:3]} close, due is the last one alone")
 
 
 def contents(program, folder):
@@ -454,11 +465,12 @@ def killed(program, folder):
 
 
 def deadlines(program, folder):
-    """A request has 60 seconds to come whole and an answer 60 to go, whatever its pieces; a client in time stays."""
-    with serving(program, os.path.join(folder, "store"), workers=8) as server:
+    """Whoever takes more than a minute over a request, or over taking an answer, in whatever pieces, is let go; others stay."""
+    with serving(program, os.path.join(folder, "store"), workers=10) as server:
         with Client(server) as client:
             client.send(opening() + submit("alice", "Large"))
             expect([client.answer()[0] for _ in range(3)] == [201, 200, 201], "opening")
+            expect(client.ask(upload("alice", 1, os.urandom(LARGEST)))[0] == 200, "upload")
 
         def lasts(send):
             """For how many seconds the server keeps a connection on which this is sent."""
@@ -501,14 +513,41 @@ def deadlines(program, folder):
                     expect(client.ask(request("GET", "/phase"))[0] == 200, "a client in time was ended")
             return None
 
-        acts = (lambda: lasts(silent), lambda: lasts(dripping), lambda: lasts(after_one), unread, in_time)
+        def unread_contents():
+            """Asks for more contents than the system holds, and reads none before the deadline; how many of them come whole."""
+            with Client(server, 2 * DEADLINE) as client:
+                client.send(request("GET", "/papers/1/content", "alice") * 16)
+                time.sleep(DEADLINE + 10)
+                with contextlib.suppress(ConnectionResetError):
+                    while client.more():
+                        pass
+                return len(client.rest) // LARGEST
+
+        def contents_in_time():
+            """Asks for four contents at once, and takes 35 seconds over each: every answer has a minute of its own."""
+            with Client(server) as client:
+                client.send(request("GET", "/papers/1/content", "alice") * 4)
+                for _ in range(4 * 35):
+                    time.sleep(1)
+                    wanted = min(len(client.rest) + LARGEST // 35 + 1024, 4 * LARGEST)
+                    while len(client.rest) < wanted and client.more():
+                        pass
+                for _ in range(4):
+                    code, _, content = client.answer()
+                    expect((code, len(content)) == (200, LARGEST), f"a content taken in time: {code}, {len(content)} bytes")
+
+        acts = (
+            lambda: lasts(silent), lambda: lasts(dripping), lambda: lasts(after_one), unread,
+            unread_contents, in_time, contents_in_time,
+        )  # fmt: skip
         spans = at_once(len(acts), lambda number: acts[number]())
         for name, span, due in zip(("silent", "dripping", "after one", "unread"), spans, (60, 60, 90, 60)):
             expect(due - 2 < span < due + 10, f"{name}: ended after {span:.1f} s, due after {due}")
+        expect(spans[4] < 16, "contents that nobody took for a minute went on coming")
 
 
 CHECKS = [
-    one_client, library, closing, drips, too_large, contents, many_at_once, ends_by_itself, few_descriptors,
+    one_client, library, closing, drips, too_large, last_request, contents, many_at_once, ends_by_itself, few_descriptors,
     refused_addresses, refused_words, held, killed,
 ]  # fmt: skip
 
