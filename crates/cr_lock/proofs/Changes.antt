@@ -1,13 +1,13 @@
 -- Each step keeps the rule of the lock.
-use Rattle.std.proofs.Common.{◌≡◌, ◌≢◌, ◌⊎◌, inl, inr, ⊎_elim, ℕ, zero, suc, ◌+◌, ◌-◌, ◌*◌, ◌%◌, ◌^◌, ◌<◌, ◌≤◌, Option, Some, List, [], ◌∷◌, length, get_or}
+use Rattle.std.proofs.Common.{◌≡◌, ◌≢◌, ◌⊎◌, inl, inr, ⊎_elim, ℕ, zero, suc, ◌+◌, ◌*◌, ◌%◌, ◌^◌, ◌<◌, ◌≤◌, Option, Some, List, [], ◌∷◌, length, get_or}
 use Rattle.std.proofs.Common.{set, if◌then◌else◌, refl, ap, sym, ◌∙◌, subst, arith, mod-eq_of_lt, mul-add, mul-one, add-mul, mul-le-mul_left}
 use mathlib.Core.Logic.{dite}
 use mathlib.Core.List.{IsPrefix}
 use mathlib.Core.Option.{some, none, some-injective, some-ne-none}
 use native.Mathlib.Decide.{dec_le}
 use lib.ListN.{get_elem?}
-use Rattle.atomic_table.specs.Table.{State, Me, step, keeps, opening, Allows}
-use Rattle.atomic_table.proofs.Lists.{at_set, set_again}
+use Rattle.atomic_table.specs.Table.{State, step, keeps, opening, Allows}
+use Rattle.atomic_table.proofs.Lists.{at_set}
 use Rattle.cr_lock.specs.declared.pass_state.Turn.{Turn}
 use Rattle.cr_lock.specs.declared.pass_state.Activity.{Activity}
 use Rattle.cr_lock.specs.declared.pass_state.Activity.TheVariants.{Idle, Waiting, Holding, Joined}
@@ -16,7 +16,7 @@ use Rattle.cr_lock.specs.Counts.{last_count, within, total}
 use Rattle.cr_lock.specs.Turns.{groups_with, marks}
 use Rattle.cr_lock.specs.PassStates.{first_state, spent_state}
 use Rattle.cr_lock.specs.Rule.{holds_ticket, has_value, FitsActivity, FitsLock, Risen, Home, Away, OneHistory}
-use Rattle.cr_lock.specs.Steps.{Drew, Rang}
+use Rattle.cr_lock.specs.Steps.{Drew}
 use Rattle.cr_lock.proofs.Prefixes.{prefix_self, prefix_trans}
 use Rattle.cr_lock.proofs.Sums.{total_set, within_join, within_out}
 
@@ -41,12 +41,6 @@ fits_on start log more serving next risen risen' v p on f = record {
   activity = fits_activity start log more serving next risen risen' v v.activity p on f.activity;
   alive = f.alive;
 }
-
-set_behind : (a b c : ℕ) (ws : List ℕ) (i n : ℕ) → 3 ≤ i → set (a ∷ b ∷ c ∷ ws) i n ≡ a ∷ b ∷ c ∷ set ws (i - 3) n
-set_behind a b c ws zero n behind = absurd (omega arith)
-set_behind a b c ws (suc zero) n behind = absurd (omega arith)
-set_behind a b c ws (suc (suc zero)) n behind = absurd (omega arith)
-set_behind a b c ws (suc (suc (suc i))) n behind = ap (λ (k : ℕ). a ∷ b ∷ c ∷ set ws k n) (let e : i ≡ suc (suc (suc i)) - 3 = omega arith in e)
 
 -- the turns of few passes are few
 products : {E : Type 0} (most : ℕ) (vs : List (PassState E)) → ((j : ℕ) (u : PassState E) → get_elem? vs j ≡ some u → u.turns ≤ most)
@@ -115,7 +109,7 @@ module _ {T E : Type 0} (list : T → List E) (faults : T → ℕ) (first : T) w
   -- one state changes, and the rule is kept
   pub change : (s : St) (r : Rule s) (id : ℕ) (v w : V) → get_elem? s.views id ≡ some v
       → (log : List E) (ticket serving : ℕ) (ws : List ℕ) (homes : List (mathlib.Core.Option.Option (Option T)))
-      → ws ≡ ticket ∷ serving ∷ length log ∷ r.bells
+      → ws ≡ ticket ∷ serving ∷ length log ∷ []
       → serving ≤ ticket
       → IsPrefix r.log log
       → ((t : ℕ) → within r.serving r.ticket t + holding t w ≡ within serving ticket t + holding t v)
@@ -132,7 +126,6 @@ module _ {T E : Type 0} (list : T → List E) (faults : T → ℕ) (first : T) w
     log = log;
     ticket = ticket;
     serving = serving;
-    bells = r.bells;
     words = words;
     order = order;
     begins = prefix_trans (list first) r.log log r.begins grows;
@@ -162,12 +155,11 @@ module _ {T E : Type 0} (list : T → List E) (faults : T → ℕ) (first : T) w
   })
   opens_each (suc j) u e = absurd (some-ne-none u (sym e))
 
-  pub opens : (ws bells : List ℕ) → ws ≡ 0 ∷ 0 ∷ length (list first) ∷ bells → Rule (opening ws (Some first ∷ []) (first_state (list first)))
-  opens ws bells e = record {
+  pub opens : (ws : List ℕ) → ws ≡ 0 ∷ 0 ∷ length (list first) ∷ [] → Rule (opening ws (Some first ∷ []) (first_state (list first)))
+  opens ws e = record {
     log = list first;
     ticket = 0;
     serving = 0;
-    bells = bells;
     words = e;
     order = omega arith;
     begins = prefix_self (list first);
@@ -187,35 +179,6 @@ module _ {T E : Type 0} (list : T → List E) (faults : T → ℕ) (first : T) w
   value_same log s ws vs e m h = ⊎_elim (λ (a : Home list faults first log s). inl (a.0, a.1, a.2, risen_same s.views vs (faults a.0) m a.3, e ∙ a.4))
       (λ (a : Away list faults first s). inr (a.0, e ∙ a.1)) h
 
-  -- a word behind the first three may become anything
-  bell_keeps : (s : St) (r : Rule s) (i n : ℕ) → 3 ≤ i → Rule record { words = set s.words i n; homes = s.homes; views = s.views }
-  bell_keeps s r i n behind = record {
-    log = r.log;
-    ticket = r.ticket;
-    serving = r.serving;
-    bells = set r.bells (i - 3) n;
-    words = ap (λ (ws : List ℕ). set ws i n) r.words ∙ set_behind r.ticket r.serving (length r.log) r.bells i n behind;
-    order = r.order;
-    begins = r.begins;
-    tickets = r.tickets;
-    shares = r.shares;
-    drawn = r.drawn;
-    groups = r.groups;
-    each = r.each;
-    value = r.value;
-  }
-
-  -- a ring keeps the rule, whatever the pass is doing
-  pub rings : (slots id : ℕ) (me : Me (Option T) V) (i : ℕ) → 3 ≤ i → Allows Rule slots id me i (λ n. (n + 1) % 2 ^ 64) (Rang (step slots i 1 0 none) me)
-  rings slots id me i behind s r _ at _ = (
-    me.0,
-    keeps,
-    tt,
-    subst (λ (vs : List V). Rule record { words = set s.words i ((get_or s.words i 0 + 1) % 2 ^ 64); homes = s.homes; views = vs })
-        (sym (set_again s.views id me.0 at)) (bell_keeps s r i ((get_or s.words i 0 + 1) % 2 ^ 64) behind),
-    refl,
-  )
-
   draw_keeps : (s : St) (r : Rule s) (id : ℕ) (v : V) (m : ℕ) → v.activity ≡ Idle → 0 < v.share → v.turns < 1099511627776 → get_elem? s.views id ≡ some v
       → m ≡ r.ticket
       → Rule record {
@@ -233,7 +196,7 @@ module _ {T E : Type 0} (list : T → List E) (faults : T → ℕ) (first : T) w
       let same' : total has (set s.views id w) ≡ total has s.views =
       (let c : total has (set s.views id w) + has v ≡ total has s.views + has w = total_set has s.views id v w at in omega arith) in
       change s r id v w at r.log (r.ticket + 1) r.serving (set s.words 0 ((m + 1) % 2 ^ 64)) s.homes
-      (ap (λ (ws : List ℕ). set ws 0 ((m + 1) % 2 ^ 64)) r.words ∙ ap (λ (z : ℕ). z ∷ r.serving ∷ length r.log ∷ r.bells) k)
+      (ap (λ (ws : List ℕ). set ws 0 ((m + 1) % 2 ^ 64)) r.words ∙ ap (λ (z : ℕ). z ∷ r.serving ∷ length r.log ∷ []) k)
       (let o = r.order in omega arith)
       (prefix_self r.log)
       (λ t. (let a : within r.serving r.ticket t + within r.ticket (r.ticket + 1) t ≡ within r.serving (r.ticket + 1) t =

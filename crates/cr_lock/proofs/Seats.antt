@@ -107,7 +107,6 @@ module _ {T E : Type 0} (list : T → List E) (faults : T → ℕ) (first : T) w
         log = r.log;
         ticket = r.ticket;
         serving = r.serving;
-        bells = r.bells;
         words = r.words;
         order = r.order;
         begins = r.begins;
@@ -183,7 +182,6 @@ module _ {T E : Type 0} (list : T → List E) (faults : T → ℕ) (first : T) w
         log = r.log;
         ticket = r.ticket;
         serving = r.serving;
-        bells = r.bells;
         words = r.words;
         order = r.order;
         begins = r.begins;

@@ -223,7 +223,7 @@ module _ {T E : Type 0} (list : T → List E) (faults : T → ℕ) (first : T) w
       total_set (λ (u : V). has_value u.activity) s.views id v w at in omega arith) in
       let alive = alive_share v (λ idle. absurd (cc (idle, has))) f.alive in
       change list faults first s r id v w at (list x) r.ticket r.serving (set s.words 2 ((get_or s.words 2 0 + k) % 2 ^ 64)) s.homes
-      (ap (λ (ws : List ℕ). set ws 2 ((get_or s.words 2 0 + k) % 2 ^ 64)) r.words ∙ ap (λ (z : ℕ). r.ticket ∷ r.serving ∷ z ∷ r.bells) now)
+      (ap (λ (ws : List ℕ). set ws 2 ((get_or s.words 2 0 + k) % 2 ^ 64)) r.words ∙ ap (λ (z : ℕ). r.ticket ∷ r.serving ∷ z ∷ []) now)
       r.order
       grows
       (λ j. (let a : holds_ticket j v.activity ≡ within t (t + 1) j = ap (holds_ticket j) has in omega arith))
@@ -287,7 +287,7 @@ module _ {T E : Type 0} (list : T → List E) (faults : T → ℕ) (first : T) w
       (let b = below.1 in let q : (get_or s.words 1 0 + 1) % 2 ^ 64 ≡ get_or s.words 1 0 + 1 = mod-eq_of_lt (omega arith) in
       q ∙ ap (λ (z : ℕ). z + 1) here) in
       change list faults first s r id v w at r.log r.ticket (r.serving + 1) (set s.words 1 ((get_or s.words 1 0 + 1) % 2 ^ 64)) (set s.homes 0 (some (Some x)))
-      (ap (λ (ws : List ℕ). set ws 1 ((get_or s.words 1 0 + 1) % 2 ^ 64)) r.words ∙ ap (λ (z : ℕ). r.ticket ∷ z ∷ length r.log ∷ r.bells) now)
+      (ap (λ (ws : List ℕ). set ws 1 ((get_or s.words 1 0 + 1) % 2 ^ 64)) r.words ∙ ap (λ (z : ℕ). r.ticket ∷ z ∷ length r.log ∷ []) now)
       (let b = below.1 in omega arith)
       (prefix_self r.log)
       (λ j. (let a : holds_ticket j v.activity ≡ within t (t + 1) j = ap (holds_ticket j) has in
@@ -366,13 +366,13 @@ module _ {T E : Type 0} (list : T → List E) (faults : T → ℕ) (first : T) w
   goes_on_from slots id me v t x y is = goes_on slots id me t (faults y) y (ap (λ (m : Me (Option T) V). m.0.activity) is)
       (ap (λ (m : Me (Option T) V). m.1) is) (sym (ap (λ (m : Me (Option T) V). m.0.seen) is)) refl
 
-  -- after next the pass rests, and a ring leaves it as it is
-  pub went_from : (me next end : Me (Option T) V) (v : V) (t slots found : ℕ) (x y : T) → v.activity ≡ Idle
+  -- after next the pass rests
+  pub went_from : (me end : Me (Option T) V) (v : V) (t slots found : ℕ) (x y : T) → v.activity ≡ Idle
       → me ≡ (record (after_turn v (list x) (list y) (faults x) (faults y)) { activity = Holding t (faults y) }, (0, Some y) ∷ [])
-      → WentOn (step slots 1 1 0 none) me found next → end ≡ next
+      → WentOn (step slots 1 1 0 none) me found end
       → (end ≡ (after_turn v (list x) (list y) (faults x) (faults y), [])) × Every (StandsIn end.0.seen) end.0.mine
-  went_from me next end v t slots found x y idle is told rang = (
-    rang ∙ (told.0 ∙ (ap (λ (m : Me (Option T) V). (record m.0 { activity = Idle }, [])) is
-        ∙ ap (λ (r : Activity E). (record (after_turn v (list x) (list y) (faults x) (faults y)) { activity = r }, [])) (sym idle))),
-    subst (λ (m : Me (Option T) V). Every (StandsIn m.0.seen) m.0.mine) (sym (rang ∙ told.0)) told.1,
+  went_from me end v t slots found x y idle is told = (
+    told.0 ∙ (ap (λ (m : Me (Option T) V). (record m.0 { activity = Idle }, [])) is
+        ∙ ap (λ (r : Activity E). (record (after_turn v (list x) (list y) (faults x) (faults y)) { activity = r }, [])) (sym idle)),
+    subst (λ (m : Me (Option T) V). Every (StandsIn m.0.seen) m.0.mine) (sym told.0) told.1,
   )

@@ -1,5 +1,4 @@
--- The rule of the table. Its first words are the next ticket to be drawn, the ticket that is served and the length of the history; of those behind them it
--- says nothing. Its slot has the value.
+-- The rule of the table. Its words are the next ticket to be drawn, the ticket that is served and the length of the history. Its slot has the value.
 use Rattle.std.specs.Prelude.{◌≡◌, ℕ, ◌+◌, ◌*◌, ◌<◌, ◌≤◌, ◌⊎◌, List, [], ◌∷◌, length, Option, Some}
 use mathlib.Core.Option.{some, none}
 use mathlib.Core.List.{IsPrefix}
@@ -72,9 +71,7 @@ module _ {T E : Type 0} (list : T → List E) (faults : T → ℕ) (first : T) w
     pub log : List E
     pub ticket : ℕ
     pub serving : ℕ
-    -- the words to sleep on, which may be anything
-    pub bells : List ℕ
-    pub words : s.words ≡ ticket ∷ serving ∷ length log ∷ bells
+    pub words : s.words ≡ ticket ∷ serving ∷ length log ∷ []
     pub order : serving ≤ ticket
     -- the history begins with what was there at first
     pub begins : IsPrefix (list first) log

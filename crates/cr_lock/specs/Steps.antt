@@ -49,10 +49,6 @@ module _ {T E : Type 0} where
   abbrev pub WentOn : Step (Option T) → Holder T E → ℕ → Holder T E → Type 0
   WentOn st m r m' = (m' ≡ (record m.0 { activity = Idle }, [])) × Every (StandsIn m.0.seen) m.0.mine
 
-  -- ring: nothing that it knows changes
-  abbrev pub Rang : Step (Option T) → Holder T E → ℕ → Holder T E → Type 0
-  Rang st m r m' = m' ≡ m
-
   -- look after a join: it rests, and learns what the two had in common
   abbrev pub LookedAfterJoin : Step (Option T) → Holder T E → ℕ → Holder T E → Type 0
   LookedAfterJoin st m r m' = (a b : List E) (t u : List (Turn E)) → m.0.activity ≡ Joined a b t u

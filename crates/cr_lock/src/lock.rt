@@ -11,12 +11,13 @@ use crate::pass::Pass;
 use crate::pass_state::PassState;
 use crate::rule::HistoryRule;
 use crate::stands::Stands;
-use crate::steps::{DrawTicket, Halve, LookAfterJoin, LookForTurn, Next, Note, Ring, Unite};
+use crate::steps::{DrawTicket, Halve, LookAfterJoin, LookForTurn, Next, Note, Unite};
 use atomic_table::{Refused, Seat, Shared, Table};
 use std::alloc::{AllocError, AllocFailed, Global};
 use std::marker::Model;
 use std::snapshot::Snapshot;
-use std::sync::Wait;
+use std::sync::{Mutex, Wait};
+use std::thread;
 
 /// The word with the next ticket to be drawn.
 const TICKET: usize = 0;
@@ -26,12 +27,6 @@ const SERVING: usize = 1;
 
 /// The word with the length of the history.
 const COUNT: usize = 2;
-
-/// The first of the bells, the words that waiters sleep on.
-const FIRST_BELL: usize = 3;
-
-/// How many bells there are: as many as there can be passes, so of the tickets that wait no two share one.
-const BELLS: usize = 64;
 
 /// The slot of the value.
 const VALUE: usize = 0;
@@ -49,6 +44,8 @@ type Board<T> = Shared<Option<T>, PassState<<T as Stands>::Entry>, Snapshot<T>, 
 #[derive(Drop)]
 pub struct HistoryLock<T: Stands> {
     table: Table<Option<T>, PassState<T::Entry>, Snapshot<T>, HistoryRule<T>, Global>,
+    // Where passes wait. Who has it draws a ticket and makes the turn, so each ticket is served as soon as it is drawn.
+    gate: Mutex<()>,
 }
 
 impl<T: Stands> Model for HistoryLock<T> {
@@ -59,7 +56,7 @@ impl<T: Stands> Model for HistoryLock<T> {
 
     ghost view = { λ l. record { lock = l.table.shared.table_id; first = l.table.shared.key.value } };
 
-    ghost invariant = { λ l. (l.table.shared.table_id.words ≡ 67) × (l.table.shared.table_id.slots ≡ 1) };
+    ghost invariant = { λ l. (l.table.shared.table_id.words ≡ 3) × (l.table.shared.table_id.slots ≡ 1) };
 }
 
 /// Why a pass was not split.
@@ -86,20 +83,15 @@ fn one_slot<T>(alloc: Global, value: T) -> Result<Vec<Option<T>, Global>, T>
     }
 }
 
-/// The word that the pass with this ticket sleeps on.
-fn bell_of(ticket: u64) -> usize
-    ensures { (3 ≤ result) × (result < 67) }
-{
-    FIRST_BELL + (ticket % BELLS as u64) as usize
-}
-
-/// Draws a ticket, waits until it is served, and takes the value. The pass has then seen what it stands for.
+/// Draws a ticket, looks until it is served, and takes the value. The pass has then seen what it stands for.
+///
+/// Behind the gate the first look finds the ticket served. The proof knows nothing of the gate, so it looks again.
 fn wait_and_take<T: Stands, R: Wait>(
     rt: &R,
     shared: &Board<T>,
     seat: &mut Seat<Option<T>, PassState<T::Entry>>,
 ) -> T
-    requires own { (seat.old.table_id ≡ shared.now.table_id) × (seat.old.me.1 ≡ []) × (shared.now.table_id.words ≡ 67) }
+    requires own { (seat.old.table_id ≡ shared.now.table_id) × (seat.old.me.1 ≡ []) × (shared.now.table_id.words ≡ 3) }
     requires rests { ((state seat.old).activity ≡ Idle) × (0 < (state seat.old).share) × ((state seat.old).turns < 2 ^ 40) }
     ensures seat { (seat.new.table_id ≡ seat.old.table_id) × (seat.new.me.1 ≡ (0, None) ∷ []) }
     ensures state { (t : ℕ) × (state seat.new ≡ record (state seat.old) {
@@ -110,49 +102,14 @@ fn wait_and_take<T: Stands, R: Wait>(
     ensures seen { IsPrefix (state seat.old).seen (T.list result) }
 {
     let ticket = shared.fetch_add::<DrawTicket>(seat, TICKET, 1);
-    let bell = bell_of(ticket);
     for _ in rt.forever() {
-        // The bell is read before the look, so no ring in between is missed; see `ring_next`.
-        let rung = shared.peek(bell);
         let serving = shared.load::<LookForTurn<T>>(seat, SERVING);
         if serving == ticket {
             return shared.exchange(seat, VALUE, None).unwrap();
         }
-        // The sleep compares the low half of the word.
-        shared.park(rt, bell, (rung % (1 << 32)) as u32);
+        thread::yield_now();
     }
     unreachable!()
-}
-
-/// Wakes the pass with the ticket behind the one served last, where that was drawn.
-///
-/// No wake-up is lost, since a waiter reads its bell, then looks at `serving`, then sleeps if the bell is as it was read,
-/// and the pass before it advances `serving`, then looks at the tickets, then rings the bell, then wakes:
-///
-/// - Where the look finds the waiter's ticket served, it doesn't sleep.
-/// - Where it doesn't, `serving` advances later, and so the bell rings after it was read. If it rings before the
-///   waiter falls asleep, the sleep finds another number and returns at once; if after, the wake reaches the waiter.
-/// - Who draws the ticket only after it was found undrawn looks after `serving` has advanced, so it doesn't sleep. Thus a
-///   turn that nobody waits behind makes no system call.
-///
-/// Passes are at most 64, as are the tickets drawn and not served, so only one pass sleeps on a bell, and waking one wakes
-/// it. A pass late with its ring for an earlier ticket wakes whoever has the bell by then: that one looks again, and
-/// sleeps again. The sleep compares half the word, which is enough: a bell rings at most 64 times while one pass waits.
-fn ring_next<T: Stands>(
-    shared: &Board<T>,
-    seat: &mut Seat<Option<T>, PassState<T::Entry>>,
-    served: u64,
-)
-    requires { (seat.old.table_id ≡ shared.now.table_id) × (shared.now.table_id.words ≡ 67) }
-    ensures { (seat.new.table_id ≡ seat.old.table_id) × (seat.new.me ≡ seat.old.me) }
-{
-    let next = served.wrapping_add(1);
-    if shared.peek(TICKET) == next {
-        return;
-    }
-    let bell = bell_of(next);
-    shared.fetch_add::<Ring>(seat, bell, 1);
-    shared.wake_one(bell);
 }
 
 impl<T: Stands> HistoryLock<T> {
@@ -164,15 +121,17 @@ impl<T: Stands> HistoryLock<T> {
             (λ refused. refused.1 ≡ value) }
     {
         let about = Snapshot::of(&value);
-        let mut words = [0; FIRST_BELL + BELLS];
-        words[COUNT] = value.entries();
+        let words = [0, 0, value.entries()];
         let slots = match one_slot(alloc, value) {
             Ok(slots) => slots,
             Err(value) => return Err((AllocError, value)),
         };
         match Table::new(alloc, &words, slots, &about) {
             Ok((table, seat)) => Ok((
-                HistoryLock { table },
+                HistoryLock {
+                    table,
+                    gate: Mutex::new(()),
+                },
                 Pass {
                     seat,
                     share: WHOLE,
@@ -205,8 +164,8 @@ impl<T: Stands> HistoryLock<T> {
     ///
     /// A pass makes fewer than 2^40 turns, so all passes together draw fewer tickets than a word can count.
     ///
-    /// A turn that nobody else waits for costs six atomic steps and no system call. Otherwise it costs one step more, and
-    /// wakes the next one alone.
+    /// A turn that nobody else waits for costs six atomic steps, two of them the gate's, and no system call. Where others sleep at
+    /// the gate, it wakes one of them at its end.
     pub fn turn<A, F: FnOnce(&mut T) -> A, R: Wait>(&self, rt: &R, pass: &mut Pass<T>, act: F) -> A
         requires own { pass.old.lock ≡ self.now.lock }
         requires few { pass.old.turns < 2 ^ 40 }
@@ -226,6 +185,7 @@ impl<T: Stands> HistoryLock<T> {
             share: _,
             turns,
         } = pass;
+        let gate = self.gate.lock(rt);
         let mut value = wait_and_take(rt, shared, seat);
         let before = value.entries();
         let answer = act(&mut value);
@@ -233,8 +193,8 @@ impl<T: Stands> HistoryLock<T> {
         let empty = shared.exchange(seat, VALUE, Some(value));
         let None = empty else { unreachable!() };
         shared.fetch_add::<Note<T>>(seat, COUNT, added);
-        let served = shared.fetch_add::<Next>(seat, SERVING, 1);
-        ring_next(shared, seat, served);
+        shared.fetch_add::<Next>(seat, SERVING, 1);
+        drop(gate);
         *turns += 1;
         answer
     }
@@ -313,7 +273,7 @@ impl<T: Stands> HistoryLock<T> {
         requires whole { pass.share ≡ 64 }
         ensures { Closes T.list T.faults self.first pass result }
     {
-        let HistoryLock { table } = self;
+        let HistoryLock { table, gate: _ } = self;
         let Pass { seat, .. } = pass;
         let mut closed = table.close_with(seat);
         let value = closed.take(VALUE).unwrap();

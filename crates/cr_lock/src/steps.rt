@@ -1,6 +1,6 @@
 //! The kinds of step on the lock's table. Each says what it tells the pass that makes it.
 ghost use Rattle.cr_lock.specs.PassStates.{left_half, right_half, joining, spent_state};
-ghost use Rattle.cr_lock.specs.Steps.{Drew, Looked, Noted, WentOn, Rang, LookedAfterJoin};
+ghost use Rattle.cr_lock.specs.Steps.{Drew, Looked, Noted, WentOn, LookedAfterJoin};
 
 use crate::pass_state::PassState;
 use crate::stands::Stands;
@@ -37,13 +37,6 @@ pub(crate) struct Next;
 
 impl<T, E> Play<Option<T>, PassState<E>> for Next {
     ghost then = { WentOn };
-}
-
-/// Rings a bell: `fetch_add` on the word that one waiter sleeps on. The rule doesn't speak of such words.
-pub(crate) struct Ring;
-
-impl<T, E> Play<Option<T>, PassState<E>> for Ring {
-    ghost then = { Rang };
 }
 
 /// Looks after a join: a load, by which the pass learns what the two had in common.

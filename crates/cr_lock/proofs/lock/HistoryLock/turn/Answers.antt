@@ -27,8 +27,8 @@ fetch_add-requires g c =
           is e.0 e.1 c.entries-before.ensures c.entries.ensures c.entries.type_inv,
     )
 
-pub fetch_add-served-requires : goal.fetch_add-served-requires
-fetch_add-served-requires g c =
+pub fetch_add-requires-2 : goal.fetch_add-requires-2
+fetch_add-requires-2 g c =
     let v = c.pass.inside.seat.me.0 in let t = c.wait_and_take-value.ensures.state.0 in let x = c.wait_and_take-value.result in let y = c.act-answer.new.arg2 in
     let is = put_back g.T.Stands.list g.T.Stands.faults c.self.inside.table.shared.key.value _ _ _ c.exchange-empty.new.seat.me y
     c.wait_and_take-value.ensures.state.1 c.wait_and_take-value.ensures.seat.1 c.exchange-empty.ensures.3 in
@@ -44,8 +44,8 @@ invariant_of-pass g c =
     c.wait_and_take-value.ensures.state.1 c.wait_and_take-value.ensures.seat.1 c.exchange-empty.ensures.3 in
     let next = noted_from g.T.Stands.list g.T.Stands.faults c.self.inside.table.shared.key.value c.exchange-empty.new.seat.me c.fetch_add.new.seat.me v t 0 0 0
     x y is c.fetch_add.ensures.2 in
-    let last = went_from g.T.Stands.list g.T.Stands.faults c.self.inside.table.shared.key.value c.fetch_add.new.seat.me c.fetch_add-served.new.seat.me
-    c.ring_next.new.seat.me v t 0 0 x y r.1 next c.fetch_add-served.ensures.2 c.ring_next.ensures.1 in
+    let last = went_from g.T.Stands.list g.T.Stands.faults c.self.inside.table.shared.key.value c.fetch_add.new.seat.me c.fetch_add-2.new.seat.me
+    v t 0 0 x y r.1 next c.fetch_add-2.ensures.2 in
     (ap (λ m. m.1) last.0, ap (λ m. m.0.activity) last.0 ∙ r.1, ap (λ m. m.0.share) last.0 ∙ r.2, ap (λ m. m.0.turns) last.0 ∙ ap (λ n. n + 1) r.3, r.4, last.1)
 
 pub returns-clause-turn : goal.returns-clause-turn
@@ -58,10 +58,10 @@ returns-clause-turn g c =
     c.wait_and_take-value.ensures.state.1 c.wait_and_take-value.ensures.seat.1 c.exchange-empty.ensures.3 in
     let next = noted_from g.T.Stands.list g.T.Stands.faults c.self.inside.table.shared.key.value c.exchange-empty.new.seat.me c.fetch_add.new.seat.me v t 0 0 0
     x y is c.fetch_add.ensures.2 in
-    let last = went_from g.T.Stands.list g.T.Stands.faults c.self.inside.table.shared.key.value c.fetch_add.new.seat.me c.fetch_add-served.new.seat.me
-    c.ring_next.new.seat.me v t 0 0 x y r.1 next c.fetch_add-served.ensures.2 c.ring_next.ensures.1 in
-    let id = c.ring_next.ensures.0 ∙ (c.fetch_add-served.ensures.0
-    ∙ (c.fetch_add.ensures.0 ∙ (c.exchange-empty.ensures.0 ∙ c.wait_and_take-value.ensures.seat.0))) in (
+    let last = went_from g.T.Stands.list g.T.Stands.faults c.self.inside.table.shared.key.value c.fetch_add.new.seat.me c.fetch_add-2.new.seat.me
+    v t 0 0 x y r.1 next c.fetch_add-2.ensures.2 in
+    let id = c.fetch_add-2.ensures.0
+    ∙ (c.fetch_add.ensures.0 ∙ (c.exchange-empty.ensures.0 ∙ c.wait_and_take-value.ensures.seat.0)) in (
       x,
       y,
       subst (λ seen. IsPrefix seen (g.T.Stands.list x)) (ap (λ p. p.seen) c.pass.view_is) c.wait_and_take-value.ensures.seen,
