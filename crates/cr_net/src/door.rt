@@ -4,11 +4,12 @@ ghost use Rattle.cr_net.specs.Doors.{new_door};
 
 use crate::reason::Reason;
 use crate::stream::{TcpSink, TcpSource, ends_of};
+use crate::time::{AGAIN, is_broken_off};
 use cr_ports::{Door, NextConnection};
 use std::alloc::Global;
 use std::io::{self, ErrorKind};
 use std::marker::Model;
-use std::net::TcpListener;
+use std::net::{TcpListener, TcpStream};
 use std::sync::Arc;
 use std::thread;
 use std::time::Duration;
@@ -74,9 +75,26 @@ impl TcpDoor {
         self.reason
     }
 
+    /// Waits for one connection.
+    fn accept_once(&self) -> io::Result<TcpStream> {
+        let (stream, _) = self.listener.accept()?;
+        Ok(stream)
+    }
+
+    /// The same, again where a signal broke it off.
+    fn accept(&self) -> io::Result<TcpStream> {
+        for _ in 0..AGAIN {
+            let answer = self.accept_once();
+            if !is_broken_off(&answer) {
+                return answer;
+            }
+        }
+        self.accept_once()
+    }
+
     /// Takes one connection, as its two ends.
     fn take(&self) -> io::Result<(TcpSource, TcpSink)> {
-        let (stream, _) = self.listener.accept()?;
+        let stream = self.accept()?;
         ends_of(&self.rt, self.alloc, stream)
     }
 

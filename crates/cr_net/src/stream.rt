@@ -3,10 +3,10 @@ ghost use Rattle.std.specs.Prelude.{◌≡◌, ◌≤◌, ℕ, None, ⊤, length
 ghost use Rattle.std.specs.Io.{ReadsAtMost, WritesAtMost};
 ghost use Rattle.cr_ports.specs.Count.{Rises};
 
-use crate::time::Span;
+use crate::time::{AGAIN, Span, is_broken_off};
 use cr_ports::{ReadStep, Sink, Source, WriteStep};
 use std::alloc::Global;
-use std::io::{self, Read, Write};
+use std::io::{self, ErrorKind, Read, Write};
 use std::marker::Model;
 use std::net::{Shutdown, TcpStream};
 use std::sync::Arc;
@@ -15,6 +15,9 @@ use std::time::Duration;
 
 /// The seconds for a request to come whole, and for an answer to go.
 const LIMIT: u64 = 60;
+
+/// The seconds for a byte to come behind an answer.
+const IDLE: u64 = 5;
 
 /// The seconds for the client to see the last answer.
 const ENDING: u64 = 1;
@@ -55,6 +58,8 @@ struct Half {
     rt: HostRuntime,
     shared: Arc<SharedStream, Global>,
     time: Span,
+    // The seconds that the socket was last told to wait at most at this end; 0 before.
+    told: u64,
     faults: u64,
 }
 
@@ -75,15 +80,78 @@ impl Half {
             rt: *rt,
             shared,
             time: Span::new(LIMIT),
+            told: 0,
             faults: 0,
         }
     }
 
-    /// What is left of the time, which begins here where it hasn't. An error only where the clock can't be read.
-    fn left(&mut self) -> io::Result<Duration>
+    /// How long the socket is to be told to wait at most: what is left of the time, which begins here where it
+    /// hasn't. Nothing where it was told that last, which spares a system call. An error past the time's end, or
+    /// where the clock can't be read.
+    fn to_tell(&mut self) -> io::Result<Option<Duration>>
         ensures { self.new ≡ self.old }
     {
-        self.time.left(&self.rt)
+        let left = self.time.left(&self.rt)?;
+        if left == 0 {
+            return Err(ErrorKind::TimedOut.into());
+        }
+        if left == self.told {
+            return Ok(None);
+        }
+        self.told = left;
+        Ok(Some(Duration::from_secs(left)))
+    }
+
+    /// One read, for which there is no more time than is left.
+    fn read_once(&mut self, buf: &mut [u8]) -> io::Result<usize>
+        ensures size { ReadsAtMost result buf.new }
+        ensures length { length buf.new ≡ length buf.old }
+        ensures same { self.new ≡ self.old }
+    {
+        if let Some(most) = self.to_tell()? {
+            self.shared.stream.set_read_timeout(Some(most))?;
+        }
+        (&self.shared.stream).read(buf)
+    }
+
+    /// The same, again where a signal broke it off.
+    fn read_on(&mut self, buf: &mut [u8]) -> io::Result<usize>
+        ensures size { ReadsAtMost result buf.new }
+        ensures length { length buf.new ≡ length buf.old }
+        ensures same { self.new ≡ self.old }
+    {
+        'waiting: for _ in 0..AGAIN {
+            let answer = self.read_once(buf);
+            if !is_broken_off(&answer) {
+                return answer;
+            }
+        }
+        self.read_once(buf)
+    }
+
+    /// One write, for which there is no more time than is left.
+    fn write_once(&mut self, piece: &[u8]) -> io::Result<usize>
+        ensures size { WritesAtMost result piece.now }
+        ensures same { self.new ≡ self.old }
+    {
+        if let Some(most) = self.to_tell()? {
+            self.shared.stream.set_write_timeout(Some(most))?;
+        }
+        (&self.shared.stream).write(piece)
+    }
+
+    /// The same, again where a signal broke it off.
+    fn write_on(&mut self, piece: &[u8]) -> io::Result<usize>
+        ensures size { WritesAtMost result piece.now }
+        ensures same { self.new ≡ self.old }
+    {
+        'waiting: for _ in 0..AGAIN {
+            let answer = self.write_once(piece);
+            if !is_broken_off(&answer) {
+                return answer;
+            }
+        }
+        self.write_once(piece)
     }
 
     /// Counts a fault.
@@ -95,8 +163,10 @@ impl Half {
     }
 }
 
-/// What a client sends. Each request has 60 seconds to come whole, from the first read behind the last answer on;
-/// past that a read fails.
+/// What a client sends. Each request has 60 seconds to come whole, from the first read behind the last answer on; but
+/// where that read finds nothing for 5 seconds, it fails, as one does past the 60. So a client that keeps its
+/// connection and asks nothing holds its worker for 5 seconds. A connection's first request has the 60. A span may
+/// take a second more than is said.
 ///
 /// Contracts see the count of faults.
 #[derive(Drop)]
@@ -121,18 +191,19 @@ impl TcpSource {
         }
     }
 
-    /// One read, for which there is no more time than the request has left.
+    /// A read, for which there is no more time than the request has left.
     fn read_in_time(&mut self, buf: &mut [u8]) -> io::Result<usize>
         ensures size { ReadsAtMost result buf.new }
         ensures length { length buf.new ≡ length buf.old }
         ensures same { self.new ≡ self.old }
     {
         if self.half.shared.answered.swap(false, Ordering::SeqCst) {
-            self.half.time.reset();
+            self.half.time = Span::new(IDLE);
         }
-        let left = self.half.left()?;
-        self.half.shared.stream.set_read_timeout(Some(left))?;
-        (&self.half.shared.stream).read(buf)
+        let got = self.half.read_on(buf)?;
+        // A byte has come, so from here on it is a request's time.
+        self.half.time.lasts(LIMIT);
+        Ok(got)
     }
 
     /// Ends the connection so that the client sees the last answer: what it still sends is read and dropped, for a
@@ -141,12 +212,11 @@ impl TcpSource {
         if self.is_ended || self.half.shared.stream.shutdown(Shutdown::Write).is_err() {
             return;
         }
-        self.half.shared.answered.store(false, Ordering::SeqCst);
         self.half.time = Span::new(ENDING);
         let mut piece = [0; PIECE];
         let mut dropped = 0;
         'dropping: while dropped < MOST_DROPPED {
-            match self.read_in_time(&mut piece) {
+            match self.half.read_on(&mut piece) {
                 Ok(n) if n > 0 => dropped += n,
                 _ => return,
             }
@@ -177,7 +247,8 @@ impl Source for TcpSource {
     }
 }
 
-/// What a client is sent. Each answer has 60 seconds to go, all its pieces together, from its first write on; past that a write fails.
+/// What a client is sent. Each answer has 60 seconds to go, all its pieces together, from its first write on; past
+/// that a write fails, at most a second later.
 ///
 /// Contracts see the count of faults.
 #[derive(Drop)]
@@ -199,16 +270,6 @@ impl TcpSink {
             half: Half::new(rt, shared),
         }
     }
-
-    /// One write, for which there is no more time than the answer has left.
-    fn write_in_time(&mut self, piece: &[u8]) -> io::Result<usize>
-        ensures size { WritesAtMost result piece.now }
-        ensures same { self.new ≡ self.old }
-    {
-        let left = self.half.left()?;
-        self.half.shared.stream.set_write_timeout(Some(left))?;
-        (&self.half.shared.stream).write(piece)
-    }
 }
 
 impl Sink for TcpSink {
@@ -218,7 +279,7 @@ impl Sink for TcpSink {
 
     /// Each `Err` is a fault, the end of the time among them, and so is a write that takes nothing.
     fn write(&mut self, piece: &[u8]) -> WriteStep {
-        match self.write_in_time(piece) {
+        match self.half.write_on(piece) {
             Ok(n) if n == piece.len() => {
                 self.half.shared.answered.store(true, Ordering::SeqCst);
                 WriteStep::Took(n)

@@ -1,7 +1,18 @@
-//! How long something may take.
+//! How long something may take, and how often it is waited for.
 
-use std::io;
+use std::io::{self, ErrorKind};
 use std::time::{Duration, Instant};
+
+/// How often a wait that a signal broke off is waited again.
+pub(crate) const AGAIN: u32 = 16;
+
+/// Whether a signal broke a wait off, as when the process was stopped and goes on.
+pub(crate) fn is_broken_off<T>(answer: &io::Result<T>) -> bool {
+    match answer {
+        Ok(_) => false,
+        Err(error) => error.kind() == ErrorKind::Interrupted,
+    }
+}
 
 /// A span of time, which begins when it is first asked for what is left.
 #[derive(Clone, Copy)]
@@ -24,11 +35,23 @@ impl Span {
         self.start = None;
     }
 
-    /// What is left of it, 0 past its end. An error only where the clock can't be read.
-    pub(crate) fn left(&mut self, rt: &HostRuntime) -> io::Result<Duration> {
+    /// So many seconds from its begin on, which stays.
+    pub(crate) fn lasts(&mut self, seconds: u64) {
+        self.limit = Duration::from_secs(seconds);
+    }
+
+    /// The seconds that are left of it, a part of one counted whole, 0 past its end. An error only where the clock
+    /// can't be read.
+    pub(crate) fn left(&mut self, rt: &HostRuntime) -> io::Result<u64> {
         let now = Instant::now(rt)?;
         let start = self.start.unwrap_or(now);
         self.start = Some(start);
-        Ok(self.limit.saturating_sub(now.duration_since(start)))
+        Ok(whole_seconds(self.limit.saturating_sub(now.duration_since(start))))
     }
+}
+
+/// The seconds of a span, a part of one counted whole.
+fn whole_seconds(span: Duration) -> u64 {
+    let part = if span.subsec_nanos() > 0 { 1 } else { 0 };
+    span.as_secs().saturating_add(part)
 }

@@ -1,0 +1,5 @@
+use Rattle.std.proofs.Common.{◌≡◌}
+use Rattle.cr_net.proofs.stream.Half.write_on.Given as goal
+
+abbrev pub invariant-waiting : goal.invariant-waiting
+invariant-waiting l = l.self ≡ l.initial.self
