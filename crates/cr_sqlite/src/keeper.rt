@@ -4,13 +4,14 @@ ghost use Rattle.cr_ports.specs.Keeping.{HasCause};
 ghost use Rattle.cr_sqlite.specs.Telling.{told_of};
 
 use crate::lanes::Lanes;
+use crate::notices::Notices;
 use crate::reason::{Reason, StoreError};
 use crate::record::insert;
 use crate::schema::make_or_check;
 use crate::table::Table;
 use cr_base::Row;
 use cr_ports::{Keeper, KeeperError};
-use sqlite::{Alter, Connection, Error, Transaction};
+use sqlite::{Alter, Connection, Error, ErrorCode, Transaction};
 use std::alloc::Global;
 use std::marker::Model;
 
@@ -26,6 +27,7 @@ pub struct SqliteKeeper<S: Alter> {
     next: Option<u64>,
     faults: u64,
     reason: Option<Reason>,
+    notices: Notices,
 }
 
 // Written out, so that a caller doesn't prove again how each part is dropped.
@@ -38,6 +40,7 @@ impl<S: Alter + Drop> Drop for SqliteKeeper<S> {
             next: _,
             faults: _,
             reason: _,
+            notices: _,
         } = self;
     }
 }
@@ -71,6 +74,15 @@ fn count_all<S: Alter>(conn: &mut Connection<S>) -> Result<u64, Error> {
 /// How many rows a table has.
 fn count_of<S: Alter>(conn: &mut Connection<S>, table: Table) -> Result<u64, Error> {
     conn.query_row(table.count(), &[])?.get(0)
+}
+
+/// Whether no statement runs over the connection any more: a sync has failed, behind which what the system shows of
+/// the file may not be on the disk.
+fn is_over<S: Alter>(conn: &mut Connection<S>) -> bool {
+    match conn.prepare(Table::People.count()) {
+        Err(Error::SqliteFailure(ErrorCode::Closed)) => true,
+        Ok(_) | Err(_) => false,
+    }
 }
 
 /// Adds all rows from a place on, in one transaction, or none of them.
@@ -123,7 +135,7 @@ impl<S: Alter> SqliteKeeper<S> {
     /// `Failed` comes only where `faults` rose, or stands at its last value: the database isn't a
     /// store of version 1, or a statement failed. `OutOfMemory` comes only where it is as it was.
     /// Counts the rows; what they are is looked at as they are read. Where each of the first that
-    /// many places then has one row, there is no other.
+    /// many places then has one row, there is no other. Standard error is told nothing.
     pub fn adopt(
         alloc: Global,
         mut conn: Connection<S>,
@@ -140,6 +152,7 @@ impl<S: Alter> SqliteKeeper<S> {
                 next: None,
                 faults: 0,
                 reason: None,
+                notices: Notices::none(),
             }),
             Err(StoreError::Failed(reason)) => {
                 *faults = faults.saturating_add(1);
@@ -158,6 +171,7 @@ impl<S: Alter> SqliteKeeper<S> {
             next: _,
             faults: _,
             reason: _,
+            notices: _,
         } = self;
         conn
     }
@@ -173,6 +187,7 @@ impl<S: Alter> SqliteKeeper<S> {
             next: _,
             faults,
             reason,
+            notices: _,
         } = self;
         (conn, faults, reason)
     }
@@ -200,6 +215,16 @@ impl<S: Alter> SqliteKeeper<S> {
                 KeeperError::Failed
             }
             StoreError::OutOfMemory => KeeperError::OutOfMemory,
+        }
+    }
+
+    /// Tells of an append that was refused. Want of memory is for others to tell.
+    fn note(&mut self, refusal: StoreError)
+        ensures { self.new ≡ self.old }
+    {
+        if let StoreError::Failed(reason) = refusal {
+            let is_over = is_over(&mut self.conn);
+            self.notices.refused(reason, is_over);
         }
     }
 
@@ -237,17 +262,21 @@ impl<S: Alter> SqliteKeeper<S> {
 }
 
 impl<S: Alter + Drop> SqliteKeeper<S> {
-    /// The same as `adopt`, where a connection that isn't taken is let go.
+    /// The same as `adopt`, where a connection that isn't taken is let go, and standard error is told where appends
+    /// begin to be refused and where they are taken again.
     pub(crate) fn adopt_or_drop(
-        alloc: Global,
+        rt: &HostRuntime,
         conn: Connection<S>,
         faults: &mut u64,
     ) -> Result<Self, StoreError>
         ensures kept { IfOk result (λ keeper. (keeper ≡ 0) × (faults.new ≡ faults.old)) }
         ensures cause { IfErr result (λ e. HasCause {T = ℕ} faults.old faults.new (Err (told_of e))) }
     {
-        match SqliteKeeper::adopt(alloc, conn, faults) {
-            Ok(keeper) => Ok(keeper),
+        match SqliteKeeper::adopt(rt.alloc(), conn, faults) {
+            Ok(mut keeper) => {
+                keeper.notices = Notices::on_standard_error(rt);
+                Ok(keeper)
+            }
             Err((error, _)) => Err(error),
         }
     }
@@ -258,11 +287,18 @@ impl<S: Alter> Keeper for SqliteKeeper<S> {
 
     ghost faults = { λ k. k };
 
-    /// One transaction, whose commit waits until the disk has it.
+    /// One transaction, whose commit waits until the disk has it. Where a sync fails, each later call fails as well,
+    /// and the rows that were refused may be found when the file is opened again.
     fn append_all(&mut self, added: &[Row]) -> Result<(), KeeperError> {
         match self.keep(added) {
-            Ok(()) => Ok(()),
-            Err(refusal) => Err(self.refused(refusal)),
+            Ok(()) => {
+                self.notices.taken();
+                Ok(())
+            }
+            Err(refusal) => {
+                self.note(refusal);
+                Err(self.refused(refusal))
+            }
         }
     }
 

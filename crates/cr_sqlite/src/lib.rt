@@ -5,8 +5,10 @@
 //! tables. A row stands at its place, its number from 0 in the one list of them all.
 #![tactic(auto)]
 
+mod access;
 mod keeper;
 mod lanes;
+mod notices;
 mod reason;
 mod record;
 mod schema;

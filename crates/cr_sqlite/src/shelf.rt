@@ -4,11 +4,13 @@ ghost use Rattle.cr_ports.specs.Count.{Gains};
 ghost use Rattle.cr_ports.specs.Keeping.{HasCause};
 ghost use Rattle.cr_sqlite.specs.Telling.{told_of};
 
+use crate::access::{make_private, tell_open_ones};
 use crate::keeper::SqliteKeeper;
 use crate::reason::{Reason, StoreError};
 use cr_ports::{KeeperError, Shelf};
-use sqlite::{Alter, Connection, Error, File, FileStore};
+use sqlite::{Alter, Connection, Error, ErrorCode, File, FileStore};
 use sqlite_disk::Disk;
+use std::io::ErrorKind;
 use std::marker::Model;
 use std::rt::HostRuntime;
 
@@ -30,11 +32,24 @@ impl Model for SqliteShelf {
     ghost view = { λ s. s.faults };
 }
 
-// The two below have no clause, so that what the library says of files stays out of the shelf's proofs. A call of a keeper's
-// method for a store in files is proved with all that such a store is made of, so few functions make one, and those over any disk.
+// The three below have no clause, so that what the library says of files stays out of the shelf's proofs. A call of a
+// keeper's method for a store in files is proved with all that such a store is made of, so few functions make one,
+// and those over any disk.
 
 fn connect(rt: &HostRuntime, path: &str) -> Result<Connection<FileStore<File>>, Error> {
+    make_file(rt, path)?;
     Connection::open(rt, path)
+}
+
+/// Makes the file for its owner alone, where it is missing.
+fn make_file(rt: &HostRuntime, path: &str) -> Result<(), Error> {
+    match make_private(rt, path) {
+        Ok(()) => Ok(()),
+        Err(error) if error.kind() == ErrorKind::OutOfMemory => {
+            Err(Error::SqliteFailure(ErrorCode::OutOfMemory))
+        }
+        Err(_) => Err(Error::SqliteFailure(ErrorCode::CannotOpen)),
+    }
 }
 
 fn disconnect<D: Disk + Drop>(conn: Connection<FileStore<D>>) -> Result<(), Error> {
@@ -102,7 +117,7 @@ impl SqliteShelf {
         ensures fresh { IfOk result (λ keeper. keeper ≡ 0) }
         ensures cause { HasCause self.old self.new result }
     {
-        match SqliteKeeper::adopt_or_drop(self.rt.alloc(), conn, &mut self.faults) {
+        match SqliteKeeper::adopt_or_drop(&self.rt, conn, &mut self.faults) {
             Ok(keeper) => Ok(keeper),
             Err(error) => Err(self.told(error)),
         }
@@ -136,17 +151,21 @@ impl SqliteShelf {
         }
     }
 
-    /// Counts what closing failed of.
-    fn ended(&mut self, end: Result<(), Error>)
+    /// Counts what closing failed of, and tells it in a line on standard error.
+    fn ended(&mut self, path: &str, end: Result<(), Error>)
         ensures { Gains self.old 0 self.new }
     {
         if let Err(error) = end {
+            let _ = eprintln!(self.rt;
+                "confd: {path}: not shut well, its log stays beside it: {error}"
+            );
             self.refused(StoreError::from(error));
         }
     }
 
-    /// Counts a keeper's faults, and what closing it failed of. The reason is that of the keeper's last fault, if it had one.
-    fn take_back(&mut self, closed: Closed)
+    /// Counts a keeper's faults, and what closing it failed of. The reason is that of the keeper's last fault, if it
+    /// had one.
+    fn take_back(&mut self, path: &str, closed: Closed)
         ensures { Gains self.old closed.faults self.new }
     {
         let Closed {
@@ -155,7 +174,7 @@ impl SqliteShelf {
             end,
         } = closed;
         self.faults = self.faults.saturating_add(faults);
-        self.ended(end);
+        self.ended(path, end);
         self.reason = reason.or(self.reason);
     }
 }
@@ -169,17 +188,19 @@ impl Shelf for SqliteShelf {
 
     ghost faults = { λ s. s };
 
-    /// Makes the file where it is missing. All of it is looked at, and a file that isn't taken is
-    /// left as it is.
+    /// Makes the file where it is missing, and so its log, for the owner alone. All of it is looked at, and a file
+    /// that isn't taken is left as it is. Where others may read a file that is, standard error is told so in a line.
     fn open(&mut self, path: &str) -> Result<SqliteKeeper<FileStore<File>>, KeeperError> {
         let conn = connect(&self.rt, path);
-        self.connected(conn)
+        let keeper = self.connected(conn)?;
+        tell_open_ones(&self.rt, path);
+        Ok(keeper)
     }
 
-    /// What was appended stands in the file's log before; here the log is copied into the file.
-    /// Where that fails, which is one fault more, the log stays beside the file. The reason is that
-    /// of the keeper's last fault, if it had one.
-    fn shut(&mut self, _path: &str, keeper: SqliteKeeper<FileStore<File>>) {
-        self.take_back(close(keeper));
+    /// What was appended stands in the file's log before; here the log is copied into the file. Where that fails,
+    /// which is one fault more, the log stays beside the file, and standard error is told so in a line. The reason is
+    /// that of the keeper's last fault, if it had one.
+    fn shut(&mut self, path: &str, keeper: SqliteKeeper<FileStore<File>>) {
+        self.take_back(path, close(keeper));
     }
 }

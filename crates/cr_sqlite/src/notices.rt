@@ -1,0 +1,95 @@
+//! What standard error is told of appends.
+
+use crate::reason::Reason;
+
+/// Whether appends are taken.
+#[derive(Clone, Copy, Debug, PartialEq, Eq)]
+enum Appends {
+    /// The last one was kept.
+    Taken,
+    /// One was refused for a reason that may pass, as a full disk.
+    Refused,
+    /// No further one is taken over this connection, since a sync failed.
+    Over,
+}
+
+/// Tells standard error in a line where appends begin to be refused, and in one where they are taken again; or nobody.
+pub(crate) struct Notices {
+    rt: Option<HostRuntime>,
+    /// As it was told last.
+    appends: Appends,
+}
+
+// Written out, so that a caller doesn't prove again how each part is dropped.
+impl Drop for Notices {
+    fn drop(self) {
+        let Notices { rt: _, appends: _ } = self;
+    }
+}
+
+impl Notices {
+    /// Nobody is told.
+    pub(crate) fn none() -> Notices {
+        Notices {
+            rt: None,
+            appends: Appends::Taken,
+        }
+    }
+
+    /// Standard error is told.
+    pub(crate) fn on_standard_error(rt: &HostRuntime) -> Notices {
+        Notices {
+            rt: Some(*rt),
+            appends: Appends::Taken,
+        }
+    }
+
+    /// An append was kept.
+    pub(crate) fn taken(&mut self) {
+        if self.has_changed(Appends::Taken) {
+            self.tell_taken();
+        }
+    }
+
+    /// An append was refused for this reason; none is taken any more where it `is_over`.
+    pub(crate) fn refused(&mut self, reason: Reason, is_over: bool) {
+        if is_over {
+            if self.has_changed(Appends::Over) {
+                self.tell_over(reason);
+            }
+        } else if self.has_changed(Appends::Refused) {
+            self.tell_refused(reason);
+        }
+    }
+
+    /// Whether this is other than what was told last; it is noted as told.
+    fn has_changed(&mut self, appends: Appends) -> bool {
+        let changed = appends != self.appends;
+        self.appends = appends;
+        changed
+    }
+
+    // A line that can't be written is left out, since nobody waits for it.
+
+    fn tell_taken(&self) {
+        if let Some(rt) = &self.rt {
+            let _ = eprintln!(rt; "confd: commands are taken again");
+        }
+    }
+
+    fn tell_refused(&self, reason: Reason) {
+        if let Some(rt) = &self.rt {
+            let _ = eprintln!(rt;
+                "confd: commands are refused (503): {reason}; they are taken again as soon as one can be kept"
+            );
+        }
+    }
+
+    fn tell_over(&self, reason: Reason) {
+        if let Some(rt) = &self.rt {
+            let _ = eprintln!(rt;
+                "confd: commands are refused (503): {reason}; confd has to be started again, since a sync failed"
+            );
+        }
+    }
+}
