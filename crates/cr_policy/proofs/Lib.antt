@@ -1,4 +1,5 @@
 pub mod AcceptedLaws
+pub mod AddedLaws
 pub mod BidTies
 pub mod BoundsLeft
 pub mod BoundsParts
@@ -17,12 +18,17 @@ pub mod DecisionTells
 pub mod DeclaredLaws
 pub mod DigestLaws
 pub mod FactTies
+pub mod FirstToldLaws
 pub mod FormTells
+pub mod GoesOnLaws
 pub mod HiddenLaws
 pub mod HiddenPairLaws
 pub mod HiddenPairProofs
 pub mod JudgeTies
 pub mod LegalLaws
+pub mod MayBulkLaws
+pub mod MayDoLaws
+pub mod MayReadLaws
 pub mod PageTells
 pub mod PageTies
 pub mod RemovedLaws
@@ -32,6 +38,7 @@ pub mod ReviewTells
 pub mod ReviewTies
 pub mod ReviewerTells
 pub mod SeatTells
+pub mod SentenceLaws
 pub mod SingleRowLaws
 pub mod StandingLaws
 pub mod TagTells

@@ -21,6 +21,12 @@ ghost use Rattle.cr_policy.specs.HiddenPairs.{UnassignerHidden, FormHidden, Form
 ghost use Rattle.cr_policy.specs.HiddenPairs.{WriterHidden, DecisionHidden, DeciderHidden};
 ghost use Rattle.cr_policy.specs.Laws.{StandingFromView, PublicFactsFromView, ViewSuffices, DeclaredFromView, LegalKeeps};
 ghost use Rattle.cr_policy.specs.SingleRows.{BulkIsItsRows};
+ghost use Rattle.cr_policy.specs.FirstTold.{FirstTold};
+ghost use Rattle.cr_policy.specs.GoesOn.{GoesOn};
+ghost use Rattle.cr_policy.specs.Added.{AddsAsSaid};
+ghost use Rattle.cr_policy.specs.MayBulk.{RowsAsSaid, BulksAsSaid};
+ghost use Rattle.cr_policy.specs.MayDo.{PermissionsAsSaid};
+ghost use Rattle.cr_policy.specs.MayRead.{ReadingAsSaid};
 ghost use Rattle.cr_policy.specs.Laws.{DigestsAreOwn, TwoRegistrations, DigestsHidden, OneSubmission, OneConflict, OneBulk};
 ghost use Rattle.cr_policy.specs.ViewBounds.{EntriesShown, MarksShown, PapersShown, UsersShown, NamesShown, DigestsShown};
 ghost use Rattle.cr_policy.specs.ViewBounds.{RolesShown, PhasesShown, ModesShown, MakersShown, TitlesShown, AbstractsShown};
@@ -62,6 +68,36 @@ pub fn law_view_suffices()
 /// the rule that is told.
 pub fn law_bulk()
     ensures { BulkIsItsRows }
+{}
+
+/// Who may do what, and what comes of it, said a second time and in a committee's words: a sentence for each command,
+/// each query and each bulk, over the facts of a history. On every legal history, whoever calls: a command is accepted,
+/// and a query answered, exactly where its sentence holds; and a bulk exactly where its caller is a chair, the committee
+/// works, and she may do what each row asks for when its turn comes, of which none is a conflict of her own. An accepted
+/// command adds the entries that its line says, by its maker, all but the last with the mark that another follows, and is
+/// answered what its line says. Each of the eight actions of a row asks for the command that its line says. No list of
+/// checks is read there, nor what these lists read of phases, roles and accepted papers; which of the rules is told,
+/// where a sentence doesn't hold, is left open.
+pub fn law_permissions()
+    ensures commands { PermissionsAsSaid }
+    ensures reading { ReadingAsSaid }
+    ensures adds { AddsAsSaid }
+    ensures bulks { BulksAsSaid }
+    ensures rows { RowsAsSaid }
+{}
+
+/// Which rule is told, where more than one is broken: for each two that stand next to one another in what a command, a
+/// query or a bulk asks, a case of the small conference or of its twins in which both are, and the first is told. All
+/// these histories are legal. There is no case of what the conference is too small for: 9,999 accounts or papers, 26
+/// labels of one paper, 1,000 comments; nor of two rules that can't be broken at once.
+pub fn law_first_told()
+    ensures { FirstTold }
+{}
+
+/// No conference gets stuck: in each legal history in which anybody has registered, the first user has, and she is a
+/// chair; and before the close there is a next phase, and her request for it is accepted.
+pub fn law_goes_on()
+    ensures { GoesOn }
 {}
 
 /// Whom a paper's authors declared in conflict with it can be read off the view of any of them, on a

@@ -1,0 +1,197 @@
+-- A bulk is accepted exactly where its caller may send it, and may do each of its rows in its turn.
+use Rattle.std.proofs.Common.{ℕ, Bool, true, false, cond, ◌≡◌, ◌+◌, List, [], ◌∷◌, ◌++◌, eqb, refl, sym, ap, subst, ◌∙◌, ◌||◌, ◌&&◌, arith, Option, Some, None, Result, Ok, Err}
+use Rattle.std.specs.Prelude.{not, map, is_ok, length}
+use Rattle.std.specs.Str.{bytes_eq}
+use Rattle.cr_base.specs.declared.bulk.Broken.{Broken}
+use Rattle.cr_base.specs.declared.bulk.BulkRow.{BulkRow}
+use Rattle.cr_base.specs.declared.command.Command.{Command}
+use Rattle.cr_base.specs.declared.command.Command.TheVariants as commands
+use Rattle.cr_base.specs.declared.entry.Entry.{Entry}
+use Rattle.cr_base.specs.declared.reply.Rule.{Rule}
+use Rattle.cr_base.specs.declared.reply.Rule.TheVariants as rules
+use Rattle.std.proofs.lemmas.Bool.{true≢false}
+use Rattle.std.specs.Prelude.{codes}
+use Rattle.cr_base.specs.declared.words.Kind.TheVariants.{Primary, Secondary, Pc}
+use Rattle.cr_base.specs.Spelt.{paper_spelt}
+use Rattle.cr_base.specs.Bulk.{assigns, unassigns, turns_conflict, turns_tag}
+use Rattle.cr_base.specs.Bulk.{Action, command_told_by, row_command, turns_own_conflict, row_told_judged, entries_of, and_rows, and_behind, rows_judged}
+use Rattle.cr_base.specs.Bulk.{bulk_checks, bulk_of_rows, bulk_behind}
+use Rattle.cr_base.specs.Checks.{judged, is_in_committee}
+use Rattle.cr_base.specs.Drawn.{Drawn}
+use Rattle.cr_base.specs.History.{History}
+use Rattle.cr_base.specs.HistoryFacts.{phase_of, role_of}
+use Rattle.cr_base.specs.Lists.{is_number}
+use Rattle.cr_base.specs.Sources.{Facts, Shown}
+use Rattle.cr_base.specs.Words.{is_chair}
+use Rattle.cr_history.proofs.LineTies.{stamp}
+use Rattle.cr_history.proofs.RuleLaws.{facts_of}
+use Rattle.cr_policy.specs.Added.{added}
+use Rattle.cr_policy.specs.Judge.{judge, view_basis, own_sightings, judge_bulk}
+use Rattle.cr_policy.specs.Legal.{Legal}
+use Rattle.cr_policy.specs.MayBulk.{RowsAsSaid, a_row, is_of_herself, may_row, with_row, may_rows, may_bulk, BulksAsSaid}
+use Rattle.cr_policy.specs.Sentences.{committee_works, chairs, of_some, user_named}
+use Rattle.cr_policy.specs.View.{View, view}
+use Rattle.cr_policy.specs.ViewFacts.{facts_in_view, shown_in_view}
+use Rattle.cr_policy.proofs.AddedLaws.{adds_as_said, user-same}
+use Rattle.cr_policy.proofs.BulkLaws.{row_seen, seen, IsReady, RowCalls, row-calls, RowAdds, row-adds, next, next-ready, next-seen}
+use Rattle.cr_policy.proofs.FactTies.{facts_in_view-tables}
+use Rattle.cr_policy.proofs.LegalLaws.{Legal-accepted, legal_invariants}
+use Rattle.cr_policy.proofs.MayDoLaws.{permissions_as_said}
+use Rattle.cr_policy.proofs.SentenceLaws.{none_broken, judged-none_broken, chair-same, in_committee-same, facts-same, told, forms}
+
+-- ---- what rows ask for
+
+-- a word that is none of the eight is no action
+abbrev picked : Bool → Bool → Bool → Bool → Bool → Bool → Bool → Bool → Option Action
+picked a b c d e f g h =
+    cond a (Some (assigns Primary)) (cond b (Some (assigns Secondary)) (cond c (Some (assigns Pc)) (cond d (Some unassigns)
+    (cond e (Some (turns_conflict true)) (cond f (Some (turns_conflict false)) (cond g (Some (turns_tag true)) (cond h (Some (turns_tag false)) None)))))))
+
+no-action : (a b c d e f g h : Bool) → (a || (b || (c || (d || (e || (f || (g || (h || false)))))))) ≡ false → picked a b c d e f g h ≡ None
+no-action true b c d e f g h any = absurd (true≢false any)
+no-action false true c d e f g h any = absurd (true≢false any)
+no-action false false true d e f g h any = absurd (true≢false any)
+no-action false false false true e f g h any = absurd (true≢false any)
+no-action false false false false true f g h any = absurd (true≢false any)
+no-action false false false false false true g h any = absurd (true≢false any)
+no-action false false false false false false true h any = absurd (true≢false any)
+no-action false false false false false false false true any = absurd (true≢false any)
+no-action false false false false false false false false any = refl
+
+pub rows_as_said : RowsAsSaid
+unfolding row_command
+rows_as_said = record {
+  primary = λ p u t. refl;
+  secondary = λ p u t. refl;
+  pcreview = λ p u t. refl;
+  clearreview = λ p u t. refl;
+  conflict = λ p u t. refl;
+  clearconflict = λ p u t. refl;
+  tag = λ p u t is. ap (λ (b : Bool). cond b (Ok (commands.Tag (paper_spelt p) t true)) (Err rules.BadTag)) is;
+  cleartag = λ p u t is. ap (λ (b : Bool). cond b (Ok (commands.Tag (paper_spelt p) t false)) (Err rules.BadTag)) is;
+  bad_tag = λ p u t is. ap (λ (b : Bool). cond b (Ok (commands.Tag (paper_spelt p) t true)) (Err rules.BadTag)) is;
+  bad_cleared_tag = λ p u t is. ap (λ (b : Bool). cond b (Ok (commands.Tag (paper_spelt p) t false)) (Err rules.BadTag)) is;
+  bad_action = λ p a u t is.
+      ap (λ (action : Option Action). command_told_by action (a_row p a u t))
+      (no-action (bytes_eq a (codes "primary")) (bytes_eq a (codes "secondary")) (bytes_eq a (codes "pcreview")) (bytes_eq a (codes "clearreview"))
+      (bytes_eq a (codes "conflict")) (bytes_eq a (codes "clearconflict")) (bytes_eq a (codes "tag")) (bytes_eq a (codes "cleartag")) is);
+}
+
+-- ---- one row
+
+module _ (user : ℕ) where
+  abbrev u : Option ℕ
+  u = Some user
+
+  abbrev seen_facts : History → Facts
+  seen_facts H = facts_in_view u (view u H)
+
+  abbrev seen_shown : History → Shown
+  seen_shown H = shown_in_view u (view u H)
+
+  -- the facts of the caller's view are those of the history
+  facts-seen : (H : History) → Legal H → seen_facts H ≡ facts_of u H
+  facts-seen H legal = facts_in_view-tables u H (told u H legal) (forms u H legal) ∙ sym (facts-same u H legal)
+
+  herself-same : (H : History) → Legal H → (command : Command) → turns_own_conflict (facts_of u H) user command ≡ is_of_herself user H command
+  herself-same H legal (commands.SetConflict paper name on) = ap (λ (o : Option ℕ). is_number o user) (user-same u H legal name) ∙ at (user_named name H)
+    where
+      at : (o : Option ℕ) → is_number o user ≡ of_some o (λ v. eqb v user)
+      at None = refl
+      at (Some v) = refl
+  herself-same H legal _ = refl
+
+  -- a row is accepted where she may do what it asks for, and it is no conflict of her own
+  row-ok : (H : History) → Legal H → (row : BulkRow) → is_ok (row_seen user H row) ≡ may_row user H (row_command row)
+  row-ok H legal row = by (row_command row)
+    where
+      not-ok : (b : Bool) (r : Result Drawn Rule) → is_ok {T = Drawn} {E = Rule} (cond b (Err rules.BulkSelf) r) ≡ (not b && is_ok r)
+      not-ok true r = refl
+      not-ok false r = refl
+
+      by : (asked : Result Command Rule) → is_ok (row_told_judged (seen_facts H) (seen_shown H) user asked) ≡ may_row user H asked
+      by (Err rule) = refl
+      by (Ok command) =
+          not-ok (turns_own_conflict (seen_facts H) user command) (judge u (view u H) command)
+          ∙ (λ i. not ((ap (λ (facts : Facts). turns_own_conflict facts user command) (facts-seen H legal) ∙ herself-same H legal command) i)
+          && permissions_as_said u H command legal i)
+
+  -- ---- rows in their turn
+
+  and_rows-ok : (es : List Entry) (r : Result (List Entry) Broken) → is_ok (and_rows es r) ≡ is_ok r
+  and_rows-ok es (Ok more) = refl
+  and_rows-ok es (Err refusal) = refl
+
+  rows-ok : (rows : List BulkRow) (n : ℕ) (H : History) → Legal H → IsReady user H → is_ok (seen user H n rows) ≡ may_rows user H rows
+  rows-ok [] n H legal ready = refl
+  rows-ok (row ∷ rows) n H legal ready = by (row_seen user H row) refl (rows-ok rows (n + 1))
+    where
+      view_goes : History → Result (List Entry) Broken
+      view_goes group = rows_judged (view_basis user) user (view u H ++ own_sightings group) (n + 1) rows
+
+      behind : Bool
+      behind = may_rows user (with_row user H (row_command row)) rows
+
+      by : (r : Result Drawn Rule) → row_seen user H row ≡ r → ((G : History) → Legal G → IsReady user G → is_ok (seen user G (n + 1) rows) ≡ may_rows user G rows)
+          → is_ok (and_behind n r view_goes) ≡ (may_row user H (row_command row) && behind)
+      by (Err rule) is rest = ap (λ (b : Bool). b && behind) (sym (ap (λ (r : Result Drawn Rule). is_ok r) is) ∙ row-ok H legal row)
+      by (Ok drawn) is rest =
+          and_rows-ok (entries_of drawn.group) (view_goes drawn.group)
+          ∙ ap (λ (V : View). is_ok (rows_judged (view_basis user) user V (n + 1) rows)) (next-seen user H drawn ready first false)
+          ∙ rest after legal_after (next-ready user H drawn ready first false)
+          ∙ ap (λ (G : History). may_rows user G rows) after-is
+          ∙ ap (λ (b : Bool). b && behind) (sym (ap (λ (r : Result Drawn Rule). is_ok r) is) ∙ row-ok H legal row)
+        where
+          first : RowAdds user H drawn
+          first = row-adds user H row drawn ready is
+
+          calls : RowCalls user H row drawn
+          calls = row-calls user H row drawn ready is
+
+          after : History
+          after = next user H drawn ready first false
+
+          legal_after : Legal after
+          legal_after =
+              subst (λ (g : History). Legal (H ++ g)) first.group
+              (Legal-accepted H u calls.command drawn legal (record { caller = calls.caller; bounded = calls.told.bounded }) calls.accepted)
+
+          -- the one entry is what the command adds
+          one : added u H calls.command ≡ first.entry ∷ []
+          one =
+              sym (adds_as_said u H calls.command drawn legal calls.caller calls.accepted).entries
+              ∙ ap (λ (g : History). entries_of g) first.group
+
+          after-is : after ≡ with_row user H (row_command row)
+          after-is =
+              ap (λ (es : List Entry). H ++ map (λ (e : Entry). stamp user false e) es) (sym one)
+              ∙ ap (with_row user H) (sym calls.is)
+
+  -- ---- the bulk
+
+  bulk-ok : (H : History) (rows : List BulkRow) → Legal H → IsReady user H → is_ok (judge_bulk user (view u H) rows) ≡ may_bulk user H rows
+  bulk-ok H rows legal ready =
+      behind (judged (bulk_checks ((seen_facts H).standing None)) tt)
+      ∙ (λ i. (judged-none_broken (bulk_checks ((seen_facts H).standing None)) tt
+      ∙ ap (λ (facts : Facts). none_broken (bulk_checks (facts.standing None))) (facts-seen H legal)
+      ∙ said (is_chair (role_of u H)) (chairs user H) (is_in_committee (phase_of H)) (committee_works H)
+      (chair-same (role_of u H)) (in_committee-same (phase_of H))) i && rows-ok rows 1 H legal ready i)
+      ∙ together (chairs user H) (committee_works H) (may_rows user H rows)
+    where
+      of_rows : (r : Result (List Entry) Broken) → is_ok (bulk_of_rows user (length rows) r) ≡ is_ok r
+      of_rows (Ok es) = refl
+      of_rows (Err refusal) = refl
+
+      behind : (r : Result (Unit {0}) Rule) → is_ok (bulk_behind (view_basis user) user (view u H) rows r) ≡ (is_ok r && is_ok (seen user H 1 rows))
+      behind (Err rule) = refl
+      behind (Ok done) = of_rows (seen user H 1 rows)
+
+      said : (k k' c c' : Bool) → k ≡ k' → c ≡ c' → (not (not k) && (not (not c) && true)) ≡ (k' && c')
+      said k k' c c' hk hc = grind arith
+
+      together : (a b c : Bool) → ((a && b) && c) ≡ (a && b && c)
+      together a b c = grind arith
+
+pub bulks_as_said : BulksAsSaid
+bulks_as_said H bulk legal allowed =
+    bulk-ok bulk.user H bulk.rows legal (record { kept = legal_invariants H legal; registered = allowed.caller })

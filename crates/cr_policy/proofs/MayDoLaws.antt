@@ -1,0 +1,418 @@
+-- A command is accepted exactly where its sentence holds.
+use Rattle.std.proofs.Common.{ℕ, Bool, true, false, cond, ◌≡◌, ◌+◌, List, [], ◌∷◌, length, eqb, refl, sym, ap, ◌∙◌, ◌||◌, ◌&&◌, arith, Option, Some, None}
+use Rattle.std.specs.Prelude.{not, nat_le, nat_lt, is_ok, is_some, is_none, unwrap_or}
+use Rattle.std.specs.List.{list_any, list_all}
+use Rattle.std.specs.Option.{option_map}
+use Rattle.std.proofs.lemmas.Bool.{eqb-true}
+use Rattle.cr_base.specs.declared.command.Command.TheVariants as commands
+use Rattle.cr_base.specs.declared.form.Form.{Form}
+use Rattle.cr_base.specs.declared.pairs.Order.TheVariants.{ByPaper}
+use Rattle.cr_base.specs.declared.words.Decision.{Decision}
+use Rattle.cr_base.specs.declared.target.Target.{Target}
+use Rattle.cr_base.specs.declared.words.Kind.{Kind}
+use Rattle.cr_base.specs.declared.words.Mode.{Mode}
+use Rattle.cr_base.specs.declared.reply.Rule.TheVariants as rules
+use Rattle.cr_base.specs.declared.standing.Standing.{Standing}
+use Rattle.cr_base.specs.declared.words.Phase.{Phase}
+use Rattle.cr_base.specs.declared.words.Phase.TheVariants.{Setup, Submission, Bidding, Reviewing, Discussion, Notification}
+use Rattle.cr_base.specs.declared.words.Role.{Role}
+use Rattle.cr_base.specs.declared.words.Role.TheVariants.{Account}
+use Rattle.cr_base.specs.Checks.{Check, ◌breaks◌, judged, NamedPaper, is_in_committee, phase_checks, mode_checks, submit_checks, revise_checks, upload_checks}
+use Rattle.cr_base.specs.Checks.{of_role, register_checks, name_checks, own_checks, other_checks, conflict_case, conflict_checks, assign_checks, unassign_checks}
+use Rattle.cr_base.specs.Checks.{bid_checks, review_checks, comment_checks, tag_checks, decide_checks}
+use Rattle.cr_base.specs.Drawn.{Drawn, naming_drawn, conflict_drawn, assignment_drawn, unassignment_drawn}
+use Rattle.cr_base.specs.Judging.{name_judged, conflict_judged, assignment_judged, unassignment_judged}
+use Rattle.cr_base.specs.Lists.{at_some, is_number}
+use Rattle.cr_base.specs.History.{History}
+use Rattle.cr_base.specs.HistoryFacts.{standing_of, phase_of, role_of, is_conflicted, is_withdrawn, is_author, is_reviewer, authors_of, papers_of, seat_of, seats_of}
+use Rattle.cr_base.specs.HistoryFacts.{accounts_of, number_of, is_written, own_comments_of, own_bytes_of, own_papers_of}
+use Rattle.cr_base.specs.Phases.{is_phase, is_from, is_next}
+use Rattle.cr_base.specs.Sources.{maker_of, number_in, users_among, role_among, paper_named}
+use Rattle.cr_base.specs.Tables.{tables_of}
+use Rattle.cr_base.specs.TagTexts.{is_for_chairs}
+use Rattle.cr_base.specs.Words.{is_member, is_chair, role_number}
+use Rattle.cr_base.proofs.PairLaws.{list_any-others_of}
+use Rattle.cr_history.proofs.RuleLaws.{facts_of}
+use Rattle.cr_policy.specs.Judge.{judge}
+use Rattle.cr_policy.specs.Legal.{Legal}
+use Rattle.cr_policy.specs.View.{view}
+use Rattle.cr_policy.proofs.LegalLaws.{Legal-told}
+use Rattle.cr_policy.specs.MayDo.{may_register, may_name, may_set_mode, may_open, may_submit, may_change, may_upload, may_declare, may_take_back, may_bid, may_assign}
+use Rattle.cr_policy.specs.MayDo.{has_written, may_unassign, may_review, may_comment, may_tag, may_decide, PermissionsAsSaid}
+use Rattle.cr_policy.specs.Sentences.{now, comes_behind, committee_works, is_over, is_members, is_chairs, is_above, is_paper, stands}
+use Rattle.cr_policy.specs.Sentences.{leads, of_some, user_named, is_somebody, is_for_chairs_alone}
+use Rattle.cr_policy.proofs.SentenceLaws.{none_broken, judged-none_broken, phase-same, next-same, member-same, chair-same, in_committee-same, above-same, over-same, early-same, none-same, at-same, fewer, up_to}
+use Rattle.cr_policy.proofs.SentenceLaws.{shown_of, accepted-as, accepted-checks, number-same, by_name, all_somebody}
+
+-- ---- conflicts
+
+-- an author's, before the bidding
+early-said : (t a w m m' x : Bool) → m ≡ m' → (not (not t) && (not (not a) && (not w && (not (not m) && true)))) ≡ ((t && not w) && m' && (a || (false && x)))
+early-said t a w m m' x hm = grind arith
+
+-- never, behind the discussion
+late-said : (t w m x y : Bool) → (not (not t) && false) ≡ ((t && not w) && m && ((false && x) || (false && y)))
+late-said t w m x y = grind arith
+
+own-said : (t w m m' x y : Bool) → m ≡ m' → (not (not t) && (not (not m) && (not w && true))) ≡ ((t && not w) && m' && ((false && x) || (true || y)))
+own-said t w m m' x y hm = grind arith
+
+other-said : (t w k k' c m m' x : Bool) → k ≡ k' → m ≡ m'
+    → (not (not t) && (not (not k) && (not c && (not w && (not (not m) && true))))) ≡ ((t && not w) && m' && ((false && x) || (false || (k' && not c))))
+other-said t w k k' c m m' x hk hm = grind arith
+
+-- all of them: by whether it is the bidding or later, and whether it is later than the discussion
+declared-said : (b l t w : Bool) (by : Standing) (user : Target) → (user.herself ≡ true → by.role ≡ user.role)
+    → (not (not t) && none_broken (conflict_case true b l by w user))
+    ≡ ((t && not w) && is_members user.role
+    && ((not b && by.author) || ((b && not l) && (user.herself || (is_chairs by.role && not by.conflicted)))))
+declared-said false l t w by user same =
+    early-said t by.author w (is_member user.role) (is_members user.role) (user.herself || (is_chairs by.role && not by.conflicted)) (member-same user.role)
+declared-said true true t w by user same =
+    late-said t w (is_members user.role) by.author (user.herself || (is_chairs by.role && not by.conflicted))
+declared-said true false t w by user same = by_user user.herself same
+  where
+    by_user : (h : Bool) → (h ≡ true → by.role ≡ user.role)
+        → (not (not t) && none_broken (cond h (own_checks by w) (other_checks by w user)))
+        ≡ ((t && not w) && is_members user.role && ((false && by.author) || (h || (is_chairs by.role && not by.conflicted))))
+    by_user true same =
+        own-said t w (is_member by.role) (is_members user.role) by.author (is_chairs by.role && not by.conflicted)
+        (member-same by.role ∙ ap is_members (same refl))
+    by_user false same =
+        other-said t w (is_chair by.role) (is_chairs by.role) by.conflicted (is_member user.role) (is_members user.role) by.author
+        (chair-same by.role) (member-same user.role)
+
+-- ---- tags for chairs
+
+for_chairs-same : (tag : List ℕ) → is_for_chairs tag ≡ is_for_chairs_alone tag
+for_chairs-same [] = refl
+for_chairs-same (b ∷ []) = off (eqb b 126)
+  where
+    off : (t : Bool) → (t && false) ≡ false
+    off true = refl
+    off false = refl
+for_chairs-same (b ∷ c ∷ rest) = refl
+
+-- ---- registrations, whoever calls
+
+module _ (u : Option ℕ) (H : History) (legal : Legal H) where
+  registrations : (name digest : List ℕ) → is_ok (judge u (view u H) (commands.Register name digest)) ≡ may_register H name
+  registrations name digest =
+      accepted-checks u H legal (commands.Register name digest) (register_checks (is_some (number_in (accounts_of H) name)) (length (accounts_of H))) _ refl
+      ∙ said (is_some (number_in (accounts_of H) name)) (is_none (number_of name H)) (nat_le 9999 (length (accounts_of H))) (nat_lt (length (accounts_of H)) 9999)
+      (none-same (number_in (accounts_of H) name) ∙ ap (λ (o : Option ℕ). is_none o) (number-same u H legal name)) (fewer 9999 (length (accounts_of H)))
+    where
+      said : (x x' q q' : Bool) → not x ≡ x' → not q ≡ q' → (not x && (not q && true)) ≡ (x' && q')
+      said x x' q q' hx hq = grind arith
+
+-- the commands of a user
+module _ (w : ℕ) (H : History) (legal : Legal H) where
+  abbrev u : Option ℕ
+  u = Some w
+
+  phases : (to : Phase) → is_ok (judge u (view u H) (commands.SetPhase to)) ≡ may_open w H to
+  phases to =
+      accepted-checks u H legal (commands.SetPhase to) (phase_checks (standing_of u None H) (phase_of H) to) _ refl
+      ∙ said (is_chair (role_of u H)) (is_next (phase_of H) to) (is_chairs (role_of u H)) (comes_behind (phase_of H) to)
+      (chair-same (role_of u H)) (next-same (phase_of H) to)
+    where
+      said : (c n c' n' : Bool) → c ≡ c' → n ≡ n' → (not (not c) && (not (not n) && true)) ≡ (c' && n')
+      said c n c' n' hc hn = grind arith
+
+  bids : (paper : Option ℕ) (value : ℕ) → is_ok (judge u (view u H) (commands.Bid paper value)) ≡ of_some paper (may_bid w H)
+  bids None value = accepted-as u H legal (commands.Bid None value)
+  bids (Some p) value =
+      accepted-checks u H legal (commands.Bid (Some p) value) (bid_checks (standing_of u (Some p) H) (paper_named (facts_of u H) (shown_of H) (Some p))) _ refl
+      ∙ said (is_paper p H) (is_member (role_of u H)) (is_conflicted u p H) (is_phase (phase_of H) Bidding) (is_withdrawn p H)
+      (is_members (role_of u H)) (now Bidding H) (member-same (role_of u H)) (phase-same Bidding (phase_of H))
+    where
+      said : (t m c n w m' n' : Bool) → m ≡ m' → n ≡ n'
+          → (not (not t) && (not (not m) && (not c && (not (not n) && (not w && true))))) ≡ ((t && not w) && (m' && not c) && n')
+      said t m c n w m' n' hm hn = grind arith
+
+  modes : (to : Mode) → is_ok (judge u (view u H) (commands.SetMode to)) ≡ may_set_mode w H
+  modes to =
+      accepted-checks u H legal (commands.SetMode to) (mode_checks (standing_of u None H) (phase_of H)) _ refl
+      ∙ said (is_chair (role_of u H)) (is_phase (phase_of H) Setup) (is_chairs (role_of u H)) (now Setup H)
+      (chair-same (role_of u H)) (phase-same Setup (phase_of H))
+    where
+      said : (c n c' n' : Bool) → c ≡ c' → n ≡ n' → (not (not c) && (not (not n) && true)) ≡ (c' && n')
+      said c n c' n' hc hn = grind arith
+
+  -- what an author does with a paper
+  by_author : (p : ℕ)
+      → none_broken (revise_checks (standing_of u (Some p) H) (paper_named (facts_of u H) (shown_of H) (Some p))) ≡ may_change w H p
+  by_author p =
+      said (is_paper p H) (is_author u p H) (is_phase (phase_of H) Submission) (is_withdrawn p H) (now Submission H)
+      (phase-same Submission (phase_of H))
+    where
+      said : (t a n w n' : Bool) → n ≡ n' → (not (not t) && (not (not a) && (not (not n) && (not w && true)))) ≡ ((t && not w) && a && n')
+      said t a n w n' hn = grind arith
+
+  revisions : (paper : Option ℕ) (title abstract : List ℕ) → is_ok (judge u (view u H) (commands.Revise paper title abstract)) ≡ of_some paper (may_change w H)
+  revisions None title abstract = accepted-as u H legal (commands.Revise None title abstract)
+  revisions (Some p) title abstract =
+      accepted-checks u H legal (commands.Revise (Some p) title abstract) (revise_checks (standing_of u (Some p) H) (paper_named (facts_of u H) (shown_of H) (Some p))) _ refl
+      ∙ by_author p
+
+  withdrawals : (paper : Option ℕ) → is_ok (judge u (view u H) (commands.Withdraw paper)) ≡ of_some paper (may_change w H)
+  withdrawals None = accepted-as u H legal (commands.Withdraw None)
+  withdrawals (Some p) =
+      accepted-checks u H legal (commands.Withdraw (Some p)) (revise_checks (standing_of u (Some p) H) (paper_named (facts_of u H) (shown_of H) (Some p))) _ refl
+      ∙ by_author p
+
+  uploads : (paper : Option ℕ) (content : List ℕ) → is_ok (judge u (view u H) (commands.Upload paper content)) ≡ of_some paper (may_upload w H (length content))
+  uploads None content = accepted-as u H legal (commands.Upload None content)
+  uploads (Some p) content =
+      accepted-checks u H legal (commands.Upload (Some p) content)
+      (upload_checks (standing_of u (Some p) H) (paper_named (facts_of u H) (shown_of H) (Some p)) (own_bytes_of u H) (length content)) _ refl
+      ∙ said (is_paper p H) (is_author u p H) (is_phase (phase_of H) Submission) (is_withdrawn p H) (now Submission H)
+      (nat_lt 67108864 (own_bytes_of u H + length content)) (nat_le (own_bytes_of u H + length content) 67108864)
+      (phase-same Submission (phase_of H)) (up_to 67108864 (own_bytes_of u H + length content))
+    where
+      said : (t a n w n' q q' : Bool) → n ≡ n' → not q ≡ q'
+          → (not (not t) && (not (not a) && (not (not n) && (not w && (not q && true))))) ≡ (((t && not w) && a && n') && q')
+      said t a n w n' q q' hn hq = grind arith
+
+  reviewing : (paper : Option ℕ) (form : Form) → is_ok (judge u (view u H) (commands.Review paper form)) ≡ of_some paper (may_review w H)
+  reviewing None form = accepted-as u H legal (commands.Review None form)
+  reviewing (Some p) form =
+      accepted-checks u H legal (commands.Review (Some p) form) (review_checks (standing_of u (Some p) H) (paper_named (facts_of u H) (shown_of H) (Some p))) _ refl
+      ∙ said (is_paper p H) (is_member (role_of u H)) (is_conflicted u p H) (is_reviewer u p H) (is_phase (phase_of H) Reviewing)
+      (is_phase (phase_of H) Discussion) (is_withdrawn p H)
+      (is_members (role_of u H)) (now Reviewing H) (now Discussion H)
+      (member-same (role_of u H)) (phase-same Reviewing (phase_of H)) (phase-same Discussion (phase_of H))
+    where
+      said : (t m c r x y w m' x' y' : Bool) → m ≡ m' → x ≡ x' → y ≡ y'
+          → (not (not t) && (not (not m) && (not c && (not (not r) && (not (not (x || y)) && (not w && true))))))
+          ≡ ((t && not w) && (m' && not c) && r && (x' || y'))
+      said t m c r x y w m' x' y' hm hx hy = grind arith
+
+  comments : (paper : Option ℕ) (text : List ℕ) → is_ok (judge u (view u H) (commands.Comment paper text)) ≡ of_some paper (may_comment w H)
+  comments None text = accepted-as u H legal (commands.Comment None text)
+  comments (Some p) text =
+      accepted-checks u H legal (commands.Comment (Some p) text)
+      (comment_checks (standing_of u (Some p) H) (paper_named (facts_of u H) (shown_of H) (Some p)) (own_comments_of u H)) _ refl
+      ∙ said (is_paper p H) (is_member (role_of u H)) (is_conflicted u p H) (is_phase (phase_of H) Discussion) (is_withdrawn p H)
+      (nat_le 1000 (own_comments_of u H)) (is_members (role_of u H)) (now Discussion H) (nat_lt (own_comments_of u H) 1000)
+      (member-same (role_of u H)) (phase-same Discussion (phase_of H)) (fewer 1000 (own_comments_of u H))
+    where
+      said : (t m c n w q m' n' q' : Bool) → m ≡ m' → n ≡ n' → not q ≡ q'
+          → (not (not t) && (not (not m) && (not c && (not (not n) && (not w && (not q && true)))))) ≡ ((t && not w) && (m' && not c) && n' && q')
+      said t m c n w q m' n' q' hm hn hq = grind arith
+
+  tags : (paper : Option ℕ) (tag : List ℕ) (on : Bool) → is_ok (judge u (view u H) (commands.Tag paper tag on)) ≡ of_some paper (may_tag w H tag)
+  tags None tag on = accepted-as u H legal (commands.Tag None tag on)
+  tags (Some p) tag on =
+      accepted-checks u H legal (commands.Tag (Some p) tag on)
+      (tag_checks (standing_of u (Some p) H) (paper_named (facts_of u H) (shown_of H) (Some p)) (is_for_chairs tag)) _ refl
+      ∙ said (is_paper p H) (is_for_chairs tag) (is_for_chairs_alone tag) (is_chair (role_of u H)) (is_member (role_of u H)) (is_conflicted u p H)
+      (is_in_committee (phase_of H)) (is_withdrawn p H) (is_chairs (role_of u H)) (is_members (role_of u H)) (committee_works H)
+      (chair-same (role_of u H)) (member-same (role_of u H)) (in_committee-same (phase_of H)) (for_chairs-same tag)
+    where
+      said : (t f f' k m c n w k' m' n' : Bool) → k ≡ k' → m ≡ m' → n ≡ n' → f ≡ f'
+          → (not (not t) && (not (f && not k) && (not (not m) && (not c && (not (not n) && (not w && true))))))
+          ≡ ((t && not w) && (m' && not c) && n' && (k' || not f'))
+      said t f f' k m c n w k' m' n' hk hm hn hf = grind arith
+
+  decisions : (paper : Option ℕ) (decision : Decision) → is_ok (judge u (view u H) (commands.Decide paper decision)) ≡ of_some paper (may_decide w H)
+  decisions None decision = accepted-as u H legal (commands.Decide None decision)
+  decisions (Some p) decision =
+      accepted-checks u H legal (commands.Decide (Some p) decision) (decide_checks (standing_of u (Some p) H) (paper_named (facts_of u H) (shown_of H) (Some p))) _ refl
+      ∙ said (is_paper p H) (is_chair (role_of u H)) (is_conflicted u p H) (is_phase (phase_of H) Discussion) (is_withdrawn p H)
+      (is_chairs (role_of u H)) (now Discussion H) (chair-same (role_of u H)) (phase-same Discussion (phase_of H))
+    where
+      said : (t m c n w m' n' : Bool) → m ≡ m' → n ≡ n'
+          → (not (not t) && (not (not m) && (not c && (not (not n) && (not w && true))))) ≡ ((t && not w) && (m' && not c) && n')
+      said t m c n w m' n' hm hn = grind arith
+
+  submissions : (title abstract : List ℕ) (names : List (Option (List ℕ))) → is_ok (judge u (view u H) (commands.Submit title abstract names)) ≡ may_submit w H names
+  submissions title abstract names =
+      accepted-checks u H legal (commands.Submit title abstract names)
+      (submit_checks (list_any is_none (users_among (accounts_of H) names)) (standing_of u None H) (length (papers_of H)) (own_papers_of u H)) _ refl
+      ∙ said (list_any is_none (users_among (accounts_of H) names)) (list_all (λ name. is_somebody name H) names)
+      (is_phase (phase_of H) Submission) (now Submission H) (nat_le 9999 (length (papers_of H))) (nat_lt (length (papers_of H)) 9999)
+      (nat_le 20 (own_papers_of u H)) (nat_lt (own_papers_of u H) 20)
+      (all_somebody u H legal names) (phase-same Submission (phase_of H)) (fewer 9999 (length (papers_of H))) (fewer 20 (own_papers_of u H))
+    where
+      said : (x x' n n' q q' o o' : Bool) → not x ≡ x' → n ≡ n' → not q ≡ q' → not o ≡ o'
+          → (not x && (not (not n) && (not q && (not o && true)))) ≡ (n' && x' && q' && o')
+      said x x' n n' q q' o o' hx hn hq ho = grind arith
+
+  namings : (name : Option (List ℕ)) (role : Role) → is_ok (judge u (view u H) (commands.Name name role)) ≡ of_some (user_named name H) (may_name w H role)
+  namings name role =
+      accepted-as u H legal (commands.Name name role)
+      ∙ by_name u H legal (λ (target : Option ℕ). is_ok (name_judged (facts_of u H) u target (unwrap_or name []) role)) (may_name w H role) name refl each
+    where
+      said : (c c' o o' b b' : Bool) → c ≡ c' → o ≡ o' → not b ≡ b' → (not (not c) && (not o && (not b && true))) ≡ (c' && not o' && b')
+      said c c' o o' b b' hc ho hb = grind arith
+
+      each : (v : ℕ) → role_among (accounts_of H) (Some v) ≡ Some (role_of (Some v) H)
+          → is_ok (name_judged (facts_of u H) u (Some v) (unwrap_or name []) role) ≡ may_name w H role v
+      each v is =
+          ap (λ (o : Option Role). is_ok (judged (name_checks (standing_of u None H) (option_map of_role o) role) (naming_drawn (maker_of u) v (unwrap_or name []) role))) is
+          ∙ judged-none_broken (name_checks (standing_of u None H) (Some (of_role (role_of (Some v) H))) role) (naming_drawn (maker_of u) v (unwrap_or name []) role)
+          ∙ said (is_chair (role_of u H)) (is_chairs (role_of u H)) (is_from Notification (phase_of H)) (is_over H)
+          (nat_le (role_number role) (role_number (role_of (Some v) H))) (is_above role (role_of (Some v) H))
+          (chair-same (role_of u H)) (over-same (phase_of H)) (above-same role (role_of (Some v) H))
+
+  -- ---- those that name a paper and a user
+  -- the user named, as the rules ask of her at the paper
+  abbrev user_at : ℕ → ℕ → Role → Target
+  user_at p v role =
+      let wrote : Bool = list_any (is_number (Some v)) (authors_of p H) in
+      record {
+        role = role;
+        herself = eqb v w;
+        author = wrote;
+        conflicted = wrote || list_any (is_number (Some v)) ((shown_of H).conflicts p);
+        reviewer = is_some (seat_of (Some v) p H);
+      }
+
+  abbrev by : ℕ → Standing
+  by p = standing_of (Some w) (Some p) H
+
+  abbrev named : ℕ → NamedPaper
+  named p = paper_named (facts_of (Some w) H) (shown_of H) (Some p)
+
+  -- where nobody has the name, no command goes
+  nobody : (p : ℕ) (rest : List Check) (drawn : Drawn)
+      → is_ok (judged (not (is_paper p H) breaks rules.NoPaper ∷ true breaks rules.NoUser ∷ rest) drawn) ≡ false
+  nobody p rest drawn = judged-none_broken (not (is_paper p H) breaks rules.NoPaper ∷ true breaks rules.NoUser ∷ rest) drawn ∙ off (is_paper p H)
+    where
+      off : (t : Bool) → (not (not t) && false) ≡ false
+      off true = refl
+      off false = refl
+
+  -- who is declared in conflict
+  clash-same : (p v : ℕ) → (user_at p v Account).conflicted ≡ is_conflicted (Some v) p H
+  clash-same p v =
+      ap (λ (b : Bool). is_author (Some v) p H || b)
+      (list_any-others_of ByPaper p v (tables_of H).ties.conflicts ∙ sym ((Legal-told H legal).conflict (Some v) p))
+
+  same_user : (v : ℕ) → eqb v w ≡ true → role_of (Some w) H ≡ role_of (Some v) H
+  same_user v h = ap (λ (n : ℕ). role_of (Some n) H) (sym (eqb-true v w h))
+
+  declarations : (paper : Option ℕ) (name : Option (List ℕ))
+      → is_ok (judge (Some w) (view (Some w) H) (commands.SetConflict paper name true)) ≡ of_some paper (λ p. of_some (user_named name H) (may_declare w H p))
+  declarations None name = accepted-as (Some w) H legal (commands.SetConflict None name true)
+  declarations (Some p) name =
+      accepted-as (Some w) H legal (commands.SetConflict (Some p) name true)
+      ∙ by_name (Some w) H legal (λ (target : Option ℕ). is_ok (conflict_judged (facts_of (Some w) H) (shown_of H) (Some w) (Some p) target true))
+      (may_declare w H p) name (nobody p [] (conflict_drawn w p 0 true)) each
+    where
+      each : (v : ℕ) → role_among (accounts_of H) (Some v) ≡ Some (role_of (Some v) H)
+          → is_ok (conflict_judged (facts_of (Some w) H) (shown_of H) (Some w) (Some p) (Some v) true) ≡ may_declare w H p v
+      each v is =
+          ap (λ (o : Option Role). is_ok (judged (conflict_checks (by p) (named p) (option_map (user_at p v) o) true) (conflict_drawn w p v true))) is
+          ∙ judged-none_broken (conflict_checks (by p) (named p) (Some (user_at p v (role_of (Some v) H))) true) (conflict_drawn w p v true)
+          ∙ declared-said (is_from Bidding (phase_of H)) (is_from Notification (phase_of H)) (is_paper p H) (is_withdrawn p H) (by p)
+          (user_at p v (role_of (Some v) H)) (same_user v)
+          ∙ (λ i. stands p H && is_members (role_of (Some v) H)
+          && ((early-same (phase_of H) i && is_author (Some w) p H) || (in_committee-same (phase_of H) i && (eqb v w || leads w p H))))
+
+  -- what a chair does while the committee works
+  chair-said : (t k c n w k' n' rest : Bool) → k ≡ k' → n ≡ n'
+      → (not (not t) && (not (not k) && (not c && (not (not n) && (not w && rest))))) ≡ ((t && not w) && (k' && not c) && n' && rest)
+  chair-said t k c n w k' n' rest hk hn = grind arith
+
+  chair-checks : (p : ℕ) (rest : Bool)
+      → (not (not (is_paper p H)) && (not (not (is_chair (role_of (Some w) H))) && (not (is_conflicted (Some w) p H)
+      && (not (not (is_in_committee (phase_of H))) && (not (is_withdrawn p H) && rest)))))
+      ≡ (stands p H && leads w p H && committee_works H && rest)
+  chair-checks p rest =
+      chair-said (is_paper p H) (is_chair (role_of (Some w) H)) (is_conflicted (Some w) p H) (is_in_committee (phase_of H)) (is_withdrawn p H)
+      (is_chairs (role_of (Some w) H)) (committee_works H) rest (chair-same (role_of (Some w) H)) (in_committee-same (phase_of H))
+
+  taken_back : (paper : Option ℕ) (name : Option (List ℕ))
+      → is_ok (judge (Some w) (view (Some w) H) (commands.SetConflict paper name false)) ≡ of_some paper (λ p. of_some (user_named name H) (may_take_back w H p))
+  taken_back None name = accepted-as (Some w) H legal (commands.SetConflict None name false)
+  taken_back (Some p) name =
+      accepted-as (Some w) H legal (commands.SetConflict (Some p) name false)
+      ∙ by_name (Some w) H legal (λ (target : Option ℕ). is_ok (conflict_judged (facts_of (Some w) H) (shown_of H) (Some w) (Some p) target false))
+      (may_take_back w H p) name (nobody p [] (conflict_drawn w p 0 false)) each
+    where
+      said : (x m m' a : Bool) → m ≡ m' → (x && (not (not m) && (not a && true))) ≡ (x && m' && not a)
+      said x m m' a hm = grind arith
+
+      each : (v : ℕ) → role_among (accounts_of H) (Some v) ≡ Some (role_of (Some v) H)
+          → is_ok (conflict_judged (facts_of (Some w) H) (shown_of H) (Some w) (Some p) (Some v) false) ≡ may_take_back w H p v
+      each v is =
+          ap (λ (o : Option Role). is_ok (judged (conflict_checks (by p) (named p) (option_map (user_at p v) o) false) (conflict_drawn w p v false))) is
+          ∙ judged-none_broken (conflict_checks (by p) (named p) (Some (user_at p v (role_of (Some v) H))) false) (conflict_drawn w p v false)
+          ∙ chair-checks p (not (not (is_member (role_of (Some v) H))) && (not (is_author (Some v) p H) && true))
+          ∙ said (stands p H && leads w p H && committee_works H) (is_member (role_of (Some v) H)) (is_members (role_of (Some v) H))
+          (is_author (Some v) p H) (member-same (role_of (Some v) H))
+
+  assignments : (paper : Option ℕ) (name : Option (List ℕ)) (kind : Kind)
+      → is_ok (judge (Some w) (view (Some w) H) (commands.Assign paper name kind)) ≡ of_some paper (λ p. of_some (user_named name H) (may_assign w H p))
+  assignments None name kind = accepted-as (Some w) H legal (commands.Assign None name kind)
+  assignments (Some p) name kind =
+      accepted-as (Some w) H legal (commands.Assign (Some p) name kind)
+      ∙ by_name (Some w) H legal (λ (target : Option ℕ). is_ok (assignment_judged (facts_of (Some w) H) (shown_of H) (Some w) (Some p) target kind))
+      (may_assign w H p) name (nobody p [] (assignment_drawn w p 0 kind 0)) each
+    where
+      said : (x m m' c c' r q q' : Bool) → m ≡ m' → c ≡ c' → not q ≡ q'
+          → (x && (not (not m) && (not c && (not r && (not q && true))))) ≡ (x && (m' && not c') && not r && q')
+      said x m m' c c' r q q' hm hc hq = grind arith
+
+      each : (v : ℕ) → role_among (accounts_of H) (Some v) ≡ Some (role_of (Some v) H)
+          → is_ok (assignment_judged (facts_of (Some w) H) (shown_of H) (Some w) (Some p) (Some v) kind) ≡ may_assign w H p v
+      each v is =
+          ap (λ (o : Option Role). is_ok (judged (assign_checks (by p) (named p) (option_map (user_at p v) o) (length (seats_of p H))) (assignment_drawn w p v kind (length (seats_of p H) + 1)))) is
+          ∙ judged-none_broken (assign_checks (by p) (named p) (Some (user_at p v (role_of (Some v) H))) (length (seats_of p H))) (assignment_drawn w p v kind (length (seats_of p H) + 1))
+          ∙ chair-checks p (not (not (is_member (role_of (Some v) H))) && (not ((user_at p v Account).conflicted)
+          && (not (is_reviewer (Some v) p H) && (not (nat_le 26 (length (seats_of p H))) && true))))
+          ∙ said (stands p H && leads w p H && committee_works H) (is_member (role_of (Some v) H)) (is_members (role_of (Some v) H))
+          ((user_at p v Account).conflicted) (is_conflicted (Some v) p H) (is_reviewer (Some v) p H)
+          (nat_le 26 (length (seats_of p H))) (nat_lt (length (seats_of p H)) 26)
+          (member-same (role_of (Some v) H)) (clash-same p v) (fewer 26 (length (seats_of p H)))
+
+  unassignments : (paper : Option ℕ) (name : Option (List ℕ))
+      → is_ok (judge (Some w) (view (Some w) H) (commands.Unassign paper name)) ≡ of_some paper (λ p. of_some (user_named name H) (may_unassign w H p))
+  unassignments None name = accepted-as (Some w) H legal (commands.Unassign None name)
+  unassignments (Some p) name =
+      accepted-as (Some w) H legal (commands.Unassign (Some p) name)
+      ∙ by_name (Some w) H legal (λ (target : Option ℕ). is_ok (unassignment_judged (facts_of (Some w) H) (shown_of H) (Some w) (Some p) target))
+      (may_unassign w H p) name (nobody p [] (unassignment_drawn w p 0 0)) each
+    where
+      said : (x r f f' : Bool) → f ≡ f' → (x && (not (not r) && (not f && true))) ≡ (x && r && not f')
+      said x r f f' hf = grind arith
+
+      each : (v : ℕ) → role_among (accounts_of H) (Some v) ≡ Some (role_of (Some v) H)
+          → is_ok (unassignment_judged (facts_of (Some w) H) (shown_of H) (Some w) (Some p) (Some v)) ≡ may_unassign w H p v
+      each v is =
+          ap (λ (o : Option Role). is_ok (judged (unassign_checks (by p) (named p) (option_map (user_at p v) o) (at_some (λ o. is_written p o H) (seat_of (Some v) p H)))
+          (unassignment_drawn w p v (unwrap_or (seat_of (Some v) p H) 0)))) is
+          ∙ judged-none_broken (unassign_checks (by p) (named p) (Some (user_at p v (role_of (Some v) H))) (at_some (λ o. is_written p o H) (seat_of (Some v) p H)))
+          (unassignment_drawn w p v (unwrap_or (seat_of (Some v) p H) 0))
+          ∙ chair-checks p (not (not (is_reviewer (Some v) p H)) && (not (at_some (λ o. is_written p o H) (seat_of (Some v) p H)) && true))
+          ∙ said (stands p H && leads w p H && committee_works H) (is_reviewer (Some v) p H)
+          (at_some (λ o. is_written p o H) (seat_of (Some v) p H)) (has_written v p H) (at-same (λ o. is_written p o H) (seat_of (Some v) p H))
+
+-- ---- the law
+
+pub permissions_as_said : PermissionsAsSaid
+permissions_as_said None H (commands.Register name digest) legal = registrations None H legal name digest
+permissions_as_said None H (commands.SetConflict paper name true) legal = refl
+permissions_as_said None H (commands.SetConflict paper name false) legal = refl
+permissions_as_said None H (commands.Tag paper tag true) legal = refl
+permissions_as_said None H (commands.Tag paper tag false) legal = refl
+permissions_as_said None H _ legal = refl
+permissions_as_said (Some w) H (commands.Register name digest) legal = registrations (Some w) H legal name digest
+permissions_as_said (Some w) H (commands.SetPhase to) legal = phases w H legal to
+permissions_as_said (Some w) H (commands.Submit title abstract names) legal = submissions w H legal title abstract names
+permissions_as_said (Some w) H (commands.Revise paper title abstract) legal = revisions w H legal paper title abstract
+permissions_as_said (Some w) H (commands.Upload paper content) legal = uploads w H legal paper content
+permissions_as_said (Some w) H (commands.Withdraw paper) legal = withdrawals w H legal paper
+permissions_as_said (Some w) H (commands.Name name role) legal = namings w H legal name role
+permissions_as_said (Some w) H (commands.SetMode to) legal = modes w H legal to
+permissions_as_said (Some w) H (commands.SetConflict paper name true) legal = declarations w H legal paper name
+permissions_as_said (Some w) H (commands.SetConflict paper name false) legal = taken_back w H legal paper name
+permissions_as_said (Some w) H (commands.Bid paper value) legal = bids w H legal paper value
+permissions_as_said (Some w) H (commands.Assign paper name kind) legal = assignments w H legal paper name kind
+permissions_as_said (Some w) H (commands.Unassign paper name) legal = unassignments w H legal paper name
+permissions_as_said (Some w) H (commands.Review paper form) legal = reviewing w H legal paper form
+permissions_as_said (Some w) H (commands.Comment paper text) legal = comments w H legal paper text
+permissions_as_said (Some w) H (commands.Tag paper tag on) legal = tags w H legal paper tag on
+permissions_as_said (Some w) H (commands.Decide paper decision) legal = decisions w H legal paper decision

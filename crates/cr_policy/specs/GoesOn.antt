@@ -1,0 +1,29 @@
+-- No conference gets stuck: from its first account on it has a chair, and before its end she can open its next
+-- phase.
+use Rattle.std.specs.Prelude.{ℕ, Some, is_ok, IsTrue, IsFalse}
+use Rattle.cr_base.specs.declared.command.Command.TheVariants.{SetPhase}
+use Rattle.cr_base.specs.declared.words.Phase.{Phase}
+use Rattle.cr_base.specs.declared.words.Phase.TheVariants.{Closed}
+use Rattle.cr_base.specs.History.{History}
+use Rattle.cr_base.specs.HistoryFacts.{phase_of}
+use Rattle.cr_history.specs.Invariants.{IsRegistered}
+use Rattle.cr_policy.specs.Judge.{judge}
+use Rattle.cr_policy.specs.Legal.{Legal}
+use Rattle.cr_policy.specs.Sentences.{now, comes_behind, chairs}
+use Rattle.cr_policy.specs.View.{view}
+
+-- there is a next phase, and this user's request for it is accepted
+pub record CanGoOn (H : History) (u : ℕ) : Type 0 where
+  pub next : Phase
+  pub comes : IsTrue (comes_behind (phase_of H) next)
+  pub accepted : IsTrue (is_ok (judge (Some u) (view (Some u) H) (SetPhase next)))
+
+-- the first user has registered and is a chair; and before the end she can go on
+pub record HasChair (H : History) : Type 0 where
+  pub registered : IsRegistered H 1
+  pub chair : IsTrue (chairs 1 H)
+  pub goes_on : IsFalse (now Closed H) → CanGoOn H 1
+
+-- GoesOn: so it is of each legal history in which anybody has registered
+abbrev pub GoesOn : Type 0
+GoesOn = (H : History) (u : ℕ) → Legal H → IsRegistered H u → HasChair H

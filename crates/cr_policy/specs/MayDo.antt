@@ -1,0 +1,152 @@
+-- Who may do what, said a second time: for each command one sentence, as a committee says it. Where a paper or a
+-- user that is told isn't there, nobody may.
+use Rattle.std.specs.Prelude.{ℕ, Bool, true, false, not, ◌&&◌, ◌||◌, ◌+◌, ◌==◌, ◌≡◌, nat_le, nat_lt, List, length}
+use Rattle.std.specs.Prelude.{Option, Some, is_none, is_some, is_ok}
+use Rattle.std.specs.List.{list_all}
+use Rattle.cr_base.specs.declared.command.Command.{Command}
+use Rattle.cr_base.specs.declared.command.Command.TheVariants as commands
+use Rattle.cr_base.specs.declared.words.Phase.{Phase}
+use Rattle.cr_base.specs.declared.words.Phase.TheVariants.{Setup, Submission, Bidding, Reviewing, Discussion}
+use Rattle.cr_base.specs.declared.words.Role.{Role}
+use Rattle.cr_base.specs.History.{History}
+use Rattle.cr_base.specs.HistoryFacts.{phase_of, role_of, accounts_of, papers_of, number_of, seat_of, seats_of}
+use Rattle.cr_base.specs.HistoryFacts.{is_written, own_papers_of, own_bytes_of, own_comments_of}
+use Rattle.cr_base.specs.Logins.{command_wants_login}
+use Rattle.cr_policy.specs.Judge.{judge}
+use Rattle.cr_policy.specs.Legal.{Legal}
+use Rattle.cr_policy.specs.Sentences.{now, comes_behind, before_bidding, committee_works, is_over, is_above}
+use Rattle.cr_policy.specs.Sentences.{on_committee, chairs, stands}
+use Rattle.cr_policy.specs.Sentences.{wrote, handles, leads, reviews, of_some, user_named, is_somebody}
+use Rattle.cr_policy.specs.Sentences.{is_for_chairs_alone}
+use Rattle.cr_policy.specs.View.{view}
+
+-- ---- accounts and the conference
+
+-- anybody registers a name that nobody has registered, while fewer than 9,999 are registered
+abbrev pub may_register : History → List ℕ → Bool
+may_register H name = is_none (number_of name H) && nat_lt (length (accounts_of H)) 9999
+
+-- a chair gives a user a role above the one that she has, until the discussion is over
+abbrev pub may_name : ℕ → History → Role → ℕ → Bool
+may_name u H role v = chairs u H && not (is_over H) && is_above role (role_of (Some v) H)
+
+-- a chair sets the mode, in setup
+abbrev pub may_set_mode : ℕ → History → Bool
+may_set_mode u H = chairs u H && now Setup H
+
+-- a chair moves the conference to the phase that comes next
+abbrev pub may_open : ℕ → History → Phase → Bool
+may_open u H to = chairs u H && comes_behind (phase_of H) to
+
+-- ---- what authors do
+
+-- whoever has an account submits a paper, with co-authors who have one, in the submission, while fewer than 9,999
+-- were submitted, and fewer than 20 by herself
+abbrev pub may_submit : ℕ → History → List (Option (List ℕ)) → Bool
+may_submit u H names =
+    now Submission H && list_all (λ name. is_somebody name H) names
+    && nat_lt (length (papers_of H)) 9999 && nat_lt (own_papers_of (Some u) H) 20
+
+-- an author changes her paper, or withdraws it, in the submission, until it is withdrawn
+abbrev pub may_change : ℕ → History → ℕ → Bool
+may_change u H p = stands p H && wrote u p H && now Submission H
+
+-- and uploads a version of its content, as long as all that she has uploaded is no more than 64 MiB with it
+abbrev pub may_upload : ℕ → History → ℕ → ℕ → Bool
+may_upload u H bytes p = may_change u H p && nat_le (own_bytes_of (Some u) H + bytes) 67108864
+
+-- ---- conflicts
+
+-- a paper that isn't withdrawn and a member are declared in conflict: before the bidding by an author of the paper;
+-- while the committee works by the member herself, and by a chair who is in no conflict with the paper
+abbrev pub may_declare : ℕ → History → ℕ → ℕ → Bool
+may_declare u H p v =
+    stands p H && on_committee v H
+    && ((before_bidding H && wrote u p H) || (committee_works H && (v == u || leads u p H)))
+
+-- while the committee works, a chair in no conflict with a paper that isn't withdrawn takes back that a member is,
+-- who is no author of it
+abbrev pub may_take_back : ℕ → History → ℕ → ℕ → Bool
+may_take_back u H p v = stands p H && leads u p H && committee_works H && on_committee v H && not (wrote v p H)
+
+-- ---- bids, and who reviews
+
+-- a member in no conflict with a paper that isn't withdrawn bids on it, in the bidding
+abbrev pub may_bid : ℕ → History → ℕ → Bool
+may_bid u H p = stands p H && handles u p H && now Bidding H
+
+-- while the committee works, a chair in no conflict with a paper that isn't withdrawn assigns it to a member in none
+-- who doesn't review it, while fewer than 26 of its labels are given
+abbrev pub may_assign : ℕ → History → ℕ → ℕ → Bool
+may_assign u H p v =
+    stands p H && leads u p H && committee_works H && handles v p H && not (reviews v p H)
+    && nat_lt (length (seats_of p H)) 26
+
+-- there is a form under the label under which she reviews the paper
+abbrev pub has_written : ℕ → ℕ → History → Bool
+has_written v p H = of_some (seat_of (Some v) p H) (λ o. is_written p o H)
+
+-- and takes a reviewer off it under whose label there is no form yet
+abbrev pub may_unassign : ℕ → History → ℕ → ℕ → Bool
+may_unassign u H p v = stands p H && leads u p H && committee_works H && reviews v p H && not (has_written v p H)
+
+-- ---- reviews, comments, tags and decisions
+
+-- a member in no conflict with a paper that isn't withdrawn, who reviews it, writes a form, in the reviewing and in
+-- the discussion
+abbrev pub may_review : ℕ → History → ℕ → Bool
+may_review u H p = stands p H && handles u p H && reviews u p H && (now Reviewing H || now Discussion H)
+
+-- a member in no conflict with a paper that isn't withdrawn comments on it, in the discussion, while she has written
+-- fewer than 1,000 comments
+abbrev pub may_comment : ℕ → History → ℕ → Bool
+may_comment u H p = stands p H && handles u p H && now Discussion H && nat_lt (own_comments_of (Some u) H) 1000
+
+-- while the committee works, a member in no conflict with a paper that isn't withdrawn turns its tags on and off;
+-- those for chairs only where she is one
+abbrev pub may_tag : ℕ → History → List ℕ → ℕ → Bool
+may_tag u H tag p = stands p H && handles u p H && committee_works H && (chairs u H || not (is_for_chairs_alone tag))
+
+-- a chair in no conflict with a paper that isn't withdrawn decides on it, in the discussion
+abbrev pub may_decide : ℕ → History → ℕ → Bool
+may_decide u H p = stands p H && leads u p H && now Discussion H
+
+-- ---- all of them
+
+-- by command: whoever calls registers, and all else is done by a user who calls, on a paper that is told, and to a
+-- user who is named
+abbrev pub may_do : Option ℕ → History → Command → Bool
+may_do caller H (commands.Register name digest) = may_register H name
+may_do caller H (commands.SetPhase to) = of_some caller (λ u. may_open u H to)
+may_do caller H (commands.Submit title abstract names) = of_some caller (λ u. may_submit u H names)
+may_do caller H (commands.Revise paper title abstract) = of_some caller (λ u. of_some paper (may_change u H))
+may_do caller H (commands.Upload paper content) = of_some caller (λ u. of_some paper (may_upload u H (length content)))
+may_do caller H (commands.Withdraw paper) = of_some caller (λ u. of_some paper (may_change u H))
+may_do caller H (commands.Name name role) = of_some caller (λ u. of_some (user_named name H) (may_name u H role))
+may_do caller H (commands.SetMode to) = of_some caller (λ u. may_set_mode u H)
+may_do caller H (commands.SetConflict paper name true) =
+    of_some caller (λ u. of_some paper (λ p. of_some (user_named name H) (may_declare u H p)))
+may_do caller H (commands.SetConflict paper name false) =
+    of_some caller (λ u. of_some paper (λ p. of_some (user_named name H) (may_take_back u H p)))
+may_do caller H (commands.Bid paper value) = of_some caller (λ u. of_some paper (may_bid u H))
+may_do caller H (commands.Assign paper name kind) =
+    of_some caller (λ u. of_some paper (λ p. of_some (user_named name H) (may_assign u H p)))
+may_do caller H (commands.Unassign paper name) =
+    of_some caller (λ u. of_some paper (λ p. of_some (user_named name H) (may_unassign u H p)))
+may_do caller H (commands.Review paper form) = of_some caller (λ u. of_some paper (may_review u H))
+may_do caller H (commands.Comment paper text) = of_some caller (λ u. of_some paper (may_comment u H))
+may_do caller H (commands.Tag paper tag on) = of_some caller (λ u. of_some paper (may_tag u H tag))
+may_do caller H (commands.Decide paper decision) = of_some caller (λ u. of_some paper (may_decide u H))
+
+-- ---- the law
+
+-- a caller's command is accepted: somebody calls, where a login is wanted for it, and no rule is broken
+abbrev pub is_accepted_from : Option ℕ → History → Command → Bool
+is_accepted_from caller H command =
+    (is_some caller || not (command_wants_login command)) && is_ok (judge caller (view caller H) command)
+
+-- PermissionsAsSaid: on a legal history a command is accepted, whoever calls, exactly where its sentence holds
+abbrev pub PermissionsAsSaid : Type 0
+PermissionsAsSaid =
+    (caller : Option ℕ) (H : History) (command : Command) → Legal H
+    → is_accepted_from caller H command ≡ may_do caller H command

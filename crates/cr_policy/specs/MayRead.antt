@@ -1,0 +1,103 @@
+-- Who may read what, said a second time: for each query one sentence, as a committee says it.
+use Rattle.std.specs.Prelude.{ℕ, Bool, true, false, not, ◌&&◌, ◌||◌, ◌==◌, ◌≡◌, List, Option, Some, None, is_some}
+use Rattle.std.specs.List.{list_any}
+use Rattle.std.specs.Option.{option_map_or}
+use Rattle.cr_base.specs.declared.command.Query.{Query}
+use Rattle.cr_base.specs.declared.command.Query.TheVariants as queries
+use Rattle.cr_base.specs.declared.report.Report.{Report}
+use Rattle.cr_base.specs.declared.report.Report.TheVariants as reports
+use Rattle.cr_base.specs.declared.reply.Reply.{Reply}
+use Rattle.cr_base.specs.declared.reply.Reply.TheVariants as replies
+use Rattle.cr_base.specs.declared.words.Phase.TheVariants.{Reviewing}
+use Rattle.cr_base.specs.History.{History, Upload}
+use Rattle.cr_base.specs.HistoryFacts.{uploads_of}
+use Rattle.cr_base.specs.Lists.{last, is_nothing}
+use Rattle.cr_policy.specs.Judge.{answer, needs_login}
+use Rattle.cr_policy.specs.Legal.{Legal}
+use Rattle.cr_policy.specs.Sentences.{now, before_bidding, is_over, from_discussion, on_committee, chairs, is_paper}
+use Rattle.cr_policy.specs.Sentences.{is_in, is_public, wrote, handles, reviews, of_some}
+use Rattle.cr_policy.specs.View.{view}
+
+-- ---- a paper
+
+-- members, its authors, and every user once it is accepted, get a paper's page
+abbrev pub may_see_page : ℕ → History → ℕ → Bool
+may_see_page u H p = on_committee u H || wrote u p H || is_in p H
+
+-- a paper's authors read its content; others do where they are members in no conflict with it, from the bidding on
+abbrev pub may_read_content : ℕ → History → ℕ → Bool
+may_read_content u H p = wrote u p H || (handles u p H && not (before_bidding H))
+
+-- the version that is asked for is there, as far as it may be read: to authors any that was uploaded, to others the
+-- last one alone; the last one where none is named
+abbrev pub has_version : Bool → Option ℕ → List Upload → Bool
+has_version author None uploads = not (is_nothing uploads)
+has_version true (Some version) uploads = list_any (λ (u : Upload). u.version == version) uploads
+has_version false (Some version) uploads = option_map_or (λ (u : Upload). u.version == version) (last uploads) false
+
+-- a paper's authors read its reviews from the notification on; members in no conflict with it from the discussion
+-- on, and in the reviewing where they review it, of their own
+abbrev pub may_read_reviews : ℕ → History → ℕ → Bool
+may_read_reviews u H p =
+    (wrote u p H && is_over H) || (handles u p H && (from_discussion H || (reviews u p H && now Reviewing H)))
+
+-- members in no conflict with a paper read the comments on it, from the discussion on
+abbrev pub may_read_comments : ℕ → History → ℕ → Bool
+may_read_comments u H p = handles u p H && from_discussion H
+
+-- ---- reports
+
+-- members have the report on all papers from the bidding on, and those on scores and on decisions from the
+-- discussion on; chairs have the one on the load from the bidding on; and a paper's authors have the letter on it
+-- from the notification on
+abbrev pub may_report : ℕ → History → Report → Bool
+may_report u H reports.Papers = on_committee u H && not (before_bidding H)
+may_report u H reports.Scores = on_committee u H && from_discussion H
+may_report u H reports.Load = chairs u H && not (before_bidding H)
+may_report u H reports.Decisions = on_committee u H && from_discussion H
+may_report u H (reports.Letter paper) = of_some paper (λ p. is_paper p H && wrote u p H && is_over H)
+
+-- ---- all of them
+
+-- a content is read by everyone once the paper is published
+abbrev pub reads_content : Option ℕ → History → Option ℕ → ℕ → Bool
+reads_content caller H version p =
+    is_paper p H
+    && (is_public p H || of_some caller (λ u. may_read_content u H p))
+    && has_version (of_some caller (λ u. wrote u p H)) version (uploads_of p H)
+
+-- by query. Who registered, how the conference stands, and the accepted papers are told to everyone, and so are the
+-- page and the content of a published paper; what is her own, and what a search finds, to every user
+abbrev pub may_read : Option ℕ → History → Query → Bool
+may_read caller H queries.Accounts = true
+may_read caller H queries.Phase = true
+may_read caller H queries.AcceptedPapers = true
+may_read caller H queries.Me = is_some caller
+may_read caller H (queries.Search search only_count) = is_some caller
+may_read caller H (queries.Page paper) =
+    of_some paper (λ p. is_paper p H && (is_public p H || of_some caller (λ u. may_see_page u H p)))
+may_read caller H (queries.Content paper) = of_some paper (reads_content caller H None)
+may_read caller H (queries.Version paper version) = of_some paper (reads_content caller H (Some version))
+may_read caller H (queries.Reviews paper) =
+    of_some caller (λ u. of_some paper (λ p. is_paper p H && may_read_reviews u H p))
+may_read caller H (queries.Comments paper) =
+    of_some caller (λ u. of_some paper (λ p. is_paper p H && may_read_comments u H p))
+may_read caller H (queries.Report report) = of_some caller (λ u. may_report u H report)
+
+-- ---- the law
+
+-- a reply that isn't a rule
+abbrev pub is_told : Reply → Bool
+is_told (replies.Refused rule) = false
+is_told _ = true
+
+-- a caller's query is answered: somebody calls, where a login is wanted for it, and no rule is broken
+abbrev pub is_answered_to : Option ℕ → History → Query → Bool
+is_answered_to caller H query =
+    (is_some caller || not (needs_login (view None H) query)) && is_told (answer caller (view caller H) query)
+
+-- ReadingAsSaid: on a legal history a query is answered, whoever calls, exactly where its sentence holds
+abbrev pub ReadingAsSaid : Type 0
+ReadingAsSaid =
+    (caller : Option ℕ) (H : History) (query : Query) → Legal H
+    → is_answered_to caller H query ≡ may_read caller H query

@@ -1,0 +1,148 @@
+-- The words in which it is said who may do what: of a history and of nothing else, as a committee says them. No list
+-- of checks is read here, nor what these lists read of phases, of roles, and of when a paper is accepted.
+use Rattle.std.specs.Prelude.{ℕ, Bool, true, false, not, ◌&&◌, ◌||◌, ◌==◌, List, [], ◌∷◌, Option, Some, None}
+use Rattle.std.specs.List.{list_any}
+use Rattle.cr_base.specs.declared.words.Decision.{Decision}
+use Rattle.cr_base.specs.declared.words.Decision.TheVariants.{Accept, Reject}
+use Rattle.cr_base.specs.declared.words.Phase.{Phase}
+use Rattle.cr_base.specs.declared.words.Phase.TheVariants.{Setup, Submission, Bidding, Reviewing, Discussion}
+use Rattle.cr_base.specs.declared.words.Phase.TheVariants.{Notification, Closed}
+use Rattle.cr_base.specs.declared.words.Role.{Role}
+use Rattle.cr_base.specs.declared.words.Role.TheVariants.{Account, Member, Chair}
+use Rattle.cr_base.specs.History.{History}
+use Rattle.cr_base.specs.HistoryFacts.{phase_of, role_of, papers_of, number_of, is_author, is_conflict_on}
+use Rattle.cr_base.specs.HistoryFacts.{is_reviewer, is_withdrawn, decision_of}
+
+-- ---- phases
+
+-- the two are the same
+abbrev pub is_it : Phase → Phase → Bool
+is_it Setup Setup = true
+is_it Submission Submission = true
+is_it Bidding Bidding = true
+is_it Reviewing Reviewing = true
+is_it Discussion Discussion = true
+is_it Notification Notification = true
+is_it Closed Closed = true
+is_it _ _ = false
+
+-- one comes right behind another: they come in this order, and nothing comes behind the last
+abbrev pub comes_behind : Phase → Phase → Bool
+comes_behind Setup to = is_it Submission to
+comes_behind Submission to = is_it Bidding to
+comes_behind Bidding to = is_it Reviewing to
+comes_behind Reviewing to = is_it Discussion to
+comes_behind Discussion to = is_it Notification to
+comes_behind Notification to = is_it Closed to
+comes_behind Closed to = false
+
+-- it is this phase now
+abbrev pub now : Phase → History → Bool
+now phase H = is_it phase (phase_of H)
+
+-- the bidding hasn't begun
+abbrev pub before_bidding : History → Bool
+before_bidding H = now Setup H || now Submission H
+
+-- the committee works: it bids, reviews or discusses
+abbrev pub committee_works : History → Bool
+committee_works H = now Bidding H || now Reviewing H || now Discussion H
+
+-- the notification went out, so the committee's work is over
+abbrev pub is_over : History → Bool
+is_over H = now Notification H || now Closed H
+
+-- the committee discusses, or has done so
+abbrev pub from_discussion : History → Bool
+from_discussion H = now Discussion H || is_over H
+
+-- ---- roles
+
+-- who has it is on the committee: a chair is a member
+abbrev pub is_members : Role → Bool
+is_members Account = false
+is_members Member = true
+is_members Chair = true
+
+abbrev pub is_chairs : Role → Bool
+is_chairs Account = false
+is_chairs Member = false
+is_chairs Chair = true
+
+-- one role is above another
+abbrev pub is_above : Role → Role → Bool
+is_above Member Account = true
+is_above Chair Account = true
+is_above Chair Member = true
+is_above _ _ = false
+
+abbrev pub on_committee : ℕ → History → Bool
+on_committee u H = is_members (role_of (Some u) H)
+
+abbrev pub chairs : ℕ → History → Bool
+chairs u H = is_chairs (role_of (Some u) H)
+
+-- ---- papers
+
+-- such a paper was submitted
+abbrev pub is_paper : ℕ → History → Bool
+is_paper p H = list_any (λ q. q == p) (papers_of H)
+
+-- it was, and isn't withdrawn
+abbrev pub stands : ℕ → History → Bool
+stands p H = is_paper p H && not (is_withdrawn p H)
+
+abbrev pub accepts : Option Decision → Bool
+accepts None = false
+accepts (Some Accept) = true
+accepts (Some Reject) = false
+
+-- a paper is in: the notification went out, the last decision on it is to accept it, and it isn't withdrawn
+abbrev pub is_in : ℕ → History → Bool
+is_in p H = is_over H && accepts (decision_of p H) && not (is_withdrawn p H)
+
+-- it is published: it is in, and the conference is closed
+abbrev pub is_public : ℕ → History → Bool
+is_public p H = is_in p H && now Closed H
+
+-- ---- users and papers
+
+abbrev pub wrote : ℕ → ℕ → History → Bool
+wrote u p H = is_author (Some u) p H
+
+-- each author is in conflict with her paper, and so is whoever is declared to be
+abbrev pub in_conflict : ℕ → ℕ → History → Bool
+in_conflict u p H = wrote u p H || is_conflict_on (Some u) p H
+
+-- a member in no conflict with the paper handles it
+abbrev pub handles : ℕ → ℕ → History → Bool
+handles u p H = on_committee u H && not (in_conflict u p H)
+
+-- a chair in none leads on it
+abbrev pub leads : ℕ → ℕ → History → Bool
+leads u p H = chairs u H && not (in_conflict u p H)
+
+abbrev pub reviews : ℕ → ℕ → History → Bool
+reviews u p H = is_reviewer (Some u) p H
+
+-- ---- what is told of a paper or of a user
+
+-- what is said of a number that is told, as of a paper, or of whoever calls; nothing holds of none
+abbrev pub of_some : Option ℕ → (ℕ → Bool) → Bool
+of_some None says = false
+of_some (Some n) says = says n
+
+-- the user who registered the name told; nobody where there is none, and where it is no name
+abbrev pub user_named : Option (List ℕ) → History → Option ℕ
+user_named None H = None
+user_named (Some name) H = number_of name H
+
+-- somebody registered it
+abbrev pub is_somebody : Option (List ℕ) → History → Bool
+is_somebody name H = of_some (user_named name H) (λ v. true)
+
+-- two tildes stand first in a tag that is for chairs
+abbrev pub is_for_chairs_alone : List ℕ → Bool
+is_for_chairs_alone [] = false
+is_for_chairs_alone (b ∷ []) = false
+is_for_chairs_alone (b ∷ c ∷ rest) = b == 126 && c == 126
