@@ -1,0 +1,185 @@
+-- Of conflicts each part that is shown is told or left out.
+use Rattle.std.proofs.Common.{◌≡◌, ℕ, Bool, true, false, List, [], ◌∷◌, ◌++◌, refl, sym, ap, subst, ◌∙◌, ◌||◌, ◌&&◌, Option, Some, eqb, arith}
+use Rattle.std.specs.Prelude.{not, map, filter, ◌==◌, IsTrue, unwrap_or}
+use Rattle.std.specs.Option.{option_map}
+use Rattle.std.specs.List.{flat_map, list_any}
+use Rattle.std.proofs.lemmas.Bool.{true≢false, eq-eqb, and_parts}
+use Rattle.cr_base.specs.declared.entry.Entry.TheVariants.{Conflict}
+use Rattle.cr_base.specs.declared.entry.EntryKind.TheVariants as kinds
+use Rattle.cr_base.specs.declared.entry.Stamped.{Stamped}
+use Rattle.cr_base.specs.declared.me.Me.{Me}
+use Rattle.cr_base.specs.declared.reply.AccountLine.{AccountLine}
+use Rattle.cr_base.specs.declared.standing.Standing.{Standing}
+use Rattle.cr_base.specs.Lists.{given, is_nothing, is_number, listed}
+use Rattle.cr_base.specs.History.{History, declared_told}
+use Rattle.cr_base.specs.HistoryFacts.{phase_of, role_of, is_author, is_conflict_on, declared_by_authors}
+use Rattle.cr_history.specs.Invariants.{IsRegistered, IsSubmitted}
+use Rattle.cr_history.proofs.LineTies.{stamp}
+use Rattle.cr_policy.specs.Legal.{Legal}
+use Rattle.cr_policy.specs.Part as part
+use Rattle.cr_policy.specs.Part.{Part}
+use Rattle.cr_policy.specs.ShownTo.{is_told, leads_committee, is_past_submission, handles, oversees, serves, where_known}
+use Rattle.cr_policy.specs.Sighting.{Sighting}
+use Rattle.cr_policy.specs.View.{View, view}
+use Rattle.cr_policy.specs.ViewFacts.{only, is_user, accounts_in_view, papers_in_view}
+use Rattle.cr_policy.proofs.BoundsParts.{phase-words}
+use Rattle.cr_policy.proofs.BoundsWalk.{shown_to}
+use Rattle.cr_policy.proofs.StandingLaws.{papers-seen, standing_from_view}
+use Rattle.cr_told.specs.Told.{page_told, is_shown_in_conflict, writers_shown, names_shown, users_shown}
+use Rattle.cr_told.specs.ToldParts.{has, lists, conflicts_given, is_name_of, is_told as is_part_told, is_left_untold}
+use Rattle.cr_told.proofs.ToldEach.{last-here, listed-here}
+use Rattle.cr_told.proofs.ToldKnown.{AllOf, Each, all-of}
+use Rattle.cr_told.proofs.ToldLists.{me_told}
+use Rattle.cr_told.proofs.ToldNames.{swap, named, account-listed}
+use Rattle.cr_told.proofs.ToldPages.{pages_told}
+use Rattle.cr_told.proofs.ToldPartsSeats.{any-filtered}
+use Rattle.cr_told.proofs.ToldPlaces.{own-so, number-is}
+use Rattle.cr_told.proofs.ToldShown as reads
+use Rattle.cr_told.proofs.ToldWords.{chair-leads}
+
+any-made-of : {A : Type 0} (f : A → ℕ) (test : ℕ → Bool) (xs : List A) → list_any test (map f xs) ≡ list_any (λ x. test (f x)) xs
+any-made-of f test [] = refl
+any-made-of f test (x ∷ xs) = ap (λ b. test (f x) || b) (any-made-of f test xs)
+
+-- with which papers a user is told that she is in conflict
+conflicts-is : (H : History) (v : ℕ) (u : Option ℕ) → u ≡ Some v
+    → conflicts_given u H
+    ≡ Some
+    (filter (λ (p : ℕ). is_shown_in_conflict u p (view u H) && not (list_any (is_number u) (writers_shown p (view u H)))) (papers_in_view (view u H)))
+conflicts-is H v u e =
+    subst (λ (w : Option ℕ). conflicts_given w H
+    ≡ Some
+    (filter (λ (p : ℕ). is_shown_in_conflict w p (view w H) && not (list_any (is_number w) (writers_shown p (view w H)))) (papers_in_view (view w H)))) (sym e)
+    (ap (option_map (λ (me : Me). me.conflicts)) (me_told v H))
+
+module _ (u : Option ℕ) (H : History) (legal : Legal H) (before after : View) where
+  abbrev V : View
+  V = view u H
+
+  abbrev lead : Bool
+  lead = leads_committee (role_of u H)
+
+  abbrev begun : Bool
+  begun = is_past_submission (phase_of H)
+
+  -- of the users who pass, this one is one
+  user-listed : (v : ℕ) → IsRegistered H v → (test : ℕ → Bool) → test v ≡ true → list_any (eqb v) (users_shown test V) ≡ true
+  user-listed v registered test passes =
+      any-filtered v test passes (map (λ (a : AccountLine). a.user) (accounts_in_view V))
+      (any-made-of (λ (a : AccountLine). a.user) (λ q. q == v) (accounts_in_view V)
+      ∙ account-listed u H v registered (λ a. eqb a.user v) true (λ r same. same) refl)
+
+  module _ (earlier later : History) (maker : ℕ) (more : Bool) (paper user : ℕ) (on : Bool) (there : IsSubmitted H paper) (registered : IsRegistered H user)
+      (own : (not (is_number u maker) || ((is_number u user || is_author u paper H) || (lead && begun))) ≡ true)
+      (whole : earlier ++ stamp maker more (Conflict paper user on) ∷ later ≡ H)
+      (told : is_told u H earlier later maker (Conflict paper user on) ≡ true)
+      (is : view u H ≡ before ++ shown_to u H earlier later maker (Conflict paper user on) ∷ after)
+    where
+      abbrev s : Sighting
+      s = shown_to u H earlier later maker (Conflict paper user on)
+
+      abbrev turns : Sighting → List Bool
+      turns t = only (is_number t.paper paper && is_user (Some user) t.user) (listed t.on)
+
+      -- she is shown in conflict, where it is turned on and not turned later
+      in-conflict : on ≡ true → is_nothing (flat_map turns after) ≡ true → is_shown_in_conflict (Some user) paper V ≡ true
+      in-conflict turned none =
+          ap (λ (W : View). is_shown_in_conflict (Some user) paper W) is
+          ∙ ap (λ o. unwrap_or o false)
+          (last-here turns before after s on (λ i. only (eq-eqb paper paper refl i && eq-eqb user user refl i) (on ∷ [])) none)
+          ∙ turned
+
+      overseen : oversees u paper H ≡ true → is_shown_in_conflict (Some user) paper V ≡ true → lists (page_told (λ page. page.conflicts) u paper H) (is_name_of (Some user) u H) ≡ true
+      overseen over conflicted =
+          ap (λ names. lists names (is_name_of (Some user) u H))
+          ((pages_told u paper H legal there).conflicts
+          ∙ ap (λ b. where_known b (names_shown (users_shown (λ v. is_shown_in_conflict (Some v) paper V) V) V)) over)
+          ∙ named u H user registered (users_shown (λ v. is_shown_in_conflict (Some v) paper V) V)
+          (user-listed user registered (λ v. is_shown_in_conflict (Some v) paper V) conflicted)
+
+      declared : is_author u paper H ≡ true → is_author (Some maker) paper H ≡ true
+          → lists (page_told (λ page. page.declared) u paper H) (is_name_of (Some user) u H) ≡ true
+      declared author wrote =
+          ap (λ names. lists names (is_name_of (Some user) u H))
+          ((pages_told u paper H legal there).declared
+          ∙ ap (λ b. where_known b (names_shown (users_shown (λ v. list_any (λ w. w == v) (declared_by_authors paper H)) V) V)) author)
+          ∙ named u H user registered (users_shown (λ v. list_any (λ w. w == v) (declared_by_authors paper H)) V)
+          (user-listed user registered (λ v. list_any (λ w. w == v) (declared_by_authors paper H))
+          (ap (λ (G : History). list_any (λ w. w == user) (flat_map declares G)) (sym whole)
+          ∙ listed-here (λ w. w == user) declares earlier later (stamp maker more (Conflict paper user on))
+          ((λ i. list_any (λ w. w == user) (given (eq-eqb paper paper refl i && wrote i) user)) ∙ ap (λ b. b || false) (eq-eqb user user refl))))
+        where
+          declares : Stamped → List ℕ
+          declares e = declared_told (is_author (Some e.maker) paper H) paper e.entry
+
+      hers : is_number u user ≡ true → is_author u paper H ≡ false → is_shown_in_conflict (Some user) paper V ≡ true → lists (conflicts_given u H) (eqb paper) ≡ true
+      hers mine stranger conflicted =
+          ap (λ papers. lists papers (eqb paper)) (conflicts-is H user u (number-is u user mine))
+          ∙ any-filtered paper (λ (p : ℕ). is_shown_in_conflict u p V && not (list_any (is_number u) (writers_shown p V)))
+          ((λ i. is_shown_in_conflict (number-is u user mine i) paper V && not ((sym (ap (list_any (is_number u)) (reads.writers u paper H)) ∙ ap (λ (by : Standing). by.author) (standing_from_view u (Some paper) H) ∙ stranger) i))
+          ∙ ap (λ b. b && true) conflicted)
+          (papers_in_view V) (ap (λ papers. list_any (λ q. q == paper) papers) (papers-seen u H) ∙ there)
+
+      abbrev n : Bool
+      n = is_number u user
+
+      abbrev m : Bool
+      m = is_number u maker
+
+      abbrev a : Bool
+      a = is_author u paper H
+
+      abbrev w : Bool
+      w = is_author (Some maker) paper H
+
+      abbrev none : Bool
+      none = is_nothing (flat_map turns after)
+
+      conflict : IsTrue (is_part_told u H s kinds.Conflict part.user || is_left_untold u H s after kinds.Conflict part.user)
+      conflict =
+          final n m a w lead begun (handles u paper H) (lists (conflicts_given u H) (eqb paper)) (lists (page_told (λ page. page.conflicts) u paper H) (is_name_of (Some user) u H))
+          (lists (page_told (λ page. page.declared) u paper H) (is_name_of (Some user) u H)) on none told own
+          (implies (on && none && n && not a) (lists (conflicts_given u H) (eqb paper))
+          (λ h. let first = and_parts (on && none && n) (not a) h in
+          let second = and_parts (on && none) n first.0 in
+          let third = and_parts on none second.0 in
+          hers second.1 (is-false a first.1) (in-conflict third.0 third.1)))
+          (implies (on && none && oversees u paper H) (lists (page_told (λ page. page.conflicts) u paper H) (is_name_of (Some user) u H))
+          (λ h. let first = and_parts (on && none) (oversees u paper H) h in
+          let second = and_parts on none first.0 in
+          overseen first.1 (in-conflict second.0 second.1)))
+          (implies (a && w) (lists (page_told (λ page. page.declared) u paper H) (is_name_of (Some user) u H))
+          (λ h. declared (and_parts a w h).0 (and_parts a w h).1))
+          (clear (serves u H) a (is_conflict_on u paper H))
+        where
+          implies : (x y : Bool) → (x ≡ true → y ≡ true) → (not x || y) ≡ true
+          implies true y h = h refl
+          implies false y h = refl
+
+          is-false : (b : Bool) → not b ≡ true → b ≡ false
+          is-false true h = absurd (true≢false (sym h))
+          is-false false h = refl
+
+          clear : (s a c : Bool) → (not (s && not (a || c)) || not a) ≡ true
+          clear s a c = grind arith
+
+          final : (n m a w l s h me page said on none : Bool) → (((n || m) || (a && w)) || (h && l)) ≡ true → (not m || ((n || a) || (l && s))) ≡ true
+              → (not (((on && none) && n) && not a) || me) ≡ true → (not ((on && none) && (h && l)) || page) ≡ true → (not (a && w) || said) ≡ true → (not h || not a) ≡ true
+              → ((on && (((n && me) || page) || said)) || (((not on || not none) || (n && a)) || (m && not h))) ≡ true
+          final n m a w l s h me page said on none told own hm hp hs hc = grind (arith, told, own, hm, hp, hs, hc)
+
+      conflict-all' : (what : Part) → IsTrue (has what s) → IsTrue (is_part_told u H s kinds.Conflict what || is_left_untold u H s after kinds.Conflict what)
+      conflict-all' part.user shown = conflict
+      conflict-all' part.on shown = conflict
+      conflict-all' _ shown = absurd (true≢false (sym shown))
+
+pub conflict-all : AllOf kinds.Conflict
+conflict-all = all-of kinds.Conflict each
+  where
+    each : Each kinds.Conflict
+    each u H legal before after what earlier later maker more (Conflict paper user on) whole known told is kind shown =
+        conflict-all' u H legal before after earlier later maker more paper user on known.there.0 known.there.1
+        (own-so (λ v. (is_number v user || is_author v paper H) || (leads_committee (role_of v H) && is_past_submission (phase_of H))) u maker
+        ((λ i. (swap user maker i || is_author (Some maker) paper H) || (sym (chair-leads (role_of (Some maker) H)) i && sym (phase-words (phase_of H)).bidding i))
+        ∙ known.settled.1)) whole told is what shown
+    each u H legal before after what earlier later maker more e whole known told is kind shown = absurd (true≢false (sym kind))

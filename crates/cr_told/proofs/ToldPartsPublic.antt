@@ -1,0 +1,228 @@
+-- Of accounts, roles, phases, modes, submissions and texts each part that is shown is told, or another follows it.
+use Rattle.std.proofs.Common.{◌≡◌, ℕ, Bool, true, false, List, [], ◌∷◌, ◌++◌, refl, sym, ap, ◌∙◌, ◌||◌, ◌&&◌, Option, Some, eqb}
+use Rattle.std.specs.Prelude.{not, IsTrue}
+use Rattle.std.specs.Str.{bytes_eq}
+use Rattle.std.specs.List.{flat_map, list_any}
+use Rattle.std.proofs.lemmas.Bool.{true≢false, eq-eqb, eqb-true, or_left, or_right}
+use Rattle.cr_base.specs.declared.entry.Entry.TheVariants.{Registered, Named, PhaseSet, ModeSet, Submitted, Coauthor, Revised, Withdrawn}
+use Rattle.cr_base.specs.declared.entry.EntryKind.TheVariants as kinds
+use Rattle.cr_base.specs.declared.reply.AccountLine.{AccountLine}
+use Rattle.cr_base.specs.declared.words.Mode.{Mode}
+use Rattle.cr_base.specs.declared.words.Mode.TheVariants.{Blind}
+use Rattle.cr_base.specs.declared.words.Phase.{Phase}
+use Rattle.cr_base.specs.declared.words.Phase.TheVariants.{Setup}
+use Rattle.cr_base.specs.declared.words.Role.{Role}
+use Rattle.cr_base.specs.declared.words.Role.TheVariants.{Account}
+use Rattle.cr_base.specs.Lists.{is_nothing, is_number, last, last_or, listed}
+use Rattle.cr_base.specs.History.{History}
+use Rattle.cr_base.specs.HistoryFacts.{role_of}
+use Rattle.cr_base.specs.Phases.{phase_place, is_phase}
+use Rattle.cr_base.specs.Words.{mode_number, role_number}
+use Rattle.cr_history.specs.Invariants.{IsRegistered, IsSubmitted}
+use Rattle.cr_policy.specs.Legal.{Legal}
+use Rattle.cr_policy.specs.Part as part
+use Rattle.cr_policy.specs.Part.{Part}
+use Rattle.cr_policy.specs.ShownTo.{maker_for}
+use Rattle.cr_policy.specs.Sighting.{Sighting}
+use Rattle.cr_policy.specs.View.{View, view}
+use Rattle.cr_policy.specs.ViewFacts.{only, is_user, phase_in_view, mode_in_view}
+use Rattle.cr_policy.proofs.BoundsWalk.{shown_to}
+use Rattle.cr_told.specs.Told.{shown_on, writers_shown, writer_by, page_told}
+use Rattle.cr_told.specs.ToldParts.{is_name_of, has, accounts_answered, accounts_given, agree, lists, same_mode, same_role, is_told as is_part_told, is_left_untold}
+use Rattle.cr_told.specs.ToldPublic.{account_shown, all_shown}
+use Rattle.cr_told.proofs.ToldEach.{last-told, last-or-told, listed-here, known}
+use Rattle.cr_told.proofs.ToldKnown.{AllOf, Each, all-of}
+use Rattle.cr_told.proofs.ToldNames.{role-seen, same-bytes, swap, account-listed, some-named}
+use Rattle.cr_told.proofs.ToldPages.{pages_told}
+use Rattle.cr_told.proofs.ToldPublic as conference
+
+module _ (u : Option ℕ) (H : History) (legal : Legal H) (before after : View) where
+  -- what is to be shown of a sighting in a part
+  abbrev Whole : Part → Sighting → Type 0
+  Whole what s =
+      view u H ≡ before ++ s ∷ after → IsTrue (has what s) → IsTrue (is_part_told u H s s.kind what || is_left_untold u H s after s.kind what)
+
+  abbrev V : View
+  V = view u H
+
+  -- the accounts have a line that passes where this sighting shows one
+  accounts-have : (test : AccountLine → Bool) (s : Sighting) → V ≡ before ++ s ∷ after → list_any test (account_shown V s) ≡ true
+      → lists (accounts_given u H) test ≡ true
+  accounts-have test s is passes =
+      ap (λ reply. lists (accounts_answered reply) test) (conference.accounts_told u H)
+      ∙ ap (λ (W : View). list_any test (flat_map (account_shown V) W)) is
+      ∙ listed-here test (account_shown V) before after s passes
+
+  -- an author who is shown stands among the authors
+  author-told : (p v : ℕ) (s : Sighting) → V ≡ before ++ s ∷ after → IsSubmitted H p → IsRegistered H v
+      → only (is_number s.paper p) (listed (writer_by s.kind s.by s.user)) ≡ v ∷ [] → lists (page_told (λ page. page.authors) u p H) (is_name_of (Some v) u H) ≡ true
+  author-told p v s is there registered shows =
+      ap (λ names. lists names (is_name_of (Some v) u H)) (pages_told u p H legal there).authors
+      ∙ some-named u H v registered (writers_shown p V)
+      (ap (λ (W : View). list_any (eqb v) (writers_shown p W)) is
+      ∙ listed-here (eqb v) (λ (s : Sighting). only (is_number s.paper p) (listed (writer_by s.kind s.by s.user))) before after s
+      (ap (list_any (eqb v)) shows ∙ ap (λ b. b || false) (eq-eqb v v refl)))
+
+  -- a text that is shown is the last, or another is shown later
+  text-told : (paper : ℕ) (of : Sighting → Option (List ℕ)) (s : Sighting) (text : List ℕ) → V ≡ before ++ s ∷ after → s.paper ≡ Some paper → of s ≡ Some text
+      → (key : Option (List ℕ)) → key ≡ last (shown_on paper of V) → (agree bytes_eq (of s) key || not (is_nothing (shown_on paper of after))) ≡ true
+  text-told paper of s text is on shows key tells =
+      ap (λ o. agree bytes_eq o key || not (is_nothing (shown_on paper of after))) shows
+      ∙ last-told bytes_eq (λ (s : Sighting). only (is_number s.paper paper) (listed (of s))) before after s text (same-bytes text)
+      ((λ i. only (is_number (on i) paper) (listed (shows i))) ∙ ap (λ b. only b (text ∷ [])) (eq-eqb paper paper refl)) key
+      (tells ∙ ap (λ (W : View). last (shown_on paper of W)) is)
+
+  module _ (earlier later : History) (maker : ℕ) (more : Bool) where
+    registered : (user : ℕ) (name digest : List ℕ) (what : Part) → Whole what (shown_to u H earlier later maker (Registered user name digest))
+    registered user name digest part.user is shown =
+        or_left _ false
+        (accounts-have (λ line. eqb user line.user) (shown_to u H earlier later maker (Registered user name digest)) is (ap (λ b. b || false) (eq-eqb user user refl)))
+    registered user name digest part.name is shown =
+        or_left _ false
+        (accounts-have (λ line. eqb user line.user && agree bytes_eq (Some name) (Some line.name))
+        (shown_to u H earlier later maker (Registered user name digest)) is
+        ((λ i. (eq-eqb user user refl i && same-bytes name i) || false)))
+    registered user name digest part.digest is shown = refl
+    registered user name digest _ is shown = absurd (true≢false (sym shown))
+
+    phase-set : (phase : Phase) (what : Part) → Whole what (shown_to u H earlier later maker (PhaseSet phase))
+    phase-set phase part.phase is shown =
+        last-or-told is_phase (λ (s : Sighting). listed s.phase) before after
+        (shown_to u H earlier later maker (PhaseSet phase)) phase Setup (eq-eqb (phase_place phase) (phase_place phase) refl) refl (phase_in_view V)
+        (ap (last_or Setup) (conference.phases u H) ∙ ap (λ (W : View). last_or Setup (all_shown (λ (s : Sighting). s.phase) W)) is)
+    phase-set phase _ is shown = absurd (true≢false (sym shown))
+
+    mode-set : (mode : Mode) (what : Part) → Whole what (shown_to u H earlier later maker (ModeSet mode))
+    mode-set mode part.mode is shown =
+        last-or-told same_mode (λ (s : Sighting). listed s.mode) before after
+        (shown_to u H earlier later maker (ModeSet mode)) mode Blind (eq-eqb (mode_number mode) (mode_number mode) refl) refl (mode_in_view V)
+        (ap (last_or Blind) (conference.modes u H) ∙ ap (λ (W : View). last_or Blind (all_shown (λ (s : Sighting). s.mode) W)) is)
+    mode-set mode _ is shown = absurd (true≢false (sym shown))
+
+    named-to : (user : ℕ) (role : Role) (what : Part) → IsRegistered H user → Whole what (shown_to u H earlier later maker (Named user role))
+    named-to user role part.user there is shown =
+        or_left _ false (account-listed u H user there (λ line. eqb user line.user) true (λ r same. swap r.user user ∙ same) refl)
+    named-to user role part.role there is shown =
+        by (same_role role now) refl
+        (last-or-told same_role f before after (shown_to u H earlier later maker (Named user role)) role Account (eq-eqb (role_number role) (role_number role) refl)
+        (ap (λ b. only b (role ∷ [])) (eq-eqb user user refl)) now
+        (sym (role-seen u (Some user) H) ∙ conference.roles u H (Some user) ∙ ap (λ (W : View). last_or Account (flat_map f W)) is))
+      where
+        now : Role
+        now = role_of (Some user) H
+
+        f : Sighting → List Role
+        f s = only (is_user (Some user) s.user) (listed s.role)
+
+        by : (b : Bool) → same_role role now ≡ b → (b || not (is_nothing (flat_map f after))) ≡ true
+            → (lists (accounts_given u H) (λ line. eqb user line.user && same_role role line.role) || not (is_nothing (flat_map f after))) ≡ true
+        by true h either =
+            or_left _ (not (is_nothing (flat_map f after)))
+            (account-listed u H user there (λ line. eqb user line.user && same_role role line.role) true
+            (λ r same. (λ i. (swap r.user user ∙ same) i && same_role role (role_of (Some (eqb-true r.user user same i)) H)) ∙ h) refl)
+        by false h either = or_right (lists (accounts_given u H) (λ line. eqb user line.user && same_role role line.role)) (not (is_nothing (flat_map f after))) either
+    named-to user role _ there is shown = absurd (true≢false (sym shown))
+
+    submitted : (paper : ℕ) (title abstract : List ℕ) (what : Part) → IsSubmitted H paper → IsRegistered H maker
+        → Whole what (shown_to u H earlier later maker (Submitted paper title abstract))
+    submitted paper title abstract part.by there registered is shown =
+        ap (λ by. lists (page_told (λ page. page.authors) u paper H) (is_name_of by u H) || false) maker-known
+        ∙ or_left _ false
+        (author-told paper maker (shown_to u H earlier later maker (Submitted paper title abstract)) is there registered
+        (ap (λ by. only (eqb paper paper) (listed by)) maker-known ∙ ap (λ b. only b (maker ∷ [])) (eq-eqb paper paper refl)))
+      where
+        maker-known : maker_for u H earlier later maker (Submitted paper title abstract) ≡ Some maker
+        maker-known = known _ maker shown
+    submitted paper title abstract part.title there registered is shown =
+        text-told paper (λ (s : Sighting). s.title) (shown_to u H earlier later maker (Submitted paper title abstract)) title is refl (known _ title shown) _
+        (pages_told u paper H legal there).title
+    submitted paper title abstract part.abstract there registered is shown =
+        text-told paper (λ (s : Sighting). s.abstract) (shown_to u H earlier later maker (Submitted paper title abstract)) abstract is refl (known _ abstract shown) _
+        (pages_told u paper H legal there).abstract_
+    submitted paper title abstract _ there registered is shown = absurd (true≢false (sym shown))
+
+    revised : (paper : ℕ) (title abstract : List ℕ) (what : Part) → IsSubmitted H paper → Whole what (shown_to u H earlier later maker (Revised paper title abstract))
+    revised paper title abstract part.title there is shown =
+        text-told paper (λ (s : Sighting). s.title) (shown_to u H earlier later maker (Revised paper title abstract)) title is refl (known _ title shown) _
+        (pages_told u paper H legal there).title
+    revised paper title abstract part.abstract there is shown =
+        text-told paper (λ (s : Sighting). s.abstract) (shown_to u H earlier later maker (Revised paper title abstract)) abstract is refl (known _ abstract shown) _
+        (pages_told u paper H legal there).abstract_
+    revised paper title abstract _ there is shown = absurd (true≢false (sym shown))
+
+    coauthor : (paper user : ℕ) (what : Part) → IsSubmitted H paper → IsRegistered H user → Whole what (shown_to u H earlier later maker (Coauthor paper user))
+    coauthor paper user part.user there registered is shown =
+        or_left _ false
+        (author-told paper user (shown_to u H earlier later maker (Coauthor paper user)) is there registered (ap (λ b. only b (user ∷ [])) (eq-eqb paper paper refl)))
+    coauthor paper user _ there registered is shown = absurd (true≢false (sym shown))
+
+-- ---- the kinds
+
+pub registered-all : AllOf kinds.Registered
+registered-all = all-of kinds.Registered each
+  where
+    each : Each kinds.Registered
+    each u H legal before after what earlier later maker more (Registered user name digest) whole there told is kind shown =
+        registered u H legal before after earlier later maker more user name digest what is shown
+    each u H legal before after what earlier later maker more e whole there told is kind shown = absurd (true≢false (sym kind))
+
+pub named-all : AllOf kinds.Named
+named-all = all-of kinds.Named each
+  where
+    each : Each kinds.Named
+    each u H legal before after what earlier later maker more (Named user role) whole there told is kind shown =
+        named-to u H legal before after earlier later maker more user role what there.there is shown
+    each u H legal before after what earlier later maker more e whole there told is kind shown = absurd (true≢false (sym kind))
+
+pub phase-set-all : AllOf kinds.PhaseSet
+phase-set-all = all-of kinds.PhaseSet each
+  where
+    each : Each kinds.PhaseSet
+    each u H legal before after what earlier later maker more (PhaseSet phase) whole there told is kind shown =
+        phase-set u H legal before after earlier later maker more phase what is shown
+    each u H legal before after what earlier later maker more e whole there told is kind shown = absurd (true≢false (sym kind))
+
+pub mode-set-all : AllOf kinds.ModeSet
+mode-set-all = all-of kinds.ModeSet each
+  where
+    each : Each kinds.ModeSet
+    each u H legal before after what earlier later maker more (ModeSet mode) whole there told is kind shown =
+        mode-set u H legal before after earlier later maker more mode what is shown
+    each u H legal before after what earlier later maker more e whole there told is kind shown = absurd (true≢false (sym kind))
+
+pub submitted-all : AllOf kinds.Submitted
+submitted-all = all-of kinds.Submitted each
+  where
+    each : Each kinds.Submitted
+    each u H legal before after what earlier later maker more (Submitted paper title abstract) whole there told is kind shown =
+        submitted u H legal before after earlier later maker more paper title abstract what there.there.0 there.there.1 is shown
+    each u H legal before after what earlier later maker more e whole there told is kind shown = absurd (true≢false (sym kind))
+
+pub coauthor-all : AllOf kinds.Coauthor
+coauthor-all = all-of kinds.Coauthor each
+  where
+    each : Each kinds.Coauthor
+    each u H legal before after what earlier later maker more (Coauthor paper user) whole there told is kind shown =
+        coauthor u H legal before after earlier later maker more paper user what there.there.0 there.there.1 is shown
+    each u H legal before after what earlier later maker more e whole there told is kind shown = absurd (true≢false (sym kind))
+
+pub revised-all : AllOf kinds.Revised
+revised-all = all-of kinds.Revised each
+  where
+    each : Each kinds.Revised
+    each u H legal before after what earlier later maker more (Revised paper title abstract) whole there told is kind shown =
+        revised u H legal before after earlier later maker more paper title abstract what there.there is shown
+    each u H legal before after what earlier later maker more e whole there told is kind shown = absurd (true≢false (sym kind))
+
+pub withdrawn-all : AllOf kinds.Withdrawn
+withdrawn-all = all-of kinds.Withdrawn each
+  where
+    each : Each kinds.Withdrawn
+    each u H legal before after what earlier later maker more (Withdrawn paper) whole there told is kind shown = none what shown
+      where
+        none : (what : Part) → has what (shown_to u H earlier later maker (Withdrawn paper)) ≡ true
+            → (is_part_told u H (shown_to u H earlier later maker (Withdrawn paper)) kinds.Withdrawn what
+            || is_left_untold u H (shown_to u H earlier later maker (Withdrawn paper)) after kinds.Withdrawn what) ≡ true
+        none part.user shown = absurd (true≢false (sym shown))
+        none _ shown = absurd (true≢false (sym shown))
+    each u H legal before after what earlier later maker more e whole there told is kind shown = absurd (true≢false (sym kind))

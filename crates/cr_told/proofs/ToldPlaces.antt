@@ -1,0 +1,422 @@
+-- Each sighting on a paper has its place in an answer, or is the reader's own on a paper that she doesn't handle.
+use Rattle.std.proofs.Common.{◌≡◌, ◌<◌, ℕ, Bool, true, false, [], ◌∷◌, ◌++◌, refl, sym, ap, ◌∙◌, ◌||◌, ◌&&◌, Option, Some, None, append_assoc, append-nil, eqb, arith}
+use Rattle.std.specs.Prelude.{not, nat_le, ◌==◌, ◌+◌, is_some, IsTrue, if◌then◌else◌}
+use Rattle.std.specs.List.{AllByRecursion, list_any}
+use Rattle.std.proofs.lemmas.Bool.Decides.{nat_tests}
+use Rattle.std.proofs.lemmas.Bool.{or_left, eqb-true, true≢false, and_parts}
+use Rattle.std.proofs.lemmas.List.Concat.{flat_map-append}
+use Rattle.std.proofs.lemmas.List.Elements.{recursion_from_All}
+use Rattle.std.proofs.lemmas.List.Folds.{list_any-append}
+use Rattle.cr_base.specs.declared.entry.Entry.{Entry}
+use Rattle.cr_base.specs.declared.entry.Entry.TheVariants.{Named, PhaseSet, Withdrawn, Conflict, Bid, Assigned, Unassigned, Reviewed, Commented, Tagged, Decided}
+use Rattle.cr_base.specs.declared.entry.Stamped.{Stamped}
+use Rattle.cr_base.specs.declared.words.Phase.{Phase}
+use Rattle.cr_base.specs.declared.words.Phase.TheVariants.{Setup, Submission, Bidding, Reviewing, Discussion, Notification, Closed}
+use Rattle.cr_base.specs.declared.words.Role.{Role}
+use Rattle.cr_base.specs.declared.words.Role.TheVariants.{Account, Member, Chair}
+use Rattle.cr_base.specs.Checks.{is_in_committee}
+use Rattle.cr_base.specs.Lists.{given, is_number, last_or}
+use Rattle.cr_base.specs.History.{History, all_told, phase_told, role_told, paper_told}
+use Rattle.cr_base.specs.HistoryFacts.{phase_of, mode_of, role_of, papers_of, is_author, is_conflicted, is_reviewer}
+use Rattle.cr_base.specs.Phases.{phase_place, is_from, is_phase}
+use Rattle.cr_base.specs.Words.{is_chair, role_number}
+use Rattle.cr_history.proofs.Folds.{last_or-append}
+use Rattle.cr_history.proofs.LineTies.{stamp}
+use Rattle.cr_history.specs.Invariants.{Invariants, IsInOrder, InTurn, IsInPhase, RaisesRole, IsSubmitted, IsHeld, may_turn}
+use Rattle.cr_policy.specs.Legal.{Legal}
+use Rattle.cr_policy.specs.ShownTo.{is_on_committee, leads_committee, is_past_submission, is_past_reviewing, has_conflict, serves, handles, oversees, leads, discusses}
+use Rattle.cr_policy.specs.ShownTo.{is_party, is_answered, is_notified, is_in_programme, is_told, where_known, is_committees, is_chairs, hides_reviewers, is_discussed, is_reviewed, is_decided_again}
+use Rattle.cr_policy.specs.Sighting.{Sighting}
+use Rattle.cr_policy.specs.View.{view}
+use Rattle.cr_policy.specs.ViewFacts.{is_user}
+use Rattle.cr_policy.proofs.BoundsParts.{phase-words}
+use Rattle.cr_policy.proofs.BoundsWalk.{shown_to, all-view}
+use Rattle.cr_policy.proofs.DecisionTells.{accepted-seen}
+use Rattle.cr_policy.proofs.LegalLaws.{legal_invariants}
+use Rattle.cr_told.specs.Told.{is_shown_accepted}
+use Rattle.cr_told.specs.ToldPlaces.{has_key, has_reviews, has_comments, is_placed, PlacesTold}
+use Rattle.cr_told.specs.ToldReviews.{is_reviewing_now, reviews_now}
+use Rattle.cr_told.proofs.ToldWords.{chair-leads}
+use Rattle.cr_told.proofs.ToldLists.{leads-serves, page_lists_told, comments_told}
+use Rattle.cr_told.proofs.ToldMakers.{still-author}
+use Rattle.cr_told.proofs.ToldPages.{pages_told, programme}
+use Rattle.cr_told.proofs.ToldReviews.{reviews_told}
+use Rattle.cr_told.proofs.ToldShown as reads
+
+-- ---- what stays as a history grows
+
+-- phases only go on
+phase-after : (H : History) (maker : ℕ) (more : Bool) (e : Entry) → phase_of (H ++ stamp maker more e ∷ []) ≡ last_or (phase_of H) (phase_told e ++ [])
+phase-after H maker more e =
+    ap (last_or Setup) (flat_map-append (λ (e : Stamped). phase_told e.entry) H (stamp maker more e ∷ []))
+    ∙ last_or-append Setup (all_told phase_told H) (phase_told e ++ [])
+
+goes-on : (k m n : ℕ) → n ≡ m + 1 → nat_le k m ≡ true → nat_le k n ≡ true
+goes-on k m n e h = grind (arith, nat_tests, e, h)
+
+phase-later : (first : Phase) (H : History) (maker : ℕ) (more : Bool) (e : Entry) → IsInPhase H e → is_from first (phase_of H) ≡ true
+    → is_from first (phase_of (H ++ stamp maker more e ∷ [])) ≡ true
+phase-later first H maker more (PhaseSet to) next from =
+    ap (is_from first) (phase-after H maker more (PhaseSet to))
+    ∙ goes-on (phase_place first) (phase_place (phase_of H)) (phase_place to) (eqb-true (phase_place to) (phase_place (phase_of H) + 1) next) from
+phase-later first H maker more e next from = ap (is_from first) (phase-after H maker more e) ∙ from
+
+pub phase-rises : (first : Phase) (before after H : History) → before ++ after ≡ H → InTurn IsInOrder before after → is_from first (phase_of before) ≡ true
+    → is_from first (phase_of H) ≡ true
+phase-rises first before [] H whole order from = ap (λ (G : History). is_from first (phase_of G)) (sym (sym (append-nil before) ∙ whole)) ∙ from
+phase-rises first before (e ∷ after) H whole order from =
+    phase-rises first (before ++ e ∷ []) after H (append_assoc before (e ∷ []) after ∙ whole) order.1
+    (phase-later first before e.maker e.more e.entry order.0.phase from)
+
+-- a chair stays one
+role-after : (v : Option ℕ) (H : History) (maker : ℕ) (more : Bool) (e : Entry)
+    → role_of v (H ++ stamp maker more e ∷ []) ≡ last_or (role_of v H) (role_told v e ++ [])
+role-after v H maker more e =
+    ap (last_or Account) (flat_map-append (λ (e : Stamped). role_told v e.entry) H (stamp maker more e ∷ []))
+    ∙ last_or-append Account (all_told (role_told v) H) (role_told v e ++ [])
+
+pub number-is : (v : Option ℕ) (user : ℕ) → is_number v user ≡ true → v ≡ Some user
+number-is None user h = absurd (true≢false (sym h))
+number-is (Some v) user h = ap (λ (n : ℕ). Some n) (eqb-true v user h)
+
+highest : (r s : Role) → is_chair r ≡ true → role_number r < role_number s → is_chair s ≡ true
+highest Account s c h = absurd (true≢false (sym c))
+highest Member s c h = absurd (true≢false (sym c))
+highest Chair Account c h = absurd (omega (arith, h))
+highest Chair Member c h = absurd (omega (arith, h))
+highest Chair Chair c h = refl
+
+chair-later : (v : Option ℕ) (H : History) (maker : ℕ) (more : Bool) (e : Entry) → RaisesRole H e → is_chair (role_of v H) ≡ true
+    → is_chair (role_of v (H ++ stamp maker more e ∷ [])) ≡ true
+chair-later v H maker more (Named user role) raises chair = ap is_chair (role-after v H maker more (Named user role)) ∙ by (is_number v user) refl
+  where
+    by : (b : Bool) → is_number v user ≡ b → is_chair (last_or (role_of v H) (given b role ++ [])) ≡ true
+    by true same = highest (role_of (Some user) H) role (ap (λ (v : Option ℕ). is_chair (role_of v H)) (sym (number-is v user same)) ∙ chair) raises
+    by false same = chair
+chair-later v H maker more e raises chair = ap is_chair (role-after v H maker more e) ∙ chair
+
+pub chair-rises : (v : Option ℕ) (before after H : History) → before ++ after ≡ H → InTurn IsInOrder before after → is_chair (role_of v before) ≡ true
+    → is_chair (role_of v H) ≡ true
+chair-rises v before [] H whole order chair = ap (λ (G : History). is_chair (role_of v G)) (sym (sym (append-nil before) ∙ whole)) ∙ chair
+chair-rises v before (e ∷ after) H whole order chair =
+    chair-rises v (before ++ e ∷ []) after H (append_assoc before (e ∷ []) after ∙ whole) order.1
+    (chair-later v before e.maker e.more e.entry order.0.role chair)
+
+-- a paper stays there
+still-there : (p : ℕ) (before after H : History) → before ++ after ≡ H → IsSubmitted before p → IsSubmitted H p
+still-there p before after H whole is =
+    ap (λ (G : History). list_any (λ q. q == p) (papers_of G)) (sym whole)
+    ∙ ap (list_any (λ q. q == p)) (flat_map-append (λ (e : Stamped). paper_told e.entry) before after)
+    ∙ list_any-append (λ q. q == p) (papers_of before) (papers_of after)
+    ∙ or_left (list_any (λ q. q == p) (papers_of before)) (list_any (λ q. q == p) (papers_of after)) is
+
+-- ---- what is so of each entry at the end
+
+committee-begun : (phase : Phase) → is_in_committee phase ≡ true → is_from Bidding phase ≡ true
+committee-begun Setup h = absurd (true≢false (sym h))
+committee-begun Submission h = absurd (true≢false (sym h))
+committee-begun Bidding h = refl
+committee-begun Reviewing h = refl
+committee-begun Discussion h = refl
+committee-begun Notification h = refl
+committee-begun Closed h = refl
+
+reviewed-in : (phase : Phase) → (is_phase phase Reviewing || is_phase phase Discussion) ≡ true → is_from Reviewing phase ≡ true
+reviewed-in Setup h = absurd (true≢false (sym h))
+reviewed-in Submission h = absurd (true≢false (sym h))
+reviewed-in Bidding h = absurd (true≢false (sym h))
+reviewed-in Reviewing h = refl
+reviewed-in Discussion h = refl
+reviewed-in Notification h = refl
+reviewed-in Closed h = refl
+
+discussed-in : (phase : Phase) → is_phase phase Discussion ≡ true → is_from Discussion phase ≡ true
+discussed-in Setup h = absurd (true≢false (sym h))
+discussed-in Submission h = absurd (true≢false (sym h))
+discussed-in Bidding h = absurd (true≢false (sym h))
+discussed-in Reviewing h = absurd (true≢false (sym h))
+discussed-in Discussion h = refl
+discussed-in Notification h = refl
+discussed-in Closed h = refl
+
+-- the paper is there; and who made it is an author of it still, or a chair, or a reviewer; and the phase is no earlier one
+abbrev pub IsSettled : History → ℕ → Entry → Type 0
+IsSettled H maker (Withdrawn paper) = IsSubmitted H paper × (is_author (Some maker) paper H ≡ true)
+IsSettled H maker (Conflict paper user on) =
+    IsSubmitted H paper × ((eqb user maker || is_author (Some maker) paper H || (is_chair (role_of (Some maker) H) && is_from Bidding (phase_of H))) ≡ true)
+IsSettled H maker (Bid paper value) = IsSubmitted H paper
+IsSettled H maker (Assigned paper user seat ordinal) =
+    IsSubmitted H paper × (is_from Bidding (phase_of H) ≡ true) × (is_chair (role_of (Some maker) H) ≡ true)
+IsSettled H maker (Unassigned paper user ordinal) =
+    IsSubmitted H paper × (is_from Bidding (phase_of H) ≡ true) × (is_chair (role_of (Some maker) H) ≡ true)
+IsSettled H maker (Reviewed paper ordinal version form) =
+    IsSubmitted H paper × (is_from Reviewing (phase_of H) ≡ true) × (is_reviewer (Some maker) paper H ≡ true)
+IsSettled H maker (Commented paper n ordinal text) = IsSubmitted H paper × (is_from Discussion (phase_of H) ≡ true)
+IsSettled H maker (Tagged paper tag on) = IsSubmitted H paper
+IsSettled H maker (Decided paper decision) = IsSubmitted H paper × (is_from Discussion (phase_of H) ≡ true)
+IsSettled H maker _ = Unit {0}
+
+module _ (H : History) where
+  module _ (before after : History) (whole : before ++ after ≡ H) (order : InTurn IsInOrder before after) where
+    there : (p : ℕ) → IsSubmitted before p → IsSubmitted H p
+    there p is = still-there p before after H whole is
+
+    from : (first : Phase) → is_from first (phase_of before) ≡ true → is_from first (phase_of H) ≡ true
+    from first is = phase-rises first before after H whole order is
+
+    chairs : (v : Option ℕ) → is_chair (role_of v before) ≡ true → is_chair (role_of v H) ≡ true
+    chairs v is = chair-rises v before after H whole order is
+
+    writes : (v : Option ℕ) (p : ℕ) → is_author v p before ≡ true → is_author v p H ≡ true
+    writes v p is = still-author v p before after H whole is
+
+    turned : (maker paper user : ℕ) (on : Bool) → may_turn before maker paper user on ≡ true
+        → (eqb user maker || is_author (Some maker) paper H || (is_chair (role_of (Some maker) H) && is_from Bidding (phase_of H))) ≡ true
+    turned maker paper user on right = by (is_from Bidding (phase_of before)) refl right
+      where
+        third : (a b c d : Bool) → c ≡ true → d ≡ true → (a || b || (c && d)) ≡ true
+        third a b c d hc hd = grind (arith, hc, hd)
+
+        second : (a b c : Bool) → b ≡ true → (a || b || c) ≡ true
+        second a b c hb = grind (arith, hb)
+
+        early : is_from Bidding (phase_of before) ≡ true → (same on chair clear : Bool) → ((same && on) || (chair && clear)) ≡ true
+            → (chair ≡ true → is_chair (role_of (Some maker) H) ≡ true)
+            → (same || is_author (Some maker) paper H || (is_chair (role_of (Some maker) H) && is_from Bidding (phase_of H))) ≡ true
+        early begun true on chair clear h leads = refl
+        early begun false on chair clear h leads =
+            third false (is_author (Some maker) paper H) (is_chair (role_of (Some maker) H)) (is_from Bidding (phase_of H))
+            (leads (and_parts chair clear h).0) (from Bidding begun)
+
+        by : (b : Bool) → is_from Bidding (phase_of before) ≡ b
+            → (if b then (eqb user maker && on) || (is_chair (role_of (Some maker) before) && not (is_conflicted (Some maker) paper before))
+            else is_author (Some maker) paper before && on) ≡ true
+            → (eqb user maker || is_author (Some maker) paper H || (is_chair (role_of (Some maker) H) && is_from Bidding (phase_of H))) ≡ true
+        by true begun h =
+            early begun (eqb user maker) on (is_chair (role_of (Some maker) before)) (not (is_conflicted (Some maker) paper before)) h (chairs (Some maker))
+        by false begun h =
+            second (eqb user maker) (is_author (Some maker) paper H) (is_chair (role_of (Some maker) H) && is_from Bidding (phase_of H))
+            (writes (Some maker) paper (and_parts (is_author (Some maker) paper before) on h).0)
+
+    settled-one : (maker : ℕ) (more : Bool) (e : Entry) → IsInOrder before (stamp maker more e) → IsHeld H maker e → IsSettled H maker e
+    settled-one maker more (Withdrawn paper) is held = (there paper is.about, writes (Some maker) paper is.right)
+    settled-one maker more (Conflict paper user on) is held = (there paper is.about.0, turned maker paper user on is.right)
+    settled-one maker more (Bid paper value) is held = there paper is.about
+    settled-one maker more (Assigned paper user seat ordinal) is held =
+        (there paper is.about.0, from Bidding (committee-begun (phase_of before) is.phase), chairs (Some maker) is.chair)
+    settled-one maker more (Unassigned paper user ordinal) is held =
+        (there paper is.about.0, from Bidding (committee-begun (phase_of before) is.phase), chairs (Some maker) is.chair)
+    settled-one maker more (Reviewed paper ordinal version form) is held =
+        (there paper is.about, from Reviewing (reviewed-in (phase_of before) is.phase), ap is_some held)
+    settled-one maker more (Commented paper n ordinal text) is held = (there paper is.about, from Discussion (discussed-in (phase_of before) is.phase))
+    settled-one maker more (Tagged paper tag on) is held = there paper is.about
+    settled-one maker more (Decided paper decision) is held = (there paper is.about, from Discussion (discussed-in (phase_of before) is.phase))
+    settled-one maker more e is held = tt
+
+  abbrev pub Settled : Stamped → Type 0
+  Settled e = IsSettled H e.maker e.entry
+
+  settled-all : (before after : History) → before ++ after ≡ H → InTurn IsInOrder before after → AllByRecursion (λ (e : Stamped). IsHeld H e.maker e.entry) after
+      → AllByRecursion Settled after
+  settled-all before [] whole order held = tt
+  settled-all before (e ∷ after) whole order held = (
+    settled-one before (e ∷ after) whole order e.maker e.more e.entry order.0 held.0,
+    settled-all (before ++ e ∷ []) after (append_assoc before (e ∷ []) after ∙ whole) order.1 held.1,
+  )
+
+  pub settled : Invariants H → AllByRecursion Settled H
+  settled kept = settled-all [] H refl kept.in_order (recursion_from_All (λ (e : Stamped). IsHeld H e.maker e.entry) H kept.stay)
+
+-- ---- the places
+
+pub known-some : {A : Type 0} (b : Bool) (x : A) → is_some (where_known b x) ≡ b
+known-some true x = refl
+known-some false x = refl
+
+-- what is so of an entry's maker is so of a user, where she made it
+pub own-so : (P : Option ℕ → Bool) (u : Option ℕ) (maker : ℕ) → P (Some maker) ≡ true → (not (is_number u maker) || P u) ≡ true
+own-so P None maker is = refl
+own-so P (Some v) maker is = by (eqb v maker) refl
+  where
+    by : (b : Bool) → eqb v maker ≡ b → (not b || P (Some v)) ≡ true
+    by true same = ap (λ (n : ℕ). P (Some n)) (eqb-true v maker same) ∙ is
+    by false same = refl
+
+-- a user who may be shown is this one
+pub user-known : (u : Option ℕ) (known : Bool) (user : ℕ) → is_user u (where_known known user) ≡ (known && is_number u user)
+user-known u true user = refl
+user-known u false user = refl
+
+-- in the reviewing, or later
+pub reviewing-on : (phase : Phase) → is_from Reviewing phase ≡ true → (is_past_reviewing phase || is_reviewing_now phase) ≡ true
+reviewing-on Setup h = absurd (true≢false (sym h))
+reviewing-on Submission h = absurd (true≢false (sym h))
+reviewing-on Bidding h = absurd (true≢false (sym h))
+reviewing-on Reviewing h = refl
+reviewing-on Discussion h = refl
+reviewing-on Notification h = refl
+reviewing-on Closed h = refl
+
+pub reviewing-begun : (phase : Phase) → is_from Reviewing phase ≡ true → is_past_submission phase ≡ true
+reviewing-begun Setup h = absurd (true≢false (sym h))
+reviewing-begun Submission h = absurd (true≢false (sym h))
+reviewing-begun Bidding h = absurd (true≢false (sym h))
+reviewing-begun Reviewing h = refl
+reviewing-begun Discussion h = refl
+reviewing-begun Notification h = refl
+reviewing-begun Closed h = refl
+
+module _ (u : Option ℕ) (H : History) (legal : Legal H) where
+  -- of this reader
+  abbrev onc : Bool
+  onc = is_on_committee (role_of u H)
+
+  abbrev lead : Bool
+  lead = leads_committee (role_of u H)
+
+  module _ (q : ℕ) (is : IsSubmitted H q) where
+    pub withdrawn-key : has_key (λ page. page.withdrawn) u q H ≡ (is_author u q H || serves u H)
+    withdrawn-key = ap is_some (pages_told u q H legal is).withdrawn ∙ known-some (is_author u q H || serves u H) _
+
+    pub decision-key : has_key (λ page. page.decision) u q H ≡ (discusses u q H || is_notified u q H || is_in_programme q H)
+    decision-key =
+        ap is_some (pages_told u q H legal is).decision
+        ∙ known-some (discusses u q H || is_notified u q H || is_shown_accepted q (view u H)) _
+        ∙ ap (λ b. discusses u q H || is_notified u q H || b)
+        (sym (reads.accepted u q H) ∙ accepted-seen u q H ∙ programme u q H is (legal_invariants H legal).in_order)
+
+    pub declared-key : has_key (λ page. page.declared) u q H ≡ is_author u q H
+    declared-key = ap is_some (pages_told u q H legal is).declared ∙ known-some (is_author u q H) _
+
+    pub conflicts-key : has_key (λ page. page.conflicts) u q H ≡ oversees u q H
+    conflicts-key = ap is_some (pages_told u q H legal is).conflicts ∙ known-some (oversees u q H) _
+
+    pub bid-key : has_key (λ page. page.bid) u q H ≡ handles u q H
+    bid-key = ap is_some (pages_told u q H legal is).bid ∙ known-some (handles u q H) _
+
+    pub bids-key : has_key (λ page. page.bids) u q H ≡ oversees u q H
+    bids-key = ap is_some (page_lists_told u q H legal is).bids ∙ known-some (oversees u q H) _
+
+    pub reviewers-key : has_key (λ page. page.reviewers) u q H ≡ (oversees u q H || discusses u q H || is_answered u q H)
+    reviewers-key = ap is_some (page_lists_told u q H legal is).reviewers ∙ known-some (oversees u q H || discusses u q H || is_answered u q H) _
+
+    pub tags-key : has_key (λ page. page.tags) u q H ≡ handles u q H
+    tags-key = ap is_some (page_lists_told u q H legal is).tags ∙ known-some (handles u q H) _
+
+    pub reviews-key : has_reviews u q H ≡ (is_notified u q H || discusses u q H || reviews_now u q H)
+    reviews-key = ap is_some (reviews_told u q H legal is) ∙ known-some (is_notified u q H || discusses u q H || reviews_now u q H) _
+
+    pub comments-key : has_comments u q H ≡ discusses u q H
+    comments-key = ap is_some (comments_told u q H legal is) ∙ known-some (discusses u q H) _
+
+  at : (paper p : ℕ) (P : ℕ → Bool) → eqb paper p ≡ true → P paper ≡ true → P p ≡ true
+  at paper p P same holds = ap P (sym (eqb-true paper p same)) ∙ holds
+
+  -- who may know who reviews
+  abbrev names : ℕ → ℕ → ℕ → Bool
+  names maker paper user = is_party u H maker paper user || (discusses u paper H && not (hides_reviewers (mode_of H))) || is_answered u paper H
+
+  -- one who is assigned, or taken off
+  seat-placed : (m n l o s c d h a k : Bool) → k ≡ ((((n || m) || (l && not c)) || (d && not h)) || a)
+      → ((((n || m) || (l && not c)) || d) || a) ≡ true → s ≡ true → (not m || l) ≡ true → (o && l) ≡ l
+      → (((k && n) || (((((o && s) && not c) && l) || d) || a)) || (m && not ((o && s) && not c))) ≡ true
+  seat-placed m n l o s c d h a k hk told hs own hl = grind (arith, hk, told, hs, own, hl)
+
+  each : (p : ℕ) (before later : History) (maker : ℕ) (more : Bool) (e : Entry) → IsSettled H maker e → is_told u H before later maker e ≡ true
+      → IsTrue (is_number (shown_to u H before later maker e).paper p)
+      → IsTrue (is_placed u p H (shown_to u H before later maker e).kind (shown_to u H before later maker e))
+  each p before later maker more (Withdrawn paper) is told same =
+      at paper p (λ n. has_key (λ page. page.withdrawn) u n H) same
+      (withdrawn-key paper is.0 ∙ by (is_number u maker) (is_author u paper H) (serves u H) told (own-so (λ v. is_author v paper H) u maker is.1))
+    where
+      by : (m a s : Bool) → ((m || a) || s) ≡ true → (not m || a) ≡ true → (a || s) ≡ true
+      by m a s h own = grind (arith, h, own)
+  each p before later maker more (Conflict paper user on) is told same =
+      at paper p
+      (λ n. is_number u user || has_key (λ page. page.declared) u n H || has_key (λ page. page.conflicts) u n H || (is_number u maker && not (handles u n H))) same
+      ((λ i. is_number u user || declared-key paper is.0 i || conflicts-key paper is.0 i || (is_number u maker && not (handles u paper H)))
+      ∙ by (is_number u maker) (is_number u user) (is_author u paper H) (is_author (Some maker) paper H) (handles u paper H) lead (is_past_submission (phase_of H)) told own)
+    where
+      by : (m n a w h l s : Bool) → (((n || m) || (a && w)) || (h && l)) ≡ true → (not m || ((n || a) || (l && s))) ≡ true
+          → (((n || a) || (h && l)) || (m && not h)) ≡ true
+      by m n a w h l s told own = grind (arith, told, own)
+
+      own : (not (is_number u maker) || ((is_number u user || is_author u paper H) || (lead && is_past_submission (phase_of H)))) ≡ true
+      own =
+          own-so (λ v. (is_number v user || is_author v paper H) || (leads_committee (role_of v H) && is_past_submission (phase_of H))) u maker
+          ((λ i. (swap user maker i || is_author (Some maker) paper H) || (sym (chair-leads (role_of (Some maker) H)) i && sym (phase-words (phase_of H)).bidding i))
+          ∙ is.1)
+        where
+          swap : (x y : ℕ) → eqb y x ≡ eqb x y
+          swap x y = grind (arith, nat_tests)
+  each p before later maker more (Bid paper value) is told same =
+      at paper p
+      (λ n. has_key (λ page. page.bids) u n H || (is_number u maker && has_key (λ page. page.bid) u n H) || (is_number u maker && not (handles u n H))) same
+      ((λ i. bids-key paper is i || (is_number u maker && bid-key paper is i) || (is_number u maker && not (handles u paper H)))
+      ∙ by (is_number u maker) (handles u paper H) (oversees u paper H) told)
+    where
+      by : (m h o : Bool) → (m || o) ≡ true → ((o || (m && h)) || (m && not h)) ≡ true
+      by m h o told = grind (arith, told)
+  each p before later maker more (Assigned paper user seat ordinal) is told same =
+      at paper p
+      (λ n. is_user u s.user || has_key (λ page. page.reviewers) u n H || (is_number u maker && not (handles u n H))) same
+      ((λ i. user-known u (names maker paper user) user i || reviewers-key paper is.0 i || (is_number u maker && not (handles u paper H)))
+      ∙ seat-placed (is_number u maker) (is_number u user) lead onc (is_past_submission (phase_of H)) (has_conflict u paper H) (discusses u paper H)
+      (hides_reviewers (mode_of H)) (is_answered u paper H) (names maker paper user) refl told (sym (phase-words (phase_of H)).bidding ∙ is.1)
+      (own-so (λ v. leads_committee (role_of v H)) u maker (sym (chair-leads (role_of (Some maker) H)) ∙ is.2)) (leads-serves (role_of u H)))
+    where
+      s : Sighting
+      s = shown_to u H before later maker (Assigned paper user seat ordinal)
+  each p before later maker more (Unassigned paper user ordinal) is told same =
+      at paper p
+      (λ n. is_user u s.user || has_key (λ page. page.reviewers) u n H || (is_number u maker && not (handles u n H))) same
+      ((λ i. user-known u (names maker paper user) user i || reviewers-key paper is.0 i || (is_number u maker && not (handles u paper H)))
+      ∙ seat-placed (is_number u maker) (is_number u user) lead onc (is_past_submission (phase_of H)) (has_conflict u paper H) (discusses u paper H)
+      (hides_reviewers (mode_of H)) (is_answered u paper H) (names maker paper user) refl told (sym (phase-words (phase_of H)).bidding ∙ is.1)
+      (own-so (λ v. leads_committee (role_of v H)) u maker (sym (chair-leads (role_of (Some maker) H)) ∙ is.2)) (leads-serves (role_of u H)))
+    where
+      s : Sighting
+      s = shown_to u H before later maker (Unassigned paper user ordinal)
+  each p before later maker more (Reviewed paper ordinal version form) is told same =
+      at paper p
+      (λ n. has_reviews u n H || has_key (λ page. page.reviewers) u n H || (is_number u maker && not (handles u n H))) same
+      ((λ i. reviews-key paper is.0 i || reviewers-key paper is.0 i || (is_number u maker && not (handles u paper H)))
+      ∙ by (is_number u maker) onc (is_past_submission (phase_of H)) (has_conflict u paper H) lead (is_past_reviewing (phase_of H)) (is_reviewing_now (phase_of H))
+      (is_reviewer u paper H) (is_discussed paper ordinal before later) (not (is_reviewed paper ordinal before)) (is_notified u paper H)
+      (not (is_reviewed paper ordinal later)) (is_answered u paper H) told (reviewing-begun (phase_of H) is.1) (reviewing-on (phase_of H) is.1)
+      (own-so (λ v. is_reviewer v paper H) u maker is.2) (leads-serves (role_of u H)))
+    where
+      by : (m o s c l d w r x y n z a : Bool)
+          → (((m || ((((o && s) && not c) && d) && x)) || ((l && not c) && y)) || (n && z)) ≡ true
+          → s ≡ true → (d || w) ≡ true → (not m || r) ≡ true → (o && l) ≡ l
+          → ((((n || (((o && s) && not c) && d)) || ((((o && s) && not c) && r) && w)) || (((((o && s) && not c) && l) || (((o && s) && not c) && d)) || a))
+          || (m && not ((o && s) && not c))) ≡ true
+      by m o s c l d w r x y n z a told hs hd own hl = grind (arith, told, hs, hd, own, hl)
+  each p before later maker more (Commented paper n ordinal text) is told same =
+      at paper p (λ n. has_comments u n H || (is_number u maker && not (handles u n H))) same
+      ((λ i. comments-key paper is.0 i || (is_number u maker && not (handles u paper H)))
+      ∙ by (is_number u maker) (handles u paper H) (is_past_reviewing (phase_of H)) told (sym (phase-words (phase_of H)).discussion ∙ is.1))
+    where
+      by : (m h d : Bool) → (m || (h && d)) ≡ true → d ≡ true → ((h && d) || (m && not h)) ≡ true
+      by m h d told hd = grind (arith, told, hd)
+  each p before later maker more (Tagged paper tag on) is told same =
+      at paper p (λ n. has_key (λ page. page.tags) u n H || (is_number u maker && not (handles u n H))) same
+      ((λ i. tags-key paper is i || (is_number u maker && not (handles u paper H)))
+      ∙ by (is_number u maker) (is_committees tag) (is_chairs tag) (handles u paper H) lead told)
+    where
+      by : (m t k h l : Bool) → (m || ((t && h) || (k && (h && l)))) ≡ true → (h || (m && not h)) ≡ true
+      by m t k h l told = grind (arith, told)
+  each p before later maker more (Decided paper decision) is told same =
+      at paper p (λ n. has_key (λ page. page.decision) u n H || (is_number u maker && not (handles u n H))) same
+      ((λ i. decision-key paper is.0 i || (is_number u maker && not (handles u paper H)))
+      ∙ by (is_number u maker) (handles u paper H) (is_past_reviewing (phase_of H)) (not (is_decided_again paper later)) (is_notified u paper H) (is_in_programme paper H)
+      told (sym (phase-words (phase_of H)).discussion ∙ is.1))
+    where
+      by : (m h d x n g : Bool) → (((m || (h && d)) || (x && n)) || (x && g)) ≡ true → d ≡ true → ((((h && d) || n) || g) || (m && not h)) ≡ true
+      by m h d x n g told hd = grind (arith, told, hd)
+  each p before later maker more e is told same = refl
+
+pub places_told : PlacesTold
+places_told u p H legal =
+    all-view u H (λ (s : Sighting). IsTrue (is_number s.paper p) → IsTrue (is_placed u p H s.kind s)) (λ (e : Stamped). IsSettled H e.maker e.entry)
+    (each u H legal p) (settled H (legal_invariants H legal))

@@ -1,0 +1,8 @@
+pub mod Told
+pub mod ToldLists
+pub mod ToldParts
+pub mod ToldPlaces
+pub mod ToldPublic
+pub mod ToldReports
+pub mod ToldReviews
+pub mod ToldSearches

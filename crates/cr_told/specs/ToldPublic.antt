@@ -1,0 +1,51 @@
+-- Told of the conference: what everyone is shown of accounts, of the phase and of the mode, the answers tell.
+use Rattle.std.specs.Prelude.{ℕ, ◌≡◌, List, length, map, Option, unwrap_or}
+use Rattle.std.specs.List.{flat_map}
+use Rattle.cr_base.specs.declared.command.Query.TheVariants as queries
+use Rattle.cr_base.specs.declared.entry.EntryKind.TheVariants as kinds
+use Rattle.cr_base.specs.declared.reply.AccountLine.{AccountLine}
+use Rattle.cr_base.specs.declared.reply.Reply.TheVariants as replies
+use Rattle.cr_base.specs.declared.words.Mode.TheVariants.{Blind}
+use Rattle.cr_base.specs.declared.words.Phase.TheVariants.{Setup}
+use Rattle.cr_base.specs.declared.words.Role.{Role}
+use Rattle.cr_base.specs.declared.words.Role.TheVariants.{Account}
+use Rattle.cr_base.specs.Lists.{listed, last_or}
+use Rattle.cr_base.specs.History.{History}
+use Rattle.cr_policy.specs.Judge.{answer}
+use Rattle.cr_policy.specs.Sighting.{Sighting}
+use Rattle.cr_policy.specs.View.{View, view}
+use Rattle.cr_policy.specs.ViewFacts.{only, is_user, is_kind}
+
+-- what the sightings show in this part, in order
+abbrev pub all_shown : {A : Type 0} → (Sighting → Option A) → View → List A
+all_shown part V = flat_map (λ (s : Sighting). listed (part s)) V
+
+-- the roles to which the user is shown to be named, in order; and the last, else that of an account
+abbrev pub roles_shown : Option ℕ → View → List Role
+roles_shown user V = flat_map (λ (s : Sighting). only (is_user user s.user) (listed s.role)) V
+
+abbrev pub role_shown : Option ℕ → View → Role
+role_shown user V = last_or Account (roles_shown user V)
+
+-- the account whose name a sighting shows
+abbrev pub account_shown : View → Sighting → List AccountLine
+account_shown V s =
+    map (λ (name : List ℕ). record { user = unwrap_or s.user 0; name = name; role = role_shown s.user V })
+    (listed s.name)
+
+-- the accounts are all whose names are shown
+abbrev pub AccountsTold : Type 0
+AccountsTold = (u : Option ℕ) (H : History)
+    → answer u (view u H) queries.Accounts ≡ replies.Accounts (flat_map (account_shown (view u H)) (view u H))
+
+-- the phase and the mode are the last that are shown, else setup and blind; and the papers are counted that are shown
+-- to be submitted
+abbrev pub ConferenceTold : Type 0
+ConferenceTold =
+    (u : Option ℕ) (H : History)
+    → answer u (view u H) queries.Phase
+    ≡ replies.Conference (record {
+      mode = last_or Blind (all_shown (λ (s : Sighting). s.mode) (view u H));
+      papers = length (flat_map (λ (s : Sighting). only (is_kind kinds.Submitted s) (listed s.paper)) (view u H));
+      phase = last_or Setup (all_shown (λ (s : Sighting). s.phase) (view u H));
+    })

@@ -1,0 +1,89 @@
+-- Told of reviews: what a view shows of the forms on a paper is what the answer lists, in a committee's words.
+use Rattle.std.specs.Prelude.{ℕ, Bool, true, false, ◌≡◌, ◌&&◌, ◌||◌, List, []}
+use Rattle.std.specs.Prelude.{◌++◌, map, Option, Some, None, unwrap_or, if◌then◌else◌}
+use Rattle.std.specs.List.{flat_map}
+use Rattle.cr_base.specs.declared.command.Query.TheVariants as queries
+use Rattle.cr_base.specs.declared.entry.EntryKind.TheVariants as kinds
+use Rattle.cr_base.specs.declared.reply.Reply.{Reply}
+use Rattle.cr_base.specs.declared.reply.Reply.TheVariants as replies
+use Rattle.cr_base.specs.declared.review.ReviewLine.{ReviewLine}
+use Rattle.cr_base.specs.declared.words.Phase.{Phase}
+use Rattle.cr_base.specs.declared.words.Phase.TheVariants.{Reviewing}
+use Rattle.cr_base.specs.Labels.{by_labels, most_labels}
+use Rattle.cr_base.specs.Lists.{listed, last, is_number, until, since}
+use Rattle.cr_base.specs.History.{History}
+use Rattle.cr_base.specs.HistoryFacts.{phase_of, is_author, is_reviewer, assigned_under}
+use Rattle.cr_history.specs.Invariants.{IsSubmitted}
+use Rattle.cr_policy.specs.Judge.{answer}
+use Rattle.cr_policy.specs.Legal.{Legal}
+use Rattle.cr_policy.specs.ShownTo.{is_past_reviewing, handles, discusses, is_notified, where_known}
+use Rattle.cr_policy.specs.Sighting.{Sighting}
+use Rattle.cr_policy.specs.View.{View, view}
+use Rattle.cr_policy.specs.ViewFacts.{only, is_kind, discussion_seen, seats_in_view}
+use Rattle.cr_told.specs.Told.{label_shown_of}
+use Rattle.cr_told.specs.ToldLists.{name_shown, knows_reviewers}
+
+abbrev pub reviews_answered : Reply → Option (List ReviewLine)
+reviews_answered (replies.Reviews lines) = Some lines
+reviews_answered _ = None
+
+-- a form under the label of this ordinal, as a sighting shows it: with the name of whoever is shown to have been
+-- assigned under the label, where it is to be named, and whole, with what is for the committee and its number, or not
+abbrev pub review_shown : Bool → Bool → ℕ → View → ℕ → Sighting → List ReviewLine
+review_shown named entire p V o s =
+    map (λ (score : ℕ). record {
+      confidence = unwrap_or s.confidence 0;
+      label = o;
+      score = score;
+      to_authors = unwrap_or s.to_authors [];
+      to_pc = if entire then s.to_pc else None;
+      user = if named then name_shown (assigned_under o (seats_in_view p V)) V else None;
+      version = if entire then s.version else None;
+    })
+    (listed s.score)
+
+-- the forms under the label that these sightings show
+abbrev pub forms_listed : Bool → Bool → ℕ → View → ℕ → View → List ReviewLine
+forms_listed named entire p V o seen =
+    flat_map (λ (s : Sighting). only (is_kind kinds.Reviewed s && (is_number s.paper p && is_number s.ordinal o))
+    (review_shown named entire p V o s)) seen
+
+-- the reader's own forms on the paper
+abbrev pub own_forms_listed : Option ℕ → ℕ → View → List ReviewLine
+own_forms_listed u p V =
+    flat_map
+    (λ (s : Sighting). only (is_kind kinds.Reviewed s && (is_number s.paper p && s.mine))
+    (review_shown false true p V (unwrap_or (label_shown_of u p V) 0) s))
+    V
+
+-- authors: of each label the last form that is shown, without what is for the committee; else from the discussion on:
+-- of each label the last that stands before the discussion, and all later ones; and before it: her own
+abbrev pub reviews_listed : Option ℕ → ℕ → History → List ReviewLine
+reviews_listed u p H =
+    let V : View = view u H in
+    if is_author u p H
+    then by_labels (λ (o : ℕ). listed (last (forms_listed (knows_reviewers u p H) false p V o V))) most_labels
+    else (if is_past_reviewing (phase_of H)
+    then by_labels
+    (λ (o : ℕ).
+    listed (last (forms_listed (knows_reviewers u p H) true p V o (until discussion_seen V)))
+    ++ forms_listed (knows_reviewers u p H) true p V o (since discussion_seen V))
+    most_labels
+    else own_forms_listed u p V)
+
+-- it is the reviewing
+abbrev pub is_reviewing_now : Phase → Bool
+is_reviewing_now Reviewing = true
+is_reviewing_now _ = false
+
+-- she reviews the paper, which she handles, in the reviewing
+abbrev pub reviews_now : Option ℕ → ℕ → History → Bool
+reviews_now u p H = handles u p H && is_reviewer u p H && is_reviewing_now (phase_of H)
+
+-- the reviews of a paper are answered to authors who are notified, to those who discuss it, and in the reviewing to its
+-- reviewers
+abbrev pub ReviewsTold : Type 0
+ReviewsTold =
+    (u : Option ℕ) (p : ℕ) (H : History) → Legal H → IsSubmitted H p
+    → reviews_answered (answer u (view u H) (queries.Reviews (Some p)))
+    ≡ where_known (is_notified u p H || discusses u p H || reviews_now u p H) (reviews_listed u p H)

@@ -1,0 +1,62 @@
+-- Told of searches: a paper is found exactly where it has a title for the reader and the terms hold of what the answers
+-- tell her of it.
+use Rattle.std.specs.Prelude.{ℕ, true, false, ◌≡◌, List, [], length, map, filter, Option, Some, None, unwrap_or}
+use Rattle.cr_base.specs.declared.command.Query.TheVariants as queries
+use Rattle.cr_base.specs.declared.found.FoundPaper.{FoundPaper}
+use Rattle.cr_base.specs.declared.page.Page.{Page}
+use Rattle.cr_base.specs.declared.reply.Reply.TheVariants as replies
+use Rattle.cr_base.specs.declared.search.Step.{Step}
+use Rattle.cr_base.specs.History.{History}
+use Rattle.cr_base.specs.Searching.{Told, is_found, found_paper}
+use Rattle.cr_policy.specs.Judge.{answer}
+use Rattle.cr_policy.specs.View.{view}
+use Rattle.cr_policy.specs.ViewFacts.{papers_in_view}
+use Rattle.cr_told.specs.Told.{page_answered, is_shown_accepted}
+use Rattle.cr_told.specs.ToldLists.{comments_answered}
+use Rattle.cr_told.specs.ToldReports.{is_hers_or_in_conflict}
+use Rattle.cr_told.specs.ToldReviews.{reviews_answered}
+
+-- a page that isn't answered has no key
+abbrev pub no_page : ℕ → Page
+no_page p = record {
+  paper = p;
+  abstract_ = None;
+  authors = None;
+  bid = None;
+  bids = None;
+  conflict = None;
+  conflicts = None;
+  decision = None;
+  declared = None;
+  label = None;
+  reviewers = None;
+  tags = None;
+  title = None;
+  versions = None;
+  withdrawn = None;
+}
+
+-- what the answers tell of a paper: its page, its reviews and its comments, where they are answered; and whether the
+-- view shows that it is accepted, and that she is in conflict with it
+abbrev pub told_in_answers : Option ℕ → History → ℕ → Told
+told_in_answers u H p = record {
+  page = unwrap_or (page_answered (answer u (view u H) (queries.Page (Some p)))) (no_page p);
+  accepted = is_shown_accepted p (view u H);
+  conflicted = is_hers_or_in_conflict u p (view u H);
+  reviews = unwrap_or (reviews_answered (answer u (view u H) (queries.Reviews (Some p)))) [];
+  comments = unwrap_or (comments_answered (answer u (view u H) (queries.Comments (Some p)))) [];
+}
+
+-- the papers of which the search holds, as they are told, by number
+abbrev pub papers_found : Option ℕ → History → List Step → List FoundPaper
+papers_found u H search =
+    map (λ (p : ℕ). found_paper p (told_in_answers u H p))
+    (filter (λ (p : ℕ). is_found (told_in_answers u H p) search) (papers_in_view (view u H)))
+
+-- they are found, and counted, whoever asks
+pub record SearchTold (u : Option ℕ) (H : History) (search : List Step) : Type 0 where
+  pub found : answer u (view u H) (queries.Search search false) ≡ replies.Found (papers_found u H search)
+  pub counted : answer u (view u H) (queries.Search search true) ≡ replies.Count (length (papers_found u H search))
+
+abbrev pub SearchesTold : Type 0
+SearchesTold = (u : Option ℕ) (H : History) (search : List Step) → SearchTold u H search
