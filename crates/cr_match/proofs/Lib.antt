@@ -1,0 +1,17 @@
+pub mod Duality
+pub mod Room
+pub mod Strong
+pub mod PriceSteps
+pub mod Steps
+pub mod Label
+pub mod Fall
+pub mod Cut
+pub mod Alike
+pub mod Filling
+pub mod Overlay
+pub mod Surface
+pub mod Starts
+pub mod Refuted
+pub mod Tells
+pub mod Conclude
+pub mod Order

@@ -1,0 +1,44 @@
+use Rattle.std.proofs.Common.{◌≡◌, length, List, sym, ap, ◌∙◌, arith}
+use Rattle.std.proofs.lemmas.Int.{ints}
+use Rattle.cr_match.specs.declared.problem.Pair.{Pair}
+use Rattle.cr_match.specs.Answer.{IsChosen}
+use Rattle.cr_match.specs.Copies.{IsFor, marks}
+use Rattle.cr_match.specs.Plan.{kept, total_weight}
+use Rattle.cr_match.proofs.Starts.{are_length}
+use Rattle.cr_match.proofs.Tells.{kept_length}
+use Rattle.cr_match.proofs.Conclude.{has_no_plan, is_greatest}
+use Rattle.cr_match.proofs.greatest.answer.Goals as goal
+
+pub returns-then-not-found : goal.returns-then-not-found
+returns-then-not-found c =
+    has_no_plan c.args.problem.now c.choose-found.new.labels c.in_ok-papers.papers.items c.requires.problem (c.choose-found.ensures.refuted c.if-not-found.true)
+    c.in_ok-papers.ensures
+
+pub chosen_pairs-requires : goal.chosen_pairs-requires
+chosen_pairs-requires c =
+    let chosen : IsChosen c.args.problem.now c.choose-found.new.a c.choose-found.new.b c.choose-found.new.slots = c.choose-found.ensures.chosen c.if-not-found.false in
+    ap (λ (x : List Pair). length x) c.deref.ensures.value
+    ∙ sym (are_length IsFor c.args.problem.now.pairs.items c.choose-found.new.slots chosen.are)
+
+pub weight_of-sum-requires : goal.weight_of-sum-requires
+weight_of-sum-requires c = record {
+  few = omega (
+    arith,
+    ap (λ (x : List Pair). length x) c.deref-2.ensures.value,
+    ap (λ (x : List Pair). length x) c.in_ok-pairs.ensures,
+    kept_length (marks c.choose-found.new.slots) c.deref.result.now,
+    ap (λ (x : List Pair). length x) c.deref.ensures.value,
+    c.requires.problem.few,
+  );
+}
+
+pub returns : goal.returns
+returns c =
+    let chosen : IsChosen c.args.problem.now c.choose-found.new.a c.choose-found.new.b c.choose-found.new.slots = c.choose-found.ensures.chosen c.if-not-found.false in
+    let is_pairs : c.in_ok-pairs.pairs.items ≡ kept (marks c.choose-found.new.slots) c.args.problem.now.pairs.items =
+    c.in_ok-pairs.ensures ∙ ap (λ (x : List Pair). kept (marks c.choose-found.new.slots) x) c.deref.ensures.value in
+    is_greatest c.args.problem.now c.choose-found.new.slots c.choose-found.new.a c.choose-found.new.b c.in_ok-pairs.pairs.items _ _ c.requires.problem chosen
+    is_pairs
+    (omega (arith, ints, c.weight_of-sum.ensures, ap (λ (x : List Pair). total_weight x) c.deref-2.ensures.value))
+    c.in_ok-papers-2.ensures
+    c.in_ok-members.ensures.items

@@ -1,0 +1,6 @@
+use Rattle.std.proofs.Common.{◌≡◌, take}
+use Rattle.cr_match.specs.Copies.{lowered}
+use Rattle.cr_match.proofs.tell.lower.Given as goal
+
+abbrev pub invariant-loop-price : goal.invariant-loop-price
+invariant-loop-price l = l.lower.items ≡ lowered (take l.price-index l.prices)
