@@ -1,0 +1,227 @@
+#!/usr/bin/env python3
+"""Plants wrong trigger tables, the rows in checks/planted/tables, and looks which clauses of the laws refuse each.
+
+    checks/wrong_tables.py [WORD..]          computes, with no prover, the clauses that each row names: all have to be false
+    checks/wrong_tables.py --check [WORD..]  only whether each text that is to be changed is there, once, and each clause too
+    checks/wrong_tables.py --all WORD..      computes every clause, and prints those that are false
+    checks/wrong_tables.py --try NAME..      plants each in a copy of the repository and runs `rt check` of cr_policy's law there
+
+WORD picks the rows that have it in their name, or a topic. Clauses are computed for nobody and every user of the small
+conference, in each mode and phase, and of made-up histories that aren't legal; those by part on the values shown alone. The
+table as it stands is computed first, and every clause has to hold of it. Ends with status 0 where all were as due.
+"""
+import concurrent.futures
+import os
+import random
+import re
+import shutil
+import subprocess
+import sys
+import tempfile
+
+from planted.rows import TOP, lost, read
+from planted.specs import BUILT_IN, MEMO, PAPERS, History, Specs, applied, arity
+
+POLICY = "crates/cr_policy"
+NOBODY, USERS = ("None",), [("Some", n) for n in range(1, 9)]
+PHASES = ["Submission", "Bidding", "Reviewing", "Discussion", "Notification", "Closed"]
+MODES = [("Overt",), ("Blind",), ("Anonymous",)]
+BUILT_IN["values"] = lambda xs: tuple(x for x in xs if x is not False and x != NOBODY)
+
+
+def clauses(law):
+    """The clauses of a law of cr_policy: the definition of each by its name."""
+    with open(f"{TOP}/{POLICY}/src/lib.rt", encoding="utf-8") as file:
+        text = file.read().split(f"pub fn {law}()")[1].split("{}")[0]
+    return dict(re.findall(r"ensures (\w+) \{ (\w+) \}", text))
+
+
+LAWS = {law: clauses(law) for law in ("law_bounds", "law_views")}
+# of law_views, what rests on judgement and isn't computed
+UNCOMPUTED = {"legal"}
+
+
+def named(row):
+    """The law and the clauses that a row says are false."""
+    return [("law_bounds", clause) for clause in row.words("clauses")] + [("law_views", clause) for clause in row.words("views")]
+
+
+# ---- histories
+
+def words(text):
+    return tuple(text.encode())
+
+
+def made_up(seed):
+    """A history that needn't be legal: any of eight users does anything in any phase, and a paper may be submitted twice."""
+    dice = random.Random(seed)
+    paper, user = lambda: dice.randint(1, 3), lambda: dice.randint(1, 8)
+    text = lambda: words(f"text {dice.randint(0, 999)}")
+    form = lambda: {"score": dice.randint(1, 5), "confidence": dice.randint(1, 5), "to_authors": text(), "to_pc": text()}
+    kinds = [
+        lambda: ("Submitted", paper(), text(), text()), lambda: ("Coauthor", paper(), user()), lambda: ("Revised", paper(), text(), text()),
+        lambda: ("Uploaded", paper(), dice.randint(1, 3), text()), lambda: ("Withdrawn", 3), lambda: ("Conflict", paper(), user(), dice.random() < 0.7),
+        lambda: ("Bid", paper(), dice.randint(0, 40)), lambda: ("Assigned", paper(), user(), (dice.choice(["Primary", "Secondary", "Pc"]),), dice.randint(1, 3)),
+        lambda: ("Unassigned", paper(), user(), dice.randint(1, 3)), lambda: ("Reviewed", paper(), dice.randint(1, 2), dice.randint(1, 4), form()),
+        lambda: ("Commented", paper(), dice.randint(1, 9), dice.choice([NOBODY, ("Some", 1), ("Some", 2)]), text()),
+        lambda: ("Tagged", paper(), words(dice.choice(["hot", "~own", "~~odd"])), dice.random() < 0.7),
+        lambda: ("Decided", paper(), (dice.choice(["Accept", "Reject"]),))]
+    entries = [(1, ("Registered", n, text(), text())) for n in (1, 2)] + [
+        (1, ("Named", n, (role,))) for n, role in ((1, "Chair"), (2, "Chair"), (3, "Member"), (4, "Member"), (5, "Member"))]
+    entries += [(1, ("ModeSet", dice.choice(MODES))), (6, ("Submitted", 1, text(), text())), (7, ("Submitted", 2, text(), text()))]
+    for phase in PHASES[:dice.randint(0, 6)]:
+        entries += [(1, ("PhaseSet", (phase,)))] + [(user(), dice.choice(kinds)()) for _ in range(dice.randint(2, 9))]
+    return History({"maker": maker, "more": False, "entry": entry} for maker, entry in entries)
+
+
+def by_hand():
+    """What is rarely made up: a paper that is accepted though it was withdrawn, once the conference is closed; a tag in the submission."""
+    closed = [("Submitted", 3, words("a"), words("b")), ("Uploaded", 3, 1, words("c")), ("Withdrawn", 3), ("Decided", 3, ("Accept",)), ("PhaseSet", ("Closed",))]
+    early = [("Named", 4, ("Member",)), ("PhaseSet", ("Submission",)), ("Submitted", 1, words("a"), words("b")), ("Tagged", 1, words("hot"), True)]
+    return [History({"maker": 6, "more": False, "entry": entry} for entry in entries) for entries in (closed, early)]
+
+
+def small_conference(specs):
+    """What the small conference is made of, and its histories in each mode and phase."""
+    of = lambda name: specs.get("cr_policy.specs.Conference", name)
+    digests = {name: tuple([n] * 32) for n, name in enumerate("alice bob carol dave erin fay gus hal".split())}
+    asides = [{"tag": words(t), "to_pc": words("New."), "comment": words(c)} for t, c in (("a", "Take it."), ("b", "Leave it."))]
+    some = [NOBODY, ("Some", ("Accept",)), ("Some", ("Reject",))]
+    verdicts = [of("verdicts"), of("reversed")] + [{"other": some[a], "first": some[b], "last": some[c]} for a, b, c in ((2, 0, 1), (0, 1, 1), (1, 2, 1))]
+    histories = []
+    for mode in MODES:
+        histories += [of("before_bidding")(digests, mode), of("in_bidding")(digests, mode, asides[0], 4), of("in_reviewing")(digests, mode, asides[0], 4)]
+        histories += [of(name)(digests, mode, asides[0], 4, v) for v in verdicts[:2] for name in ("in_discussion", "at_notification", "at_close")]
+    return digests, asides, verdicts, [History(history) for history in histories]
+
+
+# ---- computing
+
+class Computed:
+    """The specs with a row's changes, and which of the laws' clauses are false of them."""
+
+    def __init__(self, plain=None, changed=None):
+        self.specs = Specs(TOP, changed, plain and plain.specs)
+        if plain:
+            self.digests, self.asides, self.verdicts, self.histories = plain.digests, plain.asides, plain.verdicts, plain.histories
+        else:
+            file = f"{POLICY}/specs/ViewBounds.antt"
+            with open(f"{TOP}/{file}", encoding="utf-8") as opened:
+                text = opened.read()
+            told = "map seen (view u H) ≡ each_told u H (part u H) [] H"
+            assert told in text, "how ViewBounds says that a part is shown"
+            self.specs.changed[file] = text.replace(told, "values (map seen (view u H)) ≡ values (each_told u H (part u H) [] H)")
+            self.digests, self.asides, self.verdicts, conference = small_conference(self.specs)
+            self.histories = by_hand() + [made_up(seed) for seed in range(40)] + conference
+
+    def holds_of(self, clause, history):
+        if arity(clause) == 1:
+            return clause(history)
+        if arity(clause) == 2:
+            return all(clause(u, history) for u in [NOBODY, *USERS])
+        return all(clause(u, p, history) for u in [NOBODY, *USERS] for p in PAPERS)
+
+    def holds(self, law, name):
+        """Whether the clause holds wherever it is computed."""
+        if law == "law_bounds":
+            clause = self.specs.get("cr_policy.specs.ViewBounds", LAWS[law][name])
+            return all(self.holds_of(clause, history) for history in self.histories)
+        clause = self.specs.get("cr_policy.specs.ConferenceLaws", LAWS[law][name])
+        a, b = self.asides
+        if name == "asides":
+            return all(applied(clause, self.digests, mode, a, b) for mode in MODES)
+        if name == "verdicts":
+            return all(applied(clause, self.digests, mode, a, v, w) for mode in MODES for v in self.verdicts for w in self.verdicts)
+        return all(applied(clause, self.digests, mode, a) for mode in MODES)
+
+
+PLAIN = []
+
+
+def plain():
+    """The specs as they stand, computed once a process."""
+    if not PLAIN:
+        PLAIN.append(Computed())
+    return PLAIN[0]
+
+
+def computed(row, every):
+    """The clauses that are false of a row, of all or of those that it names, and those that it names and that hold."""
+    kept = set(MEMO)
+    planted = Computed(plain(), {**plain().specs.changed, **row.changed(TOP)})
+    asked = [(law, clause) for law in LAWS for clause in LAWS[law] if clause not in UNCOMPUTED] if every else named(row)
+    false = [pair for pair in asked if pair[1] not in UNCOMPUTED and not planted.holds(*pair)]
+    for function in set(MEMO) - kept:
+        del MEMO[function]
+    return false, [clause for law, clause in named(row) if clause not in UNCOMPUTED and (law, clause) not in false]
+
+
+def by_computing(rows, every):
+    """Prints what came of each row; the count of those of which a clause holds that should be false."""
+    held = [clause for law in LAWS for clause in LAWS[law] if clause not in UNCOMPUTED and not plain().holds(law, clause)]
+    if held:
+        print(f"the table as it stands: false {' '.join(held)}")
+        return len(rows)
+    through = 0
+    with concurrent.futures.ProcessPoolExecutor(int(os.environ.get("JOBS", os.cpu_count() or 1))) as pool:
+        for row, (false, wrong) in zip(rows, pool.map(computed, rows, [every] * len(rows), chunksize=4)):
+            through += bool(wrong or not false)
+            said = f"false {' '.join(clause for _, clause in false)}" + (f"; HOLDS {' '.join(wrong)}" if wrong else "")
+            print(f"{row.name}: {said}", flush=True)
+    return through
+
+
+# ---- checking
+
+def what_is_lost(row):
+    """Why the row can't be planted, or names a clause that isn't there; else None."""
+    unknown = [clause for law, clause in named(row) if clause not in LAWS[law]]
+    if unknown:
+        return f"no clause {unknown[0]}"
+    return lost(row) if row.edits else "no change is written down"
+
+
+def by_check(row):
+    """Plants a row in a copy and checks the laws that it names there: of each, whether it is refused, and what was said."""
+    with tempfile.TemporaryDirectory(prefix="wrong-table-") as room:
+        shutil.copytree(f"{TOP}/crates", f"{room}/crates", ignore=shutil.ignore_patterns("out"))
+        for name in ("crates.txt", "HANDLES"):
+            shutil.copy(f"{TOP}/{name}", room)
+        row.plant(room)
+        refused = []
+        for law in sorted({law for law, _ in named(row)} | set(row.words("law"))):
+            run = subprocess.run(["rt", "check", "--only", law], cwd=f"{room}/{POLICY}", capture_output=True, text=True)
+            said = (run.stdout + run.stderr).strip()
+            refused.append((law, run.returncode != 0, said))
+    return refused
+
+
+def pick(rows, picked):
+    """The rows of these names; else of these topics, or with one of these words in their name; all where none is given."""
+    exact = [row for row in rows if row.name in picked]
+    return exact or [row for row in rows if not picked or row.topic in picked or any(word in row.name for word in picked)]
+
+
+def main():
+    options = {word for word in sys.argv[1:] if word.startswith("--")}
+    picked = [word for word in sys.argv[1:] if not word.startswith("--")]
+    rows = pick(read("tables"), picked)
+    written = [row for row in rows if row.edits and (named(row) or "--try" in options and row.words("law"))]
+    if "--check" in options:
+        missing = [f"{row.name}: {said}" for row in rows for said in [what_is_lost(row)] if said]
+        print("\n".join([*missing, f"{len(rows) - len(missing)} can be planted, {len(missing)} not"]))
+        sys.exit(len(missing) > 0)
+    if "--try" in options:
+        through = 0
+        for row in written:
+            for law, is_refused, said in by_check(row):
+                through += not is_refused
+                print(f"{row.name}: {law} {'refuses' if is_refused else 'PASSES'}\n{said[-3000:]}", flush=True)
+        sys.exit(through > 0)
+    through = by_computing(written, "--all" in options)
+    print(f"{len(written) - through} refused, {through} not")
+    sys.exit(through > 0)
+
+
+if __name__ == "__main__":
+    main()
