@@ -5,7 +5,7 @@
 
 PROGRAM is `confd` as `rt run` builds it (crates/confd/out/confd where none is named). Needs the Debian packages nginx-light and
 openssl, and is no part of the gate. Prints a line a check, and last `N passed, M failed`; ends with status 0 where none failed.
-Takes about half a minute.
+Takes less than a minute.
 """
 
 import contextlib
@@ -154,6 +154,17 @@ def slow_clients(program, folder):
         expect(time.monotonic() - began < 5, "the answer took five seconds")
 
 
+def pauses(program, folder):
+    """after pauses about as long as confd and nginx keep an idle connection, each command is answered"""
+    with behind_nginx(program, folder) as port:
+        for number, pause in enumerate((3.5, 4.0, 4.5, 4.9, 5.0, 5.1, 5.5), 1):
+            told = registered(port, f"user-{number}")
+            expect(told == (201, f'{{"user":{number}}}'), f"ahead of {pause} seconds: {told}")
+            time.sleep(pause)
+        with open(f"{folder}/error.log", encoding="utf-8") as file:
+            expect(file.read() == "", "nginx met an error")
+
+
 def too_large(program, folder):
     """a body of more than 4 MiB is refused, and one of 4 MiB comes to confd"""
     with behind_nginx(program, folder) as port:
@@ -162,4 +173,4 @@ def too_large(program, folder):
 
 
 if __name__ == "__main__":
-    run_all([one_after_another, many_at_once, slow_clients, too_large], program_named(sys.argv[1:]))
+    run_all([one_after_another, many_at_once, slow_clients, pauses, too_large], program_named(sys.argv[1:]))

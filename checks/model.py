@@ -1,4 +1,4 @@
-"""A small model of confd, written from docs/SPEC.md and from nothing else.
+"""A small model of confd, written from docs/API.md, STORE.md and VIEWS.md and from nothing else.
 
 A conference is a list of entries; each answer, each rule and each line of a view is read off that list anew, with no table
 beside it. It is slow and short, and stands against the program in `random_runs.py`. It answers requests whose bodies are
@@ -428,7 +428,7 @@ class Conference:
 
     # ---- reports
     def report(self, u, parts):
-        """A report's text; the lines are those of docs/SPEC.md."""
+        """A report's text; the lines are those of docs/API.md."""
         chair, member = self.role_of(u) == "chair", self.role_of(u) != "account"
         if parts[0] == "letter":
             p = self.paper_told(parts[1])

@@ -1,11 +1,11 @@
 #!/usr/bin/env python3
 """Random conferences, against a small model of the server.
 
-    checks/random_runs.py [RUNS] [SEED]        20 runs from seed 1 where none are told
+    checks/random_runs.py [RUNS] [SEED]        20 runs from seed 1 where none are given
 
 Each run makes up a conference of nine users from its seed and asks a few hundred requests of `confd pipe` with a store:
 every command and query by every kind of caller, in and out of its phase, most of them refused. Each answer, and then what
-`confd view` prints for each user, has to be what `model.py` gives, which is written from docs/SPEC.md and knows no tables.
+`confd view` prints for each user, has to be what `model.py` gives, which is written from the pages of docs/ and knows no tables.
 Ends with status 0 where all of it is, and else tells the seed, the request, what came and what was due.
 """
 import os

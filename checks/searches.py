@@ -1,5 +1,5 @@
 #!/usr/bin/env python3
-"""Searches, by docs/SPEC.md and by brute force: what a text is, and whether a search holds of a paper.
+"""Searches, by docs/API.md and by brute force: what a text is, and whether a search holds of a paper.
 
     checks/searches.py TEXT..        the tree of each text, or the place of a bad one
 

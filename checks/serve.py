@@ -37,6 +37,10 @@ CLIENTS = 62
 # No answer that is due at once may take so many seconds.
 SOON = 20
 DEADLINE = 60
+# For how many seconds a connection is kept on which nothing comes behind an answer.
+IDLE = 5
+# How often a wait that a signal broke off is waited again.
+AGAIN = 16
 # A body's most bytes.
 LARGEST = 4_194_304
 # The number of a connection's last request.
@@ -316,6 +320,46 @@ def many_at_once(program, folder):
             expect(silent.ask(request("GET", "/phase"))[0] == 200, "the silent client's first request")
 
 
+def idle_clients(program, folder):
+    """Two clients that keep their connections and ask nothing hold two workers for five seconds, and no longer."""
+    with serving(program, os.path.join(folder, "store"), workers=2) as server, contextlib.ExitStack() as held:
+        clients = [held.enter_context(Client(server)) for _ in range(2)]
+        for client in clients:
+            expect(client.ask(request("GET", "/phase"))[0] == 200, "a client's first request")
+        time.sleep(IDLE - 2)
+        for client in clients:
+            expect(client.ask(request("GET", "/phase"))[0] == 200, "a request three seconds behind an answer")
+        begun = time.monotonic()
+        expect(ask_once(server, request("GET", "/phase"))[0] == 200, "the third client")
+        waited = time.monotonic() - begun
+        expect(IDLE - 1 < waited < IDLE + 3, f"the third client waited {waited:.1f} s")
+        expect(all(client.is_ended() for client in clients), "an idle client's connection goes on")
+
+
+def stopped(program, folder):
+    """Stopped and continued while it waits: for a request, for its rest, to write and for a connection. All goes on."""
+    store = os.path.join(folder, "store")
+    program.pipe(store, opening() + submit("alice", "Large") + upload("alice", 1, os.urandom(LARGEST)))
+    with serving(program, store, workers=4) as server, contextlib.ExitStack() as held:
+        silent, begun, unread = (held.enter_context(Client(server)) for _ in range(3))
+        text = request("GET", "/phase")
+        begun.send(text[:10])
+        unread.send(request("GET", "/papers/1/content", "alice") * 4)
+        time.sleep(0.5)
+        for _ in range(AGAIN - 2):
+            server.process.send_signal(signal.SIGSTOP)
+            os.waitpid(server.process.pid, os.WUNTRACED)
+            server.process.send_signal(signal.SIGCONT)
+            # Each of the four waits is begun anew by then.
+            time.sleep(0.05)
+        expect(silent.ask(text)[0] == 200, "a client that had asked nothing")
+        expect(begun.ask(text[10:])[0] == 200, "a client amid its request")
+        for _ in range(4):
+            code, _, content = unread.answer()
+            expect((code, len(content)) == (200, LARGEST), f"a client that took nothing: {code}, {len(content)} bytes")
+        expect(ask_once(server, text)[0] == 200, "a new client")
+
+
 def ends_by_itself(program, folder):
     """After the last of its connections it writes `entries K` and ends with status 0."""
     store = os.path.join(folder, "store")
@@ -493,7 +537,12 @@ def deadlines(program, folder):
 
         def after_one(client):
             time.sleep(30)
-            client.send(request("GET", "/phase") + b"GET")
+            client.send(request("GET", "/phase"))
+
+        def amid_the_next(client):
+            client.send(request("GET", "/phase"))
+            time.sleep(IDLE - 2)
+            client.send(b"GET")
 
         def unread():
             """Asks for more than the system holds, and reads nothing of it; for how many seconds it can't send more."""
@@ -508,9 +557,12 @@ def deadlines(program, folder):
 
         def in_time():
             with Client(server) as client:
-                for _ in range(5):
+                for _ in range(3):
+                    time.sleep(IDLE - 2)
+                    text = request("GET", "/phase")
+                    client.send(text[:10])
                     time.sleep(30)
-                    expect(client.ask(request("GET", "/phase"))[0] == 200, "a client in time was ended")
+                    expect(client.ask(text[10:])[0] == 200, "a client in time was ended")
             return None
 
         def unread_contents():
@@ -537,18 +589,19 @@ def deadlines(program, folder):
                     expect((code, len(content)) == (200, LARGEST), f"a content taken in time: {code}, {len(content)} bytes")
 
         acts = (
-            lambda: lasts(silent), lambda: lasts(dripping), lambda: lasts(after_one), unread,
-            unread_contents, in_time, contents_in_time,
+            lambda: lasts(silent), lambda: lasts(dripping), lambda: lasts(after_one), lambda: lasts(amid_the_next),
+            unread, unread_contents, in_time, contents_in_time,
         )  # fmt: skip
         spans = at_once(len(acts), lambda number: acts[number]())
-        for name, span, due in zip(("silent", "dripping", "after one", "unread"), spans, (60, 60, 90, 60)):
+        names = ("silent", "dripping", "after one", "amid the next", "unread")
+        for name, span, due in zip(names, spans, (DEADLINE, DEADLINE, 30 + IDLE, DEADLINE, DEADLINE)):
             expect(due - 2 < span < due + 10, f"{name}: ended after {span:.1f} s, due after {due}")
-        expect(spans[4] < 16, "contents that nobody took for a minute went on coming")
+        expect(spans[5] < 16, "contents that nobody took for a minute went on coming")
 
 
 CHECKS = [
-    one_client, library, closing, drips, too_large, last_request, contents, many_at_once, ends_by_itself, few_descriptors,
-    refused_addresses, refused_words, held, killed,
+    one_client, library, closing, drips, too_large, last_request, contents, many_at_once, idle_clients, stopped,
+    ends_by_itself, few_descriptors, refused_addresses, refused_words, held, killed,
 ]  # fmt: skip
 
 

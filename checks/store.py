@@ -4,11 +4,13 @@
     python3 checks/store.py [PROGRAM]
 
 PROGRAM is `confd` as `rt run` builds it (crates/confd/out/confd where none is named). Python 3 alone is
-needed, whose module `sqlite3` stands on SQLite 3.37 or later. Prints a line a check, and last `N passed, M failed`;
-ends with status 0 where none failed. Takes about a minute.
+needed, whose module `sqlite3` stands on SQLite 3.37 or later; and cc for the checks that refuse calls of the system
+(shim.py), which are left out where it is missing. Prints a line a check, and last `N passed, M failed`; ends with
+status 0 where none failed. Takes about a minute.
 """
 
 import contextlib
+import errno
 import json
 import os
 import random
@@ -16,6 +18,7 @@ import resource
 import shutil
 import signal
 import sqlite3
+import stat
 import subprocess
 import sys
 import tempfile
@@ -89,10 +92,10 @@ class Program:
         return answers(out), status
 
     @contextlib.contextmanager
-    def begin(self, store):
+    def begin(self, store, stderr=subprocess.DEVNULL, **more):
         """A run whose input stays open; killed at the end, where it runs still."""
         child = subprocess.Popen(
-            [self.path, "pipe", "--store", store], stdin=subprocess.PIPE, stdout=subprocess.PIPE, stderr=subprocess.DEVNULL
+            [self.path, "pipe", "--store", store], stdin=subprocess.PIPE, stdout=subprocess.PIPE, stderr=stderr, **more
         )
         try:
             yield child
@@ -102,6 +105,20 @@ class Program:
             with contextlib.suppress(BrokenPipeError):
                 child.stdin.close()
             child.stdout.close()
+            if child.stderr is not None:
+                child.stderr.close()
+
+
+def said(child):
+    """The next line on standard error."""
+    return child.stderr.readline().decode()
+
+
+def ended(child):
+    """The status of a run whose input ends now, and what else it said on standard error."""
+    child.stdin.close()
+    status = child.wait(timeout=LONG)
+    return status, child.stderr.read().decode()
 
 
 def ask(child, text):
@@ -244,6 +261,120 @@ def full_disk(program, folder):
     users = [line["user"] for line in json.loads(told[0][1])["accounts"]]
     expect(users == [1] + kept, "accounts")
     expect(json.loads(told[1][1])["papers"] == papers, "papers")
+
+
+# What standard error is told of appends.
+PASSING = "confd: commands are refused (503): {}; they are taken again as soon as one can be kept\n"
+LASTING = "confd: commands are refused (503): {}; confd has to be started again, since a sync failed\n"
+TAKEN_AGAIN = "confd: commands are taken again\n"
+
+
+def told_of_a_full_disk(program, folder):
+    """A file that may grow no further, and then may: a line where commands are refused, and one where they go on."""
+    store = os.path.join(folder, "grown")
+    program.pipe(store, opening())
+
+    def room(child, most):
+        resource.prlimit(child.pid, resource.RLIMIT_FSIZE, (most, resource.RLIM_INFINITY))
+
+    def survive():
+        signal.signal(signal.SIGXFSZ, signal.SIG_IGN)
+
+    with program.begin(store, stderr=subprocess.PIPE, preexec_fn=survive) as child:
+        for turn in range(2):
+            # So near to a file's begin that the log's next write is past it.
+            room(child, 4096)
+            for n in range(3):
+                answer = ask(child, register(f"refused{n}"))
+                expect(answer == (503, b'{"error":"keeper_fault"}'), f"while it is full: {answer}")
+            line = said(child)
+            expect(line == PASSING.format("disk I/O error"), f"while it is full: {line!r}")
+            expect(ask(child, request("GET", "/phase"))[0] == 200, "a read while it is full")
+            room(child, resource.RLIM_INFINITY)
+            for n in range(3):
+                answer = ask(child, register(f"taken{turn}-{n}"))
+                expect(answer is not None and answer[0] == 201, f"when there is room: {answer}")
+            line = said(child)
+            expect(line == TAKEN_AGAIN, f"when there is room: {line!r}")
+        status, rest = ended(child)
+        expect((status, rest) == (0, ""), f"status {status}, {rest!r}")
+    names = [bytes(row[5]).decode() for row in rows(store) if row[1] == 1]
+    expect(names == ["alice"] + [f"taken{turn}-{n}" for turn in range(2) for n in range(3)], f"{names}")
+
+
+def refused_by_the_system(program, folder):
+    """A full disk passes, and a failed sync doesn't, not even one for want of room: each is told in a line."""
+    from shim import FILES, Orders, Shim
+
+    shim = Shim(folder)
+    for name, orders, reason in (
+        ("room", {"refuse_write": 1, "lasts": 1, "error": errno.ENOSPC}, PASSING.format("database or disk is full")),
+        ("write", {"refuse_write": 1, "lasts": 1, "error": errno.EIO}, PASSING.format("disk I/O error")),
+        ("sync", {"refuse_sync": 1, "error": errno.EIO}, LASTING.format("disk I/O error")),
+        ("late", {"refuse_sync": 1, "error": errno.ENOSPC}, LASTING.format("database or disk is full")),
+    ):
+        store = os.path.join(folder, name)
+        program.pipe(store, opening())
+        told = Orders(store + "-orders", scope=FILES)
+        with program.begin(store, stderr=subprocess.PIPE, env=shim.environment(told)) as child:
+            expect(ask(child, register("before"))[0] == 201, f"{name}: before")
+            told.tell(**{key: told.writes + 1 if key == "refuse_write" else value for key, value in orders.items()})
+            if "refuse_sync" in orders:
+                told.tell(refuse_sync=told.syncs + 1)
+            answer = ask(child, register("refused"))
+            expect(answer == (503, b'{"error":"keeper_fault"}'), f"{name}: {answer}")
+            line = said(child)
+            expect(line == reason, f"{name}: {line!r}, due {reason!r}")
+            expect(ask(child, request("GET", "/phase"))[0] == 200, f"{name}: a read")
+            told.tell(refuse_write=0)
+            due = 201 if "refuse_write" in orders else 503
+            answer = ask(child, register("after"))
+            expect(answer is not None and answer[0] == due, f"{name}: afterwards {answer}, due {due}")
+            if due == 201:
+                line = said(child)
+                expect(line == TAKEN_AGAIN, f"{name}: {line!r}")
+            status, rest = ended(child)
+            expect(status == 0, f"{name}: status {status}")
+            lines = rest.splitlines(keepends=True)
+            # A connection that is over can't be shut well, which is told with the file.
+            expect(len(lines) == (due == 503) and all(store in line for line in lines), f"{name}: {rest!r}")
+        answered, status = program.pipe(store, register("started-again") + request("GET", "/accounts"))
+        expect((status, answered[0][0]) == (0, 201), f"{name}: started again: {status}, {answered}")
+        names = [line["name"] for line in json.loads(answered[1][1])["accounts"]]
+        kept = ["alice", "before", *(["after"] if due == 201 else []), "started-again"]
+        # Whether the command was kept whose sync failed is for the disk to say.
+        if due == 503:
+            names = [name for name in names if name != "refused"]
+        expect(names == kept, f"{name}: {names}, due {kept}")
+
+
+def modes(program, folder):
+    """A store that is made, and its log, are its owner's alone; one that others may read is left so, with a line."""
+
+    def mode(path):
+        return stat.S_IMODE(os.stat(path).st_mode)
+
+    store = os.path.join(folder, "made")
+    old = os.umask(0)
+    try:
+        with program.begin(store) as child:
+            expect(ask(child, register("alice"))[0] == 201, "registered")
+            expect((mode(store), mode(store + "-wal")) == (0o600, 0o600), f"{mode(store):o} {mode(store + '-wal'):o}")
+    finally:
+        os.umask(old)
+    _, status, line = program.run(["pipe", "--store", store])
+    expect((status, line) == (0, b""), f"a store of its owner's alone: {status} {line!r}")
+    for ends, names in ((("",), [store]), (("", "-wal"), [store, store + "-wal"]), (("-wal",), [store + "-wal"])):
+        for end in ("", "-wal"):
+            os.chmod(store + end, 0o644 if end in ends else 0o600)
+        out, status, line = program.run(["pipe", "--store", store], request("GET", "/phase"))
+        due = "".join(f"confd: {name}: others on this machine may read this file\n" for name in names).encode()
+        expect((status, line) == (0, due), f"{ends}: {status} {line!r}, due {due!r}")
+        expect(answers(out)[0][0] == 200, f"{ends}: {out!r}")
+        expect(all(mode(name) == 0o644 for name in names), f"{ends}: a mode was changed")
+    for name in (":memory:", os.path.join(folder, "no", "folder")):
+        _, status, _ = program.run(["pipe", "--store", name], cwd=folder)
+        expect((status, os.path.exists(os.path.join(folder, name))) == (6, False), f"{name}: {status}")
 
 
 def copied(program, folder):
@@ -398,6 +529,8 @@ CHECKS = (
     killed,
     held_by_another,
     full_disk,
+    told_of_a_full_disk,
+    modes,
     copied,
     view_of_a_file,
     no_database,
@@ -406,6 +539,9 @@ CHECKS = (
     bad_rows,
     other_types,
 )
+
+# Those that refuse calls of the system, by what cc builds.
+CHECKS_BY_SHIM = (refused_by_the_system,)
 
 
 def program_named(words):
@@ -436,5 +572,13 @@ def run_all(checks, program):
     sys.exit(1 if failed else 0)
 
 
+def with_shim(checks):
+    """The checks, where cc is there to build what they need; else none, which is told in a line."""
+    if shutil.which("cc") is not None:
+        return checks
+    print(f"left out, since there is no cc: {', '.join(check.__name__ for check in checks)}")
+    return ()
+
+
 if __name__ == "__main__":
-    run_all(CHECKS, program_named(sys.argv[1:]))
+    run_all(CHECKS + with_shim(CHECKS_BY_SHIM), program_named(sys.argv[1:]))

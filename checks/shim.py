@@ -1,0 +1,121 @@
+"""The shim of shim.c, built and told what to do: what checks need that refuse calls, cut them short or turn the clock.
+
+No script of its own: memory.py, sync.py, edge.py and store.py use it. `cc` is needed, and a program that takes the C
+library as it is loaded; where either is missing, the checks are left out, with a line that says so.
+"""
+
+import concurrent.futures
+import contextlib
+import mmap
+import os
+import shutil
+import struct
+import subprocess
+import sys
+import tempfile
+
+from store import program_named
+
+HERE = os.path.dirname(os.path.abspath(__file__))
+# As in shim.c, each a number of 64 bits.
+FIELDS = (
+    "allocations", "allocated", "reads", "writes", "syncs",
+    "refuse_allocation", "refuse_read", "refuse_write", "refuse_sync", "lasts", "error",
+    "most_read", "most_write", "speed", "ahead", "scope",
+)  # fmt: skip
+# What `scope` may be: which descriptors reads and writes are counted on.
+EVERYWHERE, FILES, SOCKETS, NO_FILES = range(4)
+# Runs at once.
+AT_ONCE = os.cpu_count() or 1
+
+
+class Orders:
+    """What a process is told, and what it counts, in a file that both have at hand."""
+
+    def __init__(self, path, **numbers):
+        # A file of its own, also where one of that name stands: another process may still have that one at hand.
+        with contextlib.suppress(FileNotFoundError):
+            os.remove(path)
+        with open(path, "xb") as file:
+            file.write(bytes(8 * len(FIELDS)))
+        self.path = path
+        with open(path, "r+b") as file:
+            self.place = mmap.mmap(file.fileno(), 0)
+        self.tell(**numbers)
+
+    def tell(self, **numbers):
+        for name, number in numbers.items():
+            struct.pack_into("=Q", self.place, 8 * FIELDS.index(name), number)
+
+    def __getattr__(self, name):
+        return struct.unpack_from("=Q", self.place, 8 * FIELDS.index(name))[0]
+
+    def close(self):
+        self.place.close()
+
+
+class Shim:
+    """The shim, built into a folder."""
+
+    def __init__(self, folder):
+        self.folder = folder
+        self.library = os.path.join(folder, "shim.so")
+        compile = ["cc", "-O2", "-Wall", "-Wextra", "-Werror", "-shared", "-fPIC", "-o", self.library]
+        subprocess.run([*compile, os.path.join(HERE, "shim.c")], check=True)
+
+    def environment(self, orders):
+        """The environment of a process under these orders."""
+        return {**os.environ, "LD_PRELOAD": self.library, "SHIM_ORDERS": orders.path}
+
+    def run(self, program, words, text, folder, **numbers):
+        """A run under such orders: what it wrote, its status, its standard error, and the orders with their counts."""
+        orders = Orders(os.path.join(folder, "orders"), **numbers)
+        out, status, err = program.run(words, text, env=self.environment(orders), cwd=folder)
+        return out, status, err, orders
+
+    def holds(self, program):
+        """Whether a program meets the shim at all: one that was linked whole doesn't."""
+        with tempfile.TemporaryDirectory() as folder:
+            orders = self.run(program, ["pipe"], b"", folder)[3]
+            return orders.allocations > 0
+
+
+def shim_for(program, folder):
+    """The shim; ends well, with a line, where none can be had."""
+    if shutil.which("cc") is None:
+        print("left out: there is no cc to build checks/shim.c with")
+        sys.exit(0)
+    shim = Shim(folder)
+    if not shim.holds(program):
+        print("left out: the program doesn't load the C library, so nothing stands between the two")
+        sys.exit(0)
+    return shim
+
+
+def chosen(checks, words):
+    """The checks that the words name, all where they name none, and the program."""
+    names = {check.__name__ for check in checks}
+    named = [check for check in checks if check.__name__ in words]
+    return named or checks, program_named([word for word in words if word not in names])
+
+
+def in_turn(act, numbers):
+    """Calls the act with each number and a folder of its own, several at once; what failed, by number."""
+
+    def tried(number):
+        with tempfile.TemporaryDirectory() as folder:
+            try:
+                act(number, folder)
+            except (AssertionError, subprocess.TimeoutExpired) as error:
+                return number, str(error)
+        return None
+
+    with concurrent.futures.ThreadPoolExecutor(AT_ONCE) as pool:
+        return [failure for failure in pool.map(tried, numbers) if failure is not None]
+
+
+def sample(count, most):
+    """The numbers from 1 to `count`, or `most` of them, evenly: the first and the last among them."""
+    if count <= most:
+        return list(range(1, count + 1))
+    return sorted({1 + place * (count - 1) // (most - 1) for place in range(most)})

@@ -1,0 +1,218 @@
+#!/usr/bin/env python3
+"""Lets each sync, write and read of `confd pipe` fail in turn, and looks at what went out and what the file has.
+
+    python3 checks/sync.py [CHECK..] [PROGRAM]
+
+PROGRAM is `confd` as `rt run` builds it (crates/confd/out/confd where none is named); CHECK is a name out of CHECKS,
+all where none is told. Needs Python 3, and `cc` for
+checks/shim.c, which lets the calls fail; without a `cc` it ends well with a line that says so. Prints a line a check,
+and last `N passed, M failed`; ends with status 0 where none failed. Takes about a quarter of a minute.
+"""
+
+import errno
+import json
+import os
+import sys
+import tempfile
+
+from conference import CUT, beginnings, codes_of, text_of
+from shim import FILES, NO_FILES, chosen, in_turn, shim_for
+from store import LASTING, PASSING, TAKEN_AGAIN, answers, expect, register, request, rows, run_all
+
+NAMES = [f"user{number}" for number in range(12)]
+QUESTION = request("GET", "/accounts")
+NO_ROOM = "database or disk is full"
+FULL = PASSING.format(NO_ROOM)
+LINE = b"confd: the input ended inside a request\n"
+WORDS = ["pipe", "--store", "store"]
+shim = None
+
+
+def counted(program, words, text, name, **numbers):
+    """How many calls of this name a run makes where none fails, and what it wrote."""
+    with tempfile.TemporaryDirectory() as folder:
+        out, status, err, orders = shim.run(program, words, text, folder, **numbers)
+        expect(err == b"" or status == 1, f"where nothing fails: {err}")
+        return getattr(orders, name), out, status
+
+
+def each(count, act):
+    """Has each call fail in turn."""
+    failed = in_turn(act, range(1, count + 1))
+    expect(count > 0 and not failed, f"{len(failed)} of {count}, the first: call {failed[:1]}")
+    print(f"    {count} calls failed, one a run", flush=True)
+
+
+def names_in(store):
+    return [bytes(row[5]).decode() for row in rows(store) if row[1] == 1]
+
+
+def told(program, folder):
+    """What a run says of the store that another left: the names, in their order."""
+    found, status = program.pipe(os.path.join(folder, "store"), QUESTION)
+    expect(status == 0, f"opened again with status {status}")
+    return [account["name"] for account in json.loads(found[0][1])["accounts"]]
+
+
+def registrations():
+    """A registration and a question in turn."""
+    return b"".join(register(name) + QUESTION for name in NAMES)
+
+
+def appends(program, folder, out, status, err, goes_on):
+    """A run of `registrations` in which a call on the store failed: the names that were answered 201, and what is left.
+
+    `goes_on`: whether what failed passes, so that later ones are taken again. The last write of an append is the exception: where
+    that fails it isn't known what the file has, so the store is closed as it is by a failed sync.
+    """
+    lines = err.decode().splitlines(keepends=True)
+    reason = "disk I/O error"
+    if goes_on and lines[:1] == [LASTING.format(NO_ROOM)]:
+        goes_on, reason = False, NO_ROOM
+    if status == 6:
+        expect(out == b"" and len(lines) == 1, f"status 6: {out[:80]}, {lines}")
+        expect(lines[0].startswith("confd: store: "), f"status 6: {lines}")
+        expect(told(program, folder) == [], "names in a store that could not be made")
+        return
+    expect(status == 0, f"status {status}, {lines}")
+    found = answers(out)
+    expect(len(found) == 2 * len(NAMES), f"{len(found)} answers")
+    codes, kept = [code for code, _ in found[::2]], []
+    for name, (code, content), (asked, accounts) in zip(NAMES, found[::2], found[1::2]):
+        if code == 201:
+            kept.append(name)
+            expect(json.loads(content) == {"user": len(kept)}, f"{name}: {content}")
+        else:
+            expect((code, content) == (503, b'{"error":"keeper_fault"}'), f"{name}: {code} {content}")
+        shown = [account["name"] for account in json.loads(accounts)["accounts"]]
+        expect(asked == 200 and shown == kept, f"behind {name}: {asked}, {shown}, due {kept}")
+    first = codes.index(503) if 503 in codes else len(codes)
+    if goes_on:
+        expect(codes.count(503) <= 1, f"one call failed, and the answers are {codes}")
+        due = ([FULL] if first < len(codes) else []) + ([TAKEN_AGAIN] if first < len(codes) - 1 else [])
+    else:
+        expect(codes == [201] * first + [503] * (len(codes) - first), f"{codes}")
+        due = [LASTING.format(reason)] if first < len(codes) else []
+    expect(lines[: len(due)] == due, f"standard error has {lines}, due {due}")
+    # What is left over tells that the store was not shut well.
+    rest = lines[len(due) :]
+    expect(len(rest) <= 1 and all("store: " in line for line in rest), f"standard error has {lines}")
+    now = told(program, folder)
+    lost = [] if goes_on else NAMES[first : first + 1]
+    expect(now in (kept, kept + lost), f"the store has {now}, due {kept}, and perhaps {lost}")
+    expect(names_in(os.path.join(folder, "store")) == now, "the rows are others than the program tells")
+
+
+def syncs(program, _folder):
+    """Each sync fails, once or from then on: 503 until a restart, and told so; what was answered is kept."""
+    count, _, _ = counted(program, WORDS, registrations(), "syncs")
+
+    def fail(number, folder):
+        once = number <= count
+        orders = {"refuse_sync": number if once else number - count, "lasts": 0 if once else 1, "error": errno.EIO}
+        out, status, err, _ = shim.run(program, WORDS, registrations(), folder, **orders)
+        appends(program, folder, out, status, err, goes_on=False)
+
+    each(2 * count, fail)
+
+
+def full(program, _folder):
+    """Each write to the store fails once for want of room: 503 for that command, told so; the next is taken, or none until a restart."""
+    count, _, _ = counted(program, WORDS, registrations(), "writes", scope=FILES)
+
+    def fail(number, folder):
+        orders = {"refuse_write": number, "error": errno.ENOSPC, "scope": FILES}
+        out, status, err, _ = shim.run(program, WORDS, registrations(), folder, **orders)
+        appends(program, folder, out, status, err, goes_on=True)
+
+    each(count, fail)
+
+
+def opening_reads(program, folder):
+    """Each read of a store that is opened fails: status 6 and its line, or the store is as it was; the rows stay."""
+    store = os.path.join(folder, "store")
+    program.pipe(store, registrations())
+    due = rows(store)
+    words = ["pipe", "--store", store]
+    count, whole, _ = counted(program, words, QUESTION, "reads", scope=FILES)
+
+    def fail(number, other):
+        copy = os.path.join(other, "store")
+        for end in ("", "-wal"):
+            if os.path.exists(store + end):
+                with open(store + end, "rb") as old, open(copy + end, "wb") as new:
+                    new.write(old.read())
+                os.chmod(copy + end, 0o600)
+        orders = {"refuse_read": number, "error": errno.EIO, "scope": FILES}
+        out, status, err, _ = shim.run(program, WORDS, QUESTION, other, **orders)
+        expect((status, out) == (6, b"") or (status, out) == (0, whole), f"status {status}, {out[:80]}")
+        expect(status == 0 or err.startswith(b"confd: store: "), f"{err}")
+        expect(rows(copy) == due, "the rows are others now")
+
+    each(count, fail)
+
+
+def cut_reads(program, _folder):
+    """Each read of the input fails: status 4, and the answers to what was whole by then."""
+    count, whole, status = counted(program, ["pipe"], text_of(CUT), "reads", scope=NO_FILES, most_read=16)
+    ends = beginnings(CUT, whole)
+    expect((status, codes_of(ends)) == (1, [200, 201]), f"status {status}")
+
+    def fail(number, folder):
+        out, status, err, _ = shim.run(
+            program, ["pipe"], text_of(CUT), folder, refuse_read=number, most_read=16, scope=NO_FILES, error=errno.EIO
+        )
+        expect((status, err) == (4, b"confd: the input could not be read\n"), f"status {status}, {err}")
+        sent = 16 * (number - 1)
+        due = sum(len(text_of(CUT[: behind + 1])) <= sent for behind in range(2))
+        expect(out == ends[due], f"{out} behind {sent} bytes")
+
+    each(count, fail)
+
+
+def cut_writes(program, _folder):
+    """Each write of the output fails: status 5, and a beginning of what is due."""
+    count, whole, _ = counted(program, ["pipe"], text_of(CUT), "writes", scope=NO_FILES, most_write=16)
+
+    def fail(number, folder):
+        out, status, err, _ = shim.run(
+            program, ["pipe"], text_of(CUT), folder, refuse_write=number, most_write=16, scope=NO_FILES, error=errno.EIO
+        )
+        if out == whole:
+            # Past the output it was a write to standard error, whose line is then cut or left out.
+            expect(status == 1 and err in (b"", LINE[: len(err)]), f"status {status}, {err}")
+            return
+        expect((status, err) == (5, b"confd: the output could not be written\n"), f"status {status}, {err}")
+        expect(out == whole[: len(out)], f"{out} is no beginning")
+
+    each(count, fail)
+
+
+def short(program, _folder):
+    """Reads of the input and writes of output and store that move a few bytes: the same answers, status and rows."""
+    with tempfile.TemporaryDirectory() as folder:
+        out, status, _ = program.run(WORDS, registrations(), cwd=folder)
+        due = (out, status, rows(os.path.join(folder, "store")))
+    for orders in (
+        {"most_read": 1, "scope": NO_FILES}, {"most_write": 1}, {"most_write": 7}, {"most_write": 1000},
+        {"most_read": 100, "most_write": 100, "scope": NO_FILES},
+    ):  # fmt: skip
+        with tempfile.TemporaryDirectory() as folder:
+            out, status, err, _ = shim.run(program, WORDS, registrations(), folder, **orders)
+            expect((out, status, err) == (*due[:2], b""), f"{orders}: status {status}, {err}, {len(out)} bytes")
+            expect(rows(os.path.join(folder, "store")) == due[2], f"{orders}: the rows are others")
+
+
+CHECKS = (syncs, full, opening_reads, cut_reads, cut_writes, short)
+
+
+def main():
+    global shim
+    checks, program = chosen(CHECKS, sys.argv[1:])
+    with tempfile.TemporaryDirectory() as folder:
+        shim = shim_for(program, folder)
+        run_all(checks, program)
+
+
+if __name__ == "__main__":
+    main()
