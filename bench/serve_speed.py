@@ -1,15 +1,20 @@
 #!/usr/bin/env python3
 """How fast `confd serve` answers, beside others in the same run.
 
-    python3 bench/serve_speed.py [PROGRAM] [FOLDER]
+    python3 bench/serve_speed.py [--turns N] [--seconds S] [--requests R] [--before OTHER] [PROGRAM] [FOLDER]
 
-PROGRAM is `confd` as `rt run` builds it (crates/confd/out/confd where none is named), FOLDER where the stores are made (the
-system's folder for such where none is named; it decides which disk is measured). Debian's packages nginx-light, wrk,
-python3-flask and gunicorn are needed. The peers: nginx with one worker, which gives the same bytes from memory; a small Flask
-application over a database of SQLite's in WAL mode, under gunicorn with two processes of four threads; and, for what is
-kept, SQLite's own commits with the setting that confd uses. All loads keep their connections alive; all talk on loopback.
+PROGRAM is `confd` as `rt run` builds it (crates/confd/out/confd where none is named), OTHER an earlier one to be
+measured in the same run, FOLDER where the stores are made (the system's folder for such where none is named; it decides
+which disk is measured). Debian's packages nginx-light, wrk, python3-flask and gunicorn are needed. The peers: nginx with
+one worker, which gives the same bytes from memory; a small Flask application over a database of SQLite's in WAL mode,
+under gunicorn with two processes of four threads; and, for what is kept, SQLite's own commits with the setting that
+confd uses. All loads keep their connections alive; all talk on loopback.
+
+Every load is tried N times (5) for S seconds (2) on each server in turn, and its figure is the median. At the end R
+requests (a million) are made on 64 connections, and the slowest of them is told; 0 leaves that out.
 """
 
+import argparse
 import contextlib
 import json
 import os
@@ -18,14 +23,16 @@ import re
 import signal
 import socket
 import sqlite3
+import statistics
 import subprocess
 import sys
 import tempfile
 import time
 
 HERE = os.path.dirname(os.path.abspath(__file__))
-SECONDS = 5
 SUBMISSIONS = 1_000
+CONNECTIONS = (1, 4, 16, 64)
+OURS, BEFORE, NGINX_NAME, FLASK_NAME = "confd", "confd before", "nginx", "Flask"
 ABSTRACT = "We prove that nobody learns what the rules forbid. " * 13
 
 FLASK = """
@@ -141,7 +148,7 @@ def running(words, port, **more):
                 break
             except OSError:
                 time.sleep(0.1)
-        yield
+        yield server.pid
     finally:
         os.killpg(server.pid, signal.SIGKILL)
         server.wait()
@@ -153,15 +160,20 @@ def confd(program, store, port, workers):
          "--store", store], port)
 
 
-def load(port, path, connections, threads, who=None):
-    """Requests a second by wrk; the failures that it counted end the run."""
-    words = ["wrk", f"-t{threads}", f"-c{connections}", f"-d{SECONDS}s"]
+def wrk(port, path, connections, seconds, who=None):
+    """What wrk prints of a load; the failures that it counted end the run."""
+    words = ["wrk", f"-t{1 if connections == 1 else 2}", f"-c{connections}", f"-d{seconds}s"]
     if who is not None:
         words += ["-H", f"Authorization: Bearer {who}.{secret_of(who)}"]
     out = subprocess.run(words + [f"http://127.0.0.1:{port}{path}"], capture_output=True, text=True, check=True).stdout
     if "Non-2xx" in out or "Socket errors" in out:
         sys.exit(f"wrk: {path}: {out}")
-    return float(re.search(r"Requests/sec: *([\d.]+)", out).group(1))
+    return out
+
+
+def load(port, path, connections, seconds, who=None):
+    """Requests a second."""
+    return float(re.search(r"Requests/sec: *([\d.]+)", wrk(port, path, connections, seconds, who)).group(1))
 
 
 def conference(port):
@@ -214,18 +226,48 @@ def flask_app(folder):
         file.write(f"STORE = {store!r}\n{FLASK}")
 
 
-def reads(name, port):
-    """One line a load of one server; the figures by load."""
-    found = {}
-    for title, path, connections, who in (
-        ("GET /phase, 1 connection", "/phase", 1, None),
-        ("GET /phase, 64 connections", "/phase", 64, None),
-        ("GET /papers/1 with a login, 1 connection", "/papers/1", 1, "erin"),
-        ("GET /papers/1 with a login, 64 connections", "/papers/1", 64, "erin"),
-    ):
-        found[title] = load(port, path, connections, 1 if connections == 1 else 2, who)
-        print(f"{name}: {title}: {found[title]:,.0f} a second", flush=True)
-    return found
+def switches(group):
+    """How often the threads of a server's processes have let a processor go by themselves."""
+    told = 0
+    for process in filter(str.isdigit, os.listdir("/proc")):
+        with contextlib.suppress(ProcessLookupError, FileNotFoundError):
+            if os.getpgid(int(process)) == group:
+                for task in os.listdir(f"/proc/{process}/task"):
+                    with open(f"/proc/{process}/task/{task}/status", encoding="utf-8") as file:
+                        told += int(re.search(r"\nvoluntary_ctxt_switches:\s*(\d+)", file.read()).group(1))
+    return told
+
+
+def compared(title, figures):
+    """A line of what each server did, and what ours is beside it."""
+    ours = figures[OURS]
+    beside = ", ".join(f"{ours / figure:.2f} of {name}" for name, figure in figures.items() if name != OURS)
+    told = ", ".join(f"{name} {figure:,.0f}" for name, figure in figures.items())
+    print(f"{title}: {told} a second; {beside}", flush=True)
+
+
+def reads(servers, turns, seconds):
+    """Each load on each server in turn, as often as there are turns."""
+    for path, who in (("/phase", None), ("/papers/1", "erin")):
+        for connections in CONNECTIONS:
+            found = {name: [] for name in servers}
+            for _ in range(turns):
+                for name, (port, _) in servers.items():
+                    found[name].append(load(port, path, connections, seconds, who))
+            title = f"GET {path}{', login' if who else ''}, {connections} connections"
+            compared(title, {name: statistics.median(figures) for name, figures in found.items()})
+
+
+def slowest(name, port, pid, requests):
+    """A line of the slowest of so many requests on 64 connections, and of how often a thread gave up its processor."""
+    made, longest, span, before = 0, 0.0, 10, switches(pid)
+    while made < requests:
+        out = wrk(port, "/phase", 64, span)
+        made += int(re.search(r"(\d+) requests in", out).group(1))
+        number, unit = re.search(r"Latency +[\d.]+\w+ +[\d.]+\w+ +([\d.]+)(us|ms|s) ", out).groups()
+        longest = max(longest, float(number) * {"us": 1e-3, "ms": 1, "s": 1000}[unit])
+    print(f"{name}: the slowest of {made:,} requests on 64 connections took {longest:,.1f} ms; "
+          f"{(switches(pid) - before) / made:.2f} switches a request", flush=True)
 
 
 def machine():
@@ -235,40 +277,71 @@ def machine():
     return f"{time.strftime('%Y-%m-%d')}, {os.cpu_count()} processors, {model}, Linux {platform.release()}"
 
 
-def main():
-    program = os.path.abspath(sys.argv[1] if len(sys.argv) > 1 else os.path.join(HERE, "../crates/confd/out/confd"))
-    print(machine())
-    for words in (["nginx", "-v"], ["wrk", "-v"], [sys.executable, "--version"]):
-        told = subprocess.run(words, capture_output=True, text=True)
-        print((told.stdout + told.stderr).splitlines()[0])
-    with tempfile.TemporaryDirectory(dir=sys.argv[2] if len(sys.argv) > 2 else None) as folder:
-        port = free_port()
-        with confd(program, os.path.join(folder, "reads.store"), port, 64):
-            phase, page = conference(port)
-            ours = reads("confd, 64 workers", port)
-        print(f"the page has {len(page)} bytes")
+def words():
+    """What the command line asks for."""
+    found = argparse.ArgumentParser()
+    found.add_argument("--turns", type=int, default=5)
+    found.add_argument("--seconds", type=int, default=2)
+    found.add_argument("--requests", type=int, default=1_000_000)
+    found.add_argument("--before")
+    found.add_argument("program", nargs="?", default=os.path.join(HERE, "../crates/confd/out/confd"))
+    found.add_argument("folder", nargs="?")
+    return found.parse_args()
+
+
+@contextlib.contextmanager
+def beside_each_other(asked, folder):
+    """Each server's port and process by its name, all of them running; and the bytes of a page."""
+    with contextlib.ExitStack() as held:
+        servers = {}
+        for name, program in ((OURS, asked.program), (BEFORE, asked.before)):
+            if program is not None:
+                port = free_port()
+                pid = held.enter_context(confd(os.path.abspath(program), os.path.join(folder, f"{name}.store"), port, 64))
+                servers[name] = port, pid
+                phase, page = conference(port)
         port = free_port()
         with open(os.path.join(folder, "nginx.conf"), "w", encoding="utf-8") as file:
             file.write(NGINX.format(folder=folder, port=port, phase=phase.decode(), page=page.decode()))
-        with running(["nginx", "-c", os.path.join(folder, "nginx.conf"), "-g", "daemon off;"], port):
-            theirs = reads("nginx, 1 worker", port)
+        servers[NGINX_NAME] = port, held.enter_context(
+            running(["nginx", "-c", os.path.join(folder, "nginx.conf"), "-g", "daemon off;"], port))
         flask_app(folder)
         port = free_port()
-        with running(["gunicorn", "-w", "2", "-k", "gthread", "--threads", "4", "--keep-alive", "60",
-                      "-b", f"127.0.0.1:{port}", "peer:app"], port, cwd=folder):
-            flasks = reads("Flask", port)
-            flask_posts = submissions_a_second(port, False)
-        for title, ours_a_second in ours.items():
-            print(f"{title}: {ours_a_second / theirs[title]:.2f} of nginx's, {ours_a_second / flasks[title]:.0f} times Flask's")
+        servers[FLASK_NAME] = port, held.enter_context(
+            running(["gunicorn", "-w", "2", "-k", "gthread", "--threads", "4", "--keep-alive", "60",
+                     "-b", f"127.0.0.1:{port}", "peer:app"], port, cwd=folder))
+        yield servers, len(page)
 
-        figures = []
+
+def one_and_two_workers(program, folder, turns, seconds):
+    """A line of one worker with one connection beside two with two."""
+    with contextlib.ExitStack() as held:
+        ports = {}
         for workers in (1, 2):
-            port = free_port()
-            with confd(program, os.path.join(folder, f"workers{workers}.store"), port, workers):
-                figures.append(load(port, "/phase", workers, workers))
-        print(f"confd, 1 worker and 1 connection {figures[0]:,.0f} a second, 2 and 2 {figures[1]:,.0f}: "
-              f"{figures[1] / figures[0]:.2f} times")
+            ports[workers] = free_port()
+            held.enter_context(confd(program, os.path.join(folder, f"workers{workers}.store"), ports[workers], workers))
+        found = {workers: statistics.median(load(port, "/phase", workers, seconds) for _ in range(turns))
+                 for workers, port in ports.items()}
+    print(f"confd, 1 worker and 1 connection {found[1]:,.0f} a second, 2 and 2 {found[2]:,.0f}: "
+          f"{found[2] / found[1]:.2f} times")
 
+
+def main():
+    asked = words()
+    program = os.path.abspath(asked.program)
+    print(machine())
+    for command in (["nginx", "-v"], ["wrk", "-v"], [sys.executable, "--version"]):
+        told = subprocess.run(command, capture_output=True, text=True)
+        print((told.stdout + told.stderr).splitlines()[0])
+    with tempfile.TemporaryDirectory(dir=asked.folder) as folder:
+        with beside_each_other(asked, folder) as (servers, page):
+            print(f"the page has {page} bytes; medians of {asked.turns} turns of {asked.seconds} seconds", flush=True)
+            reads(servers, asked.turns, asked.seconds)
+            for name in (OURS, BEFORE, NGINX_NAME):
+                if asked.requests and name in servers:
+                    slowest(name, *servers[name], asked.requests)
+            flask_posts = submissions_a_second(servers[FLASK_NAME][0], False)
+        one_and_two_workers(program, folder, asked.turns, asked.seconds)
         port = free_port()
         with confd(program, os.path.join(folder, "posts.store"), port, 4):
             conference(port)
