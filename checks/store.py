@@ -265,7 +265,7 @@ def full_disk(program, folder):
 
 # What standard error is told of appends.
 PASSING = "confd: commands are refused (503): {}; they are taken again as soon as one can be kept\n"
-LASTING = "confd: commands are refused (503): {}; confd has to be started again, since a sync failed\n"
+LASTING = "confd: commands are refused (503): {}; confd has to be started again, to see what the disk has\n"
 TAKEN_AGAIN = "confd: commands are taken again\n"
 
 

@@ -76,8 +76,8 @@ fn count_of<S: Alter>(conn: &mut Connection<S>, table: Table) -> Result<u64, Err
     conn.query_row(table.count(), &[])?.get(0)
 }
 
-/// Whether no statement runs over the connection any more: a sync has failed, behind which what the system shows of
-/// the file may not be on the disk.
+/// Whether no statement runs over the connection any more: a sync has failed, or an append's last write, after which
+/// what the system shows of the file may not be on the disk.
 fn is_over<S: Alter>(conn: &mut Connection<S>) -> bool {
     match conn.prepare(Table::People.count()) {
         Err(Error::SqliteFailure(ErrorCode::Closed)) => true,
@@ -287,8 +287,8 @@ impl<S: Alter> Keeper for SqliteKeeper<S> {
 
     ghost faults = { λ k. k };
 
-    /// One transaction, whose commit waits until the disk has it. Where a sync fails, each later call fails as well,
-    /// and the rows that were refused may be found when the file is opened again.
+    /// One transaction, whose commit waits until the disk has it. Where a sync or the last write fails, each later
+    /// call fails as well, and the rows that were refused may be found when the file is opened again.
     fn append_all(&mut self, added: &[Row]) -> Result<(), KeeperError> {
         match self.keep(added) {
             Ok(()) => {

@@ -9,7 +9,7 @@ enum Appends {
     Taken,
     /// One was refused for a reason that may pass, as a full disk.
     Refused,
-    /// No further one is taken over this connection, since a sync failed.
+    /// No further one is taken over this connection: a sync failed, or the last write of an append.
     Over,
 }
 
@@ -88,7 +88,7 @@ impl Notices {
     fn tell_over(&self, reason: Reason) {
         if let Some(rt) = &self.rt {
             let _ = eprintln!(rt;
-                "confd: commands are refused (503): {reason}; confd has to be started again, since a sync failed"
+                "confd: commands are refused (503): {reason}; confd has to be started again, to see what the disk has"
             );
         }
     }
