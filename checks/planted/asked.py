@@ -120,7 +120,7 @@ def commands():
                   ("Review", p, form(1)), ("Comment", p, words("c"))]
         given += [("Tag", p, words(tag), on) for tag in ("hot", "~x", "~~x") for on in (True, False)]
         given += [("Decide", p, (decision,)) for decision in ("Accept", "Reject")]
-        for user in users if p in (some(1), some(3)) else [named("hal"), named("zoe")]:
+        for user in users if p in (some(1), some(3)) else [named(name) for name in ("dave", "hal", "zoe")]:
             given += [("SetConflict", p, user, True), ("SetConflict", p, user, False), ("Assign", p, user, ("Secondary",)), ("Unassign", p, user)]
     return given
 
