@@ -1,4 +1,5 @@
--- The table of reviews: the forms that reviewers have written, each with the phase in which it was.
+-- The table of reviews: the forms that reviewers have written (the HotCRP manual's review form, with two texts),
+-- each with the phase in which it was.
 use Rattle.std.specs.Prelude.{ℕ, Bool, not, ◌≡◌, ◌+◌, ◌==◌, List, [], ◌++◌, length, map, filter, Option}
 use Rattle.cr_base.specs.declared.entry.Entry.{Entry}
 use Rattle.cr_base.specs.declared.entry.Entry.TheVariants.{PhaseSet, Reviewed}

@@ -1,4 +1,5 @@
--- The row of each entry, and the entry of a row, kind by kind.
+-- The row of each entry, and the entry of a row, kind by kind. Numbers and fields are the server's own
+-- (docs/STORE.md).
 use Rattle.std.specs.Prelude.{ℕ, Bool, ◌==◌, List, [], codes, Option, Some, None, if◌then◌else◌, map}
 use Rattle.cr_base.specs.declared.entry.EntryKind.{EntryKind}
 use Rattle.cr_base.specs.declared.entry.EntryKind.TheVariants as kind
@@ -111,7 +112,10 @@ fields n1 n2 n3 b1 b2 = record { n1 = n1; n2 = n2; n3 = n3; n4 = 0; n5 = 0; b1 =
 abbrev pub bit_number : Bool → ℕ
 bit_number b = if b then 1 else 0
 
--- a label that may be none by its number: its ordinal, or 0; ordinals begin at 1, so a 0 among them has a number that no row has
+-- A label that may be none by its number: its ordinal, or 0 where there is none. Ordinals are 1 to 26; but an entry
+-- of a definition may have the ordinal 0, and would be spelled as one without a label is. So that gets 27, the
+-- first number past those that a row may have there (`some_ordinal_range`): the entry is out of its bounds, and of
+-- entries within theirs no two have the same row.
 abbrev pub label_number : Option ℕ → ℕ
 label_number None = 0
 label_number (Some ordinal) = if ordinal == 0 then 27 else ordinal

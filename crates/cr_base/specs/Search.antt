@@ -1,4 +1,5 @@
--- Searches: the tree of what is asked for, and the steps that spell it, each operation behind its operands.
+-- Searches (the HotCRP manual's search keywords): the tree of what is asked for, and the steps that spell it, each
+-- operation behind its operands (Łukasiewicz's notation).
 use Rattle.std.specs.Prelude.{◌≡◌, List, [], ◌∷◌, ◌++◌, length, Option, Some, None}
 use Rattle.cr_base.specs.declared.search.Step.{Step}
 use Rattle.cr_base.specs.declared.search.Step.TheVariants as step

@@ -1,4 +1,5 @@
--- The table of seats: who is assigned to which paper, under which label, and who has left.
+-- The table of seats: who is assigned to which paper, as what (the HotCRP manual's kinds of review), under which
+-- label, and who has left.
 use Rattle.std.specs.Prelude.{ℕ, Bool, true, false, not, ◌≡◌, ◌≤◌, ◌+◌, ◌==◌, ◌&&◌, nat_le, List, [], ◌∷◌, ◌++◌, length, map, filter, find, fold, Option, Some, None, IsFalse, if◌then◌else◌}
 use Rattle.std.specs.List.{list_any}
 use Rattle.std.specs.Option.{option_map}

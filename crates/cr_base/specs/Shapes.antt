@@ -1,4 +1,5 @@
--- What may stand in the fields of a row: ranges of numbers and grammars of bytes.
+-- What may stand in the fields of a row: ranges of numbers and grammars of bytes, which are the server's own
+-- (docs/STORE.md).
 use Rattle.std.specs.Prelude.{ℕ, ◌≡◌, ◌≤◌, List, [], length, Option, Some, None, IsTrue}
 use Rattle.cr_base.specs.declared.shape.Range.{Range}
 use Rattle.cr_base.specs.declared.shape.Shape.{Shape}

@@ -1,4 +1,5 @@
--- The stage of the conference: what an entry makes of its phase and its mode.
+-- The stage of the conference: what an entry makes of its phase (CoCon's phases) and its mode (the HotCRP manual's
+-- anonymity).
 use Rattle.cr_base.specs.declared.words.Phase.{Phase}
 use Rattle.cr_base.specs.declared.words.Phase.TheVariants.{Setup}
 use Rattle.cr_base.specs.declared.words.Mode.{Mode}

@@ -1,4 +1,5 @@
--- The table of comments: what was written on papers, and how many comments each user has written.
+-- The table of comments (the HotCRP manual's): what was written on papers, and how many comments each user has
+-- written.
 use Rattle.std.specs.Prelude.{ℕ, ◌≡◌, ◌<◌, ◌+◌, List, [], length, slice_index, Option, Some, None}
 use Rattle.cr_base.specs.declared.comment.Comment.{Comment}
 use Rattle.cr_base.specs.declared.entry.Entry.{Entry}

@@ -1,4 +1,5 @@
--- The grammar of names, titles, abstracts, reviews and comments, and how long a content may be.
+-- The grammar of names, titles, abstracts, reviews and comments, and how long a content may be. The bounds are the
+-- server's own (docs/API.md).
 use Rattle.std.specs.Prelude.{ℕ, Bool, ◌≤◌, ◌==◌, ◌||◌, ◌&&◌, not, nat_le, List, length, IsTrue}
 use Rattle.std.specs.List.{list_all}
 use Rattle.std.specs.Char.{is_ascii_lowercase, is_ascii_digit}

@@ -1,4 +1,5 @@
--- The table of ties: who is an author of which paper, who is declared in conflict with it, and who has bid on it.
+-- The table of ties: who is an author of which paper, who is declared in conflict with it, and who has bid on it
+-- (the HotCRP manual's conflicts and review preferences).
 use Rattle.std.specs.Prelude.{ℕ, Bool, fold, map, ◌||◌, ◌&&◌, nat_le, nat_lt, IsTrue, IsFalse, List, [], ◌∷◌, ◌++◌, Option, Some, None, false, if◌then◌else◌}
 use Rattle.std.specs.List.{list_any, list_all}
 use Rattle.cr_base.specs.declared.entry.Entry.{Entry}

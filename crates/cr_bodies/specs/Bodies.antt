@@ -1,4 +1,5 @@
--- The one table of bodies: which members the body of each request must have, and which command they tell.
+-- The one table of bodies: which members the body of each request must have, and which command they tell. It is the
+-- server's own (docs/API.md).
 use Rattle.std.specs.Prelude.{ℕ, List, Option, Some, None, codes}
 use Rattle.serde_json.specs.Data.{Data}
 use Rattle.cr_base.specs.declared.command.Command.{Command}

@@ -1,4 +1,4 @@
--- What a reader answers.
+-- What reading a body, or a member of one, answers: what is there, that it is a bad one, or that memory ran out.
 use Rattle.std.specs.Prelude.{◌≡◌, Option, Some, None, Result, Ok, Err}
 use Rattle.cr_bodies.specs.declared.body.BodyError.{BodyError}
 use Rattle.cr_bodies.specs.declared.body.BodyError.TheVariants.{Bad, OutOfMemory}

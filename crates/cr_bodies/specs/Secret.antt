@@ -1,4 +1,4 @@
--- The grammar of secrets.
+-- The grammar of secrets: the server's own, of bytes that a bearer token may have (RFC 6750, section 2.1).
 use Rattle.std.specs.Prelude.{ℕ, Bool, ◌==◌, ◌||◌, ◌&&◌, nat_le, List, length}
 use Rattle.std.specs.List.{list_all}
 use Rattle.std.specs.Char.{is_ascii_alphanumeric}

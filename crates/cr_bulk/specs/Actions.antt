@@ -1,4 +1,4 @@
--- What a row does, as the program has it, and the command of a tag's row.
+-- What a row does (the HotCRP manual's bulk assignment), as the program has it, and the command of a tag's row.
 use Rattle.std.specs.Prelude.{Bool, Result}
 use Rattle.cr_base.specs.Bulk as bulk
 use Rattle.cr_base.specs.declared.bulk.BulkRow.{BulkRow}

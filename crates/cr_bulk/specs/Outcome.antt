@@ -1,4 +1,4 @@
--- What a reader answers.
+-- What reading a bulk's file answers: its rows, that it spells none, or that memory ran out.
 use Rattle.std.specs.Prelude.{◌≡◌, Option, Some, None, Result, Ok, Err}
 use Rattle.cr_bulk.specs.declared.error.BulkError.{BulkError}
 use Rattle.cr_bulk.specs.declared.error.BulkError.TheVariants.{Csv, OutOfMemory}

@@ -1,4 +1,5 @@
--- What stands at the front of a text that is the whole rest of a stream.
+-- What stands at the front of a text that is the whole rest of a stream: a request, a refusal or an end. A head is
+-- what `httparse` reads as one; which refusal comes first, and the limits, are the server's own (docs/API.md).
 use Rattle.std.specs.Prelude.{◌≡◌, ◌⊎◌, ℕ, [], ◌==◌, nat_lt, nat_le, List, length, take, drop, slice_range}
 use Rattle.std.specs.Prelude.{count_by, Bool, false, Option, Some, None, if◌then◌else◌, MatchBool, ◌++◌, ⊤}
 use Rattle.httparse.specs.Grammar.{RequestHead, ReadsRequest}

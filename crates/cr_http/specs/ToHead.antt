@@ -1,4 +1,5 @@
--- Whether an answer to what stands at the front of a text is one to HEAD, and so has no content.
+-- Whether an answer to what stands at the front of a text is one to HEAD, and so has no content (RFC 9110, section
+-- 9.3.2).
 use Rattle.std.specs.Prelude.{◌≡◌, ◌⊎◌, ℕ, [], nat_lt, List, slice_range, Bool, false, Option, Some, None, MatchBool}
 use Rattle.httparse.specs.Grammar.{RequestHead, ReadsRequest}
 use Rattle.cr_http.specs.Found.{line_feeds, IsNoHead}

@@ -1,4 +1,5 @@
--- The rule of the table. Its words are the next ticket to be drawn, the ticket that is served and the length of the history. Its slot has the value.
+-- The rule of the table, which is a ticket lock (Mellor-Crummey and Scott, 1991). Its words are the next ticket to be
+-- drawn, the ticket that is served and the length of the history. Its slot has the value.
 use Rattle.std.specs.Prelude.{◌≡◌, ℕ, ◌+◌, ◌*◌, ◌<◌, ◌≤◌, ◌⊎◌, List, [], ◌∷◌, length, Option, Some}
 use mathlib.Core.Option.{some, none}
 use mathlib.Core.List.{IsPrefix}

@@ -1,4 +1,5 @@
--- What is asked, and what answers it.
+-- What is asked of the search for plans, and what answers it: a greatest plan, or papers that show that there is
+-- none.
 use Rattle.std.specs.Prelude.{◌≡◌, ℕ, ◌*◌, ◌<◌, ◌≤◌, ◌^◌, ◌⊎◌}
 use Rattle.std.specs.Prelude.{Bool, List, [], ◌∷◌, length, ℤ, pos, negsuc, ◌≤ℤ◌}
 use Rattle.cr_match.specs.declared.problem.Pair.{Pair}

@@ -1,4 +1,5 @@
--- Plans, what they are worth, and what shows that none is worth more.
+-- Plans, what they are worth, and what shows that none is worth more: prices, by weak duality (the assignment
+-- problem of Kuhn, 1955, and Munkres, 1957, where papers need several members).
 use Rattle.std.specs.Prelude.{◌≡◌, ℕ, zero, suc, ◌+◌, ◌*◌, ◌<◌, ◌≤◌, Bool, true}
 use Rattle.std.specs.Prelude.{false, ◌&&◌, ◌||◌, List, [], ◌∷◌, length, count_by, ◌==◌, ℤ}
 use Rattle.std.specs.Prelude.{pos, negsuc, ◌+ℤ◌, ◌-ℤ◌, ◌*ℤ◌, sum, sum_by, slice_index_or, min}

@@ -1,4 +1,4 @@
--- What the search for one more member of a paper keeps.
+-- What the search for one more member of a paper keeps (Kuhn and Munkres's method).
 use Rattle.std.specs.Prelude.{◌≡◌, ℕ, ◌+◌, ◌^◌, ◌<◌}
 use Rattle.std.specs.Prelude.{◌≤◌, List, length, count_by, slice_index_or}
 use Rattle.cr_match.specs.declared.search.Slot.{Slot}

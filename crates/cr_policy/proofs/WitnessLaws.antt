@@ -17,7 +17,7 @@ use Rattle.cr_base.specs.Drawn.{Drawn}
 use Rattle.cr_base.specs.History.{History}
 use Rattle.cr_policy.specs.Legal.{Call, IsAllowed, step, calls, Legal}
 use Rattle.cr_policy.specs.Witness.{two_registrations, made_anonymous, submission_opened, one_submission, four_registrations, two_members, one_conflict, bidding_opened, four_rows, rows_added}
-use Rattle.cr_policy.specs.Laws.{TwoRegistrations, DigestsHidden, OneSubmission, OneConflict, OneBulk}
+use Rattle.cr_policy.specs.WitnessLaws.{TwoRegistrations, DigestsHidden, OneSubmission, OneConflict, OneBulk}
 use Rattle.cr_policy.proofs.LegalLaws.{Legal-step, Legal-bulk_accepted}
 
 abbrev pub register : List ℕ → List ℕ → Call

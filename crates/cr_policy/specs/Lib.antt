@@ -1,25 +1,31 @@
-pub mod Added
-pub mod Conference
-pub mod ConferenceLaws
-pub mod ConferenceOutcomes
-pub mod ConferenceViews
-pub mod FirstTold
-pub mod GoesOn
-pub mod HiddenPairs
-pub mod HiddenPayload
-pub mod Judge
-pub mod Laws
-pub mod Legal
-pub mod MayBulk
-pub mod MayDo
-pub mod MayRead
+-- ---- definitions: what an entry shows whom, what follows from a view, and which histories are legal
 pub mod Part
-pub mod Sentences
-pub mod ShownTo
 pub mod Sighting
-pub mod SingleRows
 pub mod Triggers
 pub mod View
-pub mod ViewBounds
 pub mod ViewFacts
+pub mod Judge
+pub mod Legal
+-- ---- the same said a second time, as a committee says it: who may do and read what, what it adds, who is shown what
+pub mod Sentences
+pub mod MayDo
+pub mod MayRead
+pub mod MayBulk
+pub mod Added
+pub mod ShownTo
+-- ---- bounds of views
+pub mod ViewBounds
+-- ---- laws
+pub mod Laws
+pub mod SingleRows
+pub mod GoesOn
+pub mod HiddenPayload
+-- ---- examples: the witness, the small conference with its twins, and what is tried on it
 pub mod Witness
+pub mod WitnessLaws
+pub mod Conference
+pub mod ConferenceViews
+pub mod ConferenceOutcomes
+pub mod ConferenceLaws
+pub mod FirstTold
+pub mod HiddenPairs

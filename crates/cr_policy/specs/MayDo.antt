@@ -1,5 +1,5 @@
--- Who may do what, said a second time: for each command one sentence, as a committee says it. Where a paper or a
--- user that is told isn't there, nobody may.
+-- Who may do what, said a second time: for each command one sentence, as a committee says it, written from
+-- docs/API.md and not from the lists of checks. Where a paper or a user that is told isn't there, nobody may.
 use Rattle.std.specs.Prelude.{ℕ, Bool, true, false, not, ◌&&◌, ◌||◌, ◌+◌, ◌==◌, ◌≡◌, nat_le, nat_lt, List, length}
 use Rattle.std.specs.Prelude.{Option, Some, is_none, is_some, is_ok}
 use Rattle.std.specs.List.{list_all}

@@ -1,4 +1,5 @@
--- Who may read what, said a second time: for each query one sentence, as a committee says it.
+-- Who may read what, said a second time: for each query one sentence, as a committee says it, written from
+-- docs/API.md and not from the lists of checks.
 use Rattle.std.specs.Prelude.{ℕ, Bool, true, false, not, ◌&&◌, ◌||◌, ◌==◌, ◌≡◌, List, Option, Some, None, is_some}
 use Rattle.std.specs.List.{list_any}
 use Rattle.std.specs.Option.{option_map_or}

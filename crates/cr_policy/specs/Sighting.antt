@@ -84,7 +84,10 @@ blank kind = record {
   accepted = None;
 }
 
--- the parts that each kind of entry has; `by` is its maker
+-- The parts that each kind of entry has; `by` is its maker, and the ordinal of a comment without a label is 0.
+-- Every form has its mark (`done`), and every decision both of its own (`outcome`, `accepted`), whatever it
+-- decides: a mark tells by being shown, and when that is, the rows of the trigger table say. Of a decision to
+-- reject, or of one that isn't the last on its paper, none of them shows `accepted`.
 abbrev pub entire : ℕ → Entry → Sighting
 entire by (Registered user name digest) = record (blank kinds.Registered) { user = Some user; name = Some name; digest = Some digest }
 entire by (Named user role) = record (blank kinds.Named) { user = Some user; role = Some role }

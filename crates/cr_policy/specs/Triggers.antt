@@ -87,7 +87,8 @@ in_open_mode r = is_overt r.mode
 abbrev pub none_in : {A : Type 0} → (Entry → List A) → History → Bool
 none_in told H = is_nothing (all_told told H)
 
--- none of these entries is of the same matter as this one: a paper's texts, its content, the review under a label, or the decision
+-- none of these entries is of the same matter as this one: a paper's texts, its content, the review under a label,
+-- or the decision; true of every kind that has no matter
 abbrev pub none_alike : Entry → History → Bool
 none_alike (Registered user name digest) H = true
 none_alike (Named user role) H = true
@@ -107,8 +108,9 @@ none_alike (Commented paper n ordinal text) H = true
 none_alike (Tagged paper tag on) H = true
 none_alike (Decided paper decision) H = none_in (decision_told paper) H
 
--- what a row may ask of where an entry stands: whether it is the first of its matter; the last; the last of those before the
--- discussion was opened; and whether it was made when the discussion was opened already
+-- What a row may ask of where an entry stands: whether it is the first of its matter; the last; the last of those
+-- before the discussion was opened; and whether it was made when the discussion was opened already. To an entry of
+-- a kind that has no matter none is alike, so it counts as the first and as the last; no row of such a kind asks.
 pub record Position : Type 0 where
   pub first : Bool
   pub last : Bool

@@ -1,5 +1,6 @@
--- The bounds of a view: of each part of the entries who is shown it, neither more nor less, and what that leaves for those
--- who should know little. They hold of every history, legal or not, of every user and of nobody.
+-- The bounds of a view (the word is CoCon's, CAV 2014): of each part of the entries who is shown it, neither more
+-- nor less, and what that leaves for those who should know little. They hold of every history, legal or not, of
+-- every user and of nobody.
 use Rattle.std.specs.Prelude.{ℕ, Bool, true, false, ◌≡◌, ◌≤◌, ◌||◌, ◌&&◌, not, List, [], length, map, Option, Some, None, All, IsTrue, IsFalse, if◌then◌else◌}
 use Rattle.std.specs.List.{flat_map, list_any}
 use Rattle.cr_base.specs.declared.entry.Entry.{Entry}

@@ -1,4 +1,4 @@
--- The content of a paper's page.
+-- The content of a paper's page, by its keys (docs/API.md).
 use Rattle.std.specs.Prelude.{ℕ, List, ◌++◌, Some, codes, decimal}
 use Rattle.std.specs.Option.{option_map}
 use Rattle.json.specs.Print.{quoted}

@@ -1,4 +1,4 @@
--- The name, the status and the content of each refusal.
+-- The name, the status and the content of each refusal: the table of errors in docs/API.md.
 use Rattle.std.specs.Prelude.{ℕ, List, [], ◌++◌, Some, codes, decimal}
 use Rattle.json.specs.Print.{quoted}
 use Rattle.cr_base.specs.declared.reply.Rule.{Rule as BaseRule}

@@ -1,4 +1,5 @@
--- What a method at a path asks for, and the methods of a path.
+-- What a method at a path asks for, and the methods of a path (which the field Allow names: RFC 9110, section
+-- 10.2.1).
 use Rattle.std.specs.Prelude.{ℕ, List, [], ◌∷◌, ◌++◌, Option, Some, None, codes, is_some, filter, map}
 use Rattle.cr_routes.specs.Methods.{method_name, methods}
 use Rattle.cr_routes.specs.declared.place.Place.{Place}

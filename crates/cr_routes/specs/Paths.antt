@@ -1,4 +1,4 @@
--- The paths of the server.
+-- The paths of the server, which are its own (docs/API.md, section 5).
 use Rattle.std.specs.Prelude.{ℕ, List, [], ◌∷◌, codes}
 use Rattle.cr_routes.specs.declared.place.Place.{Place}
 use Rattle.cr_routes.specs.declared.place.Place.TheVariants.{Register, Accepted, Accounts, Members, Mode, Phase, Me, Search}

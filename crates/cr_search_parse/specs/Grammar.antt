@@ -1,5 +1,5 @@
--- The grammar of searches over the symbols of a text, with how each query is spelled, the tree that it is, how deep its items stand, and how
--- many terms it has.
+-- The grammar of searches (after the HotCRP manual's) over the symbols of a text, with how each query is spelled, the
+-- tree that it is, how deep its items stand, and how many terms it has.
 --
 --   query = spaces [ any ] spaces
 --   any   = all *( gap "OR" gap all )

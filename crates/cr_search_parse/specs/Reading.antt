@@ -1,5 +1,7 @@
--- The reader's states: a text is read symbol by symbol, and the steps of its search are written as its operands end (Dijkstra's
--- shunting-yard algorithm). What they come to is what the grammar says: see `law_reading`.
+-- The reader's states: a text is read symbol by symbol, and the steps of its search are written as its operands end
+-- (Dijkstra's shunting-yard algorithm). What a text is the grammar says (Grammar, Places); but it is a relation,
+-- and whoever needs a function of the text, as a wish does, takes `text_read`. What that gives is what the grammar
+-- says of the text, and the grammar says nothing else of it: `law_reading`.
 use Rattle.std.specs.Prelude.{ℕ, ◌+◌, nat_lt, List, [], ◌∷◌, ◌++◌, length, Option, Some, None, Result, Ok, Err, replicate, if◌then◌else◌}
 use Rattle.std.specs.Option.{option_and_then, option_map_or}
 use Rattle.cr_base.specs.declared.search.Step.{Step}

@@ -1,4 +1,4 @@
--- The lines of a view: an object of JSON, with no spaces, and a line feed for each sighting.
+-- The lines of a view: an object of JSON (RFC 8259, section 4), with no spaces, and a line feed for each sighting.
 use Rattle.std.specs.Prelude.{ℕ, List, ◌++◌, length, Option, Some, None, codes, decimal}
 use Rattle.std.specs.List.{flat_map}
 use Rattle.std.specs.Option.{option_map}

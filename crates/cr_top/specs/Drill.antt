@@ -1,4 +1,5 @@
--- A drill: the history that Step gives for commands that are made up from a seed, and its summary.
+-- A drill: the history that Step gives for commands that are made up from a seed, and its summary (docs/API.md, the
+-- appendix).
 use Rattle.std.specs.Prelude.{◌≡◌, ℕ, zero, suc, ◌+◌, ◌*◌, ◌/◌, ◌==◌, not, ◌&&◌, Bool, List, [], ◌∷◌, ◌++◌, Some, None, fold, length}
 use Rattle.std.specs.Prelude.{codes, decimal, is_ok, if◌then◌else◌}
 use Rattle.std.specs.List.{flat_map}

@@ -1,4 +1,5 @@
--- Caller: who gives a wish, by a history.
+-- Caller: who gives a wish, by a history: who has the name and the secret that the field Authorization tells, where
+-- it is read.
 use Rattle.std.specs.Prelude.{ℕ, Bool, false, Option, Some, None, if◌then◌else◌}
 use Rattle.std.specs.Option.{option_map_or}
 use Rattle.cr_base.specs.declared.ask.Ask.{Ask}

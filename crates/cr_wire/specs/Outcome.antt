@@ -1,4 +1,4 @@
--- What is told, memory aside.
+-- What reading a wish gives, memory aside.
 use Rattle.std.specs.Prelude.{◌≡◌, Result, Ok, Err}
 use Rattle.std.specs.declared.alloc.AllocError.{AllocError}
 

@@ -47,7 +47,11 @@ is_count pair = is_named (codes "only") pair && stands_for (codes "count") pair.
 abbrev pub asks_count : List ℕ → Bool
 asks_count query = list_any is_count (raw_pairs query)
 
--- what the text of a search comes to: its steps, or the place at which it is a bad one. None counts as bad from its start
+-- What the text of a search comes to: its steps, or the place at which it is a bad one. None counts as bad from its
+-- start. A wish is a value, so this has to be a function of the text. The grammar is none: it says of steps, or of
+-- a place, whether they are a text's. So the function here is `text_read`, which computes them by the states of a
+-- reader. That it gives what the grammar says of each text, and that the grammar says nothing else of it, is
+-- `law_reading` of cr_search_parse.
 abbrev pub search_read : Option (List ℕ) → Result (List Step) ℕ
 search_read None = Err 0
 search_read (Some text) = text_read text

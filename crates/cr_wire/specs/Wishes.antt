@@ -1,4 +1,4 @@
--- Wishes: what a whole text of a connection spells, and how it ends.
+-- Wishes: what a whole text of a connection spells, request by request, and how it ends.
 use Rattle.std.specs.Prelude.{◌≡◌, ℕ, List, map, Bool, ◌||◌, ◌==◌}
 use Rattle.cr_http.specs.Requests.{RequestText, End, SpellsFrom}
 use Rattle.cr_wire.specs.Wish.{wish_text}
