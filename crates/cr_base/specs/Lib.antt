@@ -4,6 +4,7 @@ pub mod Bounds
 pub mod Bulk
 pub mod Checks
 pub mod Decisions
+pub mod Decoding
 pub mod Drawn
 pub mod Filed
 pub mod History

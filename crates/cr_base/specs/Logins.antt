@@ -9,7 +9,7 @@ use Rattle.cr_base.specs.declared.command.Query.TheVariants as queries
 use Rattle.cr_base.specs.declared.report.Report.{Report}
 use Rattle.cr_base.specs.declared.report.Report.TheVariants as reports
 
--- ---- the two tables
+-- ---- the table
 
 -- nobody may register, and be told the accounts, the state of the conference and the accepted papers; all else is a registered
 -- user's, but for what is published (`login_wanted` in Answering)
@@ -48,42 +48,10 @@ ask_wants_login asks.LoadReport = true
 ask_wants_login asks.DecisionsReport = true
 ask_wants_login asks.Letter = true
 
--- whether a request for this reads the field Authorization: a table of its own, since a request may be told who calls
--- though it wants no login, as those for published papers are
+-- whether a request for this reads the field Authorization: those that want a login, also where what is published wants
+-- none, since of a published paper those who say who they are may be told more
 abbrev pub ask_reads_credentials : Ask → Bool
-ask_reads_credentials asks.Register = false
-ask_reads_credentials asks.Accounts = false
-ask_reads_credentials asks.Phase = false
-ask_reads_credentials asks.AcceptedPapers = false
-ask_reads_credentials asks.Name = true
-ask_reads_credentials asks.SetMode = true
-ask_reads_credentials asks.SetPhase = true
-ask_reads_credentials asks.Submit = true
-ask_reads_credentials asks.Revise = true
-ask_reads_credentials asks.Withdraw = true
-ask_reads_credentials asks.Page = true
-ask_reads_credentials asks.Upload = true
-ask_reads_credentials asks.Content = true
-ask_reads_credentials asks.Version = true
-ask_reads_credentials asks.SetConflict = true
-ask_reads_credentials asks.Bid = true
-ask_reads_credentials asks.Assign = true
-ask_reads_credentials asks.Unassign = true
-ask_reads_credentials asks.Review = true
-ask_reads_credentials asks.Reviews = true
-ask_reads_credentials asks.Comment = true
-ask_reads_credentials asks.Comments = true
-ask_reads_credentials asks.Tag = true
-ask_reads_credentials asks.Untag = true
-ask_reads_credentials asks.Decide = true
-ask_reads_credentials asks.Me = true
-ask_reads_credentials asks.Search = true
-ask_reads_credentials asks.Bulk = true
-ask_reads_credentials asks.PapersReport = true
-ask_reads_credentials asks.ScoresReport = true
-ask_reads_credentials asks.LoadReport = true
-ask_reads_credentials asks.DecisionsReport = true
-ask_reads_credentials asks.Letter = true
+ask_reads_credentials ask = ask_wants_login ask
 
 -- ---- commands and queries
 

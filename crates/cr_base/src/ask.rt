@@ -93,21 +93,11 @@ impl Ask {
         }
     }
 
-    /// Whether a request for it reads the field Authorization. This is a table of its own, since a request may be told who
-    /// calls though it wants no login, as those for published papers are.
+    /// Whether a request for it reads the field Authorization: those that are a registered user's, also where what is
+    /// published wants no login, since of a published paper those who say who they are may be told more.
     pub fn reads_credentials(self) -> bool
         ensures { result ≡ ask_reads_credentials self }
     {
-        match self {
-            Ask::Register | Ask::Accounts | Ask::Phase | Ask::AcceptedPapers => false,
-            Ask::Me | Ask::Page | Ask::Content | Ask::Version => true,
-            Ask::Name | Ask::SetMode | Ask::SetPhase | Ask::SetConflict => true,
-            Ask::Submit | Ask::Revise | Ask::Upload | Ask::Withdraw => true,
-            Ask::Bid | Ask::Assign | Ask::Unassign => true,
-            Ask::Review | Ask::Comment | Ask::Tag | Ask::Untag | Ask::Decide => true,
-            Ask::Reviews | Ask::Comments | Ask::Search => true,
-            Ask::Bulk | Ask::PapersReport | Ask::ScoresReport | Ask::LoadReport => true,
-            Ask::DecisionsReport | Ask::Letter => true,
-        }
+        self.wants_login()
     }
 }

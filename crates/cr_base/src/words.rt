@@ -1,5 +1,6 @@
 //! Phases, modes, roles, kinds of assignment and decisions, and the words by which requests and answers name them.
 ghost use Rattle.std.specs.Prelude.{◌≡◌, ◌≤◌, length};
+ghost use Rattle.cr_base.specs.Decisions.{is_published};
 ghost use Rattle.cr_base.specs.Words.{phase_name, phase_named, phase_number, phase_numbered};
 ghost use Rattle.cr_base.specs.Words.{mode_name, mode_named, mode_number, mode_numbered, is_anonymous, is_overt};
 ghost use Rattle.cr_base.specs.Words.{seat_name, seat_named, seat_number, seat_numbered};
@@ -161,6 +162,13 @@ impl Phase {
         ensures { result ≡ is_from first self }
     {
         first.place() <= self.place()
+    }
+
+    /// Whether everyone is served a paper, which is accepted or isn't: where it is, once the conference is closed.
+    pub fn publishes(self, accepted: bool) -> bool
+        ensures { result ≡ is_published self accepted }
+    {
+        accepted && self.is_from(Phase::Closed)
     }
 
     /// Whether the phase told follows this one.

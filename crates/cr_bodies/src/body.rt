@@ -4,52 +4,32 @@
 //! other keys are ignored.
 ghost use Rattle.std.specs.Prelude.{◌≡◌, IfOk, None};
 ghost use Rattle.cr_base.specs.Bounds.{IsBoundedCommand};
+ghost use Rattle.cr_base.specs.Decoding.{Decodes, DecodesSeen};
 ghost use Rattle.serde_json.specs.View.{view};
 ghost use Rattle.cr_bodies.specs.Json.{json_of};
 ghost use Rattle.cr_bodies.specs.Bodies.{command_in as command_in_text, command_read};
-ghost use Rattle.cr_bodies.specs.Outcome.{TellsBody, TellsBodySeen};
 
 use crate::field::{
     Grammar, bid, decision, digest, flag, grade, kind, mode, name, names, phase, role, tested, user,
 };
-use cr_base::{Ask, Command, Form, PaperNo, Text};
+use cr_base::{Ask, Command, DecodeError, Form, PaperNo, Text};
 use serde_json::Value;
-use std::alloc::{AllocError, Global};
-
-/// Why a body gives no command.
-#[derive(Clone, Copy, Debug, PartialEq, Eq)]
-pub enum BodyError {
-    /// It isn't a JSON object that has what the command needs.
-    Bad,
-    /// Memory ran out.
-    OutOfMemory,
-}
-
-impl From<AllocError> for BodyError {
-    ghost use Rattle.std.specs.Prelude.{◌≡◌};
-    ghost use Rattle.cr_bodies.specs.declared.body.BodyError.TheVariants.{OutOfMemory};
-
-    ghost from_gives = { λ _ e. e ≡ OutOfMemory };
-
-    fn from(_: AllocError) -> BodyError {
-        BodyError::OutOfMemory
-    }
-}
+use std::alloc::Global;
 
 /// The JSON value of a body.
-fn read_json(alloc: Global, body: &[u8]) -> Result<Value, BodyError>
-    ensures { TellsBodySeen view result (json_of body.now) }
+fn read_json(alloc: Global, body: &[u8]) -> Result<Value, DecodeError>
+    ensures { DecodesSeen view result (json_of body.now) }
 {
     match Value::from_slice(alloc, body) {
         Ok(value) => Ok(value),
-        Err(error) if error.is_memory() => Err(BodyError::OutOfMemory),
-        Err(_) => Err(BodyError::Bad),
+        Err(error) if error.is_memory() => Err(DecodeError::OutOfMemory),
+        Err(_) => Err(DecodeError::Malformed),
     }
 }
 
 /// The registration that a JSON value tells.
-fn registration(body: &Value) -> Result<Command, BodyError>
-    ensures told { TellsBody result (command_in_text Ask.Register None (view body.now)) }
+fn registration(body: &Value) -> Result<Command, DecodeError>
+    ensures told { Decodes result (command_in_text Ask.Register None (view body.now)) }
     ensures bounded { IfOk result IsBoundedCommand }
 {
     let name = name(body, "name")?;
@@ -58,8 +38,8 @@ fn registration(body: &Value) -> Result<Command, BodyError>
 }
 
 /// The naming of a member or a chair that a JSON value tells.
-fn naming(body: &Value) -> Result<Command, BodyError>
-    ensures told { TellsBody result (command_in_text Ask.Name None (view body.now)) }
+fn naming(body: &Value) -> Result<Command, DecodeError>
+    ensures told { Decodes result (command_in_text Ask.Name None (view body.now)) }
     ensures bounded { IfOk result IsBoundedCommand }
 {
     let user = user(body, "name")?;
@@ -68,8 +48,8 @@ fn naming(body: &Value) -> Result<Command, BodyError>
 }
 
 /// The submission that a JSON value tells.
-fn submission(alloc: Global, body: &Value) -> Result<Command, BodyError>
-    ensures told { TellsBody result (command_in_text Ask.Submit None (view body.now)) }
+fn submission(alloc: Global, body: &Value) -> Result<Command, DecodeError>
+    ensures told { Decodes result (command_in_text Ask.Submit None (view body.now)) }
     ensures bounded { IfOk result IsBoundedCommand }
 {
     let title = tested(body, "title", Grammar::Title)?;
@@ -85,8 +65,8 @@ fn submission(alloc: Global, body: &Value) -> Result<Command, BodyError>
 }
 
 /// The revision that a JSON value tells.
-fn revision(alloc: Global, paper: Option<PaperNo>, body: &Value) -> Result<Command, BodyError>
-    ensures told { TellsBody result (command_in_text Ask.Revise paper (view body.now)) }
+fn revision(alloc: Global, paper: Option<PaperNo>, body: &Value) -> Result<Command, DecodeError>
+    ensures told { Decodes result (command_in_text Ask.Revise paper (view body.now)) }
     ensures bounded { IfOk result IsBoundedCommand }
 {
     let title = tested(body, "title", Grammar::Title)?;
@@ -101,8 +81,8 @@ fn revision(alloc: Global, paper: Option<PaperNo>, body: &Value) -> Result<Comma
 }
 
 /// The conflict that a JSON value tells.
-fn conflict(paper: Option<PaperNo>, body: &Value) -> Result<Command, BodyError>
-    ensures told { TellsBody result (command_in_text Ask.SetConflict paper (view body.now)) }
+fn conflict(paper: Option<PaperNo>, body: &Value) -> Result<Command, DecodeError>
+    ensures told { Decodes result (command_in_text Ask.SetConflict paper (view body.now)) }
     ensures bounded { IfOk result IsBoundedCommand }
 {
     let on = flag(body, "on")?;
@@ -111,8 +91,8 @@ fn conflict(paper: Option<PaperNo>, body: &Value) -> Result<Command, BodyError>
 }
 
 /// The bid that a JSON value tells.
-fn bidding(paper: Option<PaperNo>, body: &Value) -> Result<Command, BodyError>
-    ensures told { TellsBody result (command_in_text Ask.Bid paper (view body.now)) }
+fn bidding(paper: Option<PaperNo>, body: &Value) -> Result<Command, DecodeError>
+    ensures told { Decodes result (command_in_text Ask.Bid paper (view body.now)) }
     ensures bounded { IfOk result IsBoundedCommand }
 {
     let value = bid(body, "bid")?;
@@ -120,8 +100,8 @@ fn bidding(paper: Option<PaperNo>, body: &Value) -> Result<Command, BodyError>
 }
 
 /// The assignment that a JSON value tells.
-fn assignment(paper: Option<PaperNo>, body: &Value) -> Result<Command, BodyError>
-    ensures told { TellsBody result (command_in_text Ask.Assign paper (view body.now)) }
+fn assignment(paper: Option<PaperNo>, body: &Value) -> Result<Command, DecodeError>
+    ensures told { Decodes result (command_in_text Ask.Assign paper (view body.now)) }
     ensures bounded { IfOk result IsBoundedCommand }
 {
     let kind = kind(body, "kind")?;
@@ -130,8 +110,8 @@ fn assignment(paper: Option<PaperNo>, body: &Value) -> Result<Command, BodyError
 }
 
 /// The review that a JSON value tells.
-fn review(alloc: Global, paper: Option<PaperNo>, body: &Value) -> Result<Command, BodyError>
-    ensures told { TellsBody result (command_in_text Ask.Review paper (view body.now)) }
+fn review(alloc: Global, paper: Option<PaperNo>, body: &Value) -> Result<Command, DecodeError>
+    ensures told { Decodes result (command_in_text Ask.Review paper (view body.now)) }
     ensures bounded { IfOk result IsBoundedCommand }
 {
     let score = grade(body, "score")?;
@@ -152,8 +132,8 @@ fn review(alloc: Global, paper: Option<PaperNo>, body: &Value) -> Result<Command
 }
 
 /// The comment that a JSON value tells.
-fn comment(alloc: Global, paper: Option<PaperNo>, body: &Value) -> Result<Command, BodyError>
-    ensures told { TellsBody result (command_in_text Ask.Comment paper (view body.now)) }
+fn comment(alloc: Global, paper: Option<PaperNo>, body: &Value) -> Result<Command, DecodeError>
+    ensures told { Decodes result (command_in_text Ask.Comment paper (view body.now)) }
     ensures bounded { IfOk result IsBoundedCommand }
 {
     let text = tested(body, "text", Grammar::CommentText)?;
@@ -168,8 +148,8 @@ fn command_in(
     ask: Ask,
     paper: Option<PaperNo>,
     body: &Value,
-) -> Result<Command, BodyError>
-    ensures told { TellsBody result (command_in_text ask paper (view body.now)) }
+) -> Result<Command, DecodeError>
+    ensures told { Decodes result (command_in_text ask paper (view body.now)) }
     ensures bounded { IfOk result IsBoundedCommand }
 {
     match ask {
@@ -194,27 +174,27 @@ fn command_in(
             let decision = decision(body, "decision")?;
             Ok(Command::Decide { paper, decision })
         }
-        Ask::Accounts | Ask::Phase | Ask::AcceptedPapers => Err(BodyError::Bad),
-        Ask::Page | Ask::Me | Ask::Search => Err(BodyError::Bad),
-        Ask::Withdraw | Ask::Content | Ask::Upload | Ask::Version => Err(BodyError::Bad),
-        Ask::Unassign | Ask::Reviews | Ask::Comments => Err(BodyError::Bad),
-        Ask::Tag | Ask::Untag => Err(BodyError::Bad),
-        Ask::Bulk | Ask::PapersReport | Ask::ScoresReport => Err(BodyError::Bad),
-        Ask::LoadReport | Ask::DecisionsReport | Ask::Letter => Err(BodyError::Bad),
+        Ask::Accounts | Ask::Phase | Ask::AcceptedPapers => Err(DecodeError::Malformed),
+        Ask::Page | Ask::Me | Ask::Search => Err(DecodeError::Malformed),
+        Ask::Withdraw | Ask::Content | Ask::Upload | Ask::Version => Err(DecodeError::Malformed),
+        Ask::Unassign | Ask::Reviews | Ask::Comments => Err(DecodeError::Malformed),
+        Ask::Tag | Ask::Untag => Err(DecodeError::Malformed),
+        Ask::Bulk | Ask::PapersReport | Ask::ScoresReport => Err(DecodeError::Malformed),
+        Ask::LoadReport | Ask::DecisionsReport | Ask::Letter => Err(DecodeError::Malformed),
     }
 }
 
-/// The command that the JSON body of a request tells, with the paper that its path tells, where the command is about one.
-/// Reads the body once. `Bad` comes exactly where the body is no JSON object with the members that such a request must
-/// have, memory aside; so it does where what is asked for is told by no JSON body: a query, an upload, a
-/// withdrawal, that a reviewer leaves, a tag, or a bulk.
+/// The command that the JSON body of a request tells, with the paper that its path tells, where the command is
+/// about one. Reads the body once. `Malformed` comes exactly where the body is no JSON object with the members that
+/// such a request must have, memory aside; so it does where what is asked for is told by no JSON body: a query, an
+/// upload, a withdrawal, that a reviewer leaves, a tag, or a bulk.
 pub fn read_command(
     alloc: Global,
     ask: Ask,
     paper: Option<PaperNo>,
     body: &[u8],
-) -> Result<Command, BodyError>
-    ensures told { TellsBody result (command_read ask paper body.now) }
+) -> Result<Command, DecodeError>
+    ensures told { Decodes result (command_read ask paper body.now) }
     ensures bounded { IfOk result IsBoundedCommand }
 {
     let value = read_json(alloc, body)?;

@@ -1,20 +1,20 @@
 //! The members of a JSON object, each by its key and the kind of its value.
 ghost use Rattle.std.specs.Prelude.{◌≡◌, ◌≤◌, length, IfOk, IsTrue};
 ghost use Rattle.cr_base.specs.Bounds.{IsGrade};
+ghost use Rattle.cr_base.specs.Decoding.{Decodes};
 ghost use Rattle.cr_base.specs.Texts.{IsName};
 ghost use Rattle.cr_base.specs.Words.{is_member};
 ghost use Rattle.cr_bodies.specs.Field.{IsOf, admits as admits_text, bid_under, decision_under, digest_under, flag_under, grade_under};
 ghost use Rattle.cr_bodies.specs.Field.{kind_under, mode_under, name_under, names_of, names_under, phase_under, role_under};
 ghost use Rattle.cr_bodies.specs.Field.{text_under, tested_under, user_under};
-ghost use Rattle.cr_bodies.specs.Outcome.{Tells, TellsBody, TellsSeen};
+ghost use Rattle.cr_bodies.specs.Outcome.{Tells, TellsSeen};
 ghost use Rattle.serde_json.specs.Data.{array};
 ghost use Rattle.serde_json.specs.View.{items_view, view};
 
-use crate::body::BodyError;
 use crate::secret::{digest_of, is_secret};
 use cr_base::{
-    Bid, Decision, Digest, Grade, Kind, MOST_COAUTHORS, Mode, Phase, Role, Short, ToldNames,
-    is_abstract, is_comment, is_name, is_review_text, is_title, name_spelt,
+    Bid, Decision, DecodeError, Digest, Grade, Kind, MOST_COAUTHORS, Mode, Phase, Role, Short,
+    ToldNames, is_abstract, is_comment, is_name, is_review_text, is_title, name_spelt,
 };
 use serde_json::Value;
 use std::alloc::Global;
@@ -54,17 +54,21 @@ impl Grammar {
 }
 
 /// The text under a key.
-fn text<'a>(body: &'a Value, key: &str) -> Result<&'a str, BodyError>
+fn text<'a>(body: &'a Value, key: &str) -> Result<&'a str, DecodeError>
     ensures { TellsSeen (λ t. t.now) result (text_under key.now (view body.now)) }
 {
     match body.get(key).and_then(Value::as_str) {
         Some(text) => Ok(text),
-        None => Err(BodyError::Bad),
+        None => Err(DecodeError::Malformed),
     }
 }
 
 /// The text under a key, where it is of a grammar.
-pub(crate) fn tested<'a>(body: &'a Value, key: &str, grammar: Grammar) -> Result<&'a str, BodyError>
+pub(crate) fn tested<'a>(
+    body: &'a Value,
+    key: &str,
+    grammar: Grammar,
+) -> Result<&'a str, DecodeError>
     ensures told { TellsSeen (λ t. t.now) result (tested_under grammar key.now (view body.now)) }
     ensures valid { IfOk result (λ t. IsOf grammar t.now) }
 {
@@ -72,12 +76,12 @@ pub(crate) fn tested<'a>(body: &'a Value, key: &str, grammar: Grammar) -> Result
     if grammar.admits(text.as_bytes()) {
         Ok(text)
     } else {
-        Err(BodyError::Bad)
+        Err(DecodeError::Malformed)
     }
 }
 
 /// The name under a key.
-pub(crate) fn name(body: &Value, key: &str) -> Result<Short, BodyError>
+pub(crate) fn name(body: &Value, key: &str) -> Result<Short, DecodeError>
     ensures told { Tells result (name_under key.now (view body.now)) }
     ensures valid { IfOk result IsName }
 {
@@ -86,7 +90,7 @@ pub(crate) fn name(body: &Value, key: &str) -> Result<Short, BodyError>
 }
 
 /// The digest of the secret under a key.
-pub(crate) fn digest(body: &Value, key: &str) -> Result<Digest, BodyError>
+pub(crate) fn digest(body: &Value, key: &str) -> Result<Digest, DecodeError>
     ensures { Tells result (digest_under key.now (view body.now)) }
 {
     let text = tested(body, key, Grammar::Secret)?;
@@ -94,7 +98,7 @@ pub(crate) fn digest(body: &Value, key: &str) -> Result<Digest, BodyError>
 }
 
 /// The user whose name is told by the text under a key: None where the text is no name.
-pub(crate) fn user(body: &Value, key: &str) -> Result<Option<Short>, BodyError>
+pub(crate) fn user(body: &Value, key: &str) -> Result<Option<Short>, DecodeError>
     ensures { Tells result (user_under key.now (view body.now)) }
 {
     let text = text(body, key)?;
@@ -102,17 +106,17 @@ pub(crate) fn user(body: &Value, key: &str) -> Result<Option<Short>, BodyError>
 }
 
 /// The names that a list tells, each None where its text is no name.
-fn names_in(alloc: Global, items: &[Value]) -> Result<ToldNames, BodyError>
-    ensures told { TellsBody result (names_of (Some (array (items_view items.now)))) }
+fn names_in(alloc: Global, items: &[Value]) -> Result<ToldNames, DecodeError>
+    ensures told { Decodes result (names_of (Some (array (items_view items.now)))) }
     ensures few { IfOk result (λ names. length names ≤ 19) }
 {
     if items.len() > MOST_COAUTHORS {
-        return Err(BodyError::Bad);
+        return Err(DecodeError::Malformed);
     }
     let mut names = Vec::with_capacity(alloc, items.len())?;
     'elements: for item in items {
         let Some(text) = item.as_str() else {
-            return Err(BodyError::Bad);
+            return Err(DecodeError::Malformed);
         };
         names.push_reserved(name_spelt(text.as_bytes()));
     }
@@ -121,8 +125,8 @@ fn names_in(alloc: Global, items: &[Value]) -> Result<ToldNames, BodyError>
 
 /// The names that the list under a key tells, at most 19 and each None where its text is no name; none where the key isn't
 /// there. One vector is taken for them.
-pub(crate) fn names(alloc: Global, body: &Value, key: &str) -> Result<ToldNames, BodyError>
-    ensures told { TellsBody result (names_under key.now (view body.now)) }
+pub(crate) fn names(alloc: Global, body: &Value, key: &str) -> Result<ToldNames, DecodeError>
+    ensures told { Decodes result (names_under key.now (view body.now)) }
     ensures few { IfOk result (λ names. length names ≤ 19) }
 {
     let Some(list) = body.get(key) else {
@@ -130,91 +134,91 @@ pub(crate) fn names(alloc: Global, body: &Value, key: &str) -> Result<ToldNames,
     };
     match list.as_array() {
         Some(items) => names_in(alloc, items.as_slice()),
-        None => Err(BodyError::Bad),
+        None => Err(DecodeError::Malformed),
     }
 }
 
 /// What is true or false under a key.
-pub(crate) fn flag(body: &Value, key: &str) -> Result<bool, BodyError>
+pub(crate) fn flag(body: &Value, key: &str) -> Result<bool, DecodeError>
     ensures { Tells result (flag_under key.now (view body.now)) }
 {
     match body.get(key).and_then(Value::as_bool) {
         Some(flag) => Ok(flag),
-        None => Err(BodyError::Bad),
+        None => Err(DecodeError::Malformed),
     }
 }
 
 /// The bid under a key: a whole number from -20 to 20, written without a fraction and without an exponent. -0 is none.
-pub(crate) fn bid(body: &Value, key: &str) -> Result<Bid, BodyError>
+pub(crate) fn bid(body: &Value, key: &str) -> Result<Bid, DecodeError>
     ensures told { Tells result (bid_under key.now (view body.now)) }
     ensures high { IfOk result (λ bid. bid ≤ 40) }
 {
     let number = body.get(key).and_then(Value::as_i64);
     match number.and_then(Bid::from_value) {
         Some(bid) => Ok(bid),
-        None => Err(BodyError::Bad),
+        None => Err(DecodeError::Malformed),
     }
 }
 
 /// The score or the confidence under a key: a whole number from 1 to 5, written as a bid is.
-pub(crate) fn grade(body: &Value, key: &str) -> Result<Grade, BodyError>
+pub(crate) fn grade(body: &Value, key: &str) -> Result<Grade, DecodeError>
     ensures told { Tells result (grade_under key.now (view body.now)) }
     ensures valid { IfOk result IsGrade }
 {
     let number = body.get(key).and_then(Value::as_i64);
     match number.and_then(Grade::from_value) {
         Some(grade) => Ok(grade),
-        None => Err(BodyError::Bad),
+        None => Err(DecodeError::Malformed),
     }
 }
 
 /// The phase whose word stands under a key.
-pub(crate) fn phase(body: &Value, key: &str) -> Result<Phase, BodyError>
+pub(crate) fn phase(body: &Value, key: &str) -> Result<Phase, DecodeError>
     ensures { Tells result (phase_under key.now (view body.now)) }
 {
     match Phase::from_name(text(body, key)?) {
         Some(phase) => Ok(phase),
-        None => Err(BodyError::Bad),
+        None => Err(DecodeError::Malformed),
     }
 }
 
 /// The mode whose word stands under a key.
-pub(crate) fn mode(body: &Value, key: &str) -> Result<Mode, BodyError>
+pub(crate) fn mode(body: &Value, key: &str) -> Result<Mode, DecodeError>
     ensures { Tells result (mode_under key.now (view body.now)) }
 {
     match Mode::from_name(text(body, key)?) {
         Some(mode) => Ok(mode),
-        None => Err(BodyError::Bad),
+        None => Err(DecodeError::Malformed),
     }
 }
 
 /// The kind of assignment whose word stands under a key.
-pub(crate) fn kind(body: &Value, key: &str) -> Result<Kind, BodyError>
+pub(crate) fn kind(body: &Value, key: &str) -> Result<Kind, DecodeError>
     ensures { Tells result (kind_under key.now (view body.now)) }
 {
     match Kind::from_name(text(body, key)?) {
         Some(kind) => Ok(kind),
-        None => Err(BodyError::Bad),
+        None => Err(DecodeError::Malformed),
     }
 }
 
 /// The decision whose word stands under a key.
-pub(crate) fn decision(body: &Value, key: &str) -> Result<Decision, BodyError>
+pub(crate) fn decision(body: &Value, key: &str) -> Result<Decision, DecodeError>
     ensures { Tells result (decision_under key.now (view body.now)) }
 {
     match Decision::from_name(text(body, key)?) {
         Some(decision) => Ok(decision),
-        None => Err(BodyError::Bad),
+        None => Err(DecodeError::Malformed),
     }
 }
 
 /// The role that somebody may be named to, member or chair, whose word stands under a key.
-pub(crate) fn role(body: &Value, key: &str) -> Result<Role, BodyError>
+pub(crate) fn role(body: &Value, key: &str) -> Result<Role, DecodeError>
     ensures told { Tells result (role_under key.now (view body.now)) }
     ensures member { IfOk result (λ role. IsTrue (is_member role)) }
 {
     match Role::from_name(text(body, key)?) {
         Some(role) => Ok(role),
-        None => Err(BodyError::Bad),
+        None => Err(DecodeError::Malformed),
     }
 }

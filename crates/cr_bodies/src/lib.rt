@@ -7,6 +7,6 @@ mod credentials;
 mod field;
 mod secret;
 
-pub use body::{BodyError, read_command};
+pub use body::read_command;
 pub use bytes::{after_first, before_first};
 pub use credentials::{Credentials, read_credentials};

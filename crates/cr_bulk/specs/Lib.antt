@@ -1,4 +1,3 @@
 pub mod Actions
-pub mod Outcome
 pub mod Reading
 pub mod Rows

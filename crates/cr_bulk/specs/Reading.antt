@@ -6,10 +6,10 @@ use Rattle.csv.specs.Reading.{Ready, default_config, is_flexible, reader_config,
 use Rattle.csv.specs.declared.parser.State.{State}
 use Rattle.csv.specs.declared.reader.Reader.{Reader}
 use Rattle.csv.specs.declared.reader.Trim.TheVariants as trim
+use Rattle.cr_base.specs.declared.decode.DecodeError.{DecodeError}
+use Rattle.cr_base.specs.declared.decode.DecodeError.TheVariants.{OutOfMemory}
+use Rattle.cr_base.specs.Decoding.{Fails}
 use Rattle.cr_bulk.specs.Rows.{rows_under, rows_told, if_few}
-use Rattle.cr_bulk.specs.Outcome.{Fails}
-use Rattle.cr_bulk.specs.declared.error.BulkError.{BulkError}
-use Rattle.cr_bulk.specs.declared.error.BulkError.TheVariants.{OutOfMemory}
 
 -- a reader over bytes that are lent
 abbrev pub Lent : Type 0
@@ -42,11 +42,11 @@ abbrev pub Finds : Bool → Lent → Lent → List (List ℕ) → Type 0
 Finds true old new fields = IsReading new × (left_of old ≡ fields ∷ left_of new)
 Finds false old new fields = left_of old ≡ []
 
-abbrev pub NextTold : Result Bool BulkError → Lent → Lent → List (List ℕ) → Type 0
+abbrev pub NextTold : Result Bool DecodeError → Lent → Lent → List (List ℕ) → Type 0
 NextTold (Ok found) old new fields = Finds found old new fields
 NextTold (Err e) old new fields = e ≡ OutOfMemory
 
 -- what reading the header leaves
-abbrev pub HeaderTold : Result (Unit {0}) BulkError → Lent → Lent → Type 0
+abbrev pub HeaderTold : Result (Unit {0}) DecodeError → Lent → Lent → Type 0
 HeaderTold (Ok done) old new = IsReading new × (rows_under (left_of old) ≡ option_and_then if_few (rows_told (left_of new)))
 HeaderTold (Err e) old new = Fails e (rows_under (left_of old))

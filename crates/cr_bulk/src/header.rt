@@ -3,9 +3,8 @@ ghost use Rattle.std.specs.Prelude.{◌≡◌, OnOk};
 ghost use Rattle.cr_bulk.specs.Rows as spec;
 ghost use Rattle.cr_bulk.specs.Reading.{HeaderTold, IsReading, left_of};
 
-use crate::error::BulkError;
 use crate::record::{read_next, row_of};
-use cr_base::BulkRow;
+use cr_base::{BulkRow, DecodeError};
 use csv::{ByteRecord, Reader};
 use std::alloc::Global;
 
@@ -20,18 +19,18 @@ fn is_header(row: &BulkRow) -> bool
 }
 
 /// Reads the header, which is the first record.
-pub(crate) fn read_header(alloc: Global, reader: &mut Reader<&[u8]>) -> Result<(), BulkError>
+pub(crate) fn read_header(alloc: Global, reader: &mut Reader<&[u8]>) -> Result<(), DecodeError>
     requires { IsReading reader.old }
     ensures { HeaderTold result reader.old reader.new }
 {
     let mut fields = ByteRecord::new(alloc);
     if !read_next(reader, &mut fields)? {
-        return Err(BulkError::Csv);
+        return Err(DecodeError::Malformed);
     }
     let header = row_of(alloc, &fields)?;
     if is_header(&header) {
         Ok(())
     } else {
-        Err(BulkError::Csv)
+        Err(DecodeError::Malformed)
     }
 }

@@ -6,11 +6,9 @@
 
 mod action;
 mod command;
-mod error;
 mod header;
 mod record;
 mod rows;
 
 pub use command::row_command;
-pub use error::BulkError;
 pub use rows::read_rows;

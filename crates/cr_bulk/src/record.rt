@@ -1,12 +1,11 @@
 //! Records of a file, one after another.
 ghost use Rattle.std.specs.Prelude.{◌≡◌, [], IfOk, unwrap_or};
 ghost use Rattle.csv.specs.Records.{field_at, fields_of};
-ghost use Rattle.cr_bulk.specs.Outcome.{Tells};
+ghost use Rattle.cr_base.specs.Decoding.{Decodes};
 ghost use Rattle.cr_bulk.specs.Reading.{IsReading, NextTold, left_of};
 ghost use Rattle.cr_bulk.specs.Rows.{records_of, row_spelt};
 
-use crate::error::BulkError;
-use cr_base::{Blob, BulkRow};
+use cr_base::{Blob, BulkRow, DecodeError};
 use csv::{ByteRecord, Reader, ReaderBuilder};
 use std::alloc::{AllocError, Global};
 
@@ -26,12 +25,12 @@ pub(crate) fn reader_over(alloc: Global, text: &[u8]) -> Reader<&[u8]>
 pub(crate) fn read_next(
     reader: &mut Reader<&[u8]>,
     fields: &mut ByteRecord,
-) -> Result<bool, BulkError>
+) -> Result<bool, DecodeError>
     requires { IsReading reader.old }
     ensures { NextTold result reader.old reader.new (fields_of fields.new) }
 {
     let Ok(found) = reader.read_byte_record(fields) else {
-        return Err(BulkError::OutOfMemory);
+        return Err(DecodeError::OutOfMemory);
     };
     Ok(found)
 }
@@ -46,12 +45,12 @@ fn field(alloc: Global, fields: &ByteRecord, place: usize) -> Result<Blob, Alloc
     }
 }
 
-/// The row of a record: `Csv` where it hasn't four fields.
-pub(crate) fn row_of(alloc: Global, fields: &ByteRecord) -> Result<BulkRow, BulkError>
-    ensures { Tells result (row_spelt (fields_of fields.now)) }
+/// The row of a record: `Malformed` where it hasn't four fields.
+pub(crate) fn row_of(alloc: Global, fields: &ByteRecord) -> Result<BulkRow, DecodeError>
+    ensures { Decodes result (row_spelt (fields_of fields.now)) }
 {
     if fields.len() != 4 {
-        return Err(BulkError::Csv);
+        return Err(DecodeError::Malformed);
     }
     let paper = field(alloc, fields, 0)?;
     let action = field(alloc, fields, 1)?;

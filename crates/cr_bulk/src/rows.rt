@@ -1,21 +1,20 @@
 //! The rows of a file.
 ghost use Rattle.std.specs.Prelude.{◌≡◌, IfOk, option_and_then};
 ghost use Rattle.cr_base.specs.Bulk.{IsBoundedBulk};
-ghost use Rattle.cr_bulk.specs.Outcome.{Tells, TellsSeen};
+ghost use Rattle.cr_base.specs.Decoding.{Decodes, DecodesSeen};
 ghost use Rattle.cr_bulk.specs.Reading.{IsReading, left_of};
 ghost use Rattle.cr_bulk.specs.Rows.{if_few, records_of, rows_spelt, rows_told, rows_under};
 
-use crate::error::BulkError;
 use crate::header::read_header;
 use crate::record::{read_next, reader_over, row_of};
-use cr_base::{BulkRow, BulkRows, MOST_ROWS, is_text};
+use cr_base::{BulkRow, BulkRows, DecodeError, MOST_ROWS, is_text};
 use csv::{ByteRecord, Reader};
 use std::alloc::Global;
 
-/// The rows behind the header: `Csv` where a record hasn't four fields, or there are more than 512.
-fn read_behind(alloc: Global, reader: &mut Reader<&[u8]>) -> Result<Vec<BulkRow>, BulkError>
+/// The rows behind the header: `Malformed` where a record hasn't four fields, or there are more than 512.
+fn read_behind(alloc: Global, reader: &mut Reader<&[u8]>) -> Result<Vec<BulkRow>, DecodeError>
     requires { IsReading reader.old }
-    ensures told { TellsSeen (λ rows. rows.items) result (option_and_then if_few (rows_told (left_of reader.old))) }
+    ensures told { DecodesSeen (λ rows. rows.items) result (option_and_then if_few (rows_told (left_of reader.old))) }
     ensures few { IfOk result (λ rows. IsBoundedBulk rows.items) }
 {
     let mut fields = ByteRecord::new(alloc);
@@ -29,14 +28,14 @@ fn read_behind(alloc: Global, reader: &mut Reader<&[u8]>) -> Result<Vec<BulkRow>
         rows.push_reserved(row);
     }
     if read_next(reader, &mut fields)? {
-        return Err(BulkError::Csv);
+        return Err(DecodeError::Malformed);
     }
     Ok(rows)
 }
 
 /// The rows of a text under its header.
-fn read_under(alloc: Global, text: &[u8]) -> Result<Vec<BulkRow>, BulkError>
-    ensures told { TellsSeen (λ rows. rows.items) result (rows_under (records_of text.now)) }
+fn read_under(alloc: Global, text: &[u8]) -> Result<Vec<BulkRow>, DecodeError>
+    ensures told { DecodesSeen (λ rows. rows.items) result (rows_under (records_of text.now)) }
     ensures few { IfOk result (λ rows. IsBoundedBulk rows.items) }
 {
     let mut reader = reader_over(alloc, text);
@@ -44,17 +43,18 @@ fn read_under(alloc: Global, text: &[u8]) -> Result<Vec<BulkRow>, BulkError>
     read_behind(alloc, &mut reader)
 }
 
-/// The rows of a file, which is comma-separated values (RFC 4180) as `csv` reads them, under the header `paper,action,user,tag`:
-/// a mark of the byte order in front and empty lines don't count, and a line ends with LF, CR or both. `Csv` comes exactly where it
-/// isn't UTF-8, a record hasn't four fields, the first isn't the header, or more than 512 follow, memory aside. Reads the file
-/// for its UTF-8, and then up to the record at which it turns out to be bad; each field is copied into a block of its own.
+/// The rows of a file, which is comma-separated values (RFC 4180) as `csv` reads them, under the header
+/// `paper,action,user,tag`: a mark of the byte order in front and empty lines don't count, and a line ends with LF,
+/// CR or both. `Malformed` comes exactly where it isn't UTF-8, a record hasn't four fields, the first isn't the
+/// header, or more than 512 follow, memory aside. Reads the file for its UTF-8, and then up to the record at which
+/// it turns out to be bad; each field is copied into a block of its own.
 #[tactic(auto, unfolding(crate::specs::Rows::rows_spelt))]
-pub fn read_rows(alloc: Global, bytes: &[u8]) -> Result<BulkRows, BulkError>
-    ensures told { Tells result (rows_spelt bytes.now) }
+pub fn read_rows(alloc: Global, bytes: &[u8]) -> Result<BulkRows, DecodeError>
+    ensures told { Decodes result (rows_spelt bytes.now) }
     ensures bounded { IfOk result IsBoundedBulk }
 {
     if !is_text(bytes) {
-        return Err(BulkError::Csv);
+        return Err(DecodeError::Malformed);
     }
     let rows = read_under(alloc, bytes)?;
     Ok(BulkRows::from_vec(alloc, rows)?)

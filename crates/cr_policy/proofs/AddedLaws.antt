@@ -39,6 +39,7 @@ use Rattle.cr_base.specs.Sources.{number_in, user_among, users_among, role_among
 use Rattle.cr_base.specs.Tables.{tables_of}
 use Rattle.cr_base.specs.TagTexts.{is_for_chairs}
 use Rattle.cr_base.proofs.CheckLaws.{NoneBroken, judged-Ok}
+use Rattle.cr_base.proofs.FiledLaws.{filter-filter}
 use Rattle.cr_history.proofs.RuleLaws.{facts_of}
 use Rattle.cr_policy.specs.Added.{next_user, next_paper, next_version, next_label, next_form, next_comment, without, once, for_label}
 use Rattle.cr_policy.specs.Added.{added, answered, IsAdded, AddsAsSaid}
@@ -68,24 +69,6 @@ group-added maker (e ∷ next ∷ es) receipt =
 eqb-turned : (a b : ℕ) → eqb a b ≡ eqb b a
 eqb-turned a b = grind (arith, nat_tests)
 
-filter-twice : (p q : ℕ → Bool) (xs : List ℕ) → filter p (filter q xs) ≡ filter (λ x. p x && q x) xs
-filter-twice p q [] = refl
-filter-twice p q (x ∷ xs) = by (q x) (p x) (filter-twice p q xs)
-  where
-    by : (b c : Bool) → filter p (filter q xs) ≡ filter (λ x. p x && q x) xs
-        → filter p (cond b (x ∷ filter q xs) (filter q xs)) ≡ cond (p x && b) (x ∷ filter (λ x. p x && q x) xs) (filter (λ x. p x && q x) xs)
-    by true c rest = first (p x) rest
-      where
-        first : (c : Bool) → filter p (filter q xs) ≡ filter (λ x. p x && q x) xs
-            → cond c (x ∷ filter p (filter q xs)) (filter p (filter q xs)) ≡ cond (c && true) (x ∷ filter (λ x. p x && q x) xs) (filter (λ x. p x && q x) xs)
-        first true rest = ap (λ (ys : List ℕ). x ∷ ys) rest
-        first false rest = rest
-    by false c rest = rest ∙ off (p x)
-      where
-        off : (c : Bool) → filter (λ x. p x && q x) xs ≡ cond (c && false) (x ∷ filter (λ x. p x && q x) xs) (filter (λ x. p x && q x) xs)
-        off true = refl
-        off false = refl
-
 filter-same : (p q : ℕ → Bool) → ((x : ℕ) → p x ≡ q x) → (xs : List ℕ) → filter p xs ≡ filter q xs
 filter-same p q same xs = λ i. filter (λ x. same x i) xs
 
@@ -112,34 +95,24 @@ besides-once these (u ∷ users) = by (list_any (λ v. eqb v u) these) refl (λ 
         → cond b (besides these users) (u ∷ besides (these ++ u ∷ []) users)
         ≡ cond (not b) (u ∷ filter (none_of these) (without u (once users))) (filter (none_of these) (without u (once users)))
     by true is rest =
-        rest these ∙ filter-same (none_of these) (λ v. none_of these v && not (eqb v u)) hidden (once users)
-        ∙ sym (filter-twice (none_of these) (λ v. not (eqb v u)) (once users))
+        rest these ∙ filter-same (none_of these) (λ v. not (eqb v u) && none_of these v) hidden (once users)
+        ∙ filter-filter (λ v. not (eqb v u)) (none_of these) (once users)
       where
-        hidden : (v : ℕ) → none_of these v ≡ (none_of these v && not (eqb v u))
+        hidden : (v : ℕ) → none_of these v ≡ (not (eqb v u) && none_of these v)
         hidden v = cases (eqb v u) refl
           where
-            cases : (b : Bool) → eqb v u ≡ b → none_of these v ≡ (none_of these v && not b)
-            cases true same = gone ∙ off (none_of these v) gone
-              where
-                gone : none_of these v ≡ false
-                gone = ap (none_of these) (eqb-true v u same) ∙ ap not is
-
-                off : (b : Bool) → b ≡ false → false ≡ (b && false)
-                off true h = refl
-                off false h = refl
-            cases false other = kept (none_of these v)
-              where
-                kept : (b : Bool) → b ≡ (b && true)
-                kept true = refl
-                kept false = refl
+            cases : (b : Bool) → eqb v u ≡ b → none_of these v ≡ (not b && none_of these v)
+            cases true same = ap (none_of these) (eqb-true v u same) ∙ ap not is
+            cases false other = refl
     by false is rest =
-        ap (λ (ys : List ℕ). u ∷ ys) (rest (these ++ u ∷ []) ∙ filter-same (none_of (these ++ u ∷ [])) (λ v. none_of these v && not (eqb v u)) more (once users)
-        ∙ sym (filter-twice (none_of these) (λ v. not (eqb v u)) (once users)))
+        ap (λ (ys : List ℕ). u ∷ ys)
+        (rest (these ++ u ∷ []) ∙ filter-same (none_of (these ++ u ∷ [])) (λ v. not (eqb v u) && none_of these v) more (once users)
+        ∙ filter-filter (λ v. not (eqb v u)) (none_of these) (once users))
       where
-        more : (v : ℕ) → none_of (these ++ u ∷ []) v ≡ (none_of these v && not (eqb v u))
+        more : (v : ℕ) → none_of (these ++ u ∷ []) v ≡ (not (eqb v u) && none_of these v)
         more v = ap not (any-behind these u v) ∙ said (list_any (λ w. eqb w v) these) (eqb u v) (eqb v u) (eqb-turned u v)
           where
-            said : (a b c : Bool) → b ≡ c → not (a || b) ≡ (not a && not c)
+            said : (a b c : Bool) → b ≡ c → not (a || b) ≡ (not c && not a)
             said a b c h = grind arith
 
 others-once : (u : ℕ) (users : List ℕ) → besides (u ∷ []) users ≡ without u (once users)

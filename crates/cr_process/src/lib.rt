@@ -25,21 +25,20 @@ fn words(rt: &HostRuntime) -> Result<Vec<String>, AllocError> {
     }
 }
 
-// The file that the words name as the store.
-fn store_named(alloc: Global, words: &[String]) -> &str {
-    match read_words(alloc, words) {
-        Ok(Job::Pipe { store: Some(store) } | Job::Serve { store, .. } | Job::View { store, .. }) =>
-            { store }
-        Ok(Job::Pipe { store: None } | Job::Drill { .. }) | Err(_) => "",
-    }
+// What the words name of the outside: the store's file and the address, each empty where they name none.
+#[derive(Clone, Copy)]
+struct Named<'a> {
+    store: &'a str,
+    address: &'a str,
 }
 
-// The address that the words name.
-fn address_named(alloc: Global, words: &[String]) -> &str {
-    match read_words(alloc, words) {
-        Ok(Job::Serve { listen, .. }) => listen,
-        Ok(Job::Pipe { .. } | Job::View { .. } | Job::Drill { .. }) | Err(_) => "",
-    }
+fn names_in(alloc: Global, words: &[String]) -> Named<'_> {
+    let (store, address) = match read_words(alloc, words) {
+        Ok(Job::Serve { store, listen, .. }) => (store, listen),
+        Ok(Job::Pipe { store: Some(store) } | Job::View { store, .. }) => (store, ""),
+        Ok(Job::Pipe { store: None } | Job::Drill { .. }) | Err(_) => ("", ""),
+    };
+    Named { store, address }
 }
 
 // One line on standard error for each status but 0.
@@ -50,7 +49,7 @@ fn tell(
     shelf: &SqliteShelf,
     gates: &TcpGates,
 ) -> io::Result<()> {
-    let store = store_named(rt.alloc(), words);
+    let Named { store, address } = names_in(rt.alloc(), words);
     match exit {
         Exit::Done => Ok(()),
         Exit::Cut => eprintln!(rt; "confd: the input ended inside a request"),
@@ -66,13 +65,10 @@ fn tell(
             Some(reason) => eprintln!(rt; "confd: {store}: {reason}"),
             None => eprintln!(rt; "confd: {store}: the store could not be read"),
         },
-        Exit::ListenFault => {
-            let address = address_named(rt.alloc(), words);
-            match gates.reason() {
-                Some(reason) => eprintln!(rt; "confd: {address}: {reason}"),
-                None => eprintln!(rt; "confd: {address}: no connections could be taken"),
-            }
-        }
+        Exit::ListenFault => match gates.reason() {
+            Some(reason) => eprintln!(rt; "confd: {address}: {reason}"),
+            None => eprintln!(rt; "confd: {address}: no connections could be taken"),
+        },
         Exit::NoUser => eprintln!(rt; "confd: {store}: nobody has registered that name"),
         Exit::OutOfMemory => eprintln!(rt; "confd: out of memory"),
     }

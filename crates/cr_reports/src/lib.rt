@@ -17,4 +17,4 @@ mod score_lines;
 mod tally;
 mod told;
 
-pub use reports::{answer, decisions, letter, load, papers, scores};
+pub use reports::answer;

@@ -1,69 +1,37 @@
-//! The five reports. Each is told exactly, or as the first broken rule, which comes whatever memory there is. A title costs its bytes.
+//! What a query of a report is answered.
 ghost use Rattle.std.specs.Prelude.{IsSome};
 ghost use Rattle.cr_base.specs.Answering.{answer_by_role};
 ghost use Rattle.cr_base.specs.declared.command.Query.TheVariants as queries;
-ghost use Rattle.cr_base.specs.declared.report.Report.TheVariants as reports;
-ghost use Rattle.cr_reports.specs.Told.{report_due};
-ghost use Rattle.cr_view.specs.Replies.{AnswersAsDue, ShowsAsDue};
+ghost use Rattle.cr_view.specs.Replies.{AnswersAsDue};
 
 use crate::told::told;
-use cr_base::{Blob, PaperNo, Reply, Report, UserNo};
+use cr_base::{Reply, Report, UserNo};
 use cr_view::{AnswerError, Live};
 use std::alloc::Global;
 
-/// All papers by number, a line each, and how many there are: a paper's number, whether it is withdrawn, else whether the user is in
-/// conflict with it, and its title. `NotMember`; `WrongPhase` before the bidding. One pass over all papers: of each two binary searches
-/// at most, and two reads by number.
-pub fn papers(alloc: Global, live: &Live, user: UserNo) -> Result<Blob, AnswerError>
-    ensures { ShowsAsDue result (report_due live.now.tables user reports.Papers) }
-{
-    told(alloc, live, user, &Report::Papers)
-}
-
-/// The scores of each paper that isn't withdrawn, has a form and isn't in conflict with the user, a line each: its number, how many
-/// labels have a form, the mean of their last scores, and its title. `NotMember`; `WrongPhase` before the discussion. One pass over all
-/// papers: of each what `is_in_conflict`, `is_withdrawn` and `scores` of `Live` cost.
-pub fn scores(alloc: Global, live: &Live, user: UserNo) -> Result<Blob, AnswerError>
-    ensures { ShowsAsDue result (report_due live.now.tables user reports.Scores) }
-{
-    told(alloc, live, user, &Report::Scores)
-}
-
-/// How much each member reviews of the papers that the user is in no conflict with, a line each by user number: her name, how many as
-/// primary, as secondary and as other reviewer, and of how many of them she has written a form. Withdrawn papers count. `NotChair`;
-/// `WrongPhase` before the bidding. One pass over all papers and their seats, with two binary searches and a walk over the paper's forms
-/// for each seat, and one over the accounts.
-pub fn load(alloc: Global, live: &Live, user: UserNo) -> Result<Blob, AnswerError>
-    ensures { ShowsAsDue result (report_due live.now.tables user reports.Load) }
-{
-    told(alloc, live, user, &Report::Load)
-}
-
-/// The decision on each paper that isn't withdrawn and isn't in conflict with the user, a line each: its number, the decision and its
-/// title; and how many papers there are of each decision. `NotMember`; `WrongPhase` before the discussion. One pass over all papers: of
-/// each what `is_in_conflict`, `is_withdrawn` and `decision` of `Live` cost.
-pub fn decisions(alloc: Global, live: &Live, user: UserNo) -> Result<Blob, AnswerError>
-    ensures { ShowsAsDue result (report_due live.now.tables user reports.Decisions) }
-{
-    told(alloc, live, user, &Report::Decisions)
-}
-
-/// The letter to the authors of a paper: its number and title, the decision, and the last form under each label as authors are told it,
-/// with its writer's name where authors are told that. `NoPaper` where there is no such paper; `NotAuthor`; `WrongPhase` before the
-/// notification. One walk over the paper's forms for each label, of which there are 26 at most.
-pub fn letter(
-    alloc: Global,
-    live: &Live,
-    user: UserNo,
-    paper: &Option<PaperNo>,
-) -> Result<Blob, AnswerError>
-    ensures { ShowsAsDue result (report_due live.now.tables user (reports.Letter paper.now)) }
-{
-    told(alloc, live, user, &Report::Letter { paper: *paper })
-}
-
-/// What a caller is answered to her query of a report: it, or the first broken rule; an error for lack of memory only where no rule is
-/// broken. Costs what the report does.
+/// What a caller is answered to her query of a report: it, or the first broken rule, which comes whatever memory
+/// there is; an error for lack of memory only where no rule is broken. A title costs its bytes.
+///
+/// - `Papers`: all papers by number, a line each, and how many there are: a paper's number, whether it is
+///   withdrawn, else whether the user is in conflict with it, and its title. `NotMember`; `WrongPhase` before the
+///   bidding. One pass over all papers: of each two binary searches at most, and two reads by number.
+/// - `Scores`: the scores of each paper that isn't withdrawn, has a form and isn't in conflict with the user, a
+///   line each: its number, how many labels have a form, the mean of their last scores, and its title. `NotMember`;
+///   `WrongPhase` before the discussion. One pass over all papers: of each what `is_in_conflict`, `is_withdrawn`
+///   and `scores` of `Live` cost.
+/// - `Load`: how much each member reviews of the papers that the user is in no conflict with, a line each by user
+///   number: her name, how many as primary, as secondary and as other reviewer, and of how many of them she has
+///   written a form. Withdrawn papers count. `NotChair`; `WrongPhase` before the bidding. One pass over all papers
+///   and their seats, with two binary searches and a walk over the paper's forms for each seat, and one over the
+///   accounts.
+/// - `Decisions`: the decision on each paper that isn't withdrawn and isn't in conflict with the user, a line each:
+///   its number, the decision and its title; and how many papers there are of each decision. `NotMember`;
+///   `WrongPhase` before the discussion. One pass over all papers: of each what `is_in_conflict`, `is_withdrawn`
+///   and `decision` of `Live` cost.
+/// - `Letter`: the letter to the authors of a paper: its number and title, the decision, and the last form under
+///   each label as authors are told it, with its writer's name where authors are told that. `NoPaper` where there
+///   is no such paper; `NotAuthor`; `WrongPhase` before the notification. One walk over the paper's forms for each
+///   label, of which there are 26 at most.
 pub fn answer(
     alloc: Global,
     live: &Live,
@@ -76,21 +44,8 @@ pub fn answer(
     let Some(user) = caller else {
         unreachable!();
     };
-    match asked(alloc, live, *user, report) {
+    match told(alloc, live, *user, report) {
         Ok(text) => Ok(Reply::Report(text)),
         Err(error) => Err(error),
-    }
-}
-
-/// The report that is asked for.
-fn asked(alloc: Global, live: &Live, user: UserNo, report: &Report) -> Result<Blob, AnswerError>
-    ensures { ShowsAsDue result (report_due live.now.tables user report.now) }
-{
-    match report {
-        Report::Papers => papers(alloc, live, user),
-        Report::Scores => scores(alloc, live, user),
-        Report::Load => load(alloc, live, user),
-        Report::Decisions => decisions(alloc, live, user),
-        Report::Letter { paper } => letter(alloc, live, user, paper),
     }
 }

@@ -4,23 +4,31 @@ ghost use Rattle.std.specs.Prelude.{◌≡◌, ℕ, count_by};
 ghost use Rattle.std.specs.List.{list_any};
 ghost use Rattle.std.specs.Option.{option_copied};
 ghost use Rattle.cr_reviews.specs.Labels.{has_label};
-ghost use Rattle.cr_reviews.specs.Under.{is_before, is_since, is_under, last_that};
+ghost use Rattle.cr_reviews.specs.Under.{is_under, is_written, last_that};
 
 use crate::labels::Labels;
 use cr_base::{Filed, Ordinal, Phase, WrittenForm};
 
-/// Whether the form was written under the label, before the phase began.
-fn is_before(form: &WrittenForm, ordinal: Ordinal, phase: Phase) -> bool
-    ensures { result ≡ is_before ordinal phase form.now }
-{
-    form.is_under(ordinal) && !form.phase.is_from(phase)
+/// When a form was written.
+#[derive(Clone, Copy, Debug)]
+pub(crate) enum Written {
+    /// At any time.
+    Ever,
+    /// Before the phase began.
+    Before(Phase),
+    /// In the phase or later.
+    Since(Phase),
 }
 
-/// Whether the form was written under the label, in the phase or later.
-fn is_since(form: &WrittenForm, ordinal: Ordinal, phase: Phase) -> bool
-    ensures { result ≡ is_since ordinal phase form.now }
+/// Whether the form was written under the label, and then.
+fn is_written(form: &WrittenForm, ordinal: Ordinal, when: Written) -> bool
+    ensures { result ≡ is_written ordinal when form.now }
 {
-    form.is_under(ordinal) && form.phase.is_from(phase)
+    match when {
+        Written::Ever => form.is_under(ordinal),
+        Written::Before(phase) => form.is_under(ordinal) && !form.phase.is_from(phase),
+        Written::Since(phase) => form.is_under(ordinal) && form.phase.is_from(phase),
+    }
 }
 
 /// How many there are. A walk over all forms.
@@ -40,44 +48,18 @@ pub(crate) fn has_under(forms: &[Filed<WrittenForm>], ordinal: Ordinal) -> bool
     forms.iter().any(|filed| filed.value.is_under(ordinal))
 }
 
-/// The last of them. A walk back to it.
-pub(crate) fn last_under(forms: &[Filed<WrittenForm>], ordinal: Ordinal) -> Option<&WrittenForm>
-    ensures { option_copied result ≡ last_that (is_under ordinal) forms.now }
-{
-    let filed = forms
-        .iter()
-        .rev()
-        .find(|filed| filed.value.is_under(ordinal))?;
-    Some(&filed.value)
-}
-
-/// The last of those that were written before the phase began. A walk back to it.
-pub(crate) fn last_before(
+/// The last of them that was written then. A walk back to it.
+pub(crate) fn last_of(
     forms: &[Filed<WrittenForm>],
     ordinal: Ordinal,
-    phase: Phase,
+    when: Written,
 ) -> Option<&WrittenForm>
-    ensures { option_copied result ≡ last_that (is_before ordinal phase) forms.now }
+    ensures { option_copied result ≡ last_that (is_written ordinal when) forms.now }
 {
     let filed = forms
         .iter()
         .rev()
-        .find(|filed| is_before(&filed.value, ordinal, phase))?;
-    Some(&filed.value)
-}
-
-/// The last of those that were written in the phase or later. A walk back to it.
-pub(crate) fn last_since(
-    forms: &[Filed<WrittenForm>],
-    ordinal: Ordinal,
-    phase: Phase,
-) -> Option<&WrittenForm>
-    ensures { option_copied result ≡ last_that (is_since ordinal phase) forms.now }
-{
-    let filed = forms
-        .iter()
-        .rev()
-        .find(|filed| is_since(&filed.value, ordinal, phase))?;
+        .find(|filed| is_written(&filed.value, ordinal, when))?;
     Some(&filed.value)
 }
 

@@ -8,7 +8,7 @@ ghost use Rattle.cr_base.specs.Reviews.{no_reviews, reviews_after, last_form_in,
 ghost use Rattle.cr_reviews.specs.Labels.{has_label};
 ghost use Rattle.cr_reviews.specs.Under.{forms_by};
 
-use crate::forms::{count_under, has_under, labels_of, last_before, last_since, last_under};
+use crate::forms::{Written, count_under, has_under, labels_of, last_of};
 use crate::labels::Labels;
 use cr_base::{Entry, Filed, Ordinal, PaperNo, Phase, Rule, Stamped, Standing, WrittenForm};
 use cr_kept::Files;
@@ -61,7 +61,7 @@ impl Reviews {
     pub fn last(&self, paper: PaperNo, ordinal: Ordinal) -> Option<&WrittenForm>
         ensures { option_copied result ≡ last_form_in self.now.reviews paper ordinal }
     {
-        last_under(self.forms(paper), ordinal)
+        last_of(self.forms(paper), ordinal, Written::Ever)
     }
 
     /// The last of them that was written before the phase began, and none where there is none. It costs the
@@ -74,14 +74,14 @@ impl Reviews {
     ) -> Option<&WrittenForm>
         ensures { option_copied result ≡ last_form_before self.now.reviews paper ordinal phase }
     {
-        last_before(self.forms(paper), ordinal, phase)
+        last_of(self.forms(paper), ordinal, Written::Before(phase))
     }
 
     /// The last of them that was written in the phase or later, and none where there is none. It costs the same.
     pub fn last_since(&self, paper: PaperNo, ordinal: Ordinal, phase: Phase) -> Option<&WrittenForm>
         ensures { option_copied result ≡ last (forms_from self.now.reviews paper ordinal phase) }
     {
-        last_since(self.forms(paper), ordinal, phase)
+        last_of(self.forms(paper), ordinal, Written::Since(phase))
     }
 
     /// Whether there is a form under the paper's label of this ordinal. Two binary searches, and a walk over

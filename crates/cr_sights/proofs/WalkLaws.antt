@@ -7,10 +7,8 @@ use Rattle.std.proofs.lemmas.Option.{slice_get-get_or}
 use Rattle.cr_base.specs.declared.entry.Stamped.{Stamped}
 use Rattle.cr_base.specs.Lists.{listed}
 use Rattle.cr_base.specs.History.{History}
-use Rattle.cr_ports.specs.Count.{Rises}
-use Rattle.cr_ports.specs.Stream.{taken_and}
 use Rattle.cr_ports.specs.Writing.{Outlet, Writes, BreaksOff}
-use Rattle.cr_ports.proofs.WritingLaws.{taken_and-append, writes-nil, writes-append}
+use Rattle.cr_ports.proofs.WritingLaws.{breaks_later, breaks_sooner, writes-nil, writes-append}
 use Rattle.cr_policy.specs.Triggers.{Reader, Around, Position, position_of}
 use Rattle.cr_policy.specs.View.{View, sight, sights}
 use Rattle.cr_sights.specs.Lines.{line_text, lines_text}
@@ -85,21 +83,8 @@ module _ (r : Reader) (H : History) (at : ℕ) (d : Stamped) (within : at < leng
   pub broke_line : (s s' s'' : Outlet) → Reached r H at s s' → BreaksOff [] line s' s'' → BreaksOff [] (lines_text (sights r [] H)) s s''
   broke_line s s' s'' was now =
       let rest = lines_text (sights_from r H (at + 1)) in
-      record {
-        part = was.done ++ now.part;
-        missing = now.missing ++ rest;
-        parts =
-            was.split ∙ ap (λ (b : List ℕ). was.done ++ b) (lines ∙ ap (λ (b : List ℕ). b ++ rest) now.parts ∙ append_assoc now.part now.missing rest)
-            ∙ sym (append_assoc was.done now.part (now.missing ++ rest));
-        short = λ none. now.short (first_nil now.missing rest none);
-        took = now.took ∙ ap (λ (o : Option (List ℕ)). taken_and o now.part) was.written.took ∙ taken_and-append s.taken was.done now.part;
-        later = let e = was.written.steady in let l = now.later in omega (arith, e, l);
-        rises = subst (λ (f : ℕ). Rises f s''.faults) was.written.steady now.rises;
-      }
-    where
-      first_nil : (a b : List ℕ) → a ++ b ≡ [] → a ≡ []
-      first_nil [] b none = refl
-      first_nil (x ∷ a) b none = cc
+      subst (λ (b : List ℕ). BreaksOff [] b s s'') (sym (was.split ∙ ap (λ (b : List ℕ). was.done ++ b) lines))
+      (breaks_later was.done (line ++ rest) s s' s'' was.written (breaks_sooner line rest s' s'' now))
 
 -- ---- the ends
 

@@ -4,7 +4,7 @@ ghost use Rattle.cr_base.specs.Decisions.{is_published};
 ghost use Rattle.cr_base.specs.Lists.{listed};
 ghost use Rattle.cr_base.specs.Page.{is_clear_member, is_clear_chair};
 ghost use Rattle.cr_base.specs.Phases.{is_from};
-ghost use Rattle.cr_base.specs.Words.{is_anonymous, is_member};
+ghost use Rattle.cr_base.specs.Words.{is_member};
 ghost use Rattle.cr_base.specs.declared.words.Phase.TheVariants as phases;
 ghost use Rattle.cr_base.specs.declared.entry.EntryKind.TheVariants as kinds;
 ghost use Rattle.cr_base.specs.Rows.{kind_of};
@@ -14,24 +14,9 @@ ghost use Rattle.cr_sights.specs.Readers.{reader_in};
 
 use crate::asked::is_bidding;
 use crate::sighting::{Sighting, blank};
-use cr_base::{Blob, Entry, EntryKind, PaperNo, Phase, Stamped, Standing, Text, UserNo};
+use cr_anonymity::shows_author;
+use cr_base::{Blob, Entry, EntryKind, PaperNo, Stamped, Standing, Text, UserNo};
 use cr_view::Live;
-
-/// Whether everyone may read a paper, which is accepted or isn't: where it is, once the conference is closed.
-fn is_published(by: &Standing, accepted: bool) -> bool
-    ensures { result ≡ is_published by.now.phase accepted }
-{
-    accepted && by.phase.is_from(Phase::Closed)
-}
-
-/// Whether she is shown who made a submission.
-fn shows_maker(by: &Standing, accepted: bool) -> bool
-    ensures { result ≡ (by.now.author || ((is_clear_chair by.now && is_from phases.Bidding by.now.phase)
-        || ((is_clear_member by.now && not (is_anonymous by.now.mode) && is_from phases.Bidding by.now.phase) || accepted))) }
-{
-    let handles = by.is_clear_chair() || by.is_clear_member() && !by.mode.is_anonymous();
-    by.author || is_bidding(by) && handles || accepted
-}
 
 /// Whether she is shown the title of a submission or a revision.
 fn shows_title(by: &Standing, mine: bool, is_last: bool, accepted: bool) -> bool
@@ -47,7 +32,7 @@ fn shows_abstract(by: &Standing, mine: bool, is_last: bool, accepted: bool) -> b
         || ((is_last && is_clear_member by.now && is_from phases.Bidding by.now.phase)
         || ((is_last && is_published by.now.phase accepted) || mine))) }
 {
-    let published = is_last && is_published(by, accepted);
+    let published = is_last && by.phase.publishes(accepted);
     by.author || is_last && by.is_clear_member() && is_bidding(by) || published || mine
 }
 
@@ -60,7 +45,7 @@ fn tells_coauthor(live: &Live, reader: UserNo, maker: UserNo, paper: PaperNo) ->
         || (r.accepted paper || user_named r maker)))) }
 {
     let by = live.standing(&Some(reader), &Some(paper));
-    shows_maker(&by, live.is_accepted(paper)) || maker == reader
+    shows_author(&by, live.is_accepted(paper)) || maker == reader
 }
 
 /// Whether she is told of a revision of a paper: its authors are, who made it, and of the last that gives the paper
@@ -83,7 +68,7 @@ fn tells_upload(live: &Live, reader: UserNo, maker: UserNo, is_last: bool, paper
         || ((is_last && published r paper) || user_named r maker))) }
 {
     let by = live.standing(&Some(reader), &Some(paper));
-    let published = is_last && is_published(&by, live.is_accepted(paper));
+    let published = is_last && by.phase.publishes(live.is_accepted(paper));
     by.author || is_last && by.is_clear_member() && is_bidding(&by) || published || maker == reader
 }
 
@@ -121,7 +106,7 @@ pub(crate) fn submission<'a>(
     let accepted = live.is_accepted(*paper);
     let mut sighting = blank(EntryKind::Submitted, mine);
     sighting.paper = Some(*paper);
-    sighting.by = shows_maker(&by, accepted).then_some(stamped.maker);
+    sighting.by = shows_author(&by, accepted).then_some(stamped.maker);
     sighting.title = shows_title(&by, mine, is_last, accepted).then_some(title);
     sighting.abstract_ = shows_abstract(&by, mine, is_last, accepted).then_some(abstract_);
     Some(sighting)

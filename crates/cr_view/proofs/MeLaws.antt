@@ -12,6 +12,7 @@ use Rattle.cr_base.specs.declared.words.Role.{Role}
 use Rattle.cr_base.specs.Accounts.{account_at, role_in}
 use Rattle.cr_base.specs.Answering.{me_by}
 use Rattle.cr_base.specs.Sources.{facts_of_tables}
+use Rattle.cr_base.proofs.FiledLaws.{filter-filter}
 use Rattle.cr_base.proofs.ListLaws.{name_in-lines_of}
 use Rattle.cr_base.specs.declared.pairs.Order.TheVariants.{ByPaper, ByUser}
 use Rattle.cr_base.specs.declared.pairs.Tie.{Tie}
@@ -26,15 +27,6 @@ use Rattle.cr_base.proofs.PairLaws.{list_any-others_of}
 use Rattle.cr_base.proofs.RisingLists.{has_number, numbers-others_of}
 use Rattle.cr_base.proofs.TieLaws.{within-pair}
 use Rattle.cr_view.proofs.AnswerLaws.{walk-step}
-
-filter-twice : (p q : ℕ → Bool) (xs : List ℕ) → filter q (filter p xs) ≡ filter (λ x. p x && q x) xs
-filter-twice p q [] = refl
-filter-twice p q (x ∷ xs) = by (p x) (filter-twice p q xs)
-  where
-    by : (b : Bool) → filter q (filter p xs) ≡ filter (λ y. p y && q y) xs → filter q (cond b (x ∷ filter p xs) (filter p xs))
-        ≡ cond (b && q x) (x ∷ filter (λ y. p y && q y) xs) (filter (λ y. p y && q y) xs)
-    by true h = ap (λ rest. cond (q x) (x ∷ rest) rest) h
-    by false h = h
 
 -- in conflict, and no author: declared so, and no author
 only_declared : (author declared : Bool) → (declared && not author) ≡ ((author || declared) && not author)
@@ -109,7 +101,7 @@ module _ (t : Tables) (user : ℕ) (within : AreWithin (paper_count t.papers) t.
       (sym (numbers-others_of (λ p. is_conflict_on_in t.ties (Some user) p) ByUser user t.papers.papers t.ties.conflicts rising
       (λ p there. within-pair (paper_count t.papers) (pair_of p user) t.ties.conflicts within.conflicts there)
       (λ p. refl)))
-      ∙ filter-twice (λ p. is_conflict_on_in t.ties (Some user) p) (λ p. not (is_author_in t.ties (Some user) p)) (paper_numbers t.papers)
+      ∙ sym (filter-filter (λ p. is_conflict_on_in t.ties (Some user) p) (λ p. not (is_author_in t.ties (Some user) p)) (paper_numbers t.papers))
       ∙ ap (λ (test : ℕ → Bool). filter test (paper_numbers t.papers)) (λ i p. only_declared (is_author_in t.ties (Some user) p) (is_conflict_on_in t.ties (Some user) p) i)
 
 -- ---- the answer

@@ -41,7 +41,7 @@ impl Live {
     pub(crate) fn has_published(&self, paper: &Option<PaperNo>) -> bool
         ensures { result ≡ is_published self.now.tables.stage.phase (at_some (is_accepted_in self.now.tables) paper.now) }
     {
-        self.has_accepted(paper) && self.stage.phase().is_from(Phase::Closed)
+        self.stage.phase().publishes(self.has_accepted(paper))
     }
 
     /// Whether nobody may not ask this: what is asked for is a registered user's, and isn't the page or the

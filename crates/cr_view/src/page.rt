@@ -4,18 +4,10 @@ ghost use Rattle.std.specs.Option.{option_copied};
 ghost use Rattle.cr_base.specs.Lists.{listed};
 ghost use Rattle.cr_base.specs.Page.{gets_title, gets_abstract, gets_conflict, gets_conflicts, gets_declared, gets_versions, gets_withdrawn};
 ghost use Rattle.cr_base.specs.Page.{is_clear_chair, is_clear_member, gets_bid, gets_bids, gets_label, gets_reviewers, gets_tags, gets_decision, where_told};
-ghost use Rattle.cr_base.specs.Decisions.{is_published};
 
 use cr_anonymity::shows_reviewer;
 use cr_base::{Kind, Phase, Standing, Text, Versions};
 use std::alloc::{AllocError, Global};
-
-/// Whether everyone is served a paper, which is accepted or isn't: where it is, once the conference is closed.
-pub(crate) fn is_published(by: &Standing, accepted: bool) -> bool
-    ensures { result ≡ is_published by.now.phase accepted }
-{
-    accepted && by.phase.is_from(Phase::Closed)
-}
 
 /// Whether she is told the title: authors; members from bidding on; everyone where the paper is accepted.
 pub(crate) fn gets_title(by: &Standing, accepted: bool) -> bool
@@ -31,7 +23,7 @@ pub(crate) fn gets_abstract(by: &Standing, accepted: bool) -> bool
 {
     by.author
         || (by.is_clear_member() && by.phase.is_from(Phase::Bidding))
-        || is_published(by, accepted)
+        || by.phase.publishes(accepted)
 }
 
 /// Whether she is told if she is in conflict: members and authors.
@@ -74,7 +66,7 @@ pub(crate) fn gets_versions(by: &Standing, accepted: bool) -> bool
 {
     by.author
         || (by.is_clear_member() && by.phase.is_from(Phase::Bidding))
-        || is_published(by, accepted)
+        || by.phase.publishes(accepted)
 }
 
 /// Whether she is told if the paper is withdrawn: authors; members from bidding on.

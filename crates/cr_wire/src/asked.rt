@@ -12,9 +12,9 @@ ghost use Rattle.cr_wire.specs.Query.{query_of};
 use crate::paper::{paper_of, tag_of, user_of, version_of};
 use crate::query::search_in;
 use crate::what::What;
-use cr_base::{Ask, Command, PaperNo, Query, Report};
-use cr_bodies::{BodyError, before_first, read_command};
-use cr_bulk::{BulkError, read_rows};
+use cr_base::{Ask, Command, DecodeError, PaperNo, Query, Report};
+use cr_bodies::{before_first, read_command};
+use cr_bulk::read_rows;
 use cr_http::Body;
 use cr_routes::{Matched, Method, Place, Routes};
 use std::alloc::{AllocError, Global};
@@ -46,8 +46,8 @@ fn command(alloc: Global, ask: Ask, found: Matched<'_>, body: &[u8]) -> Result<W
 {
     match read_command(alloc, ask, paper_of(found), body) {
         Ok(command) => Ok(What::Command(command)),
-        Err(BodyError::Bad) => Ok(What::BadBody(ask)),
-        Err(BodyError::OutOfMemory) => Err(AllocError),
+        Err(DecodeError::Malformed) => Ok(What::BadBody(ask)),
+        Err(DecodeError::OutOfMemory) => Err(AllocError),
     }
 }
 
@@ -83,8 +83,8 @@ fn bulk(alloc: Global, body: &[u8]) -> Result<What, AllocError>
 {
     match read_rows(alloc, body) {
         Ok(rows) => Ok(What::Bulk(rows)),
-        Err(BulkError::Csv) => Ok(What::BadBody(Ask::Bulk)),
-        Err(BulkError::OutOfMemory) => Err(AllocError),
+        Err(DecodeError::Malformed) => Ok(What::BadBody(Ask::Bulk)),
+        Err(DecodeError::OutOfMemory) => Err(AllocError),
     }
 }
 

@@ -6,7 +6,7 @@ use Rattle.cr_base.specs.declared.texts.Text.{Text}
 use Rattle.cr_policy.specs.Sighting.{Sighting}
 use Rattle.cr_policy.specs.Triggers.{none_alike, user_named}
 use Rattle.cr_sights.specs.Readers.{reader_in}
-use Rattle.cr_sights.proofs.Shown.{last-row, part-shown, lent-shown, seen-shown}
+use Rattle.cr_sights.proofs.Shown.{author-shown, last-row, part-shown, lent-shown, seen-shown}
 use Rattle.cr_sights.proofs.papers.submission.Goals as goal
 
 pub returns : goal.returns
@@ -17,7 +17,8 @@ returns c at last =
     let here : none_alike x at.after ≡ c.args.is_last = sym (ap (λ (y : Entry). none_alike y at.after) c.in-Submitted.is) ∙ last in
     let mine = c.eq-mine.ensures in
     let mine' = mine ∙ last-row (user_named r e.maker) in
-    let by = rw (c.standing-by.ensures, c.is_accepted-accepted.ensures ∙ last-row _) at c.shows_maker.ensures in
+    let shown = c.shows_author.ensures ∙ author-shown c.standing-by.result c.is_accepted-accepted.result in
+    let by = rw (c.standing-by.ensures, c.is_accepted-accepted.ensures ∙ last-row _) at shown in
     let title = rw (c.standing-by.ensures, c.is_accepted-accepted.ensures, mine', ← here) at c.shows_title.ensures in
     let abstract = rw (c.standing-by.ensures, c.is_accepted-accepted.ensures, mine', ← here) at c.shows_abstract.ensures in
     let made = part-shown _ _ _ _ c.then_some-sighting-inside.ensures by in

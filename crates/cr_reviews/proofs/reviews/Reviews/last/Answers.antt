@@ -6,4 +6,4 @@ use Rattle.cr_reviews.proofs.UnderLaws.{last-found}
 use Rattle.cr_reviews.proofs.reviews.Reviews.last.Goals as goal
 
 pub returns : goal.returns
-returns c = c.last_under.ensures ∙ last-found (λ (x : Filed WrittenForm). x.value) (is_under c.args.ordinal) c.forms.result.now _ c.forms.ensures
+returns c = c.last_of.ensures ∙ last-found (λ (x : Filed WrittenForm). x.value) (is_under c.args.ordinal) c.forms.result.now _ c.forms.ensures

@@ -8,6 +8,6 @@ use Rattle.cr_reviews.proofs.reviews.Reviews.last_since.Goals as goal
 
 pub returns : goal.returns
 returns c =
-    c.last_since.ensures
+    c.last_of.ensures
     ∙ last-both (λ (x : Filed WrittenForm). x.value) (is_under c.args.ordinal) (λ (w : WrittenForm). is_from c.args.phase w.phase)
     c.forms.result.now _ c.forms.ensures
