@@ -248,7 +248,7 @@ def by_computing(rows):
         return len(rows)
     with concurrent.futures.ProcessPoolExecutor(int(os.environ.get("JOBS", os.cpu_count() or 1))) as pool:
         for row, false in zip(rows, pool.map(computed, rows)):
-            as_due = set(false) == due(row) if due(row) else bool(false)
+            as_due = set(false) == due(row) if due(row) or row.told.get("refused by") else bool(false)
             wrong += not as_due
             print(f"{row.name}: {'' if as_due else 'NOT AS DUE: '}false {' '.join(sorted(false)) or 'none'}; {false}", flush=True)
     return wrong
