@@ -4,6 +4,7 @@
 
 mod book;
 mod bulks;
+mod empty;
 mod judging;
 mod kinds;
 mod laws;
@@ -16,5 +17,6 @@ mod rows;
 pub use book::{Book, BookError, BulkError};
 pub use cr_sights::ViewError;
 pub use cr_view::AnswerError;
+pub use empty::empty_book;
 pub use laws::law_standing_by_tables;
 pub use opening::OpenError;

@@ -1,6 +1,6 @@
 -- One piece after another, where there is room.
 use Rattle.std.proofs.Common.{ℕ, ◌+◌, ◌≤◌, List, ◌++◌, append_assoc, arith, ◌∙◌, ap}
-use Rattle.cr_print.specs.Put.{Bytes, Puts}
+use Rattle.cr_json.specs.Put.{Bytes, Puts}
 
 infixl 10 ◌then◌
 pub ◌then◌ : {a b c : Bytes} {t u : List ℕ} {n m : ℕ} → Puts a b t n → Puts b c u m → Puts a c (t ++ u) (n + m)

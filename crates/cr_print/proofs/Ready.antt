@@ -4,7 +4,7 @@ use Rattle.std.specs.Fmt.{digits}
 use Rattle.json.specs.Print.{escape_byte}
 use Rattle.cr_print.specs.Status.{code_of, phrase_of}
 use Rattle.cr_print.specs.Head.{status_line, extra_line, media_type_name, type_line, length_line, close_line}
-use Rattle.cr_print.specs.Json.{comma, key_text, member_text, object_text}
+use Rattle.cr_json.specs.Json.{comma, key_text, member_text, object_text}
 use Rattle.cr_print.specs.Refused.{refused_name, refused_status, extra_of, further_members, refusal_members, refusal_content}
 use Rattle.cr_print.specs.Answers.{refusal_text, no_memory_text}
 

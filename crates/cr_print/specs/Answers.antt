@@ -25,11 +25,11 @@ use Rattle.cr_print.specs.Head.{head_text}
 use Rattle.cr_print.specs.Refused.{refused_status, extra_of, refusal_content}
 use Rattle.cr_print.specs.Receipt.{receipt_status, receipt_content}
 use Rattle.cr_print.specs.Conference.{conference_content}
-use Rattle.cr_print.specs.Json.{list_alone}
-use Rattle.cr_print.specs.Accounts.{account_text}
-use Rattle.cr_print.specs.Accepted.{accepted_text}
-use Rattle.cr_print.specs.Reviews.{review_text}
-use Rattle.cr_print.specs.Comments.{comment_text}
+use Rattle.cr_json.specs.Json.{list_alone}
+use Rattle.cr_json.specs.Accounts.{account_text}
+use Rattle.cr_json.specs.Accepted.{accepted_text}
+use Rattle.cr_json.specs.Reviews.{review_text}
+use Rattle.cr_json.specs.Comments.{comment_text}
 use Rattle.cr_print.specs.Found.{found_content, count_content}
 use Rattle.cr_print.specs.Page.{page_content}
 use Rattle.cr_print.specs.Me.{me_content}

@@ -3,7 +3,7 @@ use Rattle.std.specs.Prelude.{ℕ, List, ◌++◌, Some, codes, decimal}
 use Rattle.json.specs.Print.{quoted}
 use Rattle.cr_base.specs.Words.{mode_name, phase_name}
 use Rattle.cr_base.specs.declared.reply.Conference.{Conference}
-use Rattle.cr_print.specs.Json.{Member, member_of, object_text}
+use Rattle.cr_json.specs.Json.{Member, member_of, object_text}
 
 -- its keys in the order of their bytes
 unfoldable pub conference_members : Conference → List Member

@@ -1,17 +1,8 @@
 -- The papers that a search finds, and how many they are.
 use Rattle.std.specs.Prelude.{ℕ, List, ◌++◌, Some, codes, decimal, length, map}
-use Rattle.json.specs.Print.{quoted}
 use Rattle.cr_base.specs.declared.found.FoundPaper.{FoundPaper}
-use Rattle.cr_print.specs.Json.{Member, array_text, member_of, object_text}
-
--- the keys of a paper that was found in the order of their bytes
-unfoldable pub found_paper_members : FoundPaper → List Member
-found_paper_members paper =
-    member_of (codes "paper") (Some (decimal paper.paper))
-    ++ member_of (codes "title") (Some (quoted paper.title))
-
-abbrev pub found_paper_text : FoundPaper → List ℕ
-found_paper_text paper = object_text (found_paper_members paper)
+use Rattle.cr_json.specs.Found.{found_paper_text}
+use Rattle.cr_json.specs.Json.{Member, array_text, member_of, object_text}
 
 -- the keys of the answer in the order of their bytes
 unfoldable pub found_members : List FoundPaper → List Member

@@ -1,15 +1,9 @@
-pub mod Put
+pub mod Prints
 pub mod Status
 pub mod Head
 pub mod Refused
 pub mod Receipt
 pub mod Conference
-pub mod Json
-pub mod Accounts
-pub mod Accepted
-pub mod Reviewers
-pub mod Reviews
-pub mod Comments
 pub mod Found
 pub mod Page
 pub mod Me

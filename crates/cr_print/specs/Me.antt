@@ -3,7 +3,7 @@ use Rattle.std.specs.Prelude.{ℕ, List, ◌++◌, Some, codes, decimal}
 use Rattle.json.specs.Print.{quoted}
 use Rattle.cr_base.specs.Words.{role_name}
 use Rattle.cr_base.specs.declared.me.Me.{Me}
-use Rattle.cr_print.specs.Json.{Member, member_of, numbers_text, object_text}
+use Rattle.cr_json.specs.Json.{Member, member_of, numbers_text, object_text}
 
 -- the keys in the order of their bytes
 unfoldable pub me_members : Me → List Member

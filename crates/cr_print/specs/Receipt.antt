@@ -6,7 +6,7 @@ use Rattle.cr_base.specs.declared.reply.Receipt.{Receipt}
 use Rattle.cr_base.specs.declared.reply.Receipt.TheVariants.{User, Phase, Paper, Named, Mode, Changed, Version, Bid, Label, Comment, Rows}
 use Rattle.cr_print.specs.declared.status.Status.{Status}
 use Rattle.cr_print.specs.declared.status.Status.TheVariants.{Okay, Created}
-use Rattle.cr_print.specs.Json.{Member, bid_text, label_text, member_of, object_text}
+use Rattle.cr_json.specs.Json.{Member, bid_text, label_text, member_of, object_text}
 
 unfoldable pub receipt_status : Receipt → Status
 receipt_status (User user) = Created

@@ -14,7 +14,7 @@ use Rattle.cr_print.specs.declared.head.Extra.{Extra}
 use Rattle.cr_print.specs.declared.head.Extra.TheVariants.{Nothing, Challenge, Allow}
 use Rattle.cr_print.specs.declared.status.Status.{Status}
 use Rattle.cr_print.specs.declared.status.Status.TheVariants as statuses
-use Rattle.cr_print.specs.Json.{Member, member_of, object_text}
+use Rattle.cr_json.specs.Json.{Member, member_of, object_text}
 
 unfoldable pub closing_name : Refusal → List ℕ
 closing_name HeadTooLarge = codes "head_too_large"

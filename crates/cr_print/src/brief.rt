@@ -1,6 +1,6 @@
 //! Answers whose content is brief, written without memory.
 ghost use Rattle.std.specs.Prelude.{◌≡◌, ◌+◌, ◌≤◌, ◌++◌, length, take, drop, vec_len, vec_capacity};
-ghost use Rattle.cr_print.specs.Put.{HasRoom, Puts};
+ghost use Rattle.cr_json.specs.Put.{HasRoom, Puts};
 ghost use Rattle.cr_print.specs.Answers.{answer_text, unless_head};
 
 use crate::form::Form;

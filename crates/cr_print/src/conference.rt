@@ -1,14 +1,14 @@
 //! What everyone may know of the conference, which is written without memory.
-ghost use Rattle.cr_print.specs.Put.{Appends, HasRoom, Puts, Takes};
+ghost use Rattle.cr_json.specs.Put.{Appends, HasRoom, Puts, Takes};
 ghost use Rattle.cr_print.specs.Conference.{conference_content};
 ghost use Rattle.cr_print.specs.Answers.{conference_text};
 
 use crate::brief::print_brief;
 use crate::form::Form;
 use crate::head::{Extra, json};
-use crate::object::Object;
 use crate::status::Status;
 use cr_base::Conference;
+use cr_json::Object;
 use std::alloc::AllocError;
 
 fn append_conference(into: &mut Vec<u8>, conference: Conference) -> Result<(), AllocError>

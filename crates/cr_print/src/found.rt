@@ -1,30 +1,15 @@
 //! The papers that a search finds, and how many they are.
-ghost use Rattle.cr_print.specs.Put.{Appends, HasRoom, Puts, Takes};
+ghost use Rattle.cr_json.specs.Put.{Appends, HasRoom, Puts, Takes};
 ghost use Rattle.cr_print.specs.Found.{count_content, found_content};
 ghost use Rattle.cr_print.specs.Answers.{count_text};
 
 use crate::brief::print_brief;
 use crate::form::Form;
 use crate::head::{Extra, json};
-use crate::object::Object;
 use crate::status::Status;
-use crate::value::Value;
-use cr_base::{FoundPaper, FoundPapers};
+use cr_base::FoundPapers;
+use cr_json::Object;
 use std::alloc::AllocError;
-
-/// A paper that a search finds.
-impl Value for FoundPaper {
-    ghost use Rattle.cr_print.specs.Found.{found_paper_text};
-
-    ghost text = { found_paper_text };
-
-    fn append_to(&self, into: &mut Vec<u8>) -> Result<(), AllocError> {
-        let mut object = Object::open(into)?;
-        object.number(into, "paper", self.paper.number())?;
-        object.string(into, "title", self.title.as_str().as_bytes())?;
-        object.close(into)
-    }
-}
 
 /// Appends the content that tells which papers were found, and how many they are.
 pub(crate) fn append_found(into: &mut Vec<u8>, papers: &FoundPapers) -> Result<(), AllocError>

@@ -1,6 +1,6 @@
 //! The head of an answer: the status line and the fields (RFC 9112, sections 4 and 5).
 ghost use Rattle.std.specs.Prelude.{◌≡◌, ◌≤◌, length};
-ghost use Rattle.cr_print.specs.Put.{HasRoom, Puts};
+ghost use Rattle.cr_json.specs.Put.{HasRoom, Puts};
 ghost use Rattle.cr_print.specs.Answers.{json_head};
 ghost use Rattle.cr_print.specs.Head.{media_type_name, status_line, extra_line, type_line, length_line, close_line, head_text};
 

@@ -1,9 +1,9 @@
 //! What a user is told of herself.
-ghost use Rattle.cr_print.specs.Put.{Appends};
+ghost use Rattle.cr_json.specs.Put.{Appends};
 ghost use Rattle.cr_print.specs.Me.{me_content};
 
-use crate::object::Object;
 use cr_base::Me;
+use cr_json::Object;
 use std::alloc::AllocError;
 
 /// Appends the content that tells a user of herself.

@@ -1,9 +1,9 @@
 //! A paper's page.
-ghost use Rattle.cr_print.specs.Put.{Appends};
+ghost use Rattle.cr_json.specs.Put.{Appends};
 ghost use Rattle.cr_print.specs.Page.{page_content};
 
-use crate::object::Object;
 use cr_base::Page;
+use cr_json::Object;
 use std::alloc::AllocError;
 
 /// Bytes that suffice for a page beside its texts, mostly.

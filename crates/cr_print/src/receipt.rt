@@ -1,17 +1,17 @@
 //! Receipts, which are written without memory.
 ghost use Rattle.std.specs.Prelude.{◌≡◌};
 ghost use Rattle.cr_base.specs.declared.reply.Receipt.TheVariants as receipts;
-ghost use Rattle.cr_print.specs.Put.{Appends, HasRoom, Puts, Takes};
-ghost use Rattle.cr_print.specs.Json.{AddsMembers};
+ghost use Rattle.cr_json.specs.Put.{Appends, HasRoom, Puts, Takes};
+ghost use Rattle.cr_json.specs.Json.{AddsMembers};
 ghost use Rattle.cr_print.specs.Receipt.{receipt_status, receipt_members, receipt_content};
 ghost use Rattle.cr_print.specs.Answers.{receipt_text};
 
 use crate::brief::print_brief;
 use crate::form::Form;
 use crate::head::{Extra, json};
-use crate::object::Object;
 use crate::status::Status;
 use cr_base::{Receipt, Role, Short};
+use cr_json::Object;
 use std::alloc::AllocError;
 
 #[tactic(auto, unfolding(crate::specs::Receipt::receipt_status))]

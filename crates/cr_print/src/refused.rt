@@ -1,7 +1,7 @@
 //! Refusals, which are written without memory.
 ghost use Rattle.std.specs.Prelude.{◌≡◌, ◌≤◌, length};
-ghost use Rattle.cr_print.specs.Put.{Appends, HasRoom, Puts, Takes};
-ghost use Rattle.cr_print.specs.Json.{AddsMembers};
+ghost use Rattle.cr_json.specs.Put.{Appends, HasRoom, Puts, Takes};
+ghost use Rattle.cr_json.specs.Json.{AddsMembers};
 ghost use Rattle.cr_print.specs.Refused.{closing_name, rule_name, refused_name, closing_status, rule_status, refused_status, extra_of, further_members, refusal_content};
 ghost use Rattle.cr_print.specs.Answers.{refusal_text};
 ghost use Rattle.cr_print.specs.declared.refused.Refused.TheVariants as refused;
@@ -9,10 +9,10 @@ ghost use Rattle.cr_print.specs.declared.refused.Refused.TheVariants as refused;
 use crate::brief::print_brief;
 use crate::form::Form;
 use crate::head::{Extra, json};
-use crate::object::Object;
 use crate::status::Status;
 use cr_base::Rule;
 use cr_http::Refusal;
+use cr_json::Object;
 use cr_routes::Place;
 use std::alloc::AllocError;
 

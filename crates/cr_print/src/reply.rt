@@ -1,6 +1,7 @@
 //! Replies.
 ghost use Rattle.std.specs.Prelude.{◌≡◌, OnErr, map};
-ghost use Rattle.cr_print.specs.Put.{HasRoom, Prints, Puts};
+ghost use Rattle.cr_json.specs.Put.{HasRoom, Puts};
+ghost use Rattle.cr_print.specs.Prints.{Prints};
 ghost use Rattle.cr_print.specs.Answers.{bytes_head, content_front, text_head, report_front, served_text, list_text, papers_text, found_text, page_text, me_text, front_text, block_text, IsBrief};
 
 use crate::brief::ANSWER_ROOM;
@@ -9,14 +10,13 @@ use crate::form::Form;
 use crate::found::{append_found, print_count};
 use crate::head::{AnswerHead, Extra, HEAD_ROOM, MediaType, json, print_head};
 use crate::me::append_me;
-use crate::object::append_list_alone;
 use crate::page::{append_page, page_room};
 use crate::put::put;
 use crate::receipt::print_receipt;
 use crate::refused::{Refused, print_refusal};
 use crate::status::Status;
-use crate::value::Value;
 use cr_base::{AcceptedPapers, FoundPapers, Me, Page, Reply};
+use cr_json::{Value, append_list_alone};
 use std::alloc::AllocError;
 
 /// Appends the answer that has this content, whatever its length.

@@ -6,7 +6,7 @@ ghost use Rattle.cr_policy.specs.Judge.{judge, judge_bulk, needs_login};
 ghost use Rattle.cr_policy.specs.Legal.{IsAllowed, IsBulkAllowed, MayAsk};
 ghost use Rattle.cr_policy.specs.View.{view};
 ghost use Rattle.cr_base.specs.Sources.{maker_of};
-ghost use Rattle.cr_print.specs.Put.{HasRoom};
+ghost use Rattle.cr_json.specs.Put.{HasRoom};
 ghost use Rattle.cr_wire.specs.Bounds.{IsBoundedWhat};
 ghost use Rattle.cr_wire.specs.Caller.{caller};
 ghost use Rattle.cr_session.specs.Replay.{Ledger, ledger_of};

@@ -14,7 +14,7 @@ use Rattle.cr_base.specs.Rows.{kind_name}
 use Rattle.cr_base.specs.Words.{mode_name, phase_name, role_name}
 use Rattle.cr_policy.specs.Sighting.{Sighting}
 use Rattle.cr_policy.specs.View.{View}
-use Rattle.cr_print.specs.Json.{Member, bid_text, decision_text, member_of, object_text, seat_text, truth_text}
+use Rattle.cr_json.specs.Json.{Member, bid_text, decision_text, member_of, object_text, seat_text, truth_text}
 
 -- ---- the values of members, where names and texts are strings and numbers decimal
 

@@ -2,15 +2,15 @@
 ghost use Rattle.std.specs.Prelude.{◌≡◌, OnOk};
 ghost use Rattle.std.specs.Option.{option_copied};
 ghost use Rattle.cr_base.specs.Lists.{listed};
-ghost use Rattle.cr_print.specs.Json.{AddsMembers};
-ghost use Rattle.cr_print.specs.Put.{Appends};
+ghost use Rattle.cr_json.specs.Json.{AddsMembers};
+ghost use Rattle.cr_json.specs.Put.{Appends};
 ghost use Rattle.cr_sights.specs.Lines.{by_told, line_text, lines_text, user_told, writer_told};
 ghost use Rattle.cr_sights.specs.Lines.{first_members, second_members, third_members, fourth_members, last_members};
 
 use crate::members::add;
 use crate::sighting::Sighting;
 use cr_base::{EntryKind, UserNo};
-use cr_print::Object;
+use cr_json::Object;
 use std::alloc::AllocError;
 
 /// The user whom an entry is about; of a bid that is who made it.

@@ -3,13 +3,13 @@ ghost use Rattle.std.specs.Prelude.{◌≡◌, List, ℕ, Some, decimal, option_
 ghost use Rattle.std.specs.Option.{option_copied};
 ghost use Rattle.hex.specs.Hex.{encode_lower};
 ghost use Rattle.json.specs.Print.{quoted};
-ghost use Rattle.cr_print.specs.Json.{AddsMembers, bid_text, decision_text, member_of, seat_text};
+ghost use Rattle.cr_json.specs.Json.{AddsMembers, bid_text, decision_text, member_of, seat_text};
 ghost use Rattle.cr_sights.specs.Lines.{content_text, digest_text, mode_text, phase_text, role_text};
 
 use cr_base::{
     Bid, Blob, Decision, Digest, Grade, Kind, Mode, PaperNo, Phase, Role, Short, Tag, Text, UserNo,
 };
-use cr_print::Object;
+use cr_json::Object;
 use std::alloc::AllocError;
 
 /// A part of an entry, as a line tells it.

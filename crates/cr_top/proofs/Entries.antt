@@ -2,10 +2,11 @@
 use Rattle.std.proofs.Common.{ℕ, List, [], ◌++◌, Result, Ok, Err}
 use Rattle.std.specs.Prelude.{codes, decimal, is_ok, true, false, OnOk, OnErr}
 use Rattle.std.specs.Result.{IsErr}
+use Rattle.cr_drill.specs.Drill.{entries_line}
 use Rattle.cr_ports.specs.Writing.{Outlet, Writes, BreaksOff}
 use Rattle.cr_ports.specs.declared.writing.WriteFault.{WriteFault}
 use Rattle.cr_ports.proofs.WritingLaws.{breaks_later, breaks_sooner, writes-append}
-use Rattle.cr_top.specs.Serves.{entries_line, TellsEntries}
+use Rattle.cr_top.specs.Serves.{TellsEntries}
 
 -- ---- the line
 

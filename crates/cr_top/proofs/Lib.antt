@@ -6,7 +6,3 @@ mod Doors
 mod Lost
 mod Gated
 mod Named
-mod DrillCast
-mod DrillConference
-mod DrillCommands
-mod DrillText

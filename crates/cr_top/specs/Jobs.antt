@@ -10,8 +10,7 @@ use Rattle.cr_words.specs.Job.{NamedJob, pipe_job, serve_job, view_job, drill_jo
 use Rattle.cr_workers.specs.Connections.{Streams}
 use Rattle.cr_top.specs.declared.exit.Exit.{Exit}
 use Rattle.cr_top.specs.declared.exit.Exit.TheVariants as exits
-use Rattle.cr_top.specs.Drill.{TellsDrill}
-use Rattle.cr_top.specs.Runs.{Outside, outside_of, ServesPipe, IsFaultless, AnswersAll}
+use Rattle.cr_top.specs.Runs.{Outside, outside_of, ServesPipe, TellsDrill, IsFaultless, AnswersAll}
 use Rattle.cr_top.specs.Serves.{GatesState, gates_of, ServesGates}
 use Rattle.cr_top.specs.Stores.{Files, ShelfState, state_of, PipesStore, TellsStore, AnswersView}
 

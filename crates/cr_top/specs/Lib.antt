@@ -5,8 +5,4 @@ pub mod Replayed
 pub mod Runs
 pub mod Stores
 pub mod Serves
-pub mod Dice
-pub mod Cast
-pub mod Drill
-pub mod Drilling
 pub mod Jobs

@@ -6,6 +6,7 @@ use Rattle.cr_base.specs.History.{History}
 use Rattle.cr_ports.specs.Count.{Rises}
 use Rattle.cr_policy.specs.Legal.{Legal}
 use Rattle.cr_book.specs.Sound.{IsKept}
+use Rattle.cr_drill.specs.Drill.{drilled, summary}
 use Rattle.cr_http.specs.Requests.{End}
 use Rattle.cr_words.specs.Usage.{usage}
 use Rattle.cr_wire.specs.declared.what.Wish.{Wish}
@@ -63,6 +64,13 @@ pub record TellsUsage {I : Type 0} (exit : Exit) (o o' : Outside I) : Type 0 whe
   pub no_read : o'.read_faults ≡ o.read_faults
   pub written : ((exit ≡ exits.Usage) × Writes usage o.output o'.output)
       ⊎ ((exit ≡ exits.WriteFault) × BreaksOff [] usage o.output o'.output)
+
+-- the summary of a drill was written, or its write broke off; nothing was written, for want of memory
+abbrev pub TellsDrill : ℕ → ℕ → Exit → Outlet → Outlet → Type 0
+TellsDrill seed steps exits.Done o o' = Writes (summary steps (drilled seed steps)) o o'
+TellsDrill seed steps exits.WriteFault o o' = BreaksOff [] (summary steps (drilled seed steps)) o o'
+TellsDrill seed steps exits.OutOfMemory o o' = o' ≡ o
+TellsDrill seed steps _ o o' = ⊥
 
 -- ---- nothing fails
 

@@ -1,11 +1,12 @@
 -- What a run does that serves many connections over a store.
-use Rattle.std.specs.Prelude.{◌≡◌, ◌≢◌, ◌≤◌, ◌⊎◌, ℕ, ◌+◌, List, [], ◌∷◌, ◌++◌, codes, decimal, length, map, Bool, true, false}
+use Rattle.std.specs.Prelude.{◌≡◌, ◌≢◌, ◌≤◌, ◌⊎◌, ℕ, ◌+◌, List, [], ◌∷◌, ◌++◌, length, map, Bool, true, false}
 use Rattle.std.specs.Prelude.{Option, Some, IfSome}
 use Rattle.cr_base.specs.declared.entry.Stamped.{Stamped}
 use Rattle.cr_base.specs.declared.row.Row.{Row}
 use Rattle.cr_base.specs.History.{History}
 use Rattle.cr_base.specs.Lists.{listed}
 use Rattle.cr_base.specs.Rows.{rows_of}
+use Rattle.cr_drill.specs.Drill.{entries_line}
 use Rattle.cr_lock.specs.Counts.{Every, total}
 use Rattle.cr_ports.specs.Count.{Gains, Rises}
 use Rattle.cr_ports.specs.Doors.{DoorLog, shares, unasked}
@@ -32,11 +33,7 @@ pub record GatesState (I O : Type 0) : Type 0 where
 abbrev pub gates_of : {G I O : Type 0} → (G → ℕ) → (G → Option (List (DoorLog I O))) → G → GatesState I O
 gates_of faults logs gates = record { faults = faults gates; logs = logs gates }
 
--- the line at the end
-unfoldable pub entries_line : ℕ → List ℕ
-entries_line entries = codes "entries " ++ decimal entries ++ codes "\n"
-
--- the line was written, or its write broke off
+-- the line at the end was written, or its write broke off
 abbrev pub TellsEntries : Bool → ℕ → Outlet → Outlet → Type 0
 TellsEntries true entries o o' = Writes (entries_line entries) o o'
 TellsEntries false entries o o' = BreaksOff [] (entries_line entries) o o'

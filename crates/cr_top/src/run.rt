@@ -1,5 +1,5 @@
 //! What the program does with its words.
-ghost use Rattle.std.specs.Prelude.{◌≡◌, ◌≢◌, ◌⊎◌, ℕ, List, [], Some, IfSome};
+ghost use Rattle.std.specs.Prelude.{◌≡◌, ◌≢◌, ◌⊎◌, ℕ, List, [], Some};
 ghost use Rattle.cr_ports.specs.Writing.{BreaksOff, Writes, outlet_of};
 ghost use Rattle.cr_words.specs.Job.{NamedJob, IsInRange, job_seen};
 ghost use Rattle.cr_workers.specs.Connections.{streams_of};
@@ -8,14 +8,14 @@ ghost use Rattle.cr_top.specs.Jobs.{AnswersJob, Does, IsCounted, IsUntouched, ar
 ghost use Rattle.cr_top.specs.Runs.{TellsUsage};
 ghost use Rattle.cr_top.specs.Words.{AreFor, AreRefused, PassTest};
 
-use crate::drilling::drill;
+use crate::drilled::drill;
 use crate::exit::{Exit, exit_of};
 use crate::piping::pipe;
 use crate::serve::{Address, serve_store};
 use crate::storing::pipe_store;
 use crate::viewing::view_store;
-use cr_book::Book;
-use cr_ports::{Gates, PlainKeeper, Shelf, Sink, Source, write_all};
+use cr_book::empty_book;
+use cr_ports::{Gates, Shelf, Sink, Source, write_all};
 use cr_words::{Job, WordsError, read_words, usage_text};
 use std::alloc::Global;
 use std::sync::Wait;
@@ -30,16 +30,6 @@ fn refuse_words<O: Sink>(out: &mut O) -> Exit
     match write_all(out, usage_text()) {
         Ok(()) => Exit::Usage,
         Err(_) => Exit::WriteFault,
-    }
-}
-
-/// A book without entries, whose rows stand in memory.
-pub(crate) fn empty_book(alloc: Global) -> Option<Book<PlainKeeper>>
-    ensures { IfSome result (λ book. book.log ≡ []) }
-{
-    match Book::open(alloc, PlainKeeper::new(alloc)) {
-        Ok(book) => Some(book),
-        Err(_) => None,
     }
 }
 

@@ -1,6 +1,6 @@
 use Rattle.cr_print.specs.Conference.{conference_members, conference_content}
-use Rattle.cr_print.specs.Json.{Added}
-use Rattle.cr_print.proofs.Objects.{◌then◌, closed}
+use Rattle.cr_json.specs.Json.{Added}
+use Rattle.cr_json.proofs.Objects.{◌then◌, closed}
 use Rattle.cr_print.proofs.conference.append_conference.Goals as goal
 
 pub returns-clause-text : goal.returns-clause-text

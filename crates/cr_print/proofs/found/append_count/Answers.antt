@@ -1,5 +1,5 @@
 use Rattle.cr_print.specs.Found.{count_members, count_content}
-use Rattle.cr_print.proofs.Objects.{closed}
+use Rattle.cr_json.proofs.Objects.{closed}
 use Rattle.cr_print.proofs.found.append_count.Goals as goal
 
 pub returns-clause-text : goal.returns-clause-text

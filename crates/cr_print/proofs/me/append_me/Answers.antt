@@ -1,6 +1,6 @@
-use Rattle.cr_print.specs.Json.{Added}
+use Rattle.cr_json.specs.Json.{Added}
 use Rattle.cr_print.specs.Me.{me_members, me_content}
-use Rattle.cr_print.proofs.Objects.{◌then◌, closed}
+use Rattle.cr_json.proofs.Objects.{◌then◌, closed}
 use Rattle.cr_print.proofs.me.append_me.Goals as goal
 
 pub returns : goal.returns

@@ -1,5 +1,5 @@
 use Rattle.cr_print.specs.Receipt.{receipt_members}
-use Rattle.cr_print.proofs.Objects.{◌then◌}
+use Rattle.cr_json.proofs.Objects.{◌then◌}
 use Rattle.cr_print.proofs.receipt.add_named.Goals as goal
 
 pub returns-clause-adds : goal.returns-clause-adds

@@ -1,4 +1,4 @@
-use Rattle.cr_print.proofs.Objects.{closed}
+use Rattle.cr_json.proofs.Objects.{closed}
 use Rattle.cr_print.proofs.receipt.append_receipt.Goals as goal
 
 pub returns-clause-text : goal.returns-clause-text

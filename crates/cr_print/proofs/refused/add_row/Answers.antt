@@ -1,5 +1,5 @@
 use Rattle.cr_print.specs.Refused.{further_members}
-use Rattle.cr_print.proofs.Objects.{◌then◌}
+use Rattle.cr_json.proofs.Objects.{◌then◌}
 use Rattle.cr_print.proofs.refused.add_row.Goals as goal
 
 pub returns-clause-adds : goal.returns-clause-adds

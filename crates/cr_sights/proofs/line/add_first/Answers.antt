@@ -1,4 +1,4 @@
-use Rattle.cr_print.proofs.Objects.{◌then◌}
+use Rattle.cr_json.proofs.Objects.{◌then◌}
 use Rattle.cr_sights.specs.Lines.{first_members}
 use Rattle.cr_sights.proofs.line.add_first.Goals as goal
 

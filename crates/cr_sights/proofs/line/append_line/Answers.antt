@@ -1,6 +1,6 @@
 use Rattle.std.proofs.Common.{◌≡◌, ◌∙◌, ◌++◌, ap, append_assoc, codes, Ok}
-use Rattle.cr_print.specs.Json.{object_text}
-use Rattle.cr_print.proofs.Objects.{◌then◌, closed}
+use Rattle.cr_json.specs.Json.{object_text}
+use Rattle.cr_json.proofs.Objects.{◌then◌, closed}
 use Rattle.cr_sights.specs.Lines.{sighting_members, line_text}
 use Rattle.cr_sights.proofs.line.append_line.Goals as goal
 

@@ -1,0 +1,4 @@
+mod DrillCast
+mod DrillConference
+mod DrillCommands
+mod DrillText

@@ -1,0 +1,103 @@
+-- Who takes part in a drill, and the commands that its steps make up.
+use Rattle.std.specs.Prelude.{ℕ, ◌+◌, ◌%◌, ◌==◌, Bool, true, false, List, [], ◌∷◌, ◌++◌, Some, codes, decimal, if◌then◌else◌}
+use Rattle.sha2.specs.Sha256.{sha256}
+use Rattle.cr_base.specs.declared.command.Command.{Command}
+use Rattle.cr_base.specs.declared.command.Command.TheVariants as commands
+use Rattle.cr_base.specs.declared.form.Form.{Form}
+use Rattle.cr_base.specs.declared.words.Decision.{Decision}
+use Rattle.cr_base.specs.declared.words.Decision.TheVariants.{Accept, Reject}
+use Rattle.cr_base.specs.declared.words.Kind.TheVariants as seats
+use Rattle.cr_base.specs.declared.words.Phase.{Phase}
+use Rattle.cr_base.specs.declared.words.Phase.TheVariants as phases
+use Rattle.cr_drill.specs.declared.dice.Roll.{Roll}
+use Rattle.cr_drill.specs.declared.drill_commands.Action.{Action}
+use Rattle.cr_drill.specs.declared.drill_commands.Action.TheVariants as actions
+
+-- ---- users
+
+-- the users of a drill by their numbers, in the order of their registration
+abbrev pub cast : List ℕ
+cast = 1 ∷ 2 ∷ 3 ∷ 4 ∷ 5 ∷ 6 ∷ 7 ∷ 8 ∷ []
+
+abbrev pub cast_size : ℕ
+cast_size = 8
+
+-- who names the others and moves the phase on, whom she names a chair, and how many members from which on
+abbrev pub first_chair : ℕ
+first_chair = 1
+
+abbrev pub second_chair : ℕ
+second_chair = 2
+
+abbrev pub first_member : ℕ
+first_member = 3
+
+abbrev pub member_count : ℕ
+member_count = 4
+
+-- a user's name, `u` and her number's digit; and the digest of her secret
+abbrev pub cast_name : ℕ → List ℕ
+cast_name user = 117 ∷ (48 + user) ∷ []
+
+unfoldable pub cast_digest : ℕ → List ℕ
+cast_digest user = sha256 (cast_name user ++ codes "-secret-000001")
+
+-- ---- actions
+
+-- the four from which a step in a phase draws
+abbrev pub one_of_four : {A : Type 0} → A → A → A → A → ℕ → A
+one_of_four a b c d n = if n == 0 then a else (if n == 1 then b else (if n == 2 then c else d))
+
+abbrev pub action_in : Phase → ℕ → Action
+action_in phases.Submission = one_of_four actions.Declare actions.Upload actions.Submit actions.Submit
+action_in phases.Bidding = one_of_four actions.Bid actions.Tag actions.Assign actions.Assign
+action_in phases.Reviewing = one_of_four actions.Assign actions.Unassign actions.Review actions.Review
+action_in _ = one_of_four actions.Comment actions.Review actions.Decide actions.Clear
+
+-- chairs assign, decide and clear; all else does the user drawn
+abbrev pub is_chairs : Action → Bool
+is_chairs actions.Assign = true
+is_chairs actions.Unassign = true
+is_chairs actions.Decide = true
+is_chairs actions.Clear = true
+is_chairs _ = false
+
+abbrev pub is_even : ℕ → Bool
+is_even n = n % 2 == 0
+
+-- the first chair where the user drawn has an even number, else the second
+abbrev pub chair_for : ℕ → ℕ
+chair_for user = if is_even user then first_chair else second_chair
+
+abbrev pub actor_of : Action → ℕ → ℕ
+actor_of action user = if is_chairs action then chair_for user else user
+
+-- ---- commands
+
+-- a submission's title, `T` and the number of its step
+abbrev pub step_title : ℕ → List ℕ
+step_title step = codes "T" ++ decimal step
+
+-- without an abstract and without co-authors
+abbrev pub submission_at : ℕ → Command
+submission_at step = commands.Submit (step_title step) [] []
+
+abbrev pub decision_of : ℕ → Decision
+decision_of n = if is_even n then Accept else Reject
+
+abbrev pub form_of : ℕ → Form
+form_of n = record { score = 1 + n % 5; confidence = 3; to_authors = codes "a"; to_pc = codes "b" }
+
+-- the command of an action, by the number of its step and what was drawn; a bid is kept plus 20
+abbrev pub command_of : Action → ℕ → Roll → Command
+command_of actions.Declare step roll = commands.SetConflict (Some roll.paper) (Some (cast_name roll.other)) true
+command_of actions.Clear step roll = commands.SetConflict (Some roll.paper) (Some (cast_name roll.other)) false
+command_of actions.Upload step roll = commands.Upload (Some roll.paper) (codes "x")
+command_of actions.Submit step roll = submission_at step
+command_of actions.Bid step roll = commands.Bid (Some roll.paper) (16 + roll.other)
+command_of actions.Tag step roll = commands.Tag (Some roll.paper) (codes "hot") true
+command_of actions.Assign step roll = commands.Assign (Some roll.paper) (Some (cast_name roll.other)) seats.Pc
+command_of actions.Unassign step roll = commands.Unassign (Some roll.paper) (Some (cast_name roll.other))
+command_of actions.Review step roll = commands.Review (Some roll.paper) (form_of roll.other)
+command_of actions.Comment step roll = commands.Comment (Some roll.paper) (codes "c")
+command_of actions.Decide step roll = commands.Decide (Some roll.paper) (decision_of roll.other)

@@ -1,0 +1,162 @@
+-- A drill: the history that Step gives for commands that are made up from a seed, and its summary (docs/API.md, the
+-- appendix).
+use Rattle.std.specs.Prelude.{ℕ, zero, suc, ◌+◌, ◌*◌, ◌/◌, ◌==◌, not, ◌&&◌, Bool, List, [], ◌∷◌, ◌++◌, Some, None, fold, length}
+use Rattle.std.specs.Prelude.{codes, decimal, is_ok, if◌then◌else◌}
+use Rattle.std.specs.List.{flat_map}
+use Rattle.cr_base.specs.declared.command.Command.{Command}
+use Rattle.cr_base.specs.declared.command.Command.TheVariants.{Register, Name, SetPhase}
+use Rattle.cr_base.specs.declared.entry.EntryKind.{EntryKind}
+use Rattle.cr_base.specs.declared.entry.EntryKind.TheVariants as kinds
+use Rattle.cr_base.specs.declared.words.Phase.{Phase}
+use Rattle.cr_base.specs.declared.words.Phase.TheVariants.{Submission, Bidding, Reviewing, Discussion, Notification, Closed}
+use Rattle.cr_base.specs.declared.words.Role.{Role}
+use Rattle.cr_base.specs.declared.words.Role.TheVariants.{Member, Chair}
+use Rattle.cr_base.specs.History.{History}
+use Rattle.cr_base.specs.HistoryFacts.{phase_of, papers_of}
+use Rattle.cr_base.specs.Phases.{is_from}
+use Rattle.cr_book.specs.Kinds.{count_of_kind}
+use Rattle.cr_policy.specs.Judge.{judge}
+use Rattle.cr_policy.specs.Legal.{Call, step}
+use Rattle.cr_policy.specs.View.{view}
+use Rattle.cr_drill.specs.Cast.{cast, cast_size, first_chair, second_chair, first_member, member_count, cast_name, cast_digest}
+use Rattle.cr_drill.specs.Cast.{action_in, actor_of, command_of}
+use Rattle.cr_drill.specs.Dice.{roll_of, after_roll}
+
+-- ---- calls
+
+-- a user's command, and nobody's
+abbrev pub call_by : ℕ → Command → Call
+call_by user command = record { caller = Some user; command = command }
+
+abbrev pub call_of_nobody : Command → Call
+call_of_nobody command = record { caller = None; command = command }
+
+-- Judge accepts the call
+abbrev pub is_accepted : History → Call → Bool
+is_accepted H call = is_ok (judge call.caller (view call.caller H) call.command)
+
+-- ---- phases
+
+-- those to which a conference moves on, in their order
+abbrev pub later_phases : List Phase
+later_phases = Submission ∷ Bidding ∷ Reviewing ∷ Discussion ∷ Notification ∷ Closed ∷ []
+
+-- the conference isn't in this phase yet, and moves on to it on its way to the one that is wanted
+abbrev pub is_on_way : Phase → History → Phase → Bool
+is_on_way wanted H phase = not (is_from phase (phase_of H)) && is_from phase wanted
+
+abbrev pub moved_on : Phase → History → Phase → History
+moved_on wanted H phase = if is_on_way wanted H phase then step H (call_by first_chair (SetPhase phase)) else H
+
+-- the first chair moves the conference on to the phase that is wanted
+abbrev pub moved_through : Phase → History → List Phase → History
+moved_through wanted H phases = fold (moved_on wanted) H phases
+
+unfoldable pub moved_to : Phase → History → History
+moved_to wanted H = moved_through wanted H later_phases
+
+-- ---- before the steps
+
+-- the first n users register, with digests by their numbers
+abbrev pub registered_first : (ℕ → List ℕ) → ℕ → History
+registered_first digest zero = []
+registered_first digest (suc n) =
+    step (registered_first digest n) (call_of_nobody (Register (cast_name (suc n)) (digest (suc n))))
+
+-- the first chair names a user
+abbrev pub named : Role → ℕ → History → History
+named role user H = step H (call_by first_chair (Name (Some (cast_name user)) role))
+
+-- she names the first n members
+abbrev pub members_named : ℕ → History → History
+members_named zero H = H
+members_named (suc n) H = named Member (first_member + n) (members_named n H)
+
+unfoldable pub all_registered : History
+all_registered = registered_first cast_digest cast_size
+
+unfoldable pub opened : History
+opened = moved_to Submission (members_named member_count (named Chair second_chair all_registered))
+
+-- ---- the steps
+
+-- what a drill has come to: what its generator holds, the history, and how many steps were accepted and refused
+pub record Drilled : Type 0 where
+  pub seed : ℕ
+  pub history : History
+  pub accepted : ℕ
+  pub refused : ℕ
+
+-- the four quarters of a drill are in four phases
+abbrev pub phase_in_quarter : ℕ → Phase
+phase_in_quarter n = if n == 0 then Submission else (if n == 1 then Bidding else (if n == 2 then Reviewing else Discussion))
+
+unfoldable pub phase_at : ℕ → ℕ → Phase
+phase_at steps s = phase_in_quarter (4 * s / steps)
+
+-- the call of step s in a phase, on this history, by what the generator holds
+abbrev pub call_at : Phase → ℕ → History → ℕ → Call
+call_at phase s H seed =
+    let roll = roll_of (length (papers_of H)) seed in
+    let action = action_in phase roll.action in
+    call_by (actor_of action roll.user) (command_of action s roll)
+
+abbrev pub asked : Drilled → Call → Drilled
+asked d call = record {
+  seed = after_roll d.seed;
+  history = step d.history call;
+  accepted = d.accepted + (if is_accepted d.history call then 1 else 0);
+  refused = d.refused + (if is_accepted d.history call then 0 else 1);
+}
+
+-- a step in a phase, on the history that has moved on to it
+abbrev pub stepped_in : Phase → ℕ → Drilled → Drilled
+stepped_in phase s d = let moved = record d { history = moved_to phase d.history } in asked moved (call_at phase s moved.history moved.seed)
+
+unfoldable pub stepped : ℕ → ℕ → Drilled → Drilled
+stepped steps s d = stepped_in (phase_at steps s) s d
+
+-- the first n of so many steps
+abbrev pub drilled_for : ℕ → ℕ → ℕ → Drilled
+drilled_for seed steps zero = record { seed = seed; history = opened; accepted = 0; refused = 0 }
+drilled_for seed steps (suc n) = stepped steps n (drilled_for seed steps n)
+
+-- all of them, behind which the conference is closed
+unfoldable pub drilled : ℕ → ℕ → Drilled
+drilled seed steps = let d = drilled_for seed steps steps in record d { history = moved_to Closed d.history }
+
+-- ---- the summary
+
+-- the kinds of entries in the order of their numbers
+abbrev pub every_kind : List EntryKind
+every_kind = kinds.Registered ∷ kinds.Named ∷ kinds.PhaseSet ∷ kinds.ModeSet ∷ kinds.Submitted ∷ kinds.Coauthor ∷ kinds.Revised
+    ∷ kinds.Uploaded ∷ kinds.Withdrawn ∷ kinds.Conflict ∷ kinds.Bid ∷ kinds.Assigned ∷ kinds.Unassigned ∷ kinds.Reviewed
+    ∷ kinds.Commented ∷ kinds.Tagged ∷ kinds.Decided ∷ []
+
+-- a word and a number behind it
+abbrev pub counted : List ℕ → ℕ → List ℕ
+counted word n = word ++ decimal n
+
+unfoldable pub steps_line : ℕ → ℕ → ℕ → List ℕ
+steps_line steps accepted refused = counted (codes "steps ") steps ++ counted (codes ", accepted ") accepted ++ counted (codes ", refused ") refused ++ codes "\n"
+
+-- how many entries there are, as the last line of `serve` tells too
+unfoldable pub entries_line : ℕ → List ℕ
+entries_line entries = codes "entries " ++ decimal entries ++ codes "\n"
+
+-- how many entries are of each kind
+abbrev pub kinds_text : History → List EntryKind → List ℕ
+kinds_text H kinds = flat_map (λ (kind : EntryKind). counted (codes " ") (count_of_kind kind H)) kinds
+
+unfoldable pub kinds_line : History → List ℕ
+kinds_line H = codes "kinds" ++ kinds_text H every_kind ++ codes "\n"
+
+-- how many sightings each user's view has
+abbrev pub views_text : History → List ℕ → List ℕ
+views_text H users = flat_map (λ (user : ℕ). counted (codes " ") (length (view (Some user) H))) users
+
+unfoldable pub views_line : History → List ℕ
+views_line H = codes "views" ++ views_text H cast ++ codes "\n"
+
+unfoldable pub summary : ℕ → Drilled → List ℕ
+summary steps d = steps_line steps d.accepted d.refused ++ entries_line (length d.history) ++ kinds_line d.history ++ views_line d.history

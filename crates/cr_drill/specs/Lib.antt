@@ -1,0 +1,4 @@
+pub mod Dice
+pub mod Cast
+pub mod Drill
+pub mod Drilling

@@ -1,0 +1,8 @@
+pub mod Put
+pub mod Json
+pub mod Accounts
+pub mod Accepted
+pub mod Reviewers
+pub mod Reviews
+pub mod Comments
+pub mod Found
