@@ -3,12 +3,12 @@
 #![tactic(auto)]
 
 #[cfg(test)]
-mod book;
-#[cfg(test)]
 mod exits;
 #[cfg(test)]
 mod no_memory;
 #[cfg(test)]
 mod passes;
+#[cfg(test)]
+mod streams;
 #[cfg(test)]
 mod workers;

@@ -1,7 +1,8 @@
 //! Two workers at once.
 ghost use Rattle.std.specs.Prelude.{◌≡◌, ⊤, None, Some, true, false, is_some, IfOk, if◌then◌else◌};
 
-use crate::book::{GET_PHASE, new_book, sink, source};
+use crate::streams::{GET_PHASE, sink, source};
+use cr_book::empty_book;
 use cr_ports::{Door, MemSink, NextConnection, PlainSource, ReadStep, Sink, Source, WriteStep};
 use cr_workers::{Worked, serve_book};
 use std::alloc::{AllocError, Global};
@@ -13,8 +14,10 @@ use std::thread::Threads;
 /// How often a source that is held looks at most whether the other answer has gone.
 const LOOKS: u64 = 100_000_000;
 
-const PHASE: &str =
-    "HTTP/1.1 200 OK\r\nContent-Type: application/json\r\nContent-Length: 43\r\n\r\n{\"mode\":\"blind\",\"papers\":0,\"phase\":\"setup\"}";
+const PHASE: &str = concat!(
+    "HTTP/1.1 200 OK\r\nContent-Type: application/json\r\nContent-Length: 43\r\n\r\n",
+    "{\"mode\":\"blind\",\"papers\":0,\"phase\":\"setup\"}",
+);
 
 /// Whether the flag is set by the last of so many looks.
 fn is_set(flag: &AtomicBool, looks: u64) -> bool {
@@ -221,7 +224,7 @@ fn serve_two<R: Threads + Wait + Sync>(
     requires back { (first.is_out ≡ false) × (second.is_out ≡ false) }
 {
     let doors = vec![in alloc; first, second]?;
-    let book = new_book(alloc)?;
+    let book = empty_book(alloc).ok_or(AllocError)?;
     let (worked, book, doors) = serve_book(rt, alloc, book, doors);
     let _ = book.close();
     let answered = [is_answered(doors.first()), is_answered(doors.get(1))];

@@ -11,8 +11,8 @@ macro_rules! table_of_rows {
             "CREATE TABLE ",
             $name,
             " (place INTEGER PRIMARY KEY, kind INTEGER NOT NULL, maker INTEGER NOT NULL, more INTEGER NOT NULL,",
-            " n1 INTEGER NOT NULL, n2 INTEGER NOT NULL, n3 INTEGER NOT NULL, n4 INTEGER NOT NULL, n5 INTEGER NOT NULL,",
-            " b1 BLOB NOT NULL, b2 BLOB NOT NULL) STRICT"
+            " n1 INTEGER NOT NULL, n2 INTEGER NOT NULL, n3 INTEGER NOT NULL, n4 INTEGER NOT NULL,",
+            " n5 INTEGER NOT NULL, b1 BLOB NOT NULL, b2 BLOB NOT NULL) STRICT"
         )
     };
 }

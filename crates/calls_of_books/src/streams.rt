@@ -1,19 +1,10 @@
-//! What the tests of books begin with: a book without rows, sources and sinks.
+//! What the tests of books begin with: sources and sinks.
 
-use cr_book::Book;
-use cr_ports::{MemSink, PlainKeeper, PlainSource};
+use cr_ports::{MemSink, PlainSource};
 use std::alloc::{AllocError, Global};
 
 /// A request for the phase.
 pub(crate) const GET_PHASE: &str = "GET /phase HTTP/1.1\r\nHost: c\r\n\r\n";
-
-/// The book of a keeper without rows.
-pub(crate) fn new_book(alloc: Global) -> Result<Book<PlainKeeper>, AllocError> {
-    match Book::open(alloc, PlainKeeper::new(alloc)) {
-        Ok(book) => Ok(book),
-        Err(_) => Err(AllocError),
-    }
-}
 
 /// A source of this text.
 pub(crate) fn source(alloc: Global, text: &str) -> Result<PlainSource, AllocError> {
