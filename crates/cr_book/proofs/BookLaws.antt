@@ -1,7 +1,5 @@
 -- What stays true of a book when its history grows.
-use Rattle.std.proofs.Common.{ℕ, ◌≡◌, ◌≢◌, Bool, true, false, List, ◌++◌, refl, sym, ap, subst, ◌∙◌, length, Option, Some, None, Result, Ok, IfSome, IsSome, IsOk, OnErr, Err}
-use Rattle.std.specs.Result.{IsErrAnd}
-use Rattle.std.proofs.lemmas.Result.{err_from_is_err_and}
+use Rattle.std.proofs.Common.{ℕ, ◌≡◌, ◌≢◌, Bool, true, false, List, ◌++◌, refl, sym, ap, subst, ◌∙◌, length, Option, Some, None, Result, Ok, IfSome, IsSome, IsOk, Err}
 use Rattle.cr_base.specs.declared.command.Command.{Command}
 use Rattle.cr_base.specs.declared.bulk.Broken.{Broken}
 use Rattle.cr_base.specs.declared.bulk.BulkRow.{BulkRow}
@@ -29,12 +27,10 @@ use Rattle.cr_policy.specs.Legal.{Legal, MayAsk}
 use Rattle.cr_policy.proofs.LegalLaws.{Legal-judge, Legal-judge_bulk, Legal-answer, Legal-needs_login, Legal-number_of, Legal-caller_of}
 use Rattle.cr_history.specs.Invariants.{IsRegistered}
 use Rattle.cr_history.proofs.TableTies.{tables_of-append, rows_of-append}
-use Rattle.cr_ports.specs.declared.keeper.KeeperError.{KeeperError}
-use Rattle.cr_ports.specs.declared.keeper.KeeperError.TheVariants as refusals
 use Rattle.cr_ports.specs.Keeping.{and_rows}
 use Rattle.cr_view.specs.Callers.{HasAsker}
 use Rattle.cr_view.specs.Replies.{IsNoRefusal}
-use Rattle.cr_book.specs.Sound.{IsSound, of_keeper}
+use Rattle.cr_book.specs.Sound.{IsSound}
 
 -- it is no search and no report, which have crates of their own
 pub record IsOther (query : Query) : Type 0 where
@@ -111,39 +107,6 @@ drawn-ok judged drawn is = subst (λ (r : Result _ _). IsOk r) (sym is) refl
 
 pub drawn-no_error : {D E : Type 0} (judged : Result D E) (drawn : D) (error : E) → judged ≡ Ok drawn → judged ≡ Err error → ⊥
 drawn-no_error {D} {E} judged drawn error is told = let e : ◌≡◌ {A = Result D E} (Ok drawn) (Err error) = sym is ∙ told in cc (e)
-
--- ---- what was not kept
-
-err_is : {X E : Type 0} (x y : E) → ◌≡◌ {A = Result X E} (Err x) (Err y) → x ≡ y
-err_is x y e = cc (e)
-
--- where a result tells a keeper's error by one of two that differ
-module _ {T E : Type 0} (fault memory : E) (apart : memory ≡ fault → ⊥) (r : Result T E) (error : KeeperError)
-    (told : IsErrAnd r (λ (e : E). e ≡ of_keeper fault memory error)) where
-  is-told : r ≡ Err (of_keeper fault memory error)
-  is-told = let p = err_from_is_err_and r told in p.1 ∙ ap Err p.2
-
-  pub unkept-stays : {P : Type 0} → P → OnErr r P
-  unkept-stays {P} p = subst (λ (x : Result T E). OnErr x P) (sym is-told) p
-
-  -- it is no third one
-  pub unkept-other : (other : E) → (fault ≡ other → ⊥) → (memory ≡ other → ⊥) → r ≡ Err other → ⊥
-  unkept-other other no_fault no_memory is = by error (err_is (of_keeper fault memory error) other (sym is-told ∙ is))
-    where
-      by : (k : KeeperError) → of_keeper fault memory k ≡ other → ⊥
-      by refusals.Failed e = no_fault e
-      by refusals.OutOfMemory e = no_memory e
-
-  -- a fault is told where the keeper failed, and nowhere else
-  pub unkept-failed : {U : Type 0} → r ≡ Err fault → ◌≡◌ {A = Result U KeeperError} (Err error) (Err refusals.Failed)
-  unkept-failed is = ap Err (by error (err_is (of_keeper fault memory error) fault (sym is-told ∙ is)))
-    where
-      by : (k : KeeperError) → of_keeper fault memory k ≡ fault → k ≡ refusals.Failed
-      by refusals.Failed e = refl
-      by refusals.OutOfMemory e = absurd (apart e)
-
-  pub unkept-fault : {U : Type 0} → ◌≡◌ {A = Result U KeeperError} (Err error) (Err refusals.Failed) → r ≡ Err fault
-  unkept-fault is = is-told ∙ ap (λ (k : KeeperError). Err (of_keeper fault memory k)) (err_is error refusals.Failed is)
 
 -- ---- an accepted command
 

@@ -16,19 +16,14 @@ use Rattle.cr_book.specs.declared.opening.OpenError.TheVariants as errors
 use Rattle.cr_book.specs.declared.reading.ReadError.{ReadError}
 use Rattle.cr_book.specs.declared.reading.ReadError.TheVariants as refused
 use Rattle.cr_book.specs.Opening.{Continue, AreCutOff, IsBadAt, IsCounted, Explains, Opens}
-use Rattle.cr_book.specs.Reading.{IsRowRefused, IsCutStore, IsWholeStore, refusal}
+use Rattle.cr_book.specs.Reading.{IsRowRefused, IsCutStore, IsWholeStore, refusal, untold}
 use Rattle.cr_book.specs.Seen.{SeenBook}
-use Rattle.cr_book.specs.Sound.{of_keeper}
 use Rattle.cr_history.specs.Invariants.{IsWhole}
 use Rattle.cr_policy.specs.Legal.{Legal}
 use Rattle.cr_policy.proofs.LegalLaws.{Legal-whole}
 use Rattle.cr_book.proofs.OpeningLaws.{one_history}
 
 -- ---- errors that say nothing of rows
-
--- what a keeper's error comes to
-abbrev untold : KeeperError → OpenError
-untold error = of_keeper errors.KeeperFault errors.OutOfMemory error
 
 explains-untold : (rows : List Row) (error : KeeperError) → Explains rows (untold error)
 explains-untold rows refusals.Failed = tt

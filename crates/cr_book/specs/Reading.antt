@@ -6,6 +6,8 @@ use Rattle.cr_base.specs.History.{History}
 use Rattle.cr_base.specs.Rows.{rows_of}
 use Rattle.cr_base.specs.Tables.{Tables, tables_of}
 use Rattle.cr_policy.specs.Legal.{Legal}
+use Rattle.cr_ports.specs.declared.keeper.KeeperError.{KeeperError}
+use Rattle.cr_ports.specs.declared.keeper.KeeperError.TheVariants as failures
 use Rattle.cr_book.specs.declared.opening.OpenError.{OpenError}
 use Rattle.cr_book.specs.declared.opening.OpenError.TheVariants as refusals
 use Rattle.cr_book.specs.declared.reading.ReadError.{ReadError}
@@ -44,6 +46,11 @@ pub record IsGoing (log : History) (tables : Tables) (rows : List Row) (group : 
 abbrev pub IsRowRefused : List Row → Row → ReadError → Type 0
 IsRowRefused before row (errors.Bad found) = (found ≡ row) × Continue before × (Continue (before ++ row ∷ []) → ⊥)
 IsRowRefused before row errors.OutOfMemory = Unit {0}
+
+-- what a keeper's error comes to where it told no row
+abbrev pub untold : KeeperError → OpenError
+untold failures.Failed = refusals.KeeperFault
+untold failures.OutOfMemory = refusals.OutOfMemory
 
 -- what a row that is refused in its place comes to
 abbrev pub refusal : ℕ → ReadError → OpenError

@@ -11,8 +11,6 @@ use Rattle.cr_base.specs.Tables.{Tables, tables_of}
 use Rattle.cr_policy.specs.Judge.{judge, judge_bulk}
 use Rattle.cr_policy.specs.View.{view}
 use Rattle.cr_policy.specs.Legal.{Legal}
-use Rattle.cr_ports.specs.declared.keeper.KeeperError.{KeeperError}
-use Rattle.cr_ports.specs.declared.keeper.KeeperError.TheVariants as refusals
 
 -- KeptRows: the keeper's rows are those of the history, where it tells them
 abbrev pub IsKept : {K : Type 0} → (K → Option (List Row)) → K → History → Type 0
@@ -37,8 +35,3 @@ pub record AcceptsBulk (old new : History) (user : ℕ) (rows : List BulkRow) (r
   pub judged : judge_bulk user (view (Some user) old) rows ≡ Ok drawn
   pub receipt_is : receipt ≡ drawn.receipt
   pub added : new ≡ old ++ drawn.group
-
--- what a keeper's error comes to among errors of another kind: that the keeper failed, or that memory ran out
-abbrev pub of_keeper : {E : Type 0} → E → E → KeeperError → E
-of_keeper fault memory refusals.Failed = fault
-of_keeper fault memory refusals.OutOfMemory = memory

@@ -56,58 +56,15 @@ impl<K: Keeper> Model for Book<K> {
     ghost invariant = { λ b. IsSound K.rows b.log.items b.live.tables b.keeper };
 }
 
-/// Why a command was not taken.
+/// Why a command or a bulk was not taken. `B` tells what is broken: a `Rule` of a command, a `Broken` of a bulk.
 #[derive(Clone, Copy, Debug, PartialEq, Eq)]
-pub enum BookError {
-    /// The command breaks this rule.
-    Rule(Rule),
-    /// The keeper failed to keep what the command adds.
+pub enum BookError<B> {
+    /// This is broken.
+    Broken(B),
+    /// The keeper failed to keep what was to be added.
     KeeperFault,
     /// Out of memory.
     OutOfMemory,
-}
-
-/// What a keeper's error comes to, of a command.
-impl From<KeeperError> for BookError {
-    ghost use Rattle.std.specs.Prelude.{◌≡◌};
-    ghost use Rattle.cr_book.specs.Sound.{of_keeper};
-    ghost use Rattle.cr_book.specs.declared.book.BookError.TheVariants.{KeeperFault, OutOfMemory};
-
-    ghost from_gives = { λ error gives. gives ≡ of_keeper KeeperFault OutOfMemory error };
-
-    fn from(error: KeeperError) -> BookError {
-        match error {
-            KeeperError::Failed => BookError::KeeperFault,
-            KeeperError::OutOfMemory => BookError::OutOfMemory,
-        }
-    }
-}
-
-/// Why a bulk was not taken.
-#[derive(Clone, Copy, Debug, PartialEq, Eq)]
-pub enum BulkError {
-    /// The bulk breaks this rule as a whole, or a row of it breaks one.
-    Broken(Broken),
-    /// The keeper failed to keep what the bulk adds.
-    KeeperFault,
-    /// Out of memory.
-    OutOfMemory,
-}
-
-/// What a keeper's error comes to, of a bulk.
-impl From<KeeperError> for BulkError {
-    ghost use Rattle.std.specs.Prelude.{◌≡◌};
-    ghost use Rattle.cr_book.specs.Sound.{of_keeper};
-    ghost use Rattle.cr_book.specs.declared.book.BulkError.TheVariants.{KeeperFault, OutOfMemory};
-
-    ghost from_gives = { λ error gives. gives ≡ of_keeper KeeperFault OutOfMemory error };
-
-    fn from(error: KeeperError) -> BulkError {
-        match error {
-            KeeperError::Failed => BulkError::KeeperFault,
-            KeeperError::OutOfMemory => BulkError::OutOfMemory,
-        }
-    }
 }
 
 impl<K: Keeper> Book<K> {
@@ -167,17 +124,17 @@ impl<K: Keeper> Book<K> {
         &mut self,
         caller: &Option<UserNo>,
         command: Command,
-    ) -> Result<Receipt, BookError>
+    ) -> Result<Receipt, BookError<Rule>>
         requires { IsAllowed self.old.log (record { caller = caller.now; command = command }) }
 
         ensures accepted { IfOk result (λ receipt. Accepts self.old.log self.new.log caller.now command receipt) }
 
         // A rule is told exactly where Judge gives it, and then nothing changes.
         ensures rule { (rule : Rule) → judge caller.now (view caller.now self.old.log) command ≡ Err rule
-            → result ≡ Err (BookError.Rule rule) }
-        ensures only_rule { (rule : Rule) → result ≡ Err (BookError.Rule rule)
+            → result ≡ Err (BookError.Broken rule) }
+        ensures only_rule { (rule : Rule) → result ≡ Err (BookError.Broken rule)
             → judge caller.now (view caller.now self.old.log) command ≡ Err rule }
-        ensures rule_stays { (rule : Rule) → result ≡ Err (BookError.Rule rule) → self.new ≡ self.old }
+        ensures rule_stays { (rule : Rule) → result ≡ Err (BookError.Broken rule) → self.new ≡ self.old }
 
         // The other errors come only where Judge accepts the command.
         ensures memory { result ≡ Err BookError.OutOfMemory → IsOk (judge caller.now (view caller.now self.old.log) command) }
@@ -192,14 +149,16 @@ impl<K: Keeper> Book<K> {
     {
         let draw = match self.live.judge(caller, command) {
             Ok(draw) => draw,
-            Err(rule) => return Err(BookError::Rule(rule)),
+            Err(rule) => return Err(BookError::Broken(rule)),
         };
         let receipt = draw.receipt();
         let Ok(group) = draw.group(self.alloc) else {
             return Err(BookError::OutOfMemory);
         };
-        self.keep(group)?;
-        Ok(receipt)
+        match self.keep(group) {
+            Ok(()) => Ok(receipt),
+            Err(error) => Err(error),
+        }
     }
 
     /// Judges a bulk of this caller, each row behind those before it, and where no rule is broken, keeps the entries of all
@@ -212,66 +171,70 @@ impl<K: Keeper> Book<K> {
     ///
     /// Costs one judgement for each row, which walks over the entries of the rows before it, at most 511; the keeper is
     /// asked once.
-    pub fn bulk(&mut self, caller: UserNo, rows: BulkRows) -> Result<Receipt, BulkError>
+    pub fn bulk(&mut self, caller: UserNo, rows: BulkRows) -> Result<Receipt, BookError<Broken>>
         requires { IsBulkAllowed self.old.log (record { user = caller; rows = rows }) }
 
         ensures accepted { IfOk result (λ receipt. AcceptsBulk self.old.log self.new.log caller rows receipt) }
 
         // What is broken is told exactly where Judge gives it, and then nothing changes.
         ensures broken { (broken : Broken) → judge_bulk caller (view (Some caller) self.old.log) rows ≡ Err broken
-            → result ≡ Err (BulkError.Broken broken) }
-        ensures only_broken { (broken : Broken) → result ≡ Err (BulkError.Broken broken)
+            → result ≡ Err (BookError.Broken broken) }
+        ensures only_broken { (broken : Broken) → result ≡ Err (BookError.Broken broken)
             → judge_bulk caller (view (Some caller) self.old.log) rows ≡ Err broken }
-        ensures broken_stays { (broken : Broken) → result ≡ Err (BulkError.Broken broken) → self.new ≡ self.old }
+        ensures broken_stays { (broken : Broken) → result ≡ Err (BookError.Broken broken) → self.new ≡ self.old }
 
         // The other errors come only where Judge accepts the bulk.
-        ensures memory { result ≡ Err BulkError.OutOfMemory → IsOk (judge_bulk caller (view (Some caller) self.old.log) rows) }
-        ensures lost { result ≡ Err BulkError.KeeperFault → IsOk (judge_bulk caller (view (Some caller) self.old.log) rows) }
+        ensures memory { result ≡ Err BookError.OutOfMemory → IsOk (judge_bulk caller (view (Some caller) self.old.log) rows) }
+        ensures lost { result ≡ Err BookError.KeeperFault → IsOk (judge_bulk caller (view (Some caller) self.old.log) rows) }
 
         ensures log_stays { OnErr result (self.new.log ≡ self.old.log) }
         ensures rows_stay { OnErr result (K.rows self.new.keeper ≡ K.rows self.old.keeper) }
-        ensures fault { result ≡ Err BulkError.KeeperFault → Rises (K.faults self.old.keeper) (K.faults self.new.keeper) }
-        ensures steady { result ≢ Err BulkError.KeeperFault → K.faults self.new.keeper ≡ K.faults self.old.keeper }
+        ensures fault { result ≡ Err BookError.KeeperFault → Rises (K.faults self.old.keeper) (K.faults self.new.keeper) }
+        ensures steady { result ≢ Err BookError.KeeperFault → K.faults self.new.keeper ≡ K.faults self.old.keeper }
         ensures count { K.faults self.old.keeper ≤ K.faults self.new.keeper }
         ensures legal { Legal self.new.log }
     {
         let group = match judge_bulk(&self.live, caller, rows) {
             Ok(group) => group,
-            Err(broken) => return Err(BulkError::Broken(broken)),
+            Err(broken) => return Err(BookError::Broken(broken)),
         };
         let rows = group.len() as u64;
-        self.keep(group)?;
-        Ok(Receipt::Rows { rows })
+        match self.keep(group) {
+            Ok(()) => Ok(Receipt::Rows { rows }),
+            Err(error) => Err(error),
+        }
     }
 
     /// Takes the room for a group, keeps it and applies it: after the keeper has kept it nothing can fail. The texts are in the
-    /// entries, which the tables keep; rows and history share them.
-    fn keep(&mut self, group: Vec<Stamped>) -> Result<(), KeeperError>
+    /// entries, which the tables keep; rows and history share them. Nothing is judged, so nothing is told as broken.
+    fn keep<B>(&mut self, group: Vec<Stamped>) -> Result<(), BookError<B>>
         requires legal { Legal (self.old.log ++ group.items) }
         requires fits { FitInTurn (tables_of self.old.log) group.items }
         ensures kept { OnOk result (self.new.log ≡ self.old.log ++ group.items) }
+        ensures unbroken { (broken : B) → result ≢ Err (BookError.Broken broken) }
         ensures log_stays { OnErr result (self.new.log ≡ self.old.log) }
         ensures rows_stay { OnErr result (K.rows self.new.keeper ≡ K.rows self.old.keeper) }
-        ensures fault { result ≡ Err KeeperError.Failed → Rises (K.faults self.old.keeper) (K.faults self.new.keeper) }
-        ensures steady { result ≢ Err KeeperError.Failed → K.faults self.new.keeper ≡ K.faults self.old.keeper }
+        ensures fault { result ≡ Err BookError.KeeperFault → Rises (K.faults self.old.keeper) (K.faults self.new.keeper) }
+        ensures steady { result ≢ Err BookError.KeeperFault → K.faults self.new.keeper ≡ K.faults self.old.keeper }
         ensures count { K.faults self.old.keeper ≤ K.faults self.new.keeper }
         ensures legal { Legal self.new.log }
     {
         let Ok(rows) = rows_of(self.alloc, &group) else {
-            return Err(KeeperError::OutOfMemory);
+            return Err(BookError::OutOfMemory);
         };
         let Ok(mut entries) = copies_of(self.alloc, &group) else {
-            return Err(KeeperError::OutOfMemory);
+            return Err(BookError::OutOfMemory);
         };
         if self.live.room(&group).is_err() {
-            return Err(KeeperError::OutOfMemory);
+            return Err(BookError::OutOfMemory);
         }
         if self.log.reserve(group.len()).is_err() {
-            return Err(KeeperError::OutOfMemory);
+            return Err(BookError::OutOfMemory);
         }
         match self.keeper.append_all(&rows) {
             Ok(()) => {}
-            Err(error) => return Err(error),
+            Err(KeeperError::Failed) => return Err(BookError::KeeperFault),
+            Err(KeeperError::OutOfMemory) => return Err(BookError::OutOfMemory),
         }
         self.live.apply_all(group);
         match self.log.append(&mut entries) {

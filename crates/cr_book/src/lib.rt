@@ -14,7 +14,7 @@ mod reading;
 mod rebuilding;
 mod rows;
 
-pub use book::{Book, BookError, BulkError};
+pub use book::{Book, BookError};
 pub use cr_sights::ViewError;
 pub use cr_view::AnswerError;
 pub use empty::empty_book;

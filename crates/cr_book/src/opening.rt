@@ -5,8 +5,7 @@ ghost use Rattle.cr_base.specs.Rows.{rows_of};
 ghost use Rattle.cr_base.specs.Tables.{tables_of};
 ghost use Rattle.cr_policy.specs.Legal.{Legal};
 ghost use Rattle.cr_book.specs.Opening.{Explains, IsCounted};
-ghost use Rattle.cr_book.specs.Reading.{refusal};
-ghost use Rattle.cr_book.specs.Sound.{of_keeper};
+ghost use Rattle.cr_book.specs.Reading.{refusal, untold};
 
 use crate::reading::{ReadError, Reading};
 use cr_base::{Row, Stamped};
@@ -33,7 +32,7 @@ pub enum OpenError {
 
 /// The same of a keeper that told nothing.
 fn untold(error: KeeperError) -> OpenError
-    ensures { result ≡ of_keeper OpenError.KeeperFault OpenError.OutOfMemory error }
+    ensures { result ≡ untold error }
 {
     match error {
         KeeperError::Failed => OpenError::KeeperFault,

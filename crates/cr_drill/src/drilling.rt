@@ -62,7 +62,7 @@ fn ask(
 {
     match book.command(&caller, command) {
         Ok(_) => Ok(true),
-        Err(BookError::Rule(_)) => Ok(false),
+        Err(BookError::Broken(_)) => Ok(false),
         Err(BookError::OutOfMemory) => Err(AllocError),
         Err(BookError::KeeperFault) => unreachable!(),
     }

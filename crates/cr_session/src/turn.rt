@@ -14,7 +14,7 @@ ghost use Rattle.cr_session.specs.Told.{as_bulk, is_unauthorized};
 ghost use Rattle.cr_session.specs.Turning.{Turns, IsBulkCaller, ChangesBook, AnswersQuery, refused_for, turn_block, turn_front, MayWantToPrint};
 
 use cr_base::{Broken, BulkRows, Command, Query, Receipt, Reply, UserNo};
-use cr_book::{AnswerError, Book, BookError, BulkError};
+use cr_book::{AnswerError, Book, BookError};
 use cr_lock::{HistoryLock, Pass};
 use cr_ports::Keeper;
 use cr_print::{Form, Refused, block, print_receipt, print_refusal, print_reply};
@@ -108,7 +108,7 @@ fn judge<K: Keeper>(book: &mut Book<K>, caller: &Option<UserNo>, command: Comman
 {
     match book.command(caller, command) {
         Ok(receipt) => TurnResult::Accepted(receipt),
-        Err(BookError::Rule(rule)) => TurnResult::Refused(Refused::Rule(rule)),
+        Err(BookError::Broken(rule)) => TurnResult::Refused(Refused::Rule(rule)),
         Err(BookError::KeeperFault) => TurnResult::Lost,
         Err(BookError::OutOfMemory) => TurnResult::OutOfMemory,
     }
@@ -132,9 +132,9 @@ fn judge_rows<K: Keeper>(book: &mut Book<K>, user: UserNo, rows: BulkRows) -> Tu
 {
     match book.bulk(user, rows) {
         Ok(count_told) => TurnResult::Accepted(count_told),
-        Err(BulkError::Broken(broken)) => TurnResult::Refused(refused_for(broken)),
-        Err(BulkError::KeeperFault) => TurnResult::Lost,
-        Err(BulkError::OutOfMemory) => TurnResult::OutOfMemory,
+        Err(BookError::Broken(broken)) => TurnResult::Refused(refused_for(broken)),
+        Err(BookError::KeeperFault) => TurnResult::Lost,
+        Err(BookError::OutOfMemory) => TurnResult::OutOfMemory,
     }
 }
 

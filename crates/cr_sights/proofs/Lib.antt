@@ -1,5 +1,6 @@
 pub mod Around
 pub mod MatterLaws
+pub mod MemberLaws
 pub mod PlaceLaws
 pub mod PositionLaws
 pub mod Shown

@@ -1,9 +1,8 @@
 -- What the row of a bulk draws, by the tables behind the rows before it, and that its entry may come next.
-use Rattle.std.proofs.Common.{ℕ, Bool, true, false, cond, ◌≡◌, ◌+◌, List, [], ◌∷◌, ◌++◌, refl, sym, ap, subst, ◌∙◌, Some, Result, Ok, Err}
+use Rattle.std.proofs.Common.{ℕ, Bool, true, false, cond, ◌≡◌, ◌+◌, List, [], ◌∷◌, ◌++◌, refl, sym, ap, subst, ◌∙◌, Option, Some, Result, Ok, Err}
 use Rattle.std.specs.Prelude.{map, unwrap_or}
 use Rattle.cr_base.specs.declared.command.Command.{Command}
 use Rattle.cr_base.specs.declared.command.Command.TheVariants.{SetConflict, Assign, Unassign, Tag}
-use Rattle.cr_base.specs.declared.entry.Account.{Account}
 use Rattle.cr_base.specs.declared.entry.Entry.{Entry}
 use Rattle.cr_base.specs.declared.entry.Entry.TheVariants as entries
 use Rattle.cr_base.specs.declared.entry.Stamped.{Stamped}
@@ -11,7 +10,6 @@ use Rattle.cr_base.specs.declared.reply.Receipt.{Receipt}
 use Rattle.cr_base.specs.declared.reply.Receipt.TheVariants as receipts
 use Rattle.cr_base.specs.declared.reply.Rule.{Rule}
 use Rattle.cr_base.specs.declared.reply.Rule.TheVariants as rules
-use Rattle.cr_base.specs.Accounts.{lines_of}
 use Rattle.cr_base.specs.Bulk.{entries_of, turns_own_conflict}
 use Rattle.cr_base.specs.Checks.{Check, judged, conflict_checks, assign_checks, unassign_checks, tag_checks}
 use Rattle.cr_base.specs.Drawn.{Drawn, grouped}
@@ -28,10 +26,12 @@ use Rattle.cr_base.specs.Ties.{AreWithin}
 use Rattle.cr_base.proofs.CheckLaws.{judged-Ok}
 use Rattle.cr_base.proofs.FitLaws.{judged-fits}
 use Rattle.cr_view.specs.declared.draw.Draw.{Draw}
+use Rattle.cr_view.specs.ByTables.{conflict_at}
 use Rattle.cr_view.specs.Draws.{drawn_by}
 use Rattle.cr_base.specs.Bulk.{IsRowCommand, IsRowEntry}
 use Rattle.cr_view.specs.Rows.{AreRowEntries, AreEarlier, row_judged_at, group_or_rule, row_group}
-use Rattle.cr_view.proofs.RowLaws.{accounts-behind, within-from}
+use Rattle.cr_view.specs.Targets.{target_at}
+use Rattle.cr_view.proofs.RowLaws.{user-behind, within-from}
 
 -- ---- an entry
 
@@ -102,55 +102,72 @@ rows-more : (earlier : History) (s : Stamped) → AreRowEntries earlier → IsRo
 rows-more [] s are is = (is, tt)
 rows-more (x ∷ earlier) s are is = (are.0, rows-more earlier s are.1 is)
 
+-- ---- a conflict
+
+-- what is told of this user, who may be the caller
+abbrev row_conflict_at : Tables → ℕ → Option ℕ → Bool → Option ℕ → Bool → Result Drawn Rule
+row_conflict_at t maker paper on user own = cond own (Err rules.BulkSelf) (conflict_at t maker paper user on)
+
+-- whether it is of the caller's own is asked of the user who was found for the name
+module _ (t : Tables) (earlier : History) (are : AreRowEntries earlier) (maker : ℕ) (paper : Option ℕ) (name : Option (List ℕ)) (on : Bool)
+    (user : Option ℕ) (found : user ≡ target_at t.accounts name) (own : Bool) (told : own ≡ is_number user maker) where
+  abbrev row_told : Result Drawn Rule
+  row_told = row_judged_at (tables_from t earlier) maker (SetConflict paper name on)
+
+  conflict-told : (b : Bool) → own ≡ b → row_conflict_at (tables_from t earlier) maker paper on user b ≡ row_told
+  conflict-told b is =
+      ap (row_conflict_at (tables_from t earlier) maker paper on user) (sym is ∙ told)
+      ∙ ap (λ (v : Option ℕ). row_conflict_at (tables_from t earlier) maker paper on v (is_number v maker)) (user-behind t earlier are name user found)
+
+  pub conflict-own : own ≡ true → ◌≡◌ {A = Result Drawn Rule} (Err rules.BulkSelf) row_told
+  conflict-own is = conflict-told true is
+
+  pub conflict-other : own ≡ false → (r : Result Drawn Rule) → r ≡ conflict_at (tables_from t earlier) maker paper user on → r ≡ row_told
+  conflict-other is r judges = judges ∙ conflict-told false is
+
 -- ---- what a row is answered
+
+-- what its command draws, where it is accepted
+accepted-judged : (t : Tables) (user : ℕ) (command : Command) (drawn : Drawn) → row_judged_at t user command ≡ Ok drawn → judge_by_role t (Some user) command ≡ Ok drawn
+accepted-judged t user command drawn is = by (turns_own_conflict (facts_of_tables t (Some user)) user command) is
+  where
+    no : ◌≡◌ {A = Result Drawn Rule} (Err rules.BulkSelf) (Ok drawn) → ⊥
+    no e = cc (e)
+
+    by : (own : Bool) → cond own (Err rules.BulkSelf) (judge_by_role t (Some user) command) ≡ Ok drawn → judge_by_role t (Some user) command ≡ Ok drawn
+    by true e = absurd (no e)
+    by false e = e
 
 module _ (t : Tables) (earlier : History) (before : AreEarlier t earlier) (user : ℕ) (command : Command) where
   abbrev now : Tables
   now = tables_from t earlier
 
-  -- whether it is of the caller's own conflict doesn't hang on them
-  own-behind : turns_own_conflict (facts_of_tables t (Some user)) user command ≡ turns_own_conflict (facts_of_tables now (Some user)) user command
-  own-behind = by command
-    where
-      by : (c : Command) → turns_own_conflict (facts_of_tables t (Some user)) user c ≡ turns_own_conflict (facts_of_tables now (Some user)) user c
-      by (SetConflict paper name on) =
-          ap (λ (accounts : List Account). is_number (user_among (lines_of accounts) name) user) (accounts-behind t earlier before.rows)
-      by _ = refl
+  module _ (row : IsRowCommand command) (draw : Draw) (entry : Entry)
+      (drawn : ◌≡◌ {A = Result Drawn Rule} (Ok (drawn_by draw)) (row_judged_at now user command)) (one : entries_of (drawn_by draw).group ≡ entry ∷ []) where
+    judged-is : judge_by_role now (Some user) command ≡ Ok (drawn_by draw)
+    judged-is = accepted-judged now user command (drawn_by draw) (sym drawn)
 
-  module _ (own : Bool) (told : own ≡ turns_own_conflict (facts_of_tables t (Some user)) user command) where
-    judged-told : (x : Bool) → own ≡ x → cond x (Err rules.BulkSelf) (judge_by_role now (Some user) command) ≡ row_judged_at now user command
-    judged-told x is = ap (λ (b : Bool). cond b (Err rules.BulkSelf) (judge_by_role now (Some user) command)) (sym is ∙ told ∙ own-behind)
+    group-is : ((drawn_by draw).group ≡ grouped user (entry ∷ [])) × IsRowEntry entry
+    group-is = row-drawn now user command row (drawn_by draw) entry judged-is one
 
-    pub row-own : own ≡ true → row_group user (Err rules.BulkSelf) ≡ group_or_rule (row_judged_at now user command)
-    row-own is = ap group_or_rule (judged-told true is)
+    pub row-judged : row_group user (Ok entry) ≡ group_or_rule (row_judged_at now user command)
+    row-judged =
+        let same : ◌≡◌ {A = Result History Rule} (Ok (grouped user (entry ∷ []))) (Ok (drawn_by draw).group) = ap (λ (g : History). Ok g) (sym group-is.0) in
+        same ∙ ap group_or_rule drawn
 
-    pub row-refused : own ≡ false → (rule : Rule) → ◌≡◌ {A = Result Drawn Rule} (Err rule) (judge_by_role now (Some user) command)
-        → row_group user (Err rule) ≡ group_or_rule (row_judged_at now user command)
-    row-refused is rule refused = ap group_or_rule (refused ∙ judged-told false is)
+    pub row-fits : AreWithin (paper_count t.papers) t.ties → FitInTurn now (grouped user (entry ∷ []))
+    row-fits within =
+        subst (FitInTurn now) group-is.0
+        (judged-fits now (within-from t earlier before.fits within) user command (drawn_by draw) judged-is)
 
-    module _ (is : own ≡ false) (row : IsRowCommand command) (draw : Draw) (entry : Entry)
-        (drawn : ◌≡◌ {A = Result Drawn Rule} (Ok (drawn_by draw)) (judge_by_role now (Some user) command)) (one : entries_of (drawn_by draw).group ≡ entry ∷ []) where
-      group-is : ((drawn_by draw).group ≡ grouped user (entry ∷ [])) × IsRowEntry entry
-      group-is = row-drawn now user command row (drawn_by draw) entry (sym drawn) one
-
-      pub row-judged : row_group user (Ok entry) ≡ group_or_rule (row_judged_at now user command)
-      row-judged =
-          let same : ◌≡◌ {A = Result History Rule} (Ok (grouped user (entry ∷ []))) (Ok (drawn_by draw).group) = ap (λ (g : History). Ok g) (sym group-is.0) in
-          same ∙ ap group_or_rule (drawn ∙ judged-told false is)
-
-      pub row-fits : AreWithin (paper_count t.papers) t.ties → FitInTurn now (grouped user (entry ∷ []))
-      row-fits within =
-          subst (FitInTurn now) group-is.0
-          (judged-fits now (within-from t earlier before.fits within) user command (drawn_by draw) (sym drawn))
-
-      pub row-next : AreWithin (paper_count t.papers) t.ties → (more : Bool)
-          → AreEarlier t (earlier ++ record { maker = user; more = more; entry = entry } ∷ [])
-      row-next within more =
-          let s : Stamped = record { maker = user; more = more; entry = entry } in
-          record {
-            rows = rows-more earlier s before.rows group-is.1;
-            fits = fits-more t earlier s before.fits (fit-marked now (record { maker = user; more = false; entry = entry }) more (row-fits within).0);
-          }
+    pub row-next : AreWithin (paper_count t.papers) t.ties → (more : Bool)
+        → AreEarlier t (earlier ++ record { maker = user; more = more; entry = entry } ∷ [])
+    row-next within more =
+        let s : Stamped = record { maker = user; more = more; entry = entry } in
+        record {
+          rows = rows-more earlier s before.rows group-is.1;
+          fits = fits-more t earlier s before.fits (fit-marked now (record { maker = user; more = false; entry = entry }) more (row-fits within).0);
+        }
 
 -- ---- marks
 

@@ -27,10 +27,11 @@ use Rattle.cr_base.specs.Tags.{TagsState, tags_after}
 use Rattle.cr_base.specs.Ties.{BareTies, TiesState, ties_after, ties_from, is_author_in, is_conflicted_in, AreWithin}
 use Rattle.cr_base.proofs.TieLaws.{within-after}
 use Rattle.cr_view.specs.declared.assigning.Named.{Named}
-use Rattle.cr_view.specs.ByTables.{named_at}
+use Rattle.cr_view.specs.ByTables.{named_at, user_named}
 use Rattle.cr_view.specs.Targets.{target_at}
 use Rattle.cr_base.specs.Bulk.{IsRowEntry}
 use Rattle.cr_view.specs.Rows.{AreRowEntries}
+use Rattle.cr_view.proofs.TargetLaws.{target-among}
 
 -- ---- what is left
 
@@ -94,12 +95,18 @@ module _ (t : Tables) (earlier : History) (are : AreRowEntries earlier) where
   pub accounts-behind : t.accounts ≡ (tables_from t earlier).accounts
   accounts-behind = ap (λ (x : Tables). x.accounts) (rows-mark t earlier are)
 
-  pub target-behind : (name : Option (List ℕ)) (user : Option ℕ) → user ≡ target_at t.accounts name → user ≡ target_at (tables_from t earlier).accounts name
-  target-behind name user is = is ∙ ap (λ (accounts : List Account). target_at accounts name) accounts-behind
+  -- whom they have for a name
+  pub user-behind : (name : Option (List ℕ)) (user : Option ℕ) → user ≡ target_at t.accounts name → user ≡ user_named (tables_from t earlier) name
+  user-behind name user is =
+      is ∙ ap (λ (accounts : List Account). target_at accounts name) accounts-behind ∙ sym (target-among (tables_from t earlier).accounts name)
 
-  pub role-behind : (name : Option (List ℕ)) (role : Option Role) → role ≡ option_and_then (role_at t.accounts) (target_at t.accounts name)
-      → role ≡ option_and_then (role_at (tables_from t earlier).accounts) (target_at (tables_from t earlier).accounts name)
-  role-behind name role is = is ∙ ap (λ (accounts : List Account). option_and_then (role_at accounts) (target_at accounts name)) accounts-behind
+  -- and the role of such a user
+  pub role-behind : (user : Option ℕ) (v : ℕ) (role : Option Role) → user ≡ Some v → role ≡ role_at t.accounts v
+      → role ≡ option_and_then (role_at (tables_from t earlier).accounts) user
+  role-behind user v role is has =
+      has
+      ∙ ap (λ (accounts : List Account). role_at accounts v) accounts-behind
+      ∙ sym (ap (option_and_then (role_at (tables_from t earlier).accounts)) is)
 
   -- the tables that a call reads, whose view is t
   module _ (seen : Tables) (same : seen ≡ t) where

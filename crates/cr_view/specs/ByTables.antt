@@ -1,14 +1,17 @@
 -- What the rules make of some commands, by reads of the tables; the caller is `maker`.
-use Rattle.std.specs.Prelude.{ℕ, not, ◌+◌, List, [], ◌∷◌, length, Option, Some, None, is_some, is_none, unwrap_or, Result}
+use Rattle.std.specs.Prelude.{ℕ, Bool, not, ◌+◌, List, [], ◌∷◌, length, Option, Some, None, Result}
+use Rattle.std.specs.Prelude.{is_some, is_none, unwrap_or}
 use Rattle.std.specs.List.{flat_map, list_any}
 use Rattle.std.specs.Option.{option_map, option_and_then}
 use Rattle.cr_base.specs.declared.reply.Rule.{Rule}
 use Rattle.cr_base.specs.declared.reply.Rule.TheVariants as rules
 use Rattle.cr_base.specs.declared.target.Target.{Target}
+use Rattle.cr_base.specs.declared.words.Kind.{Kind}
 use Rattle.cr_base.specs.declared.words.Role.{Role}
 use Rattle.cr_base.specs.Accounts.{number_at, role_at, role_in, lines_of}
 use Rattle.cr_base.specs.Checks.{NamedPaper, ◌breaks◌, judged, of_role, register_checks, submit_checks, name_checks, comment_checks}
 use Rattle.cr_base.specs.Drawn.{Drawn, registration_drawn, submission_drawn, naming_drawn, comment_drawn}
+use Rattle.cr_base.specs.Judging.{conflict_judged, assignment_judged, unassignment_judged}
 use Rattle.cr_base.specs.Lists.{listed, at_some}
 use Rattle.cr_base.specs.Papers.{paper_count, own_count, is_withdrawn_at}
 use Rattle.cr_base.specs.Seats.{seat_in}
@@ -59,13 +62,29 @@ asked_of t paper = paper_named (facts_of_tables t None) (shown_in_tables t) pape
 abbrev pub asked_at : Tables → ℕ → Option ℕ → Option ℕ → Option Target
 asked_at t maker paper user = target_named (facts_of_tables t (Some maker)) (shown_in_tables t) (Some maker) paper user
 
--- the paper that is named and the user of the name, or that there is no such paper, else no such user
-abbrev pub pair_at : Tables → ℕ → Option ℕ → Option (List ℕ) → Result NamedPair Rule
-pair_at t maker paper name =
-    let user = user_among (lines_of t.accounts) name in
+-- the user of a name, as the facts have her
+abbrev pub user_named : Tables → Option (List ℕ) → Option ℕ
+user_named t name = user_among (lines_of t.accounts) name
+
+-- the paper that is named and this user, or that there is no such paper, else no such user
+abbrev pub pair_at : Tables → ℕ → Option ℕ → Option ℕ → Result NamedPair Rule
+pair_at t maker paper user =
     judged
     (not (has_paper (facts_of_tables t None) paper) breaks rules.NoPaper ∷ is_none (asked_at t maker paper user) breaks rules.NoUser ∷ [])
     (record { named = named_of t maker paper; user = unwrap_or user 0; role = role_in t.accounts user })
+
+-- turning the conflict of this user on or off, assigning her, and taking her off the paper
+abbrev pub conflict_at : Tables → ℕ → Option ℕ → Option ℕ → Bool → Result Drawn Rule
+conflict_at t maker paper user on =
+    conflict_judged (facts_of_tables t (Some maker)) (shown_in_tables t) (Some maker) paper user on
+
+abbrev pub assignment_at : Tables → ℕ → Option ℕ → Option ℕ → Kind → Result Drawn Rule
+assignment_at t maker paper user kind =
+    assignment_judged (facts_of_tables t (Some maker)) (shown_in_tables t) (Some maker) paper user kind
+
+abbrev pub unassignment_at : Tables → ℕ → Option ℕ → Option ℕ → Result Drawn Rule
+unassignment_at t maker paper user =
+    unassignment_judged (facts_of_tables t (Some maker)) (shown_in_tables t) (Some maker) paper user
 
 -- commenting on the paper: its next comment, under the label of the maker, where she has one
 abbrev pub comment_at : Tables → ℕ → Option ℕ → List ℕ → Result Drawn Rule

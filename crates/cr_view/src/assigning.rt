@@ -1,6 +1,5 @@
 //! What is judged of a paper, and of a user who is named with it: conflicts, bids and assignments.
 ghost use Rattle.std.specs.Prelude.{◌≡◌, IfOk, Some};
-ghost use Rattle.std.specs.Option.{option_map, option_and_then};
 ghost use Rattle.cr_base.specs.Accounts.{role_at};
 ghost use Rattle.cr_base.specs.Judging.{judge_by_role};
 ghost use Rattle.cr_base.specs.Lists.{at_some};
@@ -9,10 +8,9 @@ ghost use Rattle.cr_base.specs.Seats.{seat_in};
 ghost use Rattle.cr_base.specs.Sources.{standing_at};
 ghost use Rattle.cr_base.specs.Tables.{tables_from};
 ghost use Rattle.cr_base.specs.declared.command.Command.TheVariants as commands;
-ghost use Rattle.cr_view.specs.ByTables.{named_at, pair_at};
+ghost use Rattle.cr_view.specs.ByTables.{conflict_at, named_at, pair_at, user_named};
 ghost use Rattle.cr_view.specs.Draws.{drawn_or_rule, IsOfRow};
 ghost use Rattle.cr_view.specs.Rows.{AreEarlier};
-ghost use Rattle.cr_view.specs.Targets.{target_at};
 
 use crate::draw::Draw;
 use crate::live::Live;
@@ -90,7 +88,7 @@ impl Live {
     }
 
     /// The paper and the user of the name behind earlier entries of the same bulk; else that there is no such
-    /// paper, else that there is no such user.
+    /// paper, else that there is no such user. One look-up by name.
     fn named_pair(
         &self,
         maker: UserNo,
@@ -99,28 +97,42 @@ impl Live {
         earlier: &[Stamped],
     ) -> Result<NamedPair, Rule>
         requires { AreEarlier self.now.tables earlier.now }
-        ensures { result ≡ pair_at (tables_from self.now.tables earlier.now) maker paper.now name.now }
+        ensures { let t = tables_from self.now.tables earlier.now in
+            result ≡ pair_at t maker paper.now (user_named t name.now) }
+    {
+        self.pair_of(maker, paper, &self.user_of(name), earlier)
+    }
+
+    /// The same of the user who was found for a name.
+    fn pair_of(
+        &self,
+        maker: UserNo,
+        paper: &Option<PaperNo>,
+        user: &Option<UserNo>,
+        earlier: &[Stamped],
+    ) -> Result<NamedPair, Rule>
+        requires { AreEarlier self.now.tables earlier.now }
+        ensures { result ≡ pair_at (tables_from self.now.tables earlier.now) maker paper.now user.now }
     {
         let named = self.named_behind(maker, paper, earlier)?;
-        let target = self.target(name);
-        let Some((user, role)) = &target else {
+        let Some(user) = user else {
+            return Err(Rule::NoUser);
+        };
+        let Some(role) = self.role_of(*user) else {
             return Err(Rule::NoUser);
         };
         Ok(NamedPair {
             named,
             user: *user,
-            role: *role,
+            role,
         })
     }
 
-    /// The user of a name and her role, if somebody registered it.
-    fn target(&self, name: &Option<Short>) -> Option<(UserNo, Role)>
-        ensures user { option_map (λ t. t.0) result ≡ target_at self.now.tables.accounts name.now }
-        ensures role { option_map (λ t. t.1) result ≡ option_and_then (role_at self.now.tables.accounts) (target_at self.now.tables.accounts name.now) }
+    /// The role of a user, if somebody has this number. One read by number.
+    fn role_of(&self, user: UserNo) -> Option<Role>
+        ensures { result ≡ role_at self.now.tables.accounts user }
     {
-        let user = self.user_of(name)?;
-        let role = self.accounts.role_given(user)?;
-        Some((user, role))
+        self.accounts.role_given(user)
     }
 }
 
@@ -167,14 +179,28 @@ impl Live {
         paper: &Option<PaperNo>,
         name: &Option<Short>,
         on: bool,
+    ) -> Result<Draw, Rule>
+        ensures { drawn_or_rule result
+            ≡ judge_by_role self.now.tables (Some maker) (commands.SetConflict paper.now name.now on) }
+    {
+        self.conflict_of(maker, paper, &self.user_of(name), on, &[])
+    }
+
+    /// The same of the user who was found for the name, behind earlier entries.
+    pub(crate) fn conflict_of(
+        &self,
+        maker: UserNo,
+        paper: &Option<PaperNo>,
+        user: &Option<UserNo>,
+        on: bool,
         earlier: &[Stamped],
     ) -> Result<Draw, Rule>
         requires { AreEarlier self.now.tables earlier.now }
         ensures drawn { drawn_or_rule result
-            ≡ judge_by_role (tables_from self.now.tables earlier.now) (Some maker) (commands.SetConflict paper.now name.now on) }
+            ≡ conflict_at (tables_from self.now.tables earlier.now) maker paper.now user.now on }
         ensures row { IfOk result IsOfRow }
     {
-        let pair = self.named_pair(maker, paper, name, earlier)?;
+        let pair = self.pair_of(maker, paper, user, earlier)?;
         let kept = self.ties.judge_conflict(
             &pair.named.by,
             maker,

@@ -74,7 +74,7 @@ impl Live {
             Command::Name { user, role } => self.judge_naming(maker(caller), &user, role),
             Command::SetMode { mode } => self.judge_mode(maker(caller), mode),
             Command::SetConflict { paper, user, on } => {
-                self.judge_conflict(maker(caller), &paper, &user, on, &[])
+                self.judge_conflict(maker(caller), &paper, &user, on)
             }
             Command::Bid { paper, value } => self.judge_bid(maker(caller), &paper, value),
             Command::Assign { paper, user, kind } => {

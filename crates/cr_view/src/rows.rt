@@ -1,20 +1,18 @@
 //! What is judged of a bulk: whether its caller may send one, and of each row behind those before it.
 ghost use Rattle.std.specs.Prelude.{◌≡◌, [], ◌∷◌, ◌++◌, Bool, IfOk, Some, None};
-ghost use Rattle.cr_base.specs.Bulk.{bulk_checks, turns_own_conflict};
+ghost use Rattle.cr_base.specs.Bulk.{bulk_checks, IsRowCommand};
 ghost use Rattle.cr_base.specs.Checks.{judged};
 ghost use Rattle.cr_base.specs.Drawn.{grouped};
-ghost use Rattle.cr_base.specs.Judging.{judge_by_role};
 ghost use Rattle.cr_base.specs.Lists.{is_number};
-ghost use Rattle.cr_base.specs.Sources.{facts_of_tables, standing_at};
+ghost use Rattle.cr_base.specs.Sources.{standing_at};
 ghost use Rattle.cr_base.specs.Tables.{FitInTurn, tables_from};
+ghost use Rattle.cr_base.specs.declared.command.Command.TheVariants as commands;
 ghost use Rattle.cr_view.specs.Draws.{drawn_or_rule, IsOfRow};
-ghost use Rattle.cr_base.specs.Bulk.{IsRowCommand};
 ghost use Rattle.cr_view.specs.Rows.{AreEarlier, group_or_rule, row_group, row_judged_at};
-ghost use Rattle.cr_view.specs.Targets.{target_at};
 
 use crate::draw::Draw;
 use crate::live::Live;
-use cr_base::{Command, Entry, Phase, Rule, Short, Stamped, UserNo};
+use cr_base::{Command, Entry, PaperNo, Phase, Rule, Short, Stamped, UserNo};
 
 impl Live {
     /// Whether a user may send a bulk, or the first broken rule: `NotChair`, else `WrongPhase` before the
@@ -39,9 +37,8 @@ impl Live {
     /// First comes `BulkSelf`, where it turns a conflict of the caller's own on or off; then the rules of the
     /// command, as `judge` tells them.
     ///
-    /// Takes no memory. The cost is that of the command in `judge`, one more look-up by name for a conflict, and
-    /// walks over the earlier entries, at most 511: three for how the caller stands to the paper, and four more
-    /// at most for how the user named does.
+    /// Takes no memory. The cost is that of the command in `judge`, and walks over the earlier entries, at most
+    /// 511: three for how the caller stands to the paper, and four more at most for how the user named does.
     pub fn judge_row(
         &self,
         caller: UserNo,
@@ -55,45 +52,22 @@ impl Live {
         ensures next { IfOk result (λ entry. (more : Bool) → AreEarlier self.now.tables (earlier.now ++ record { maker = caller; more = more; entry = entry } ∷ [])) }
     {
         self.law_within();
-        if self.turns_own_conflict(caller, &command) {
-            return Err(Rule::BulkSelf);
-        }
         match self.row_draw(caller, command, earlier) {
             Ok(draw) => Ok(draw.entry()),
             Err(rule) => Err(rule),
         }
     }
 
-    /// Whether the command turns a conflict of the caller's own on or off.
-    fn turns_own_conflict(&self, caller: UserNo, command: &Command) -> bool
-        ensures { result ≡ turns_own_conflict (facts_of_tables self.now.tables (Some caller)) caller command.now }
-    {
-        match command {
-            Command::SetConflict { user, .. } => self.is_name_of(user, caller),
-            _ => false,
-        }
-    }
-
-    /// Whether the user registered the name. One look-up by name.
-    fn is_name_of(&self, name: &Option<Short>, user: UserNo) -> bool
-        ensures { result ≡ is_number (target_at self.now.tables.accounts name.now) user }
-    {
-        match self.user_of(name) {
-            Some(found) => found.number() == user.number(),
-            None => false,
-        }
-    }
-
-    /// What the command of a row draws, or the first broken rule of its kind, behind the earlier entries.
+    /// What the command of a row draws, or the first broken rule of a row of its kind, behind the earlier entries.
     fn row_draw(&self, caller: UserNo, command: Command, earlier: &[Stamped]) -> Result<Draw, Rule>
         requires row { IsRowCommand command }
         requires earlier { AreEarlier self.now.tables earlier.now }
-        ensures drawn { drawn_or_rule result ≡ judge_by_role (tables_from self.now.tables earlier.now) (Some caller) command }
+        ensures drawn { drawn_or_rule result ≡ row_judged_at (tables_from self.now.tables earlier.now) caller command }
         ensures row { IfOk result IsOfRow }
     {
         match command {
             Command::SetConflict { paper, user, on } => {
-                self.judge_conflict(caller, &paper, &user, on, earlier)
+                self.row_conflict(caller, &paper, &user, on, earlier)
             }
             Command::Assign { paper, user, kind } => {
                 self.judge_assignment(caller, &paper, &user, kind, earlier)
@@ -104,5 +78,37 @@ impl Live {
             Command::Tag { paper, tag, on } => self.judge_tag(caller, &paper, tag, on, earlier),
             _ => unreachable!(),
         }
+    }
+
+    /// What a row draws that turns a conflict on or off: `BulkSelf` where it is the caller's own, and else what
+    /// `conflict_of` tells. One look-up by name.
+    fn row_conflict(
+        &self,
+        caller: UserNo,
+        paper: &Option<PaperNo>,
+        name: &Option<Short>,
+        on: bool,
+        earlier: &[Stamped],
+    ) -> Result<Draw, Rule>
+        requires { AreEarlier self.now.tables earlier.now }
+        ensures drawn { let t = tables_from self.now.tables earlier.now in
+            drawn_or_rule result ≡ row_judged_at t caller (commands.SetConflict paper.now name.now on) }
+        ensures row { IfOk result IsOfRow }
+    {
+        let user = self.user_of(name);
+        if is_user(&user, caller) {
+            return Err(Rule::BulkSelf);
+        }
+        self.conflict_of(caller, paper, &user, on, earlier)
+    }
+}
+
+/// Whether the user found, if there is one, is this one.
+fn is_user(found: &Option<UserNo>, user: UserNo) -> bool
+    ensures { result ≡ is_number found.now user }
+{
+    match found {
+        Some(found) => found.number() == user.number(),
+        None => false,
     }
 }

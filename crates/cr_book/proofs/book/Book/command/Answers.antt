@@ -8,7 +8,7 @@ use Rattle.cr_policy.proofs.LegalLaws.{Legal-accepted}
 use Rattle.cr_view.specs.Draws.{drawn_by}
 use Rattle.cr_book.specs.Seen.{SeenBook}
 use Rattle.cr_book.specs.declared.book.BookError.TheVariants as errors
-use Rattle.cr_book.proofs.BookLaws.{judged-by_view, drawn-ok, drawn-no_error, unkept-stays, unkept-other, unkept-failed, unkept-fault}
+use Rattle.cr_book.proofs.BookLaws.{judged-by_view, drawn-ok, drawn-no_error}
 use Rattle.cr_book.proofs.book.Book.command.Goals as goal
 
 pub returns-in-Err-clause-rule : goal.returns-in-Err-clause-rule
@@ -17,7 +17,7 @@ returns-in-Err-clause-rule g c = λ rule told.
     (ap (λ (v : SeenBook g.row.K.Denot). v.log) c.self.view_is) c.self.invariant c.in-Err.ensures.drawn in
     let same : ◌≡◌ {A = Result Drawn Rule} (Err c.in-Err.rule) (Err rule) = sym is ∙ told in
     let e : c.in-Err.rule ≡ rule = cc (same) in
-    ap (λ (r : Rule). Err (errors.Rule r)) e
+    ap (λ (r : Rule). Err (errors.Broken r)) e
 
 pub returns-in-Err-clause-only_rule : goal.returns-in-Err-clause-only_rule
 returns-in-Err-clause-only_rule g c = λ rule told.
@@ -52,57 +52,33 @@ returns-in_default-clause-memory g c = λ is.
     drawn-ok _ _ (judged-by_view g.K.Keeper.rows _ c.args.self.now.log _ _ c.args.caller.now c.args.command (Ok (drawn_by c.in-Ok.draw))
     (ap (λ (v : SeenBook g.row.K.Denot). v.log) c.self.view_is) c.self.invariant c.in-Ok.ensures.drawn)
 
-pub returns-in_err-keep-clause-rule : goal.returns-in_err-keep-clause-rule
-returns-in_err-keep-clause-rule g c = λ rule told.
+pub returns-in-Err-keep-clause-rule : goal.returns-in-Err-keep-clause-rule
+returns-in-Err-keep-clause-rule g c = λ rule told.
     let drawn = judged-by_view g.K.Keeper.rows _ c.args.self.now.log _ _ c.args.caller.now c.args.command (Ok (drawn_by c.in-Ok.draw))
     (ap (λ (v : SeenBook g.row.K.Denot). v.log) c.self.view_is) c.self.invariant c.in-Ok.ensures.drawn in
     absurd (drawn-no_error _ _ rule drawn told)
 
-pub returns-in_err-keep-clause-memory : goal.returns-in_err-keep-clause-memory
-returns-in_err-keep-clause-memory g c = λ is.
+pub returns-in-Err-keep-clause-memory : goal.returns-in-Err-keep-clause-memory
+returns-in-Err-keep-clause-memory g c = λ is.
     drawn-ok _ _ (judged-by_view g.K.Keeper.rows _ c.args.self.now.log _ _ c.args.caller.now c.args.command (Ok (drawn_by c.in-Ok.draw))
     (ap (λ (v : SeenBook g.row.K.Denot). v.log) c.self.view_is) c.self.invariant c.in-Ok.ensures.drawn)
 
-pub returns-in_err-keep-clause-lost : goal.returns-in_err-keep-clause-lost
-returns-in_err-keep-clause-lost g c = λ is.
+pub returns-in-Err-keep-clause-lost : goal.returns-in-Err-keep-clause-lost
+returns-in-Err-keep-clause-lost g c = λ is.
     drawn-ok _ _ (judged-by_view g.K.Keeper.rows _ c.args.self.now.log _ _ c.args.caller.now c.args.command (Ok (drawn_by c.in-Ok.draw))
     (ap (λ (v : SeenBook g.row.K.Denot). v.log) c.self.view_is) c.self.invariant c.in-Ok.ensures.drawn)
 
-pub returns-in_err-keep-clause-only_rule : goal.returns-in_err-keep-clause-only_rule
-returns-in_err-keep-clause-only_rule g c = λ rule told.
-    absurd (unkept-other errors.KeeperFault errors.OutOfMemory (λ e. cc (e)) c.from_residual.result _ c.from_residual.ensures.1 (errors.Rule rule) (λ e. cc (e)) (λ e. cc (e)) told)
-
-pub returns-in_err-keep-clause-rule_stays : goal.returns-in_err-keep-clause-rule_stays
-returns-in_err-keep-clause-rule_stays g c = λ rule told.
-    absurd (unkept-other errors.KeeperFault errors.OutOfMemory (λ e. cc (e)) c.from_residual.result _ c.from_residual.ensures.1 (errors.Rule rule) (λ e. cc (e)) (λ e. cc (e)) told)
-
-pub returns-in_err-keep-clause-log_stays : goal.returns-in_err-keep-clause-log_stays
-returns-in_err-keep-clause-log_stays g c =
-    unkept-stays errors.KeeperFault errors.OutOfMemory (λ e. cc (e)) c.from_residual.result _ c.from_residual.ensures.1 c.in_err-keep.ensures.log_stays
-
-pub returns-in_err-keep-clause-rows_stay : goal.returns-in_err-keep-clause-rows_stay
-returns-in_err-keep-clause-rows_stay g c =
-    unkept-stays errors.KeeperFault errors.OutOfMemory (λ e. cc (e)) c.from_residual.result _ c.from_residual.ensures.1 c.in_err-keep.ensures.rows_stay
-
-pub returns-in_err-keep-clause-fault : goal.returns-in_err-keep-clause-fault
-returns-in_err-keep-clause-fault g c = λ told.
-    c.in_err-keep.ensures.fault (unkept-failed errors.KeeperFault errors.OutOfMemory (λ e. cc (e)) c.from_residual.result _ c.from_residual.ensures.1 told)
-
-pub returns-in_err-keep-clause-steady : goal.returns-in_err-keep-clause-steady
-returns-in_err-keep-clause-steady g c = λ other.
-    c.in_err-keep.ensures.steady (λ failed. other (unkept-fault errors.KeeperFault errors.OutOfMemory (λ e. cc (e)) c.from_residual.result _ c.from_residual.ensures.1 failed))
-
-pub returns-clause-accepted : goal.returns-clause-accepted
-returns-clause-accepted g c = record {
+pub returns-in-Ok-keep-clause-accepted : goal.returns-in-Ok-keep-clause-accepted
+returns-in-Ok-keep-clause-accepted g c = record {
   drawn = drawn_by c.in-Ok.draw;
   judged = judged-by_view g.K.Keeper.rows _ c.args.self.now.log _ _ c.args.caller.now c.args.command (Ok (drawn_by c.in-Ok.draw))
       (ap (λ (v : SeenBook g.row.K.Denot). v.log) c.self.view_is) c.self.invariant c.in-Ok.ensures.drawn;
   receipt_is = c.receipt-receipt.ensures;
-  added = c.in_ok-keep.ensures.kept ∙ ap (λ (group : History). c.args.self.now.log ++ group) c.in-Ok-group.ensures;
+  added = c.in-Ok-keep.ensures.kept ∙ ap (λ (group : History). c.args.self.now.log ++ group) c.in-Ok-group.ensures;
 }
 
-pub returns-clause-rule : goal.returns-clause-rule
-returns-clause-rule g c = λ rule told.
+pub returns-in-Ok-keep-clause-rule : goal.returns-in-Ok-keep-clause-rule
+returns-in-Ok-keep-clause-rule g c = λ rule told.
     let drawn = judged-by_view g.K.Keeper.rows _ c.args.self.now.log _ _ c.args.caller.now c.args.command (Ok (drawn_by c.in-Ok.draw))
     (ap (λ (v : SeenBook g.row.K.Denot). v.log) c.self.view_is) c.self.invariant c.in-Ok.ensures.drawn in
     absurd (drawn-no_error _ _ rule drawn told)

@@ -74,10 +74,10 @@ pub returns-in-SetMode-clause-fits : goal.returns-in-SetMode-clause-fits
 returns-in-SetMode-clause-fits c = draw-fits c.args.self.now.tables c.law_within.ensures.ties c.maker-in-SetMode.result (commands.SetMode c.in-SetMode.mode) c.judge_mode.result c.judge_mode.ensures
 
 pub returns-in-SetConflict-clause-drawn : goal.returns-in-SetConflict-clause-drawn
-returns-in-SetConflict-clause-drawn c = along c.args.self.now.tables c.args.caller.now (Some c.maker-in-SetConflict.result) c.args.command (commands.SetConflict c.in-SetConflict.paper c.in-SetConflict.user c.in-SetConflict.on) _ c.maker-in-SetConflict.ensures c.in-SetConflict.is c.judge_conflict.ensures.drawn
+returns-in-SetConflict-clause-drawn c = along c.args.self.now.tables c.args.caller.now (Some c.maker-in-SetConflict.result) c.args.command (commands.SetConflict c.in-SetConflict.paper c.in-SetConflict.user c.in-SetConflict.on) _ c.maker-in-SetConflict.ensures c.in-SetConflict.is c.judge_conflict.ensures
 
 pub returns-in-SetConflict-clause-fits : goal.returns-in-SetConflict-clause-fits
-returns-in-SetConflict-clause-fits c = draw-fits c.args.self.now.tables c.law_within.ensures.ties c.maker-in-SetConflict.result (commands.SetConflict c.in-SetConflict.paper c.in-SetConflict.user c.in-SetConflict.on) c.judge_conflict.result c.judge_conflict.ensures.drawn
+returns-in-SetConflict-clause-fits c = draw-fits c.args.self.now.tables c.law_within.ensures.ties c.maker-in-SetConflict.result (commands.SetConflict c.in-SetConflict.paper c.in-SetConflict.user c.in-SetConflict.on) c.judge_conflict.result c.judge_conflict.ensures
 
 pub returns-in-Bid-clause-drawn : goal.returns-in-Bid-clause-drawn
 returns-in-Bid-clause-drawn c = along c.args.self.now.tables c.args.caller.now (Some c.maker-in-Bid.result) c.args.command (commands.Bid c.in-Bid.paper c.in-Bid.value) _ c.maker-in-Bid.ensures c.in-Bid.is c.judge_bid.ensures

@@ -1,19 +1,10 @@
-use Rattle.std.proofs.Common.{ap}
-use Rattle.cr_base.specs.Tables.{tables_from}
-use Rattle.cr_view.specs.Seen.{SeenTables}
-use Rattle.cr_view.proofs.AssigningLaws.{conflict-drawn, conflict-refused}
-use Rattle.cr_view.proofs.JudgeLaws.{passed-up}
-use Rattle.cr_view.proofs.RowLaws.{seen-behind}
+use Rattle.std.proofs.Common.{ℕ, Option, ◌∙◌, ap, sym}
+use Rattle.cr_view.specs.ByTables.{conflict_at}
+use Rattle.cr_view.proofs.TargetLaws.{target-among}
 use Rattle.cr_view.proofs.live.Live.judge_conflict.Goals as goal
 
-pub returns-clause-drawn : goal.returns-clause-drawn
-returns-clause-drawn c =
-    conflict-drawn
-    (tables_from c.args.self.now.tables c.args.earlier.now) c.args.maker c.args.paper.now c.args.name.now c.in_ok-pair.pair c.in_ok-pair.ensures
-    _ (seen-behind c.args.self.now.tables c.args.earlier.now c.requires.rows _ (ap (λ (v : SeenTables). v.tables) c.self.view_is))
-    c.args.on c.judge_conflict-kept.result c.and.result c.judge_conflict-kept.ensures c.and.ensures
-
-pub returns-in_err-pair-clause-drawn : goal.returns-in_err-pair-clause-drawn
-returns-in_err-pair-clause-drawn c =
-    passed-up c.from_residual.result c.in_err-pair.field-0.0 _ c.from_residual.ensures.1
-    (conflict-refused (tables_from c.args.self.now.tables c.args.earlier.now) c.args.maker c.args.paper.now c.args.name.now _ c.in_err-pair.ensures c.args.on)
+pub returns : goal.returns
+returns c =
+    c.conflict_of.ensures.drawn
+    ∙ ap (λ (user : Option ℕ). conflict_at c.args.self.now.tables c.args.maker c.args.paper.now user c.args.on)
+    (c.user_of.ensures ∙ sym (target-among c.args.self.now.tables.accounts c.args.name.now))
