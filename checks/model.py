@@ -96,7 +96,7 @@ class Conference:
     def conflicted(self, u, p):
         return u in self.authors(p) or self.declared_on(u, p)
 
-    def seat_of(self, u, p):
+    def ordinal_of(self, u, p):
         s = None
         for m, k, f in self.history:
             if k == "assigned" and f[:2] == (p, u):
@@ -384,7 +384,7 @@ class Conference:
         t = self.number_of(body["user"])
         r = self.first(*self.chairs_rules(u, p, t))
         r = r or self.first((self.role_of(t) == "account", "not_a_member"), (self.conflicted(t, p), "target_conflict"),
-                            (self.seat_of(t, p) is not None, "already_assigned"), (self.labels(p) >= 26, "labels_spent"))
+                            (self.ordinal_of(t, p) is not None, "already_assigned"), (self.labels(p) >= 26, "labels_spent"))
         if r:
             return r
         o = self.labels(p) + 1
@@ -394,10 +394,10 @@ class Conference:
     def unassign(self, u, p, name):
         t = self.number_of(name)
         r = self.first(*self.chairs_rules(u, p, t))
-        r = r or self.first((self.seat_of(t, p) is None, "not_assigned"), (self.forms(p, self.seat_of(t, p)), "has_review"))
+        r = r or self.first((self.ordinal_of(t, p) is None, "not_assigned"), (self.forms(p, self.ordinal_of(t, p)), "has_review"))
         if r:
             return r
-        self.history.append((u, "unassigned", (p, t, self.seat_of(t, p))))
+        self.history.append((u, "unassigned", (p, t, self.ordinal_of(t, p))))
         return 200, dump({"paper": p})
 
     # ---- bulks
@@ -491,11 +491,11 @@ class Conference:
         return ((not self.is_there(p), "no_paper"), (self.role_of(u) == "account", "not_member"), (self.conflicted(u, p), "conflict"))
 
     def review(self, u, p, body):
-        r = self.first(*self.members_rules(u, p), (self.seat_of(u, p) is None, "not_reviewer"),
+        r = self.first(*self.members_rules(u, p), (self.ordinal_of(u, p) is None, "not_reviewer"),
                        (self.phase not in ("reviewing", "discussion"), "wrong_phase"), (self.withdrawn(p), "withdrawn"))
         if r:
             return r
-        o = self.seat_of(u, p)
+        o = self.ordinal_of(u, p)
         version = len(self.forms(p, o)) + 1
         self.history.append((u, "reviewed", (p, o, version, body)))
         return 200, dump({"version": version})
@@ -505,10 +505,10 @@ class Conference:
 
     def reviews(self, u, p):
         author = self.is_there(p) and u in self.authors(p)
-        seat, reviewing = self.seat_of(u, p), self.phase == "reviewing"
+        ordinal, reviewing = self.ordinal_of(u, p), self.phase == "reviewing"
         r = self.first((not self.is_there(p), "no_paper"), (author and not self.is_from("notification"), "wrong_phase"),
                        (not author and self.role_of(u) == "account", "not_member"), (not author and self.conflicted(u, p), "conflict"),
-                       (not author and not self.is_from("discussion") and not (reviewing and seat is not None), "wrong_phase"))
+                       (not author and not self.is_from("discussion") and not (reviewing and ordinal is not None), "wrong_phase"))
         if r:
             return r
         out = []
@@ -525,7 +525,7 @@ class Conference:
                 add(o, self.forms(p, o)[-1:], authors_keys, self.mode == "open")
             elif self.is_from("discussion"):
                 add(o, self.forms_discussed(p, o), all_keys, self.role_of(u) == "chair" or self.mode != "anonymous")
-            elif o == seat:
+            elif o == ordinal:
                 add(o, self.forms(p, o), all_keys, False)
         return 200, dump({"reviews": out})
 
@@ -535,7 +535,7 @@ class Conference:
         if r:
             return r
         n = len(self.comments(p)) + 1
-        self.history.append((u, "commented", (p, n, self.seat_of(u, p) or 0, body["text"])))
+        self.history.append((u, "commented", (p, n, self.ordinal_of(u, p) or 0, body["text"])))
         return 201, dump({"comment": n})
 
     def comments_page(self, u, p):
@@ -571,7 +571,7 @@ class Conference:
     def me(self, u):
         ps = self.papers()
         return 200, dump({
-            "assigned": [p for p in ps if self.seat_of(u, p) is not None],
+            "assigned": [p for p in ps if self.ordinal_of(u, p) is not None],
             "bytes": sum(len(f[2]) for m, f in self.entries_of("uploaded") if m == u), "comments": self.own_comments(u),
             "conflicts": [p for p in ps if self.conflicted(u, p) and u not in self.authors(p)], "name": self.name_of(u),
             "papers": [p for p in ps if u in self.authors(p)], "role": self.role_of(u), "user": u})
@@ -629,8 +629,8 @@ class Conference:
         if author:
             by = [f[1] for m, f in self.entries_of("conflict") if f[0] == p and m in self.authors(p)]
             out["declared"] = [n for v, n in self.users() if v in by]
-        if cm and self.seat_of(u, p) is not None:
-            out["label"] = chr(64 + self.seat_of(u, p))
+        if cm and self.ordinal_of(u, p) is not None:
+            out["label"] = chr(64 + self.ordinal_of(u, p))
         lab = lambda f: chr(64 + f[3])
         if cc and bidding:
             out["reviewers"] = [{"done": bool(self.forms(p, f[3])), "kind": f[2], "label": lab(f), "user": self.name_of(f[1])} for f in self.reviewers(p)]

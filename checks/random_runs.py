@@ -172,7 +172,7 @@ class Run:
         elif deed == "upload":
             self.ask(self.author(p), "PUT", f"/papers/{p}/content", "x" * choose.randint(0, 9))
         elif deed == "review":
-            reviewer = self.caller(lambda user: p.isdigit() and self.model.seat_of(user, int(p)) is not None)
+            reviewer = self.caller(lambda user: p.isdigit() and self.model.ordinal_of(user, int(p)) is not None)
             form = {"score": choose.randint(1, 5), "confidence": choose.randint(1, 5), "to_authors": choose.choice(["", "Good.", "Two\nlines."]), "to_pc": choose.choice(["", "ok"])}
             self.ask(reviewer, "PUT", f"/papers/{p}/review", form)
         elif deed == "comment":

@@ -65,7 +65,7 @@ def once(f):
     return eval(f"lambda {names}: look({names})", {"look": look})  # pylint: disable=eval-used
 
 
-def paper_spelt(text):
+def parse_paper(text):
     """The number that a paper's decimal digits tell, without a leading zero."""
     digits = bytes(text).decode("latin1")
     return some(int(digits)) if re.fullmatch(r"[1-9]\d{0,3}", digits) else NONE
@@ -77,7 +77,7 @@ class Rules:
     def __init__(self, changed):
         self.specs, self.seen, self.kept = Specs(TOP, changed), {}, {}
         self.stand_in("cr_base.specs.Texts", is_name_byte=lambda b: 97 <= b <= 122 or 48 <= b <= 57 or b == 45)
-        self.stand_in("cr_base.specs.Spelt", paper_spelt=paper_spelt, name_spelt=lambda text: some(text) if 1 <= len(text) <= 32 else NONE)
+        self.stand_in("cr_base.specs.Parse", parse_paper=parse_paper, parse_name=lambda text: some(text) if 1 <= len(text) <= 32 else NONE)
         for name in ("facts_in_view", "shown_in_view"):
             self.stand_in("cr_policy.specs.ViewFacts", **{name: self.facts_kept(self.get("ViewFacts", name), name)})
         checks, judged = self.get("Answering", "query_checks", "cr_base"), self.get("Checks", "judged", "cr_base")

@@ -137,8 +137,8 @@ impl Case {
     // Adds what a line says that is neither empty nor a comment.
     fn add_line(&mut self, alloc: Global, number: usize, line: &str) -> Result<(), LineError> {
         let (form, rest) = line.split_once(' ').unwrap_or((line, ""));
-        if let Some(place) = form.strip_prefix('@') {
-            return add_row(&mut self.rows, place, read_row(alloc, rest)?);
+        if let Some(index) = form.strip_prefix('@') {
+            return add_row(&mut self.rows, index, read_row(alloc, rest)?);
         }
         if let Some(count) = form.strip_prefix('&') {
             self.connections.push(Connection::new(alloc, count)?)?;
@@ -232,8 +232,8 @@ fn add_door(alloc: Global, doors: &mut Vec<Vec<u64>>, text: &str) -> Result<(), 
     for _ in doors.len()..door {
         doors.push(Vec::new(alloc))?;
     }
-    let place = door.checked_sub(1).ok_or(LineError::NoForm)?;
-    doors.get_mut(place).ok_or(LineError::NoForm)?.push(call)?;
+    let index = door.checked_sub(1).ok_or(LineError::NoForm)?;
+    doors.get_mut(index).ok_or(LineError::NoForm)?.push(call)?;
     Ok(())
 }
 

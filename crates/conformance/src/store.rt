@@ -90,8 +90,8 @@ fn bytes(alloc: Global, word: Option<&str>) -> Result<Blob, LineError> {
 pub fn read_row(alloc: Global, text: &str) -> Result<Row, LineError> {
     let mut words = text.split(' ');
     let mut numbers = [0u64; 8];
-    for place in numbers.iter_mut() {
-        *place = number(words.next())?;
+    for index in numbers.iter_mut() {
+        *index = number(words.next())?;
     }
     let b1 = bytes(alloc, words.next())?;
     let b2 = bytes(alloc, words.next())?;
@@ -111,13 +111,13 @@ pub fn read_row(alloc: Global, text: &str) -> Result<Row, LineError> {
 }
 
 /// Adds the row that a line tells, `@ ROW`, or puts it in place of the row with a number, `@N ROW`.
-pub fn add_row(rows: &mut Vec<Row>, place: &str, row: Row) -> Result<(), LineError> {
-    if place.is_empty() {
+pub fn add_row(rows: &mut Vec<Row>, index: &str, row: Row) -> Result<(), LineError> {
+    if index.is_empty() {
         rows.push(row)?;
         return Ok(());
     }
-    let place = read_number(place)?;
-    match rows.get_mut(place) {
+    let index = read_number(index)?;
+    match rows.get_mut(index) {
         Some(old) => {
             *old = row;
             Ok(())

@@ -26,7 +26,7 @@ indexed-push accounts pushed old new a user was fits items puts =
       numbers = λ name. puts name ∙ ap (cond (bytes_eq a.name name) (Some user)) (was.numbers name) ∙ sym (number_at-push accounts a user fits.0 fits.2 name) ∙ ap (λ xs. number_at xs name) (sym items);
     }
 
--- a role that is written at a place of the list
+-- a role that is written at an index of the list
 pub with_role-at : (accounts : List Account) (at : ℕ) (a : Account) (role : Role) → at < length accounts → a ≡ get_or accounts at a → slice_set accounts at (record a { role = role }) ≡ with_role accounts at role
 with_role-at accounts at a role h e = rw (slice_get_read accounts (length accounts) at a refl h e) refl
 

@@ -103,7 +103,7 @@ impl Accounts {
         ensures { result ≡ caller_at self.now.accounts name.now digest.now }
     {
         let user = self.number_of(name)?;
-        let account = self.accounts.get(user.place())?;
+        let account = self.accounts.get(user.from_zero())?;
         if account.digest.as_slice() == digest.as_slice() {
             Some(user)
         } else {
@@ -138,7 +138,7 @@ impl Accounts {
     pub fn role_given(&self, user: UserNo) -> Option<Role>
         ensures { result ≡ role_at self.now.accounts user }
     {
-        let account = self.accounts.get(user.place())?;
+        let account = self.accounts.get(user.from_zero())?;
         Some(account.role)
     }
 
@@ -205,7 +205,7 @@ impl Accounts {
                 });
             }
             Entry::Named { user, role } => {
-                self.accounts[user.place()].role = *role;
+                self.accounts[user.from_zero()].role = *role;
             }
             _ => {}
         }

@@ -5,19 +5,19 @@ use Rattle.std.proofs.lemmas.List.Sums.{sum_by-cons}
 use Rattle.cr_base.specs.declared.entry.Entry.{Entry}
 use Rattle.cr_base.specs.declared.entry.Entry.TheVariants.{Assigned}
 use Rattle.cr_base.specs.declared.entry.Stamped.{Stamped}
-use Rattle.cr_base.specs.History.{History, SeatTold, assigned_told, seat_told}
+use Rattle.cr_base.specs.History.{History, SeatTold, assigned_told, ordinal_told}
 use Rattle.cr_base.specs.Lists.{given, is_nothing, last_or}
-use Rattle.cr_base.specs.Seats.{SeatsState, SeatsInOrder, SeatsFitInTurn, seats_after, seats_from, labels_in, seat_in}
-use Rattle.cr_base.proofs.SeatLaws.{seats-in_order-after, seat_in-after, labels_in-after}
+use Rattle.cr_base.specs.Seats.{SeatsState, SeatsInOrder, SeatsFitInTurn, seats_after, seats_from, labels_in, ordinal_in}
+use Rattle.cr_base.proofs.SeatLaws.{seats-in_order-after, ordinal_in-after, labels_in-after}
 
 -- a user reviews a paper as the last of the entries that speaks of it says, or else as she did
-pub seat_in-from : (u : Option ℕ) (p : ℕ) (seats : SeatsState) (entries : History) → SeatsInOrder seats → SeatsFitInTurn seats entries
-    → seat_in (seats_from seats entries) u p ≡ fold (λ (o : Option ℕ) (e : Stamped). last_or o (seat_told u p e.entry)) (seat_in seats u p) entries
-seat_in-from u p seats [] order fits = refl
-seat_in-from u p seats (e ∷ entries) order fits =
-    seat_in-from u p (seats_after seats e.entry) entries (seats-in_order-after seats e.entry fits.0 order) fits.1
-    ∙ ap (λ (held : Option ℕ). fold (λ (o : Option ℕ) (s : Stamped). last_or o (seat_told u p s.entry)) held entries)
-    (seat_in-after seats e.entry order fits.0 u p)
+pub ordinal_in-from : (u : Option ℕ) (p : ℕ) (seats : SeatsState) (entries : History) → SeatsInOrder seats → SeatsFitInTurn seats entries
+    → ordinal_in (seats_from seats entries) u p ≡ fold (λ (o : Option ℕ) (e : Stamped). last_or o (ordinal_told u p e.entry)) (ordinal_in seats u p) entries
+ordinal_in-from u p seats [] order fits = refl
+ordinal_in-from u p seats (e ∷ entries) order fits =
+    ordinal_in-from u p (seats_after seats e.entry) entries (seats-in_order-after seats e.entry fits.0 order) fits.1
+    ∙ ap (λ (held : Option ℕ). fold (λ (o : Option ℕ) (s : Stamped). last_or o (ordinal_told u p s.entry)) held entries)
+    (ordinal_in-after seats e.entry order fits.0 u p)
 
 -- it gives one of the paper's labels
 abbrev pub gives : ℕ → Stamped → Bool

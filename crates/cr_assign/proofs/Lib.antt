@@ -1,4 +1,4 @@
 pub mod EarlierLaws
 pub mod IndexLaws
-pub mod PlaceLaws
+pub mod PartitionLaws
 pub mod ReviewedLaws

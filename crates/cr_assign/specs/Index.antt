@@ -4,9 +4,9 @@ use Rattle.cr_base.specs.declared.pairs.Order.{Order}
 use Rattle.cr_base.specs.declared.pairs.Order.TheVariants.{ByPaper, ByUser}
 use Rattle.cr_base.specs.declared.pairs.Pair.{Pair}
 use Rattle.cr_base.specs.declared.pairs.Tie.{Tie}
-use Rattle.cr_base.specs.Pairs.{value_of}
-use Rattle.cr_base.specs.Seats.{SeatsState, SeatsInOrder, labels_in, seat_in}
-use Rattle.cr_pairs.specs.Places.{RisesBy}
+use Rattle.cr_base.specs.Pairs.{tie_value}
+use Rattle.cr_base.specs.Seats.{SeatsState, SeatsInOrder, labels_in, ordinal_in}
+use Rattle.cr_pairs.specs.BinarySearch.{RisesBy}
 
 -- seats stand paper by paper and come of entries that fit, so no paper has more than 26; by user there are the ordinals under
 -- which papers are reviewed
@@ -15,4 +15,4 @@ pub record SeatsIndexed (seats : SeatsState) (users : Order) (reviewing : List (
   pub in_order : SeatsInOrder seats
   pub few : (p : ℕ) → labels_in seats p ≤ 26
   pub by_user : users ≡ ByUser
-  pub same : (q : Pair) → value_of q reviewing ≡ seat_in seats (Some q.user) q.paper
+  pub same : (q : Pair) → tie_value q reviewing ≡ ordinal_in seats (Some q.user) q.paper

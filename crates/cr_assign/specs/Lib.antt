@@ -1,4 +1,4 @@
 pub mod Index
-pub mod Places
+pub mod Partition
 pub mod Seen
 pub mod Targets

@@ -1,6 +1,6 @@
 //! What earlier entries of the same command make of the seats of a paper.
 ghost use Rattle.std.specs.Prelude.{◌≡◌, Some, not, fold, count_by};
-ghost use Rattle.cr_base.specs.History.{assigned_told, seat_told};
+ghost use Rattle.cr_base.specs.History.{assigned_told, ordinal_told};
 ghost use Rattle.cr_base.specs.Lists.{is_nothing, last_or};
 
 use cr_base::{Entry, Ordinal, PaperNo, Stamped, UserNo};
@@ -12,7 +12,7 @@ fn seat_after(
     user: UserNo,
     paper: PaperNo,
 ) -> Option<Ordinal>
-    ensures { result ≡ last_or held (seat_told (Some user) paper stamped.now.entry) }
+    ensures { result ≡ last_or held (ordinal_told (Some user) paper stamped.now.entry) }
 {
     match &stamped.entry {
         Entry::Assigned {
@@ -37,7 +37,7 @@ pub(crate) fn seat_behind(
     user: UserNo,
     paper: PaperNo,
 ) -> Option<Ordinal>
-    ensures { result ≡ fold (λ o e. last_or o (seat_told (Some user) paper e.entry)) held earlier.now }
+    ensures { result ≡ fold (λ o e. last_or o (ordinal_told (Some user) paper e.entry)) held earlier.now }
 {
     earlier.iter().fold(held, |last, stamped| {
         seat_after(last, stamped, user, paper)

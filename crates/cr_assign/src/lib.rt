@@ -4,7 +4,7 @@
 
 mod earlier;
 mod judging;
-mod places;
+mod partition;
 mod seats;
 
 pub use seats::Seats;

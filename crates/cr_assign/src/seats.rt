@@ -6,12 +6,12 @@ ghost use Rattle.cr_base.specs.declared.entry.Entry.TheVariants.{Assigned, Unass
 ghost use Rattle.cr_base.specs.Checks.{judged, assign_checks, unassign_checks};
 ghost use Rattle.cr_base.specs.Lists.{IsRising};
 ghost use Rattle.cr_base.specs.Pairs.{ties_of};
-ghost use Rattle.cr_base.specs.Seats.{no_seats, seat_tie, with_seat, without_seat, seats_after, seats_from, labels_in, seat_in, SeatsFit, SeatsFitInTurn};
+ghost use Rattle.cr_base.specs.Seats.{no_seats, seat_tie, with_seat, without_seat, seats_after, seats_from, labels_in, ordinal_in, SeatsFit, SeatsFitInTurn};
 ghost use Rattle.cr_assign.specs.Targets.{target_of, held_at, labels_at};
 
 use crate::earlier::{labels_given, seat_behind};
 use crate::judging;
-use crate::places::place_from;
+use crate::partition::index_from;
 use cr_base::{
     Entry, Kind, Order, Ordinal, Pair, PaperNo, Role, Rule, Seat, Stamped, Standing, Target, Tie,
     UserNo,
@@ -83,14 +83,14 @@ impl Seats {
     /// The ordinal of the label under which the user reviews the paper, and none where she doesn't. One
     /// binary search.
     pub fn ordinal_of(&self, user: UserNo, paper: PaperNo) -> Option<Ordinal>
-        ensures { result ≡ seat_in self.now.seats (Some user) paper }
+        ensures { result ≡ ordinal_in self.now.seats (Some user) paper }
     {
         self.reviewing.value(&Pair { paper, user })
     }
 
     /// Whether the user reviews the paper. One binary search.
     pub fn is_reviewer(&self, user: UserNo, paper: PaperNo) -> bool
-        ensures { result ≡ is_some (seat_in self.now.seats (Some user) paper) }
+        ensures { result ≡ is_some (ordinal_in self.now.seats (Some user) paper) }
     {
         self.ordinal_of(user, paper).is_some()
     }
@@ -107,9 +107,9 @@ impl Seats {
     /// The papers that the user reviews, in the order of their numbers, with the ordinals of her labels.
     /// Two binary searches; takes no memory.
     pub fn reviewed(&self, user: UserNo) -> &[Tie<Ordinal>]
-        ensures papers { (p : _) → list_any (λ m. p == m) (map (λ t. t.pair.paper) result.now) ≡ is_some (seat_in self.now.seats (Some user) p) }
+        ensures papers { (p : _) → list_any (λ m. p == m) (map (λ t. t.pair.paper) result.now) ≡ is_some (ordinal_in self.now.seats (Some user) p) }
         ensures rising { IsRising (map (λ t. t.pair.paper) result.now) }
-        ensures ordinals { All (λ t. seat_in self.now.seats (Some user) t.pair.paper ≡ Some t.value) result.now }
+        ensures ordinals { All (λ t. ordinal_in self.now.seats (Some user) t.pair.paper ≡ Some t.value) result.now }
     {
         self.reviewing.of_user(user)
     }
@@ -123,7 +123,7 @@ impl Seats {
         earlier: &[Stamped],
     ) -> Option<Ordinal>
         requires { SeatsFitInTurn self.now.seats earlier.now }
-        ensures { result ≡ seat_in (seats_from self.now.seats earlier.now) (Some user) paper }
+        ensures { result ≡ ordinal_in (seats_from self.now.seats earlier.now) (Some user) paper }
     {
         let held = self.reviewing.value(&Pair { paper, user });
         seat_behind(held, earlier, user, paper)
@@ -233,8 +233,8 @@ impl Seats {
         ensures after { self.new.seats ≡ with_seat (seat_tie paper user kind ordinal) self.old.seats }
         ensures room { self.old.room ≤ self.new.room + 1 }
     {
-        let place = place_from(&self.seats, paper.number() + 1);
-        match self.seats.insert(place, taken(paper, user, kind, ordinal)) {
+        let index = index_from(&self.seats, paper.number() + 1);
+        match self.seats.insert(index, taken(paper, user, kind, ordinal)) {
             Ok(()) => {}
             Err(_) => unreachable!(),
         }
@@ -250,15 +250,15 @@ impl Seats {
         ensures after { self.new.seats ≡ without_seat paper ordinal self.old.seats }
         ensures room { self.old.room ≤ self.new.room }
     {
-        let first = place_from(&self.seats, paper.number());
-        let place = first + ordinal.number() as usize - 1;
-        self.seats[place].value.vacated = true;
+        let first = index_from(&self.seats, paper.number());
+        let index = first + ordinal.number() as usize - 1;
+        self.seats[index].value.vacated = true;
         self.reviewing.remove(&Pair { paper, user });
     }
 
     /// One more entry, for which there is room; takes no memory. An assignment gives the paper's next label
     /// to a user who doesn't review it, and who is taken off a paper reviews it under the label told. Either
-    /// costs two binary searches, and a move of the seats behind the place, of 8 bytes each, and of the
+    /// costs two binary searches, and a move of the seats behind the index, of 8 bytes each, and of the
     /// pairs behind the user's, of 6.
     pub fn apply(&mut self, stamped: &Stamped)
         requires room { 0 < self.old.room }

@@ -1,4 +1,4 @@
--- Lists in which one element was changed: what stands at each place, and by number.
+-- Lists in which one element was changed: what stands at each index, and by number.
 use Rattle.std.proofs.Common.{ℕ, Bool, true, false, cond, ◌≡◌, ◌≤◌, ◌+◌, ◌-◌, List, [], ◌∷◌, eqb, refl, sym, ap, ◌∙◌, arith, zero, suc, Option, Some, None}
 use Rattle.std.specs.Prelude.{slice_set}
 use Rattle.std.specs.List.{slice_get}
@@ -7,7 +7,7 @@ use Rattle.std.proofs.lemmas.Bool.Decides.{nat_tests}
 use Rattle.cr_base.specs.Lists.{numbered, numbers_from}
 
 module _ {A : Type 0} (change : A → A) where
-  -- the list with the element at this place changed, where there is one
+  -- the list with the element at this index changed, where there is one
   abbrev pub changed_at : List A → ℕ → List A
   changed_at xs k = option_map_or (λ x. slice_set xs k (change x)) (slice_get xs k) xs
 
@@ -26,7 +26,7 @@ module _ {A : Type 0} (change : A → A) where
   none-changed true = refl
   none-changed false = refl
 
-  -- the element at this place is changed, and every other is as it was
+  -- the element at this index is changed, and every other is as it was
   get-changed_at : (xs : List A) (k i : ℕ) → slice_get (changed_at xs k) i ≡ where_changed (eqb k i) (slice_get xs i)
   get-changed_at [] k i = none-changed (eqb k i)
   get-changed_at (x ∷ xs) zero zero = refl

@@ -26,7 +26,7 @@ use Rattle.cr_base.specs.Papers.{paper_count, paper_numbers, uploads_at, own_cou
 use Rattle.cr_base.specs.Lists.{listed, is_number, at_some}
 use Rattle.cr_base.specs.Pairs.{users_tied_to}
 use Rattle.cr_base.specs.Reviews.{forms_in, is_written_in, written_told}
-use Rattle.cr_base.specs.Seats.{labels_in, seat_in}
+use Rattle.cr_base.specs.Seats.{labels_in, ordinal_in}
 use Rattle.cr_base.specs.TagTexts.{is_for_chairs}
 use Rattle.cr_base.specs.Talk.{comments_in, comment_as_told, own_comments_in}
 use Rattle.cr_base.specs.Tables.{Tables, FitInTurn}
@@ -71,7 +71,7 @@ seat-named : (t : Tables) (caller paper target : Option ℕ) (reviews : Bool)
     → is_none (target_named (facts_of_tables t caller) (shown_in_tables t) caller paper target) ≡ false
     → not (has_paper (facts_of_tables t caller) paper) ≡ false
     → target_is (λ (user : Target). user.reviewer) (target_named (facts_of_tables t caller) (shown_in_tables t) caller paper target) ≡ reviews
-    → is_some (seat_in t.seats (Some (unwrap_or target 0)) (unwrap_or paper 0)) ≡ reviews
+    → is_some (ordinal_in t.seats (Some (unwrap_or target 0)) (unwrap_or paper 0)) ≡ reviews
 seat-named t caller paper None reviews user there says = absurd (true≢false user)
 seat-named t caller None (Some v) reviews user there says = absurd (true≢false there)
 seat-named t caller (Some p) (Some v) reviews user there says = by (role_among (lines_of t.accounts) (Some v)) user says
@@ -82,25 +82,25 @@ seat-named t caller (Some p) (Some v) reviews user there says = by (role_among (
       herself = is_number (Some v) (maker_of caller);
       author = list_any (is_number (Some v)) (authors_in t.ties p);
       conflicted = list_any (is_number (Some v)) (authors_in t.ties p) || list_any (is_number (Some v)) (users_tied_to p t.ties.conflicts);
-      reviewer = is_some (seat_in t.seats (Some v) p);
+      reviewer = is_some (ordinal_in t.seats (Some v) p);
     }
 
     by : (found : Option Role) → is_none (option_map asked found) ≡ false → target_is (λ (user : Target). user.reviewer) (option_map asked found) ≡ reviews
-        → is_some (seat_in t.seats (Some v) p) ≡ reviews
+        → is_some (ordinal_in t.seats (Some v) p) ≡ reviews
     by None user says = absurd (true≢false user)
     by (Some role) user says = says
 
 -- the seat that is there, where she has one
-seat-there : (t : Tables) (target : Option ℕ) (p : ℕ) → is_some (seat_in t.seats (Some (unwrap_or target 0)) p) ≡ true
+seat-there : (t : Tables) (target : Option ℕ) (p : ℕ) → is_some (ordinal_in t.seats (Some (unwrap_or target 0)) p) ≡ true
     → (asked : Role → Target) → is_none (option_map asked (role_among (lines_of t.accounts) target)) ≡ false
-    → seat_in t.seats (Some (unwrap_or target 0)) p ≡ Some (unwrap_or (seat_in t.seats target p) 0)
+    → ordinal_in t.seats (Some (unwrap_or target 0)) p ≡ Some (unwrap_or (ordinal_in t.seats target p) 0)
 seat-there t None p h asked user = absurd (true≢false user)
-seat-there t (Some v) p h asked user = some-where (seat_in t.seats (Some v) p) h
+seat-there t (Some v) p h asked user = some-where (ordinal_in t.seats (Some v) p) h
 
 -- ---- the forms under the caller's own label
 
 -- the forms that are her own are as many as those under the label that she has
-own_forms-count : (t : Tables) (user : Option ℕ) (p o : ℕ) → seat_in t.seats user p ≡ Some o
+own_forms-count : (t : Tables) (user : Option ℕ) (p o : ℕ) → ordinal_in t.seats user p ≡ Some o
     → length (own_forms_in t user p) ≡ length (forms_in t.reviews p o)
 own_forms-count t user p o h =
     let forms : ℕ → List FormTold = λ o. map written_told (forms_in t.reviews p o) in
@@ -111,9 +111,9 @@ own_forms-count t user p o h =
 -- a reviewer of the paper that is there has a seat
 own-seat : (t : Tables) (user paper : Option ℕ) → not (has_paper (facts_of_tables t user) paper) ≡ false
     → not (standing_at t user paper).reviewer ≡ false
-    → seat_in t.seats user (unwrap_or paper 0) ≡ Some (unwrap_or (seat_in t.seats user (unwrap_or paper 0)) 0)
+    → ordinal_in t.seats user (unwrap_or paper 0) ≡ Some (unwrap_or (ordinal_in t.seats user (unwrap_or paper 0)) 0)
 own-seat t user None there reviews = absurd (true≢false there)
-own-seat t user (Some p) there reviews = some-where (seat_in t.seats user p) (by (is_some (seat_in t.seats user p)) reviews)
+own-seat t user (Some p) there reviews = some-where (ordinal_in t.seats user p) (by (is_some (ordinal_in t.seats user p)) reviews)
   where
     by : (b : Bool) → not b ≡ false → b ≡ true
     by true h = refl
@@ -191,7 +191,7 @@ module _ (t : Tables) (within : AreWithin (paper_count t.papers) t.ties) (maker 
       (assignment_drawn maker p (unwrap_or target 0) kind (labels + 1)) drawn accepted in
       let there = paper_within t.papers.papers paper k.0.0 in
       let user = target-in t target _ k.0.1.0 in
-      let free = none-where (seat_in t.seats (Some (unwrap_or target 0)) p) (seat-named t (Some maker) paper target false k.0.1.0 k.0.0 k.0.1.1.1.1.1.1.1.1.0) in
+      let free = none-where (ordinal_in t.seats (Some (unwrap_or target 0)) p) (seat-named t (Some maker) paper target false k.0.1.0 k.0.0 k.0.1.1.1.1.1.1.1.1.0) in
       subst (λ (d : Drawn). FitInTurn t d.group) k.1
       (record { accounts = user; papers = there; ties = tt; seats = (refl, few labels k.0.1.1.1.1.1.1.1.1.1.0, free); reviews = tt; talk = tt }, tt)
     where
@@ -202,8 +202,8 @@ module _ (t : Tables) (within : AreWithin (paper_count t.papers) t.ties) (maker 
       let p : ℕ = unwrap_or paper 0 in
       let k = judged-Ok
       (unassign_checks (standing_at t (Some maker) paper) (named paper) (target_named (facts_of_tables t (Some maker)) (shown_in_tables t) (Some maker) paper target)
-      (at_some (is_written_in t.reviews p) (seat_in t.seats target p)))
-      (unassignment_drawn maker p (unwrap_or target 0) (unwrap_or (seat_in t.seats target p) 0)) drawn accepted in
+      (at_some (is_written_in t.reviews p) (ordinal_in t.seats target p)))
+      (unassignment_drawn maker p (unwrap_or target 0) (unwrap_or (ordinal_in t.seats target p) 0)) drawn accepted in
       let there = paper_within t.papers.papers paper k.0.0 in
       let user = target-in t target _ k.0.1.0 in
       let taken = seat-there t target p (seat-named t (Some maker) paper target true k.0.1.0 k.0.0 (not-false _ k.0.1.1.1.1.1.1.0)) _ k.0.1.0 in
@@ -214,7 +214,7 @@ module _ (t : Tables) (within : AreWithin (paper_count t.papers) t.ties) (maker 
       not-false false h = absurd (true≢false h)
   judged-fits (Review paper form) drawn accepted =
       let p : ℕ = unwrap_or paper 0 in
-      let ordinal : ℕ = unwrap_or (seat_in t.seats (Some maker) p) 0 in
+      let ordinal : ℕ = unwrap_or (ordinal_in t.seats (Some maker) p) 0 in
       let k = judged-Ok
       (review_checks (standing_at t (Some maker) paper) (named paper))
       (review_drawn maker p ordinal (length (own_forms_in t (Some maker) p) + 1) form) drawn accepted in
@@ -226,7 +226,7 @@ module _ (t : Tables) (within : AreWithin (paper_count t.papers) t.ties) (maker 
       let own : ℕ = own_comments_in t.talk (Some maker) in
       let k = judged-Ok
       (comment_checks (standing_at t (Some maker) paper) (named paper) own)
-      (comment_drawn maker p (length (map comment_as_told (comments_in t.talk p)) + 1) (seat_in t.seats (Some maker) p) text) drawn accepted in
+      (comment_drawn maker p (length (map comment_as_told (comments_in t.talk p)) + 1) (ordinal_in t.seats (Some maker) p) text) drawn accepted in
       let there = paper_within t.papers.papers paper k.0.0 in
       let next = ap (λ (n : ℕ). n + 1) (length-map (comments_in t.talk p) comment_as_told) in
       subst (λ (d : Drawn). FitInTurn t d.group) k.1

@@ -14,7 +14,7 @@ pub mod RoleLaws
 pub mod RowLaws
 pub mod SeatLaws
 pub mod SortedLists
-pub mod SpeltLaws
+pub mod ParseLaws
 pub mod TagLaws
 pub mod TargetLaws
 pub mod TextLaws

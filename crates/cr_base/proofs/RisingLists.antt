@@ -10,7 +10,7 @@ use Rattle.cr_base.specs.declared.pairs.Order.TheVariants.{ByPaper, ByUser}
 use Rattle.cr_base.specs.declared.pairs.Pair.{Pair}
 use Rattle.cr_base.specs.declared.pairs.Tie.{Tie}
 use Rattle.cr_base.specs.Lists.{IsRising, numbers_from}
-use Rattle.cr_base.specs.Pairs.{leads, follows, paired, comes_before, stands, IsSortedBy, IsAscending, has_pair, ties_of, others_of}
+use Rattle.cr_base.specs.Pairs.{major, minor, paired, comes_before, stands, IsSortedBy, IsAscending, has_pair, ties_of, others_of}
 use Rattle.cr_base.proofs.ListLaws.{list_any-numbers_from}
 use Rattle.cr_base.proofs.PairLaws.{list_any-others_of}
 use Rattle.cr_base.proofs.SortedLists.{sorted-filter}
@@ -89,27 +89,27 @@ rising-numbers_from n [] = tt
 rising-numbers_from n (x ∷ xs) = (above-numbers_from n (n + 1) xs (omega arith), rising-numbers_from (n + 1) xs)
 
 -- the other numbers of ties with the same number, where they rise from each tie to those behind it
-module _ {V : Type 0} (before : Pair → Pair → Bool) (order : Order) (n : ℕ) (rises : (p q : Pair) → eqb n (leads order p) ≡ true → eqb n (leads order q) ≡ true → before p q ≡ true → nat_lt (follows order p) (follows order q) ≡ true) where
-  above-others_of : (p : Pair) (ts : List (Tie V)) → eqb n (leads order p) ≡ true → list_all (stands before p) ts ≡ true → list_all (nat_lt (follows order p)) (others_of order n ts) ≡ true
+module _ {V : Type 0} (before : Pair → Pair → Bool) (order : Order) (n : ℕ) (rises : (p q : Pair) → eqb n (major order p) ≡ true → eqb n (major order q) ≡ true → before p q ≡ true → nat_lt (minor order p) (minor order q) ≡ true) where
+  above-others_of : (p : Pair) (ts : List (Tie V)) → eqb n (major order p) ≡ true → list_all (stands before p) ts ≡ true → list_all (nat_lt (minor order p)) (others_of order n ts) ≡ true
   above-others_of p [] is all = refl
   above-others_of p (t ∷ ts) is all =
       let parts = and_parts (stands before p t) (list_all (stands before p) ts) all in
-      by (eqb n (leads order t.pair)) refl (above-others_of p ts is parts.1) parts.0
+      by (eqb n (major order t.pair)) refl (above-others_of p ts is parts.1) parts.0
     where
-      by : (b : Bool) → eqb n (leads order t.pair) ≡ b → list_all (nat_lt (follows order p)) (others_of order n ts) ≡ true → stands before p t ≡ true → list_all (nat_lt (follows order p)) (map (λ (x : Tie V). follows order x.pair) (cond b (t ∷ ties_of order n ts) (ties_of order n ts))) ≡ true
-      by true same rest comes = ap (λ b. b && list_all (nat_lt (follows order p)) (others_of order n ts)) (rises p t.pair is same comes) ∙ rest
+      by : (b : Bool) → eqb n (major order t.pair) ≡ b → list_all (nat_lt (minor order p)) (others_of order n ts) ≡ true → stands before p t ≡ true → list_all (nat_lt (minor order p)) (map (λ (x : Tie V). minor order x.pair) (cond b (t ∷ ties_of order n ts) (ties_of order n ts))) ≡ true
+      by true same rest comes = ap (λ b. b && list_all (nat_lt (minor order p)) (others_of order n ts)) (rises p t.pair is same comes) ∙ rest
       by false same rest comes = rest
 
   pub rising-sorted : (ts : List (Tie V)) → IsSortedBy before ts → IsRising (others_of order n ts)
   rising-sorted [] sorted = tt
-  rising-sorted (t ∷ ts) sorted = by (eqb n (leads order t.pair)) refl (rising-sorted ts sorted.1)
+  rising-sorted (t ∷ ts) sorted = by (eqb n (major order t.pair)) refl (rising-sorted ts sorted.1)
     where
-      by : (b : Bool) → eqb n (leads order t.pair) ≡ b → IsRising (others_of order n ts) → IsRising (map (λ (x : Tie V). follows order x.pair) (cond b (t ∷ ties_of order n ts) (ties_of order n ts)))
+      by : (b : Bool) → eqb n (major order t.pair) ≡ b → IsRising (others_of order n ts) → IsRising (map (λ (x : Tie V). minor order x.pair) (cond b (t ∷ ties_of order n ts) (ties_of order n ts)))
       by true is rest = (above-others_of t.pair ts is sorted.0, rest)
       by false is rest = rest
 
 -- those of ascending ties, in whichever of the two orders
-ascends : (stood order : Order) (n : ℕ) (p q : Pair) → eqb n (leads order p) ≡ true → eqb n (leads order q) ≡ true → comes_before stood p q ≡ true → nat_lt (follows order p) (follows order q) ≡ true
+ascends : (stood order : Order) (n : ℕ) (p q : Pair) → eqb n (major order p) ≡ true → eqb n (major order q) ≡ true → comes_before stood p q ≡ true → nat_lt (minor order p) (minor order q) ≡ true
 ascends ByPaper ByPaper n p q here there before = grind (arith, nat_tests)
 ascends ByPaper ByUser n p q here there before = grind (arith, nat_tests)
 ascends ByUser ByPaper n p q here there before = grind (arith, nat_tests)

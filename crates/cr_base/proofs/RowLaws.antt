@@ -3,7 +3,7 @@ use Rattle.std.proofs.Common.{ℕ, Bool, true, false, cond, ◌≡◌, ◌≤◌
 use Rattle.std.proofs.lemmas.Bool.Decides.{nat_tests}
 use Rattle.std.proofs.lemmas.List.{drop-replicate}
 use Rattle.std.proofs.lemmas.Slice.{drop-append-drop}
-use Rattle.cr_base.specs.Words.{phase_number, phase_numbered, mode_number, mode_numbered, role_number, role_numbered, seat_number, seat_numbered, decision_number, decision_numbered}
+use Rattle.cr_base.specs.Words.{phase_number, phase_numbered, mode_number, mode_numbered, role_number, role_numbered, review_kind_number, review_kind_numbered, decision_number, decision_numbered}
 use Rattle.cr_base.specs.Shapes.{FitsShape, HasText, InRange, IsAtMost, unused, some_ordinal_range}
 use Rattle.cr_base.specs.Rows.{kind_number, label_number, label_numbered, shape_of, kind_of, row_of, built, stamped, IsBoundedEntry}
 use Rattle.cr_base.specs.declared.entry.EntryKind.{EntryKind}
@@ -70,17 +70,17 @@ mode_numbered-number Overt = refl
 mode_numbered-number Blind = refl
 mode_numbered-number Anonymous = refl
 
-seat_number-cond : (b : Bool) (x y : Kind) → seat_number (cond b x y) ≡ cond b (seat_number x) (seat_number y)
-seat_number-cond true x y = refl
-seat_number-cond false x y = refl
+review_kind_number-cond : (b : Bool) (x y : Kind) → review_kind_number (cond b x y) ≡ cond b (review_kind_number x) (review_kind_number y)
+review_kind_number-cond true x y = refl
+review_kind_number-cond false x y = refl
 
-seat_number-numbered : (n : ℕ) → 1 ≤ n → n ≤ 3 → seat_number (seat_numbered n) ≡ n
-seat_number-numbered n l h = simp seat_number-cond (grind (arith, nat_tests))
+review_kind_number-numbered : (n : ℕ) → 1 ≤ n → n ≤ 3 → review_kind_number (review_kind_numbered n) ≡ n
+review_kind_number-numbered n l h = simp review_kind_number-cond (grind (arith, nat_tests))
 
-seat_numbered-number : (x : Kind) → seat_numbered (seat_number x) ≡ x
-seat_numbered-number Primary = refl
-seat_numbered-number Secondary = refl
-seat_numbered-number Pc = refl
+review_kind_numbered-number : (x : Kind) → review_kind_numbered (review_kind_number x) ≡ x
+review_kind_numbered-number Primary = refl
+review_kind_numbered-number Secondary = refl
+review_kind_numbered-number Pc = refl
 
 decision_number-cond : (b : Bool) (x y : Decision) → decision_number (cond b x y) ≡ cond b (decision_number x) (decision_number y)
 decision_number-cond true x y = refl
@@ -162,7 +162,7 @@ pub row_of-stamped : (k : EntryKind) (r : Row) → kind_number k ≡ r.kind → 
 row_of-stamped kind.Named r hk f = same_row r kind.Named _ _ _ _ _ _ _ hk f (unused-zero _ f.n4) (unused-zero _ f.n5) refl (role_number-numbered r.n2 f.n2.0 f.n2.1) (unused-zero _ f.n3) (sym f.b1) (sym f.b2)
 row_of-stamped kind.PhaseSet r hk f = same_row r kind.PhaseSet _ _ _ _ _ _ _ hk f (unused-zero _ f.n4) (unused-zero _ f.n5) (phase_number-numbered r.n1 f.n1.1) (unused-zero _ f.n2) (unused-zero _ f.n3) (sym f.b1) (sym f.b2)
 row_of-stamped kind.ModeSet r hk f = same_row r kind.ModeSet _ _ _ _ _ _ _ hk f (unused-zero _ f.n4) (unused-zero _ f.n5) (mode_number-numbered r.n1 f.n1.1) (unused-zero _ f.n2) (unused-zero _ f.n3) (sym f.b1) (sym f.b2)
-row_of-stamped kind.Assigned r hk f = same_row r kind.Assigned _ _ _ _ _ _ _ hk f refl (unused-zero _ f.n5) refl refl (seat_number-numbered r.n3 f.n3.0 f.n3.1) (sym f.b1) (sym f.b2)
+row_of-stamped kind.Assigned r hk f = same_row r kind.Assigned _ _ _ _ _ _ _ hk f refl (unused-zero _ f.n5) refl refl (review_kind_number-numbered r.n3 f.n3.0 f.n3.1) (sym f.b1) (sym f.b2)
 row_of-stamped kind.Commented r hk f = same_row r kind.Commented _ _ _ _ _ _ _ hk f (unused-zero _ f.n4) (unused-zero _ f.n5) refl refl (label_number-numbered r.n3) refl (sym f.b2)
 row_of-stamped kind.Decided r hk f = same_row r kind.Decided _ _ _ _ _ _ _ hk f (unused-zero _ f.n4) (unused-zero _ f.n5) refl (decision_number-numbered r.n2 f.n2.0 f.n2.1) (unused-zero _ f.n3) (sym f.b1) (sym f.b2)
 row_of-stamped k r hk f =
@@ -175,7 +175,7 @@ built-row_of (Named user role) m o h = ap (λ x. Named user x) (role_numbered-nu
 built-row_of (PhaseSet phase) m o h = ap (λ x. PhaseSet x) (phase_numbered-number phase)
 built-row_of (ModeSet mode) m o h = ap (λ x. ModeSet x) (mode_numbered-number mode)
 built-row_of (Conflict paper user on) m o h = ap (λ x. Conflict paper user x) (bit-back on)
-built-row_of (Assigned paper user seat ordinal) m o h = ap (λ x. Assigned paper user x ordinal) (seat_numbered-number seat)
+built-row_of (Assigned paper user review_kind ordinal) m o h = ap (λ x. Assigned paper user x ordinal) (review_kind_numbered-number review_kind)
 built-row_of (Commented paper n ordinal text) m o h = ap (λ x. Commented paper n x text) (label_numbered-number ordinal h.n3)
 built-row_of (Tagged paper tag on) m o h = ap (λ x. Tagged paper tag x) (bit-back on)
 built-row_of (Decided paper decision) m o h = ap (λ x. Decided paper x) (decision_numbered-number decision)

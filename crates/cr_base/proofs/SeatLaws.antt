@@ -16,11 +16,11 @@ use Rattle.cr_base.specs.declared.pairs.Pair.{Pair}
 use Rattle.cr_base.specs.declared.pairs.Tie.{Tie}
 use Rattle.cr_base.specs.declared.seat.Seat.{Seat}
 use Rattle.cr_base.specs.declared.words.Kind.{Kind}
-use Rattle.cr_base.specs.History.{SeatTold, seat_told, assigned_told}
+use Rattle.cr_base.specs.History.{SeatTold, ordinal_told, assigned_told}
 use Rattle.cr_base.specs.Lists.{given, is_number, last_or, numbers_from, IsRising}
 use Rattle.cr_base.specs.Pairs.{ties_of}
 use Rattle.cr_base.specs.Papers.{PapersState, new_paper, with_texts, as_withdrawn, papers_after, paper_count, PapersFit}
-use Rattle.cr_base.specs.Seats.{SeatsState, seat_tie, with_seat, vacated, is_seat, without_seat, seats_after, labels_in, seats_taken, seat_in, SeatsFit, AreOfDifferentUsers, SeatsInOrder}
+use Rattle.cr_base.specs.Seats.{SeatsState, seat_tie, with_seat, vacated, is_seat, without_seat, seats_after, labels_in, seats_taken, ordinal_in, SeatsFit, AreOfDifferentUsers, SeatsInOrder}
 use Rattle.cr_base.specs.Ties.{are_within}
 use Rattle.cr_base.proofs.FiledLaws.{of-inserted}
 use Rattle.cr_base.proofs.ListLaws.{turned, number-is, numbers_from-push}
@@ -425,7 +425,7 @@ seats-in_order-after seats (Assigned paper user kind ordinal) fits order = recor
     single p = subst AreOfDifferentUsers (sym (taken-with_seat seats paper user kind ordinal p)) (by (eqb p paper) refl)
       where
         by : (b : Bool) → eqb p paper ≡ b → AreOfDifferentUsers (seats_taken seats p ++ given b s)
-        by true at = different-push s (seats_taken seats p) (ap (λ n. seat_in seats (Some user) n) (eqb-true p paper at) ∙ fits.2) (order.single p)
+        by true at = different-push s (seats_taken seats p) (ap (λ n. ordinal_in seats (Some user) n) (eqb-true p paper at) ∙ fits.2) (order.single p)
         by false at = subst AreOfDifferentUsers (sym (append-nil (seats_taken seats p))) (order.single p)
 seats-in_order-after seats (Unassigned paper user ordinal) fits order = record { numbered = numbered; single = single }
   where
@@ -443,11 +443,11 @@ seats-in_order-after seats (Unassigned paper user ordinal) fits order = record {
 seats-in_order-after seats e fits order = order
 
 -- and under which ordinal a user reviews a paper is what that entry tells, else what it was
-pub seat_in-after : (seats : SeatsState) (e : Entry) → SeatsInOrder seats → SeatsFit seats e → (u : Option ℕ) (p : ℕ) → seat_in (seats_after seats e) u p
-    ≡ last_or (seat_in seats u p) (seat_told u p e)
-seat_in-after seats (Assigned paper user kind ordinal) order fits u p =
+pub ordinal_in-after : (seats : SeatsState) (e : Entry) → SeatsInOrder seats → SeatsFit seats e → (u : Option ℕ) (p : ℕ) → ordinal_in (seats_after seats e) u p
+    ≡ last_or (ordinal_in seats u p) (ordinal_told u p e)
+ordinal_in-after seats (Assigned paper user kind ordinal) order fits u p =
     ap (found u) (taken-with_seat seats paper user kind ordinal p) ∙ by (eqb p paper) (is_number u user) refl refl
-    ∙ ap (λ b. last_or (seat_in seats u p) (given (b && is_number u user) (Some ordinal))) (turned p paper)
+    ∙ ap (λ b. last_or (ordinal_in seats u p) (given (b && is_number u user) (Some ordinal))) (turned p paper)
   where
     s : Tie Seat
     s = seat_tie paper user kind ordinal
@@ -455,8 +455,8 @@ seat_in-after seats (Assigned paper user kind ordinal) order fits u p =
     test : Tie Seat → Bool
     test t = is_number u t.pair.user
 
-    free : eqb p paper ≡ true → is_number u user ≡ true → seat_in seats u p ≡ None
-    free at is = ap (λ (v : Option ℕ). seat_in seats v p) (number-is u user is) ∙ ap (λ n. seat_in seats (Some user) n) (eqb-true p paper at) ∙ fits.2
+    free : eqb p paper ≡ true → is_number u user ≡ true → ordinal_in seats u p ≡ None
+    free at is = ap (λ (v : Option ℕ). ordinal_in seats v p) (number-is u user is) ∙ ap (λ n. ordinal_in seats (Some user) n) (eqb-true p paper at) ∙ fits.2
 
     none : (o : Option (Tie Seat)) → option_map (λ (t : Tie Seat). t.value.ordinal) (option_or o None) ≡ option_map (λ (t : Tie Seat). t.value.ordinal) o
     none None = refl
@@ -470,7 +470,7 @@ seat_in-after seats (Assigned paper user kind ordinal) order fits u p =
     taken : List (Tie Seat)
     taken = seats_taken seats p
 
-    by : (b c : Bool) → eqb p paper ≡ b → is_number u user ≡ c → found u (taken ++ given b s) ≡ last_or (seat_in seats u p) (given (b && c) (Some ordinal))
+    by : (b c : Bool) → eqb p paper ≡ b → is_number u user ≡ c → found u (taken ++ given b s) ≡ last_or (ordinal_in seats u p) (given (b && c) (Some ordinal))
     by true true at is =
         ap (option_map (λ (t : Tie Seat). t.value.ordinal)) (find-append test taken (s ∷ [])
         ∙ ap (λ (b : Bool). option_or (find test taken) (cond b (Some s) None)) is)
@@ -480,27 +480,27 @@ seat_in-after seats (Assigned paper user kind ordinal) order fits u p =
         ∙ ap (λ (b : Bool). option_or (find test taken) (cond b (Some s) None)) is)
         ∙ none (find test taken)
     by false c at is = ap (found u) (append-nil taken)
-seat_in-after seats (Unassigned paper user ordinal) order fits u p =
+ordinal_in-after seats (Unassigned paper user ordinal) order fits u p =
     ap (λ (ts : SeatsState). found u (filter stays ts)) (ties_of-without_seat p paper ordinal seats) ∙ by (eqb p paper) refl
-    ∙ ap (λ b. last_or (seat_in seats u p) (given (b && is_number u user) None)) (turned p paper)
+    ∙ ap (λ b. last_or (ordinal_in seats u p) (given (b && is_number u user) None)) (turned p paper)
   where
     hers : eqb p paper ≡ true → AreHers user ordinal (seats_taken seats p)
-    hers at = are_hers user ordinal (seats_taken seats p) (rising-taken seats order p) (order.single p) (ap (λ n. seat_in seats (Some user) n) (eqb-true p paper at) ∙ fits)
+    hers at = are_hers user ordinal (seats_taken seats p) (rising-taken seats order p) (order.single p) (ap (λ n. ordinal_in seats (Some user) n) (eqb-true p paper at) ∙ fits)
 
-    gone : (c : Bool) → cond c None (seat_in seats u p) ≡ last_or (seat_in seats u p) (given c None)
+    gone : (c : Bool) → cond c None (ordinal_in seats u p) ≡ last_or (ordinal_in seats u p) (given c None)
     gone true = refl
     gone false = refl
 
     by : (b : Bool) → eqb p paper ≡ b → found u (filter stays (without_seat paper ordinal (ties_of ByPaper p seats)))
-        ≡ last_or (seat_in seats u p) (given (b && is_number u user) None)
+        ≡ last_or (ordinal_in seats u p) (given (b && is_number u user) None)
     by true at = ap (found u) (taken-left p paper ordinal seats at) ∙ found-left user ordinal (seats_taken seats p) (hers at) u ∙ gone (is_number u user)
     by false at = ap (λ (ts : SeatsState). found u (filter stays ts)) (without-other p paper ordinal seats at)
-seat_in-after seats e order fits u p = refl
+ordinal_in-after seats e order fits u p = refl
 
 -- no two users review a paper under the same ordinal
-pub seat_in-single : (seats : SeatsState) → SeatsInOrder seats → (u : Option ℕ) (user p ordinal : ℕ) → seat_in seats u p ≡ Some ordinal
-    → seat_in seats (Some user) p ≡ Some ordinal → is_number u user ≡ true
-seat_in-single seats order u user p ordinal is hers =
+pub ordinal_in-single : (seats : SeatsState) → SeatsInOrder seats → (u : Option ℕ) (user p ordinal : ℕ) → ordinal_in seats u p ≡ Some ordinal
+    → ordinal_in seats (Some user) p ≡ Some ordinal → is_number u user ≡ true
+ordinal_in-single seats order u user p ordinal is hers =
     hers-found user ordinal (seats_taken seats p) (are_hers user ordinal (seats_taken seats p) (rising-taken seats order p) (order.single p) hers) u is
 
 -- no assignments are in order
@@ -536,9 +536,9 @@ found-among test stays ordinal (t ∷ ts) is = by (stays t) is (found-among test
     by false h rest = or_right (eqb t.value.ordinal ordinal) among (rest h)
 
 -- so it was drawn for the paper
-pub seat_in-drawn : (seats : SeatsState) → SeatsInOrder seats → (u : Option ℕ) (p ordinal : ℕ) → seat_in seats u p ≡ Some ordinal
+pub ordinal_in-drawn : (seats : SeatsState) → SeatsInOrder seats → (u : Option ℕ) (p ordinal : ℕ) → ordinal_in seats u p ≡ Some ordinal
     → (1 ≤ ordinal) × (ordinal ≤ labels_in seats p)
-seat_in-drawn seats order u p ordinal is =
+ordinal_in-drawn seats order u p ordinal is =
     let ts : List (Tie Seat) = ties_of ByPaper p seats in
     paper_within ts (Some ordinal) (ap not (ap (list_any (λ n. eqb n ordinal)) (sym (order.numbered p)) ∙ found-among _ _ ordinal ts is))
 

@@ -10,18 +10,18 @@ use Rattle.cr_base.specs.declared.pairs.Order.{Order}
 use Rattle.cr_base.specs.declared.pairs.Pair.{Pair}
 use Rattle.cr_base.specs.declared.pairs.Tie.{Tie}
 use Rattle.cr_base.specs.Lists.{listed, numbers_from}
-use Rattle.cr_base.specs.Pairs.{same_pair, leads, follows, paired, comes_before, is_tied, stands, IsAscending, has_pair, value_of, ties_of, others_of}
+use Rattle.cr_base.specs.Pairs.{same_pair, major, minor, paired, comes_before, is_tied, stands, IsAscending, has_pair, tie_value, ties_of, others_of}
 use Rattle.cr_base.proofs.PairLaws.{same_pair-paired}
 use Rattle.cr_base.proofs.RisingLists.{rising-others_of, numbers-others_of}
 
 -- ---- what is kept of a pair
 
 -- a value is kept where the pair is there
-pub is_some-value_of : {V : Type 0} (q : Pair) (ts : List (Tie V)) → is_some (value_of q ts) ≡ has_pair q ts
-is_some-value_of q [] = refl
-is_some-value_of {V} q (t ∷ ts) = by (is_tied q t) (is_some-value_of q ts)
+pub is_some-tie_value : {V : Type 0} (q : Pair) (ts : List (Tie V)) → is_some (tie_value q ts) ≡ has_pair q ts
+is_some-tie_value q [] = refl
+is_some-tie_value {V} q (t ∷ ts) = by (is_tied q t) (is_some-tie_value q ts)
   where
-    by : (b : Bool) → is_some (value_of q ts) ≡ has_pair q ts
+    by : (b : Bool) → is_some (tie_value q ts) ≡ has_pair q ts
         → is_some (option_map (λ (t : Tie V). t.value) (cond b (Some t) (find (is_tied q) ts))) ≡ (b || has_pair q ts)
     by true rest = refl
     by false rest = rest
@@ -42,7 +42,7 @@ flat_map-filter f test none (x ∷ xs) = by (test x) refl (flat_map-filter f tes
 module _ {V B : Type 0} (order : Order) (n : ℕ) (tell : ℕ → V → B) where
   -- what is told of the two numbers, where they are tied
   abbrev pub told_at : List (Tie V) → ℕ → List B
-  told_at ts m = map (tell m) (listed (value_of (paired order n m) ts))
+  told_at ts m = map (tell m) (listed (tie_value (paired order n m) ts))
 
   -- the other numbers of ties behind one are others than its own
   others-behind : (p : Pair) (ts : List (Tie V)) → list_all (stands (comes_before order) p) ts ≡ true
@@ -50,19 +50,19 @@ module _ {V B : Type 0} (order : Order) (n : ℕ) (tell : ℕ → V → B) where
   others-behind p [] behind = refl
   others-behind p (t ∷ ts) behind =
       let parts = and_parts (stands (comes_before order) p t) (list_all (stands (comes_before order) p) ts) behind in
-      by (eqb n (leads order t.pair)) refl parts.0 (others-behind p ts parts.1)
+      by (eqb n (major order t.pair)) refl parts.0 (others-behind p ts parts.1)
     where
       unlike : (n p q m k : ℕ) → eqb n q ≡ true → (nat_lt p q || (eqb p q && nat_lt k m)) ≡ true → not (eqb n p && eqb m k) ≡ true
       unlike n p q m k is before = grind (arith, nat_tests)
 
-      by : (b : Bool) → eqb n (leads order t.pair) ≡ b → stands (comes_before order) p t ≡ true
+      by : (b : Bool) → eqb n (major order t.pair) ≡ b → stands (comes_before order) p t ≡ true
           → list_all (λ m. not (same_pair (paired order n m) p)) (others_of order n ts) ≡ true
           → list_all (λ m. not (same_pair (paired order n m) p))
-          (map (λ (x : Tie V). follows order x.pair) (cond b (t ∷ ties_of order n ts) (ties_of order n ts))) ≡ true
+          (map (λ (x : Tie V). minor order x.pair) (cond b (t ∷ ties_of order n ts) (ties_of order n ts))) ≡ true
       by true is before rest =
           both_true
-          (ap not (same_pair-paired order n (follows order t.pair) p)
-          ∙ unlike n (leads order p) (leads order t.pair) (follows order t.pair) (follows order p) is before) rest
+          (ap not (same_pair-paired order n (minor order t.pair) p)
+          ∙ unlike n (major order p) (major order t.pair) (minor order t.pair) (minor order p) is before) rest
       by false is before rest = rest
 
   -- a tie tells nothing of others
@@ -81,40 +81,40 @@ module _ {V B : Type 0} (order : Order) (n : ℕ) (tell : ℕ → V → B) where
 
   -- of the others of ascending ties each value is told
   told-others : (ts : List (Tie V)) → IsAscending order ts
-      → flat_map (told_at ts) (others_of order n ts) ≡ map (λ (t : Tie V). tell (follows order t.pair) t.value) (ties_of order n ts)
+      → flat_map (told_at ts) (others_of order n ts) ≡ map (λ (t : Tie V). tell (minor order t.pair) t.value) (ties_of order n ts)
   told-others [] ascending = refl
   told-others (t ∷ ts) ascending =
-      by (eqb n (leads order t.pair)) refl
+      by (eqb n (major order t.pair)) refl
       (told-behind t ts (others_of order n ts) (others-behind t.pair ts ascending.0) ∙ told-others ts ascending.1)
     where
       values : List (Tie V) → List B
-      values us = map (λ (x : Tie V). tell (follows order x.pair) x.value) us
+      values us = map (λ (x : Tie V). tell (minor order x.pair) x.value) us
 
       -- its own value
       own : (b : Bool) → b ≡ true
-          → map (tell (follows order t.pair))
-          (listed (option_map (λ (x : Tie V). x.value) (cond b (Some t) (find (is_tied (paired order n (follows order t.pair))) ts))))
-          ≡ tell (follows order t.pair) t.value ∷ []
+          → map (tell (minor order t.pair))
+          (listed (option_map (λ (x : Tie V). x.value) (cond b (Some t) (find (is_tied (paired order n (minor order t.pair))) ts))))
+          ≡ tell (minor order t.pair) t.value ∷ []
       own true h = refl
       own false h = absurd (true≢false (sym h))
 
-      by : (b : Bool) → eqb n (leads order t.pair) ≡ b → flat_map (told_at (t ∷ ts)) (others_of order n ts) ≡ values (ties_of order n ts)
-          → flat_map (told_at (t ∷ ts)) (map (λ (x : Tie V). follows order x.pair) (cond b (t ∷ ties_of order n ts) (ties_of order n ts)))
+      by : (b : Bool) → eqb n (major order t.pair) ≡ b → flat_map (told_at (t ∷ ts)) (others_of order n ts) ≡ values (ties_of order n ts)
+          → flat_map (told_at (t ∷ ts)) (map (λ (x : Tie V). minor order x.pair) (cond b (t ∷ ties_of order n ts) (ties_of order n ts)))
           ≡ values (cond b (t ∷ ties_of order n ts) (ties_of order n ts))
       by true is rest =
           ap (λ xs. xs ++ flat_map (told_at (t ∷ ts)) (others_of order n ts))
-          (own (is_tied (paired order n (follows order t.pair)) t)
-          (same_pair-paired order n (follows order t.pair) t.pair ∙ both_true is (eq-eqb (follows order t.pair) (follows order t.pair) refl)))
-          ∙ ap (λ ys. tell (follows order t.pair) t.value ∷ ys) rest
+          (own (is_tied (paired order n (minor order t.pair)) t)
+          (same_pair-paired order n (minor order t.pair) t.pair ∙ both_true is (eq-eqb (minor order t.pair) (minor order t.pair) refl)))
+          ∙ ap (λ ys. tell (minor order t.pair) t.value ∷ ys) rest
       by false is rest = rest
 
   -- so it is where all the numbers of elements are asked, and the ties have no others
   pub told-numbers : {A : Type 0} (xs : List A) (ts : List (Tie V)) → IsAscending order ts
       → ((m : ℕ) → has_pair (paired order n m) ts ≡ true → (1 ≤ m) × (m ≤ length xs))
-      → flat_map (told_at ts) (numbers_from 1 xs) ≡ map (λ (t : Tie V). tell (follows order t.pair) t.value) (ties_of order n ts)
+      → flat_map (told_at ts) (numbers_from 1 xs) ≡ map (λ (t : Tie V). tell (minor order t.pair) t.value) (ties_of order n ts)
   told-numbers xs ts ascending within =
       let there : ℕ → Bool = λ m. has_pair (paired order n m) ts in
-      flat_map-filter (told_at ts) there (λ m none. nothing m (value_of (paired order n m) ts) (is_some-value_of (paired order n m) ts ∙ none))
+      flat_map-filter (told_at ts) there (λ m none. nothing m (tie_value (paired order n m) ts) (is_some-tie_value (paired order n m) ts ∙ none))
       (numbers_from 1 xs)
       ∙ ap (flat_map (told_at ts)) (numbers-others_of there order n xs ts (rising-others_of order order n ts ascending) within (λ m. refl))
       ∙ told-others ts ascending

@@ -28,7 +28,7 @@ use Rattle.cr_base.specs.Logins.{query_wants_login}
 use Rattle.cr_base.specs.Page.{is_clear_member, is_clear_chair, shows_reviewer, shows_writer, where_told, page_of}
 use Rattle.cr_base.specs.Phases.{is_from}
 use Rattle.cr_base.specs.Reports.{report_checks, report_told}
-use Rattle.cr_base.specs.Searching.{Told, is_found, found_paper}
+use Rattle.cr_base.specs.Searching.{PaperTold, is_found, found_paper}
 use Rattle.cr_base.specs.Sources.{Facts, Shown, decision_by, names_in, name_in, has_paper, maker_of, facts_of_tables, shown_in_tables}
 use Rattle.cr_base.specs.Tables.{Tables}
 use Rattle.cr_base.specs.Words.{is_chair}
@@ -107,7 +107,7 @@ page_by facts shown caller p =
       conflicts = names_in facts.accounts (shown.conflicts p);
       decision = decision_by facts shown p;
       declared = names_in facts.accounts (shown.declared p);
-      label = facts.own_seat p;
+      label = facts.own_ordinal p;
       reviewers = map (reviewer_told (facts.standing (Some p)) facts.accounts (shown.written p)) (shown.reviewers p);
       tags = shown.tags caller (is_chair (facts.standing (Some p)).role) p;
       versions = map (λ (u : Upload). u.version) (uploads_told (facts.standing (Some p)).author (shown.uploads p));
@@ -137,7 +137,7 @@ reviews_by facts shown p =
     let told = λ (named : Bool) (o : ℕ) (forms : List FormTold). map (review_told by facts.accounts named (shown.assigned p o) o) forms in
     if by.author then by_labels (λ (o : ℕ). told (shows_reviewer by) o (listed (shown.last_form p o))) most_labels
     else (if is_from Discussion by.phase then by_labels (λ (o : ℕ). told (shows_reviewer by) o (shown.forms_discussed p o)) most_labels
-    else told false (unwrap_or (facts.own_seat p) 0) (facts.own_forms p))
+    else told false (unwrap_or (facts.own_ordinal p) 0) (facts.own_forms p))
 
 -- a comment, as one who stands so to the paper is told of it: by its writer's name, or else by her label, where she has one
 abbrev pub comment_line : Standing → List AccountLine → CommentTold → CommentLine
@@ -196,8 +196,8 @@ comments_answered (replies.Comments lines) = lines
 comments_answered _ = []
 
 -- what a caller is told of a paper, as the terms of a search ask
-abbrev pub told_of : Facts → Shown → Option ℕ → ℕ → Told
-told_of facts shown caller p = record {
+abbrev pub told_of_paper : Facts → Shown → Option ℕ → ℕ → PaperTold
+told_of_paper facts shown caller p = record {
   page = page_by facts shown caller p;
   accepted = facts.accepted p;
   conflicted = (facts.standing (Some p)).conflicted;
@@ -208,7 +208,7 @@ told_of facts shown caller p = record {
 -- the papers that a search finds, by number, with what it tells of each
 abbrev pub found_by : Facts → Shown → Option ℕ → List Step → List FoundPaper
 found_by facts shown caller search =
-    map (λ (p : ℕ). found_paper p (told_of facts shown caller p)) (filter (λ (p : ℕ). is_found (told_of facts shown caller p) search) facts.papers)
+    map (λ (p : ℕ). found_paper p (told_of_paper facts shown caller p)) (filter (λ (p : ℕ). is_found (told_of_paper facts shown caller p) search) facts.papers)
 
 -- them, or how many there are
 abbrev pub search_told : Facts → Shown → Option ℕ → List Step → Bool → Reply

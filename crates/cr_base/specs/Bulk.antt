@@ -22,7 +22,7 @@ use Rattle.cr_base.specs.History.{History}
 use Rattle.cr_base.specs.Judging.{judge_by}
 use Rattle.cr_base.specs.Lists.{is_number}
 use Rattle.cr_base.specs.Sources.{Facts, Shown, user_among, facts_of_tables, shown_in_tables}
-use Rattle.cr_base.specs.Spelt.{paper_spelt, name_spelt}
+use Rattle.cr_base.specs.Parse.{parse_paper, parse_name}
 use Rattle.cr_base.specs.Tables.{Tables, tables_from}
 use Rattle.cr_base.specs.TagTexts.{is_tag}
 use Rattle.cr_base.specs.Words.{is_chair}
@@ -51,10 +51,10 @@ action_of word =
 
 -- the command of a row with this action: a tag's row reads the column `tag`, all others `user`
 abbrev pub command_by : Action → BulkRow → Result Command Rule
-command_by (assigns kind) row = Ok (commands.Assign (paper_spelt row.paper) (name_spelt row.user) kind)
-command_by unassigns row = Ok (commands.Unassign (paper_spelt row.paper) (name_spelt row.user))
-command_by (turns_conflict on) row = Ok (commands.SetConflict (paper_spelt row.paper) (name_spelt row.user) on)
-command_by (turns_tag on) row = if is_tag row.tag then Ok (commands.Tag (paper_spelt row.paper) row.tag on) else Err rules.BadTag
+command_by (assigns kind) row = Ok (commands.Assign (parse_paper row.paper) (parse_name row.user) kind)
+command_by unassigns row = Ok (commands.Unassign (parse_paper row.paper) (parse_name row.user))
+command_by (turns_conflict on) row = Ok (commands.SetConflict (parse_paper row.paper) (parse_name row.user) on)
+command_by (turns_tag on) row = if is_tag row.tag then Ok (commands.Tag (parse_paper row.paper) row.tag on) else Err rules.BadTag
 
 abbrev pub command_told_by : Option Action → BulkRow → Result Command Rule
 command_told_by None row = Err rules.BadAction

@@ -124,10 +124,10 @@ bid_told u p maker (Bid paper value) = given (paper == p && is_number u maker) v
 bid_told u p maker _ = []
 
 -- the ordinal under which the user reviews the paper from here on, none where she no longer does
-abbrev pub seat_told : Option ℕ → ℕ → Entry → List (Option ℕ)
-seat_told u p (Assigned paper user kind ordinal) = given (paper == p && is_number u user) (Some ordinal)
-seat_told u p (Unassigned paper user ordinal) = given (paper == p && is_number u user) None
-seat_told u p _ = []
+abbrev pub ordinal_told : Option ℕ → ℕ → Entry → List (Option ℕ)
+ordinal_told u p (Assigned paper user kind ordinal) = given (paper == p && is_number u user) (Some ordinal)
+ordinal_told u p (Unassigned paper user ordinal) = given (paper == p && is_number u user) None
+ordinal_told u p _ = []
 
 -- the reviewer whom it gives the paper, and the ordinal of the one whom it takes
 abbrev pub assigned_told : ℕ → Entry → List SeatTold

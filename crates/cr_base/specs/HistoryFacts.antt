@@ -18,7 +18,7 @@ use Rattle.cr_base.specs.Lists.{last, last_or, listed, total, is_nothing, is_num
 use Rattle.cr_base.specs.Tags.{with_tag}
 use Rattle.cr_base.specs.History.{History, Registration, Upload, SeatTold, all_told, all_told_by, phase_told, mode_told, paper_told}
 use Rattle.cr_base.specs.History.{own_paper_told, author_told, conflict_told, declared_told, title_told}
-use Rattle.cr_base.specs.History.{bid_told, seat_told, assigned_told, unassigned_told}
+use Rattle.cr_base.specs.History.{bid_told, ordinal_told, assigned_told, unassigned_told}
 use Rattle.cr_base.specs.History.{FormTold, CommentTold, TagTold, form_told, own_form_told, comment_told, own_comment_told, tag_told, decision_told, opens_discussion}
 use Rattle.cr_base.specs.History.{abstract_told, upload_told, own_bytes_told, withdrawal_told, registration_told, role_told, number_told, caller_told}
 
@@ -75,11 +75,11 @@ declared_by_authors p H = flat_map (λ (e : Stamped). declared_told (is_author (
 
 -- the ordinal under which the user reviews the paper: none where the last entry on the two takes her off it, or none puts
 -- her on it
-abbrev pub seat_of : Option ℕ → ℕ → History → Option ℕ
-seat_of u p H = last_or None (all_told (seat_told u p) H)
+abbrev pub ordinal_of : Option ℕ → ℕ → History → Option ℕ
+ordinal_of u p H = last_or None (all_told (ordinal_told u p) H)
 
 abbrev pub is_reviewer : Option ℕ → ℕ → History → Bool
-is_reviewer u p H = is_some (seat_of u p H)
+is_reviewer u p H = is_some (ordinal_of u p H)
 
 -- Standing: what a user is to the conference, and to a paper, if one is named
 abbrev pub standing_of : Option ℕ → Option ℕ → History → Standing

@@ -52,10 +52,10 @@ assignment_judged facts shown caller paper target kind =
 abbrev pub unassignment_judged : Facts → Shown → Option ℕ → Option ℕ → Option ℕ → Result Drawn Rule
 unassignment_judged facts shown caller paper target =
     let p = unwrap_or paper 0 in
-    let seat = shown.seat target p in
+    let ordinal = shown.ordinal target p in
     judged
-    (unassign_checks (facts.standing paper) (paper_named facts shown paper) (target_named facts shown caller paper target) (at_some (shown.written p) seat))
-    (unassignment_drawn (maker_of caller) p (unwrap_or target 0) (unwrap_or seat 0))
+    (unassign_checks (facts.standing paper) (paper_named facts shown paper) (target_named facts shown caller paper target) (at_some (shown.written p) ordinal))
+    (unassignment_drawn (maker_of caller) p (unwrap_or target 0) (unwrap_or ordinal 0))
 
 -- reviewing a paper, commenting on it, and turning a tag of it on or off
 abbrev pub review_judged : Facts → Shown → Option ℕ → Option ℕ → Form → Result Drawn Rule
@@ -63,14 +63,14 @@ review_judged facts shown caller paper form =
     let p = unwrap_or paper 0 in
     judged
     (review_checks (facts.standing paper) (paper_named facts shown paper))
-    (review_drawn (maker_of caller) p (unwrap_or (facts.own_seat p) 0) (length (facts.own_forms p) + 1) form)
+    (review_drawn (maker_of caller) p (unwrap_or (facts.own_ordinal p) 0) (length (facts.own_forms p) + 1) form)
 
 abbrev pub comment_judged : Facts → Shown → Option ℕ → Option ℕ → List ℕ → Result Drawn Rule
 comment_judged facts shown caller paper text =
     let p = unwrap_or paper 0 in
     judged
     (comment_checks (facts.standing paper) (paper_named facts shown paper) facts.own_comments)
-    (comment_drawn (maker_of caller) p (length (shown.comments p) + 1) (facts.own_seat p) text)
+    (comment_drawn (maker_of caller) p (length (shown.comments p) + 1) (facts.own_ordinal p) text)
 
 abbrev pub tag_judged : Facts → Shown → Option ℕ → Option ℕ → List ℕ → Bool → Result Drawn Rule
 tag_judged facts shown caller paper tag on =

@@ -26,7 +26,7 @@ pub mod Seats
 pub mod Shapes
 pub mod Short
 pub mod Sources
-pub mod Spelt
+pub mod Parse
 pub mod Stage
 pub mod Tables
 pub mod TagTexts

@@ -21,7 +21,7 @@ use Rattle.cr_base.specs.Lists.{listed, last, is_number, total}
 use Rattle.cr_base.specs.Page.{shows_reviewer}
 use Rattle.cr_base.specs.Phases.{is_from}
 use Rattle.cr_base.specs.Sources.{Facts, Shown, decision_by, name_in, has_paper}
-use Rattle.cr_base.specs.Words.{is_member, is_chair, decision_name, seat_number}
+use Rattle.cr_base.specs.Words.{is_member, is_chair, decision_name, review_kind_number}
 
 -- ---- who may have which
 
@@ -118,16 +118,16 @@ last_scores shown p = by_labels (λ (o : ℕ). map (λ (form : FormTold). form.s
 abbrev pub hundredths : ℕ → ℕ → ℕ
 hundredths sum n = (200 * sum + n) / (2 * n)
 
--- hundredths as a number with two places
-unfoldable pub two_places : ℕ → List ℕ
-two_places h = decimal (h / 100) ++ codes "." ++ decimal (h % 100 / 10) ++ decimal (h % 10)
+-- hundredths as a number with two decimals
+unfoldable pub two_decimals : ℕ → List ℕ
+two_decimals h = decimal (h / 100) ++ codes "." ++ decimal (h % 100 / 10) ++ decimal (h % 10)
 
 -- the line of a paper with these scores, where it has any
 abbrev pub scores_line : ℕ → List ℕ → List ℕ → List ℕ
 scores_line p [] title = []
 scores_line p (score ∷ scores) title =
     let n = length (score ∷ scores) in
-    in_four p ++ space ++ in_two n ++ space ++ two_places (hundredths (total (score ∷ scores)) n) ++ space ++ title ++ line_end
+    in_four p ++ space ++ in_two n ++ space ++ two_decimals (hundredths (total (score ∷ scores)) n) ++ space ++ title ++ line_end
 
 abbrev pub scores_told : Facts → Shown → List ℕ
 scores_told facts shown = flat_map (λ (p : ℕ). scores_line p (last_scores shown p) (title_by shown p)) (open_papers facts shown)
@@ -140,16 +140,17 @@ held facts shown user test =
     total (map (λ (p : ℕ). length (filter (λ (seat : SeatTold). is_number seat.user user && test p seat) (shown.reviewers p))) (clear_papers facts))
 
 -- the assignment is of this kind
-abbrev pub is_of_kind : Kind → SeatTold → Bool
-is_of_kind kind seat = option_map_or (λ (k : Kind). seat_number k == seat_number kind) seat.kind false
+abbrev pub is_seat_of_kind : Kind → SeatTold → Bool
+is_seat_of_kind kind seat =
+    option_map_or (λ (k : Kind). review_kind_number k == review_kind_number kind) seat.kind false
 
 -- a member's line: how many papers she reviews as primary, as secondary, and otherwise, and of how many she has written a form
 abbrev pub load_line : Facts → Shown → AccountLine → List ℕ
 load_line facts shown a =
     to_left 32 a.name
-    ++ space ++ in_four (held facts shown a.user (λ p seat. is_of_kind Primary seat))
-    ++ space ++ in_four (held facts shown a.user (λ p seat. is_of_kind Secondary seat))
-    ++ space ++ in_four (held facts shown a.user (λ p seat. is_of_kind Pc seat))
+    ++ space ++ in_four (held facts shown a.user (λ p seat. is_seat_of_kind Primary seat))
+    ++ space ++ in_four (held facts shown a.user (λ p seat. is_seat_of_kind Secondary seat))
+    ++ space ++ in_four (held facts shown a.user (λ p seat. is_seat_of_kind Pc seat))
     ++ space ++ in_four (held facts shown a.user (λ p seat. shown.written p seat.ordinal))
     ++ line_end
 

@@ -9,10 +9,10 @@ use Rattle.cr_base.specs.declared.entry.Entry.TheVariants.{Coauthor, Revised, Up
 use Rattle.cr_base.specs.declared.entry.Entry.TheVariants.{Bid, Assigned, Unassigned, Reviewed, Commented, Tagged, Decided}
 use Rattle.cr_base.specs.declared.entry.Stamped.{Stamped}
 use Rattle.cr_base.specs.declared.row.Row.{Row}
-use Rattle.cr_base.specs.Words.{phase_number, phase_numbered, mode_number, mode_numbered, role_number, role_numbered, seat_number, seat_numbered, decision_number, decision_numbered}
+use Rattle.cr_base.specs.Words.{phase_number, phase_numbered, mode_number, mode_numbered, role_number, role_numbered, review_kind_number, review_kind_numbered, decision_number, decision_numbered}
 use Rattle.cr_base.specs.declared.shape.Shape.{Shape}
 use Rattle.cr_base.specs.declared.shape.TextKind.TheVariants.{Nothing, Name, Digest, Title, Abstract, Content, ReviewText, CommentText, Tag}
-use Rattle.cr_base.specs.Shapes.{user_range, paper_range, phase_range, mode_range, bit, role_range, version_range, bid_range, seat_range, ordinal_range, some_ordinal_range, grade_range, decision_range}
+use Rattle.cr_base.specs.Shapes.{user_range, paper_range, phase_range, mode_range, bit, role_range, version_range, bid_range, review_kind_range, ordinal_range, some_ordinal_range, grade_range, decision_range}
 use Rattle.cr_base.specs.Shapes.{unused, shape, with_fourth, with_fifth, FitsShape}
 
 -- the number by which rows tell the kind
@@ -68,7 +68,7 @@ shape_of kind.Uploaded = shape paper_range version_range unused Content Nothing
 shape_of kind.Withdrawn = shape paper_range unused unused Nothing Nothing
 shape_of kind.Conflict = shape paper_range user_range bit Nothing Nothing
 shape_of kind.Bid = shape paper_range bid_range unused Nothing Nothing
-shape_of kind.Assigned = with_fourth ordinal_range (shape paper_range user_range seat_range Nothing Nothing)
+shape_of kind.Assigned = with_fourth ordinal_range (shape paper_range user_range review_kind_range Nothing Nothing)
 shape_of kind.Unassigned = shape paper_range user_range ordinal_range Nothing Nothing
 shape_of kind.Reviewed = with_fifth grade_range (with_fourth grade_range (shape paper_range ordinal_range version_range ReviewText ReviewText))
 shape_of kind.Commented = shape paper_range version_range some_ordinal_range CommentText Nothing
@@ -88,7 +88,7 @@ kind_of (Uploaded paper version content) = kind.Uploaded
 kind_of (Withdrawn paper) = kind.Withdrawn
 kind_of (Conflict paper user on) = kind.Conflict
 kind_of (Bid paper value) = kind.Bid
-kind_of (Assigned paper user seat ordinal) = kind.Assigned
+kind_of (Assigned paper user review_kind ordinal) = kind.Assigned
 kind_of (Unassigned paper user ordinal) = kind.Unassigned
 kind_of (Reviewed paper ordinal version form) = kind.Reviewed
 kind_of (Commented paper n ordinal text) = kind.Commented
@@ -136,7 +136,8 @@ fields_of (Uploaded paper version content) = fields paper version 0 content []
 fields_of (Withdrawn paper) = fields paper 0 0 [] []
 fields_of (Conflict paper user on) = fields paper user (bit_number on) [] []
 fields_of (Bid paper value) = fields paper value 0 [] []
-fields_of (Assigned paper user seat ordinal) = record (fields paper user (seat_number seat) [] []) { n4 = ordinal }
+fields_of (Assigned paper user review_kind ordinal) =
+    record (fields paper user (review_kind_number review_kind) [] []) { n4 = ordinal }
 fields_of (Unassigned paper user ordinal) = fields paper user ordinal [] []
 fields_of (Reviewed paper ordinal version form) =
     record (fields paper ordinal version form.to_authors form.to_pc) { n4 = form.score; n5 = form.confidence }
@@ -182,7 +183,7 @@ built kind.Uploaded r = Uploaded r.n1 r.n2 r.b1
 built kind.Withdrawn r = Withdrawn r.n1
 built kind.Conflict r = Conflict r.n1 r.n2 (r.n3 == 1)
 built kind.Bid r = Bid r.n1 r.n2
-built kind.Assigned r = Assigned r.n1 r.n2 (seat_numbered r.n3) r.n4
+built kind.Assigned r = Assigned r.n1 r.n2 (review_kind_numbered r.n3) r.n4
 built kind.Unassigned r = Unassigned r.n1 r.n2 r.n3
 built kind.Reviewed r = Reviewed r.n1 r.n2 r.n3 (record { score = r.n4; confidence = r.n5; to_authors = r.b1; to_pc = r.b2 })
 built kind.Commented r = Commented r.n1 r.n2 (label_numbered r.n3) r.b1

@@ -43,7 +43,7 @@ contains value (c ∷ text) = begins_alike value (c ∷ text) || contains value 
 
 -- what the caller is told of a paper, as terms ask: its page; whether it is accepted, and she is in conflict with it; and what she is
 -- answered where she asks for its reviews and its comments, nothing where a rule is broken
-pub record Told : Type 0 where
+pub record PaperTold : Type 0 where
   pub page : Page
   pub accepted : Bool
   pub conflicted : Bool
@@ -72,12 +72,12 @@ number_decided decision = option_map_or decision_number decision 0
 abbrev pub has_decision : Option Decision → Option (Option Decision) → Bool
 has_decision decision told = option_map_or (λ (d : Option Decision). number_decided d == number_decided decision) told false
 
-abbrev pub stands_so : Status → Told → Bool
+abbrev pub stands_so : Status → PaperTold → Bool
 stands_so Active told = option_map_or not told.page.withdrawn false
 stands_so Withdrawn told = option_map_or (λ (b : Bool). b) told.page.withdrawn false
 stands_so Accepted told = told.accepted
 
-abbrev pub has_feature : Feature → Told → Bool
+abbrev pub has_feature : Feature → PaperTold → Bool
 has_feature features.Content told = option_map_or (λ (versions : List ℕ). not (is_nothing versions)) told.page.versions false
 has_feature features.Review told = not (is_nothing told.reviews)
 has_feature features.Comment told = not (is_nothing told.comments)
@@ -86,7 +86,7 @@ has_feature features.Conflict told = told.conflicted
 has_feature features.Mine told = is_some told.page.label
 
 -- the term holds of a paper of which that is told
-abbrev pub term_holds : Told → Term → Bool
+abbrev pub term_holds : PaperTold → Term → Bool
 term_holds told (terms.Plain value) = text_has value told.page.title || text_has value told.page.abstract_
 term_holds told (terms.Title value) = text_has value told.page.title
 term_holds told (terms.Abstract value) = text_has value told.page.abstract_
@@ -111,9 +111,9 @@ abbrev pub search_holds : (Term → Bool) → List Step → Bool
 search_holds holds steps = option_map_or (tree_holds holds) (tree_of steps) true
 
 -- the paper has a title for the caller, and the search holds of it
-abbrev pub is_found : Told → List Step → Bool
+abbrev pub is_found : PaperTold → List Step → Bool
 is_found told steps = is_some told.page.title && search_holds (term_holds told) steps
 
 -- what a search tells of a paper that it finds
-abbrev pub found_paper : ℕ → Told → FoundPaper
+abbrev pub found_paper : ℕ → PaperTold → FoundPaper
 found_paper p told = record { paper = p; title = unwrap_or told.page.title [] }

@@ -63,12 +63,12 @@ abbrev pub labels_in : SeatsState → ℕ → ℕ
 labels_in seats p = length (ties_of ByPaper p seats)
 
 -- a seat as it is told
-abbrev pub told_of : Tie Seat → SeatTold
-told_of t = record { ordinal = t.value.ordinal; kind = Some t.value.kind; user = Some t.pair.user }
+abbrev pub told_seat : Tie Seat → SeatTold
+told_seat t = record { ordinal = t.value.ordinal; kind = Some t.value.kind; user = Some t.pair.user }
 
 -- whoever was assigned to the paper, by label
 abbrev pub seats_in : SeatsState → ℕ → List SeatTold
-seats_in seats p = map told_of (ties_of ByPaper p seats)
+seats_in seats p = map told_seat (ties_of ByPaper p seats)
 
 -- the paper's seats that nobody has left, by label: the assigned whose ordinal has no unassigned
 abbrev pub seats_taken : SeatsState → ℕ → List (Tie Seat)
@@ -76,19 +76,19 @@ seats_taken seats p = filter (λ (t : Tie Seat). not t.value.vacated) (ties_of B
 
 -- the paper's reviewers, by label
 abbrev pub reviewers_in : SeatsState → ℕ → List SeatTold
-reviewers_in seats p = map told_of (seats_taken seats p)
+reviewers_in seats p = map told_seat (seats_taken seats p)
 
 -- the ordinal under which the user reviews the paper, where she does
-abbrev pub seat_in : SeatsState → Option ℕ → ℕ → Option ℕ
-seat_in seats u p = option_map (λ (t : Tie Seat). t.value.ordinal) (find (λ (t : Tie Seat). is_number u t.pair.user) (seats_taken seats p))
+abbrev pub ordinal_in : SeatsState → Option ℕ → ℕ → Option ℕ
+ordinal_in seats u p = option_map (λ (t : Tie Seat). t.value.ordinal) (find (λ (t : Tie Seat). is_number u t.pair.user) (seats_taken seats p))
 
 -- ---- which entry may come next
 
 -- an entry fits: the ordinal drawn is the next one and a letter's, and the user assigned doesn't review the paper; the user
 -- unassigned reviews it under this ordinal
 abbrev pub SeatsFit : SeatsState → Entry → Type 0
-SeatsFit seats (Assigned paper user kind ordinal) = (ordinal ≡ labels_in seats paper + 1) × (ordinal ≤ 26) × (seat_in seats (Some user) paper ≡ None)
-SeatsFit seats (Unassigned paper user ordinal) = seat_in seats (Some user) paper ≡ Some ordinal
+SeatsFit seats (Assigned paper user kind ordinal) = (ordinal ≡ labels_in seats paper + 1) × (ordinal ≤ 26) × (ordinal_in seats (Some user) paper ≡ None)
+SeatsFit seats (Unassigned paper user ordinal) = ordinal_in seats (Some user) paper ≡ Some ordinal
 SeatsFit seats _ = Unit {0}
 
 -- no two of these seats are the same user's

@@ -45,8 +45,8 @@ abbrev pub bid_range : Range
 bid_range = range 0 40
 
 -- primary, secondary and pc
-abbrev pub seat_range : Range
-seat_range = range 1 3
+abbrev pub review_kind_range : Range
+review_kind_range = range 1 3
 
 -- the ordinals of labels: A to Z
 abbrev pub ordinal_range : Range

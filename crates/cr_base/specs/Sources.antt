@@ -20,7 +20,7 @@ use Rattle.cr_base.specs.HistoryFacts.{assigned_under}
 use Rattle.cr_base.specs.Papers.{paper_numbers, title_at, abstract_at, is_withdrawn_at, uploads_at, own_count, own_bytes}
 use Rattle.cr_base.specs.Tables.{Tables}
 use Rattle.cr_base.specs.Reviews.{last_form_in, forms_in, forms_discussed_in, is_written_in, written_told}
-use Rattle.cr_base.specs.Seats.{labels_in, reviewers_in, seat_in, seats_in}
+use Rattle.cr_base.specs.Seats.{labels_in, reviewers_in, ordinal_in, seats_in}
 use Rattle.cr_base.specs.Tags.{tags_in}
 use Rattle.cr_base.specs.Talk.{comments_in, comment_as_told, own_comments_in}
 use Rattle.cr_base.specs.Ties.{authors_in, is_author_in, is_conflicted_in, bid_in, bids_in}
@@ -36,7 +36,7 @@ pub record Facts : Type 0 where
   pub own_papers : ℕ
   pub own_bytes : ℕ
   pub own_bid : ℕ → Option ℕ
-  pub own_seat : ℕ → Option ℕ
+  pub own_ordinal : ℕ → Option ℕ
   pub own_forms : ℕ → List FormTold
   pub own_comments : ℕ
   pub accepted : ℕ → Bool
@@ -57,7 +57,7 @@ pub record Shown : Type 0 where
   pub withdrawn : ℕ → Bool
   pub bids : ℕ → List BidTold
   pub reviewers : ℕ → List SeatTold
-  pub seat : Option ℕ → ℕ → Option ℕ
+  pub ordinal : Option ℕ → ℕ → Option ℕ
   pub labels : ℕ → ℕ
   pub assigned : ℕ → ℕ → Option ℕ
   pub last_form : ℕ → ℕ → Option FormTold
@@ -75,12 +75,12 @@ standing_at t u paper = record {
   role = role_in t.accounts u;
   author = at_some (is_author_in t.ties u) paper;
   conflicted = at_some (is_conflicted_in t.ties u) paper;
-  reviewer = at_some (λ p. is_some (seat_in t.seats u p)) paper;
+  reviewer = at_some (λ p. is_some (ordinal_in t.seats u p)) paper;
 }
 
 -- the forms that the user has written of the paper: those under her label
 abbrev pub own_forms_in : Tables → Option ℕ → ℕ → List FormTold
-own_forms_in t u p = flat_map (λ (o : ℕ). map written_told (forms_in t.reviews p o)) (listed (seat_in t.seats u p))
+own_forms_in t u p = flat_map (λ (o : ℕ). map written_told (forms_in t.reviews p o)) (listed (ordinal_in t.seats u p))
 
 -- the paper is accepted, by the tables
 abbrev pub is_accepted_in : Tables → ℕ → Bool
@@ -95,7 +95,7 @@ facts_of_tables t u = record {
   own_papers = own_count t.papers u;
   own_bytes = own_bytes t.papers u;
   own_bid = bid_in t.ties u;
-  own_seat = seat_in t.seats u;
+  own_ordinal = ordinal_in t.seats u;
   own_forms = λ p. own_forms_in t u p;
   own_comments = own_comments_in t.talk u;
   accepted = is_accepted_in t;
@@ -112,7 +112,7 @@ shown_in_tables t = record {
   withdrawn = is_withdrawn_at t.papers;
   bids = bids_in t.ties;
   reviewers = reviewers_in t.seats;
-  seat = seat_in t.seats;
+  ordinal = ordinal_in t.seats;
   labels = labels_in t.seats;
   assigned = λ p o. assigned_under o (seats_in t.seats p);
   last_form = λ p o. option_map written_told (last_form_in t.reviews p o);
@@ -161,7 +161,7 @@ abbrev pub target_named : Facts → Shown → Option ℕ → Option ℕ → Opti
 target_named facts shown caller paper user =
     let wrote = at_some (λ p. list_any (is_number user) (shown.authors p)) paper in
     let declared = at_some (λ p. list_any (is_number user) (shown.conflicts p)) paper in
-    let reviews = at_some (λ p. is_some (shown.seat user p)) paper in
+    let reviews = at_some (λ p. is_some (shown.ordinal user p)) paper in
     option_map
     (λ (role : Role). record { role = role; herself = is_number user (maker_of caller); author = wrote; conflicted = wrote || declared; reviewer = reviews })
     (role_among facts.accounts user)

@@ -10,7 +10,7 @@ use Rattle.cr_base.specs.declared.pairs.Pair.{Pair}
 use Rattle.cr_base.specs.declared.pairs.Tie.{Tie}
 use Rattle.cr_base.specs.History.{History, BidTold}
 use Rattle.cr_base.specs.Lists.{is_number}
-use Rattle.cr_base.specs.Pairs.{with_tie, without_pair, has_pair, value_of, ties_of, users_tied_to}
+use Rattle.cr_base.specs.Pairs.{with_tie, without_pair, has_pair, tie_value, ties_of, users_tied_to}
 
 -- ---- the state
 
@@ -83,7 +83,7 @@ is_conflicted_in ties u p = is_author_in ties u p || is_conflict_on_in ties u p
 -- the user's last bid on the paper
 abbrev pub bid_in : TiesState → Option ℕ → ℕ → Option ℕ
 bid_in ties None p = None
-bid_in ties (Some user) p = value_of (pair_of p user) ties.bids
+bid_in ties (Some user) p = tie_value (pair_of p user) ties.bids
 
 -- the last bids on the paper, by user number
 abbrev pub bids_in : TiesState → ℕ → List BidTold

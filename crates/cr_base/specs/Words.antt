@@ -95,28 +95,28 @@ is_overt Anonymous = false
 -- ---- assignments and bids
 
 -- the word for a kind of assignment
-abbrev pub seat_name : Kind → List ℕ
-seat_name Primary = codes "primary"
-seat_name Secondary = codes "secondary"
-seat_name Pc = codes "pc"
+abbrev pub review_kind_name : Kind → List ℕ
+review_kind_name Primary = codes "primary"
+review_kind_name Secondary = codes "secondary"
+review_kind_name Pc = codes "pc"
 
 -- the kinds of assignment
-abbrev pub seat_kinds : List Kind
-seat_kinds = Primary ∷ Secondary ∷ Pc ∷ []
+abbrev pub review_kinds : List Kind
+review_kinds = Primary ∷ Secondary ∷ Pc ∷ []
 
 -- the kind of assignment of a word
-abbrev pub seat_named : List ℕ → Option Kind
-seat_named name = find (λ kind. bytes_eq name (seat_name kind)) seat_kinds
+abbrev pub review_kind_named : List ℕ → Option Kind
+review_kind_named name = find (λ kind. bytes_eq name (review_kind_name kind)) review_kinds
 
 -- a kind of assignment by its number in rows
-abbrev pub seat_number : Kind → ℕ
-seat_number Primary = 1
-seat_number Secondary = 2
-seat_number Pc = 3
+abbrev pub review_kind_number : Kind → ℕ
+review_kind_number Primary = 1
+review_kind_number Secondary = 2
+review_kind_number Pc = 3
 
 -- the kind of assignment of a number in rows, from 1 to 3
-abbrev pub seat_numbered : ℕ → Kind
-seat_numbered n = if n == 1 then Primary else (if n == 2 then Secondary else Pc)
+abbrev pub review_kind_numbered : ℕ → Kind
+review_kind_numbered n = if n == 1 then Primary else (if n == 2 then Secondary else Pc)
 
 -- a bid is kept plus 20; who has told none has bid 0
 abbrev pub no_bid : ℕ

@@ -1,6 +1,6 @@
 //! Ties of papers and users: the pair that is tied, and what is kept of it.
 ghost use Rattle.std.specs.Prelude.{◌≡◌};
-ghost use Rattle.cr_base.specs.Pairs.{leads, follows};
+ghost use Rattle.cr_base.specs.Pairs.{major, minor};
 
 use crate::numbers::{PaperNo, UserNo};
 
@@ -33,8 +33,8 @@ pub enum Order {
 
 impl Pair {
     /// The number by which the pair is found in this order, 1 to 9,999.
-    pub fn leads(&self, order: Order) -> u64
-        ensures { result ≡ leads order self.now }
+    pub fn major(&self, order: Order) -> u64
+        ensures { result ≡ major order self.now }
     {
         match order {
             Order::ByPaper => self.paper.number(),
@@ -43,8 +43,8 @@ impl Pair {
     }
 
     /// The number by which those that have the same first one are ordered, 1 to 9,999.
-    pub fn follows(&self, order: Order) -> u64
-        ensures { result ≡ follows order self.now }
+    pub fn minor(&self, order: Order) -> u64
+        ensures { result ≡ minor order self.now }
     {
         match order {
             Order::ByPaper => self.user.number(),

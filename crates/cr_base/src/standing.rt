@@ -42,7 +42,7 @@ impl Standing {
 
     /// Whether she may do to the paper, which is there, what members in no conflict with it do, or the first broken rule:
     /// `NotMember`, `Conflict`.
-    pub fn may_handle(&self) -> Result<(), Rule>
+    pub fn check_eligible(&self) -> Result<(), Rule>
         ensures { result ≡ judged (member_checks self.now (of_there true)) tt }
     {
         if !self.role.is_member() {

@@ -3,10 +3,10 @@ ghost use Rattle.std.specs.Prelude.{◌≡◌, ◌≤◌, length};
 ghost use Rattle.cr_base.specs.Decisions.{is_published};
 ghost use Rattle.cr_base.specs.Words.{phase_name, phase_named, phase_number, phase_numbered};
 ghost use Rattle.cr_base.specs.Words.{mode_name, mode_named, mode_number, mode_numbered, is_anonymous, is_overt};
-ghost use Rattle.cr_base.specs.Words.{seat_name, seat_named, seat_number, seat_numbered};
+ghost use Rattle.cr_base.specs.Words.{review_kind_name, review_kind_named, review_kind_number, review_kind_numbered};
 ghost use Rattle.cr_base.specs.Words.{decision_name, decision_named, decision_number, decision_numbered};
 ghost use Rattle.cr_base.specs.Words.{role_name, role_named, role_number, role_numbered, is_member, is_chair};
-ghost use Rattle.cr_base.specs.Phases.{phase_place, is_from, is_phase, is_next};
+ghost use Rattle.cr_base.specs.Phases.{phase_rank, is_from, is_phase, is_next};
 
 /// A phase of the conference (CoCon's phases). A conference starts in setup, and moves on to the next
 /// phase only.
@@ -134,9 +134,9 @@ impl Phase {
         }
     }
 
-    /// Its place in the order of phases, from 0.
-    fn place(self) -> u64
-        ensures value { result ≡ phase_place self }
+    /// Its rank in the order of phases, from 0.
+    fn rank(self) -> u64
+        ensures value { result ≡ phase_rank self }
         ensures low { result ≤ 6 }
     {
         match self {
@@ -154,14 +154,14 @@ impl Phase {
     pub fn is(self, phase: Phase) -> bool
         ensures { result ≡ is_phase self phase }
     {
-        self.place() == phase.place()
+        self.rank() == phase.rank()
     }
 
     /// Whether this is the first phase told, or a later one.
     pub fn is_from(self, first: Phase) -> bool
         ensures { result ≡ is_from first self }
     {
-        first.place() <= self.place()
+        first.rank() <= self.rank()
     }
 
     /// Whether everyone is served a paper, which is accepted or isn't: where it is, once the conference is closed.
@@ -175,7 +175,7 @@ impl Phase {
     pub fn is_before(self, next: Phase) -> bool
         ensures { result ≡ is_next self next }
     {
-        next.place() == self.place() + 1
+        next.rank() == self.rank() + 1
     }
 }
 
@@ -250,7 +250,7 @@ impl Mode {
 impl Kind {
     /// The word for it in requests and answers, at most 9 bytes.
     pub fn name(self) -> &'static str
-        ensures value { result.now ≡ seat_name self }
+        ensures value { result.now ≡ review_kind_name self }
         ensures short { length result.now ≤ 9 }
     {
         match self {
@@ -262,7 +262,7 @@ impl Kind {
 
     /// The kind of a word, and none where no kind is called so.
     pub fn from_name(name: &str) -> Option<Kind>
-        ensures { result ≡ seat_named name.now }
+        ensures { result ≡ review_kind_named name.now }
     {
         match name {
             "primary" => Some(Kind::Primary),
@@ -274,7 +274,7 @@ impl Kind {
 
     /// Its number in rows: 1 for primary, 2 for secondary, 3 for pc.
     pub fn number(self) -> u64
-        ensures { result ≡ seat_number self }
+        ensures { result ≡ review_kind_number self }
     {
         match self {
             Kind::Primary => 1,
@@ -285,7 +285,7 @@ impl Kind {
 
     /// The kind of a number in rows, from 1 to 3.
     pub(crate) fn from_number(number: u64) -> Kind
-        ensures { result ≡ seat_numbered number }
+        ensures { result ≡ review_kind_numbered number }
     {
         match number {
             1 => Kind::Primary,

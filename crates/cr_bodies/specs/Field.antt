@@ -8,9 +8,9 @@ use Rattle.cr_base.specs.declared.words.Kind.{Kind}
 use Rattle.cr_base.specs.declared.words.Mode.{Mode}
 use Rattle.cr_base.specs.declared.words.Phase.{Phase}
 use Rattle.cr_base.specs.declared.words.Role.{Role}
-use Rattle.cr_base.specs.Spelt.{passing, name_spelt}
+use Rattle.cr_base.specs.Parse.{passing, parse_name}
 use Rattle.cr_base.specs.Texts.{IsAbstract, IsCommentText, IsName, IsReviewText, IsTitle, is_abstract, is_comment_text, is_name, is_review_text, is_title}
-use Rattle.cr_base.specs.Words.{bid_of_value, decision_named, grade_of_value, mode_named, phase_named, role_named, seat_named}
+use Rattle.cr_base.specs.Words.{bid_of_value, decision_named, grade_of_value, mode_named, phase_named, role_named, review_kind_named}
 use Rattle.cr_bodies.specs.Secret.{is_secret}
 use Rattle.cr_bodies.specs.declared.field.Grammar.{Grammar}
 use Rattle.cr_bodies.specs.declared.field.Grammar.TheVariants.{Name, Secret, Title, Abstract, ReviewText, CommentText}
@@ -68,7 +68,7 @@ digest_under key d = option_map sha256 (tested_under Secret key d)
 
 -- the user whose name is told under a key, None where the text there is no name
 abbrev pub user_under : List ℕ → Data → Option (Option (List ℕ))
-user_under key d = option_map name_spelt (text_under key d)
+user_under key d = option_map parse_name (text_under key d)
 
 -- the names that a list tells, each None where its text is no name; None where an element is no text
 abbrev pub names_told : Items → Option (List (Option (List ℕ)))
@@ -76,7 +76,7 @@ names_told no_items = Some []
 names_told (item d ds) = do
   text ← as_str d
   names ← names_told ds
-  Some (name_spelt text ∷ names)
+  Some (parse_name text ∷ names)
 
 -- at most 19 of them
 abbrev pub if_few : List (Option (List ℕ)) → Option (List (Option (List ℕ)))
@@ -116,7 +116,7 @@ abbrev pub mode_under : List ℕ → Data → Option Mode
 mode_under key d = text_under key d >>= mode_named
 
 abbrev pub kind_under : List ℕ → Data → Option Kind
-kind_under key d = text_under key d >>= seat_named
+kind_under key d = text_under key d >>= review_kind_named
 
 abbrev pub decision_under : List ℕ → Data → Option Decision
 decision_under key d = text_under key d >>= decision_named

@@ -14,7 +14,7 @@ ghost use Rattle.serde_json.specs.View.{items_view, view};
 use crate::secret::{digest_of, is_secret};
 use cr_base::{
     Bid, Decision, DecodeError, Digest, Grade, Kind, MOST_COAUTHORS, Mode, Phase, Role, Short,
-    ToldNames, is_abstract, is_comment, is_name, is_review_text, is_title, name_spelt,
+    ToldNames, is_abstract, is_comment, is_name, is_review_text, is_title, parse_name,
 };
 use serde_json::Value;
 use std::alloc::Global;
@@ -102,7 +102,7 @@ pub(crate) fn user(body: &Value, key: &str) -> Result<Option<Short>, DecodeError
     ensures { Tells result (user_under key.now (view body.now)) }
 {
     let text = text(body, key)?;
-    Ok(name_spelt(text.as_bytes()))
+    Ok(parse_name(text.as_bytes()))
 }
 
 /// The names that a list tells, each None where its text is no name.
@@ -118,7 +118,7 @@ fn names_in(alloc: Global, items: &[Value]) -> Result<ToldNames, DecodeError>
         let Some(text) = item.as_str() else {
             return Err(DecodeError::Malformed);
         };
-        names.push_reserved(name_spelt(text.as_bytes()));
+        names.push_reserved(parse_name(text.as_bytes()));
     }
     Ok(ToldNames::from_vec(names))
 }

@@ -26,7 +26,7 @@ use Rattle.cr_policy.specs.View.{view}
 use Rattle.cr_policy.specs.Legal.{Legal, MayAsk}
 use Rattle.cr_policy.proofs.LegalLaws.{Legal-judge, Legal-judge_bulk, Legal-answer, Legal-needs_login, Legal-number_of, Legal-caller_of}
 use Rattle.cr_history.specs.Invariants.{IsRegistered}
-use Rattle.cr_history.proofs.TableTies.{tables_of-append, rows_of-append}
+use Rattle.cr_history.proofs.TableAgreement.{tables_of-append, rows_of-append}
 use Rattle.cr_ports.specs.Keeping.{and_rows}
 use Rattle.cr_view.specs.Callers.{HasAsker}
 use Rattle.cr_view.specs.Replies.{IsNoRefusal}

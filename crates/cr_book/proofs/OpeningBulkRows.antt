@@ -16,7 +16,7 @@ use Rattle.cr_base.specs.Rows.{row_of, rows_of, IsBoundedEntry}
 use Rattle.cr_base.specs.Tables.{Tables, tables_of, tables_from}
 use Rattle.cr_base.proofs.RowLaws.{same_entry}
 use Rattle.cr_history.specs.Groups.{Adds, single, submitted, first_user}
-use Rattle.cr_history.proofs.TableTies.{rows_of-append}
+use Rattle.cr_history.proofs.TableAgreement.{rows_of-append}
 use Rattle.cr_policy.specs.Legal.{BulkCall, Legal}
 use Rattle.cr_policy.proofs.AcceptedLaws.{accepted-adds}
 use Rattle.cr_policy.proofs.LegalLaws.{Legal-judge_bulk, Legal-bulk_accepted}

@@ -23,7 +23,7 @@ use Rattle.cr_base.specs.History.{History}
 use Rattle.cr_base.specs.Judging.{judge_by_role}
 use Rattle.cr_base.specs.Rows.{bit_number, IsBoundedEntry}
 use Rattle.cr_base.specs.Sources.{facts_of_tables, shown_in_tables}
-use Rattle.cr_base.specs.Spelt.{paper_spelt, name_spelt}
+use Rattle.cr_base.specs.Parse.{parse_paper, parse_name}
 use Rattle.cr_base.specs.TagTexts.{is_tag}
 use Rattle.cr_base.specs.Tables.{Tables, tables_after, tables_from}
 use Rattle.cr_base.specs.Accounts.{accounts_after}
@@ -70,10 +70,10 @@ row_command-of_row row command told = by (action_of row.action) told
 
     by : (action : Option Action) → command_told_by action row ≡ Ok command → IsRowCommand command
     by None same = absurd (err_ok rules.BadAction command same)
-    by (Some (assigns kind)) same = kept (Assign (paper_spelt row.paper) (name_spelt row.user) kind) tt same
-    by (Some unassigns) same = kept (Unassign (paper_spelt row.paper) (name_spelt row.user)) tt same
-    by (Some (turns_conflict on)) same = kept (SetConflict (paper_spelt row.paper) (name_spelt row.user) on) tt same
-    by (Some (turns_tag on)) same = of_tag (is_tag row.tag) (Tag (paper_spelt row.paper) row.tag on) tt same
+    by (Some (assigns kind)) same = kept (Assign (parse_paper row.paper) (parse_name row.user) kind) tt same
+    by (Some unassigns) same = kept (Unassign (parse_paper row.paper) (parse_name row.user)) tt same
+    by (Some (turns_conflict on)) same = kept (SetConflict (parse_paper row.paper) (parse_name row.user) on) tt same
+    by (Some (turns_tag on)) same = of_tag (is_tag row.tag) (Tag (parse_paper row.paper) row.tag on) tt same
 
 -- what a row draws: one entry, which is drawn by the command that it tells
 pub record Draws (t : Tables) (user : ℕ) (drawn : Drawn) : Type 0 where

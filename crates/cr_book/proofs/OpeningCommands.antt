@@ -39,7 +39,7 @@ use Rattle.cr_base.specs.Drawn.{bid_drawn, review_drawn, comment_drawn, decision
 use Rattle.cr_base.specs.Lists.{is_nothing, listed}
 use Rattle.cr_base.specs.Logins.{command_wants_login}
 use Rattle.cr_base.specs.Papers.{own_bytes, uploads_at}
-use Rattle.cr_base.specs.Seats.{seat_in}
+use Rattle.cr_base.specs.Seats.{ordinal_in}
 use Rattle.cr_base.specs.Sources.{Facts, number_in, paper_named, role_among, shown_in_tables, users_among, facts_of_tables, standing_at}
 use Rattle.cr_base.specs.Sources.{own_forms_in}
 use Rattle.cr_base.specs.Talk.{comments_in, comment_as_told, own_comments_in}
@@ -61,7 +61,7 @@ use Rattle.cr_policy.specs.Legal.{Call, IsUser, CallsAs, IsCaller, IsAllowed, Le
 use Rattle.cr_history.specs.Invariants.{IsRegistered}
 use Rattle.cr_policy.specs.View.{view}
 use Rattle.cr_policy.proofs.LegalLaws.{Legal-fits, Legal-judge}
-use Rattle.cr_history.proofs.LineTies.{accounts_of-tables}
+use Rattle.cr_history.proofs.LineAgreement.{accounts_of-tables}
 use Rattle.cr_base.specs.Bulk.{IsRowCommand}
 use Rattle.cr_book.proofs.OpeningRowCommands.{row-adds}
 use Rattle.cr_book.specs.BulkRebuilding.{is_of_row, IsDrawn}
@@ -101,7 +101,7 @@ registered-known H user legal =
 
 -- Rows that begin a group which a call adds begin with an entry whose call, with the co-authors that they tell, draws a group
 -- that they begin as well.
-pub record Told (t : Tables) (rows : List Row) (drawn : Drawn) : Type 0 where
+pub record ToldByRows (t : Tables) (rows : List Row) (drawn : Drawn) : Type 0 where
   pub first : Stamped
   pub rest : History
   pub group_is : drawn.group ≡ first ∷ rest
@@ -145,7 +145,7 @@ module _ (t : Tables) (once : AreNamedOnce t.accounts) (user : ℕ) (known : is_
 
   submission-told : (r : Row) (behind : List Row) (title abstract : List ℕ) (authors : List (Option (List ℕ))) → length authors ≤ 19
       → judge_by_role t (Some user) (Submit title abstract authors) ≡ Ok drawn
-      → take (length (r ∷ behind)) (rows_of drawn.group) ≡ r ∷ behind → AllByRecursion IsBoundedEntry drawn.group → Told t (r ∷ behind) drawn
+      → take (length (r ∷ behind)) (rows_of drawn.group) ≡ r ∷ behind → AllByRecursion IsBoundedEntry drawn.group → ToldByRows t (r ∷ behind) drawn
   submission-told r behind title abstract authors few accepted begins bounded = record {
     first = first;
     rest = grouped user (coauthors next_paper users);
@@ -225,7 +225,7 @@ module _ (t : Tables) (rows : List Row) (drawn : Drawn) (begins : take (length r
   -- a group of one entry
   told-single : (user : ℕ) (e : Entry) (command : Command) (given : Drawn) → given.group ≡ grouped user (e ∷ []) → given ≡ drawn → giver_told user e
       ≡ Some user → is_known t (Some user) ≡ true
-      → command_told t (authors_told t user rows) e ≡ Some command → judge_by_role t (Some user) command ≡ Ok drawn → Told t rows drawn
+      → command_told t (authors_told t user rows) e ≡ Some command → judge_by_role t (Some user) command ≡ Ok drawn → ToldByRows t rows drawn
   told-single user e command given group is caller known told accepted =
       let first : Stamped = record { maker = user; more = false; entry = e } in
       record {
@@ -237,14 +237,14 @@ module _ (t : Tables) (rows : List Row) (drawn : Drawn) (begins : take (length r
         begins = begins;
       }
 
-  register-told : (name digest : List ℕ) → judge_by_role t None (Register name digest) ≡ Ok drawn → Told t rows drawn
+  register-told : (name digest : List ℕ) → judge_by_role t None (Register name digest) ≡ Ok drawn → ToldByRows t rows drawn
   register-told name digest accepted =
       let n : ℕ = length (lines_of t.accounts) in
       let k = judged-Ok (register_checks (is_some (number_in (lines_of t.accounts) name)) n) (registration_drawn (n + 1) name digest) drawn accepted in
       by (eqb (n + 1) 1) (n + 1) (sym (ap (λ (d : Drawn). d.group) k.1))
     where
       begun : (user : ℕ) (more : Bool) (rest : History)
-          → drawn.group ≡ record { maker = user; more = more; entry = Registered user name digest } ∷ rest → Told t rows drawn
+          → drawn.group ≡ record { maker = user; more = more; entry = Registered user name digest } ∷ rest → ToldByRows t rows drawn
       begun user more rest is =
           let first : Stamped = record { maker = user; more = more; entry = Registered user name digest } in
           record {
@@ -257,16 +257,16 @@ module _ (t : Tables) (rows : List Row) (drawn : Drawn) (begins : take (length r
           }
 
       by : (b : Bool) (user : ℕ) → drawn.group
-          ≡ grouped user (cond b (Registered user name digest ∷ Named user roles.Chair ∷ []) (Registered user name digest ∷ [])) → Told t rows drawn
+          ≡ grouped user (cond b (Registered user name digest ∷ Named user roles.Chair ∷ []) (Registered user name digest ∷ [])) → ToldByRows t rows drawn
       by true user is = begun user true (record { maker = user; more = false; entry = Named user roles.Chair } ∷ []) is
       by false user is = begun user false [] is
 
   module _ (user : ℕ) (known : is_known t (Some user) ≡ true) where
-    name-told : (name : Option (List ℕ)) (role : Role) → judge_by_role t (Some user) (Name name role) ≡ Ok drawn → Told t rows drawn
+    name-told : (name : Option (List ℕ)) (role : Role) → judge_by_role t (Some user) (Name name role) ≡ Ok drawn → ToldByRows t rows drawn
     name-told None role accepted = absurd (true≢false (judged-Ok (name_checks (standing_at t (Some user) None) None role) (naming_drawn user 0 [] role) drawn accepted).0.0)
     name-told (Some name) role accepted = by (number_in (lines_of t.accounts) name) refl
       where
-        by : (target : Option ℕ) → number_in (lines_of t.accounts) name ≡ target → Told t rows drawn
+        by : (target : Option ℕ) → number_in (lines_of t.accounts) name ≡ target → ToldByRows t rows drawn
         by None is =
             let k = judged-Ok (name_checks (standing_at t (Some user) None) (option_map of_role (role_among (lines_of t.accounts) (number_in (lines_of t.accounts) name))) role) (naming_drawn user (unwrap_or (number_in (lines_of t.accounts) name) 0) name role) drawn accepted in
             absurd (true≢false (ap (λ (o : Option ℕ). is_none (option_map of_role (role_among (lines_of t.accounts) o))) (sym is) ∙ k.0.0))
@@ -276,7 +276,7 @@ module _ (t : Tables) (rows : List Row) (drawn : Drawn) (begins : take (length r
             (ap (option_map (λ (n : List ℕ). Name (Some n) role)) (named t name v (sym (number_in-lines_of t.accounts name) ∙ is))) accepted
 
     -- a command that a row of a bulk may tell as well
-    row-told : (command : Command) → IsRowCommand command → judge_by_role t (Some user) command ≡ Ok drawn → Told t rows drawn
+    row-told : (command : Command) → IsRowCommand command → judge_by_role t (Some user) command ≡ Ok drawn → ToldByRows t rows drawn
     row-told command of_row accepted =
         let one = row-adds t user drawn command of_row accepted in
         told-single user one.entry command drawn one.group_is refl (row-giver user one.entry one.of_row) known
@@ -291,7 +291,7 @@ module _ (t : Tables) (rows : List Row) (drawn : Drawn) (begins : take (length r
         → ((p : ℕ) → (judge_by_role t (Some user) (made (Some p)) ≡ judged (checks p) (draws p))
         × ((draws p).group ≡ grouped user (entry p ∷ [])) × (giver_told user (entry p) ≡ Some user)
         × (command_told t (authors_told t user rows) (entry p) ≡ Some (made (Some p))))
-        → judge_by_role t (Some user) (made paper) ≡ Ok drawn → Told t rows drawn
+        → judge_by_role t (Some user) (made paper) ≡ Ok drawn → ToldByRows t rows drawn
     paper-told None made entry checks draws none is accepted = absurd (no_paper (sym none ∙ accepted))
       where
         no_paper : ◌≡◌ {A = Result Drawn Rule} (Err rules.NoPaper) (Ok drawn) → ⊥
@@ -304,12 +304,12 @@ module _ (t : Tables) (rows : List Row) (drawn : Drawn) (begins : take (length r
     abbrev standing : ℕ → Standing
     standing p = standing_at t (Some user) (Some p)
 
-    revision-told : (paper : Option ℕ) (title abstract : List ℕ) → judge_by_role t (Some user) (Revise paper title abstract) ≡ Ok drawn → Told t rows drawn
+    revision-told : (paper : Option ℕ) (title abstract : List ℕ) → judge_by_role t (Some user) (Revise paper title abstract) ≡ Ok drawn → ToldByRows t rows drawn
     revision-told paper title abstract =
         paper-told paper (λ paper. Revise paper title abstract) (λ p. Revised p title abstract) (λ p. revise_checks (standing p) (named_paper (Some p)))
         (λ p. revision_drawn user p title abstract) refl (λ p. (refl, refl, refl, refl))
 
-    upload-told : (paper : Option ℕ) (content : List ℕ) → judge_by_role t (Some user) (Upload paper content) ≡ Ok drawn → Told t rows drawn
+    upload-told : (paper : Option ℕ) (content : List ℕ) → judge_by_role t (Some user) (Upload paper content) ≡ Ok drawn → ToldByRows t rows drawn
     upload-told paper content =
         paper-told paper (λ paper. Upload paper content) (λ p. Uploaded p (version p) content)
         (λ p. upload_checks (standing p) (named_paper (Some p)) (own_bytes t.papers (Some user)) (length content))
@@ -318,47 +318,47 @@ module _ (t : Tables) (rows : List Row) (drawn : Drawn) (begins : take (length r
         version : ℕ → ℕ
         version p = length (uploads_at t.papers p) + 1
 
-    withdrawal-told : (paper : Option ℕ) → judge_by_role t (Some user) (Withdraw paper) ≡ Ok drawn → Told t rows drawn
+    withdrawal-told : (paper : Option ℕ) → judge_by_role t (Some user) (Withdraw paper) ≡ Ok drawn → ToldByRows t rows drawn
     withdrawal-told paper =
         paper-told paper Withdraw Withdrawn (λ p. revise_checks (standing p) (named_paper (Some p)))
         (withdrawal_drawn user) refl (λ p. (refl, refl, refl, refl))
 
-    bid-told : (paper : Option ℕ) (value : ℕ) → judge_by_role t (Some user) (commands.Bid paper value) ≡ Ok drawn → Told t rows drawn
+    bid-told : (paper : Option ℕ) (value : ℕ) → judge_by_role t (Some user) (commands.Bid paper value) ≡ Ok drawn → ToldByRows t rows drawn
     bid-told paper value =
         paper-told paper (λ paper. commands.Bid paper value) (λ p. entries.Bid p value) (λ p. bid_checks (standing p) (named_paper (Some p)))
         (λ p. bid_drawn user p value) refl (λ p. (refl, refl, refl, refl))
 
-    review-told : (paper : Option ℕ) (form : Form) → judge_by_role t (Some user) (Review paper form) ≡ Ok drawn → Told t rows drawn
+    review-told : (paper : Option ℕ) (form : Form) → judge_by_role t (Some user) (Review paper form) ≡ Ok drawn → ToldByRows t rows drawn
     review-told paper form =
         paper-told paper (λ paper. Review paper form) (λ p. Reviewed p (ordinal p) (version p) form) (λ p. review_checks (standing p) (named_paper (Some p)))
         (λ p. review_drawn user p (ordinal p) (version p) form) refl (λ p. (refl, refl, refl, refl))
       where
         ordinal : ℕ → ℕ
-        ordinal p = unwrap_or (seat_in t.seats (Some user) p) 0
+        ordinal p = unwrap_or (ordinal_in t.seats (Some user) p) 0
 
         version : ℕ → ℕ
         version p = length (own_forms_in t (Some user) p) + 1
 
-    comment-told : (paper : Option ℕ) (text : List ℕ) → judge_by_role t (Some user) (Comment paper text) ≡ Ok drawn → Told t rows drawn
+    comment-told : (paper : Option ℕ) (text : List ℕ) → judge_by_role t (Some user) (Comment paper text) ≡ Ok drawn → ToldByRows t rows drawn
     comment-told paper text =
-        paper-told paper (λ paper. Comment paper text) (λ p. Commented p (n p) (seat_in t.seats (Some user) p) text)
+        paper-told paper (λ paper. Comment paper text) (λ p. Commented p (n p) (ordinal_in t.seats (Some user) p) text)
         (λ p. comment_checks (standing p) (named_paper (Some p)) (own_comments_in t.talk (Some user)))
-        (λ p. comment_drawn user p (n p) (seat_in t.seats (Some user) p) text) refl (λ p. (refl, refl, refl, refl))
+        (λ p. comment_drawn user p (n p) (ordinal_in t.seats (Some user) p) text) refl (λ p. (refl, refl, refl, refl))
       where
         n : ℕ → ℕ
         n p = length (map comment_as_told (comments_in t.talk p)) + 1
 
-    decision-told : (paper : Option ℕ) (decision : Decision) → judge_by_role t (Some user) (Decide paper decision) ≡ Ok drawn → Told t rows drawn
+    decision-told : (paper : Option ℕ) (decision : Decision) → judge_by_role t (Some user) (Decide paper decision) ≡ Ok drawn → ToldByRows t rows drawn
     decision-told paper decision =
         paper-told paper (λ paper. Decide paper decision) (λ p. Decided p decision) (λ p. decide_checks (standing p) (named_paper (Some p)))
         (λ p. decision_drawn user p decision) refl (λ p. (refl, refl, refl, refl))
 
-    stage-told : (to : Phase) → judge_by_role t (Some user) (SetPhase to) ≡ Ok drawn → Told t rows drawn
+    stage-told : (to : Phase) → judge_by_role t (Some user) (SetPhase to) ≡ Ok drawn → ToldByRows t rows drawn
     stage-told to accepted =
         let by = standing_at t (Some user) None in
         told-single user (PhaseSet to) (SetPhase to) (phase_drawn user to) refl (judged-Ok (phase_checks by by.phase to) (phase_drawn user to) drawn accepted).1 refl known refl accepted
 
-    mode-told : (to : Mode) → judge_by_role t (Some user) (SetMode to) ≡ Ok drawn → Told t rows drawn
+    mode-told : (to : Mode) → judge_by_role t (Some user) (SetMode to) ≡ Ok drawn → ToldByRows t rows drawn
     mode-told to accepted =
         let by = standing_at t (Some user) None in
         told-single user (ModeSet to) (SetMode to) (mode_drawn user to) refl (judged-Ok (mode_checks by by.phase) (mode_drawn user to) drawn accepted).1 refl known refl accepted
@@ -371,7 +371,7 @@ tags-login paper tag false = refl
 -- rows that begin the group that an allowed call adds begin with an entry whose call draws one that they begin
 pub accepted-told : (H : History) (call : Call) (drawn : Drawn) (r : Row) (behind : List Row) → Legal H → IsAllowed H call
     → judge call.caller (view call.caller H) call.command ≡ Ok drawn
-    → take (length (r ∷ behind)) (rows_of drawn.group) ≡ r ∷ behind → AllByRecursion IsBoundedEntry drawn.group → Told (tables_of H) (r ∷ behind) drawn
+    → take (length (r ∷ behind)) (rows_of drawn.group) ≡ r ∷ behind → AllByRecursion IsBoundedEntry drawn.group → ToldByRows (tables_of H) (r ∷ behind) drawn
 accepted-told H call drawn r behind legal allowed accepted begins bounded = by call.caller call.command allowed.caller allowed.bounded (sym (Legal-judge call.caller H call.command legal) ∙ accepted)
   where
     t : Tables
@@ -384,7 +384,7 @@ accepted-told H call drawn r behind legal allowed accepted begins bounded = by c
     registered user is = sym (registered-known H user legal) ∙ is
 
     by : (caller : Option ℕ) (command : Command) → IsCaller H caller command → IsBoundedCommand command → judge_by_role t caller command ≡ Ok drawn
-        → Told t rows drawn
+        → ToldByRows t rows drawn
     by caller (Register name digest) is within judges = register-told t rows drawn begins name digest (ap (λ (c : Option ℕ). judge_by_role t c (Register name digest)) (sym is) ∙ judges)
     by None (Tag paper tag on) is within judges = absurd (subst (λ (login : Bool). CallsAs H login None) (tags-login paper tag on) is)
     by None command is within judges = absurd is
@@ -471,11 +471,11 @@ module _ (H : History) (legal : Legal H) where
       by false few told = absurd (none_some command told)
 
   -- a command that names a user is allowed, where it is with every name
-  naming-allowed : (maker user : ℕ) (command : Command) (naming : List ℕ → Command)
-      → ((name : List ℕ) → IsAllowed H (record { caller = Some maker; command = naming name })) → option_map naming (name_told t user) ≡ Some command
+  target-allowed : (maker user : ℕ) (command : Command) (aimed : List ℕ → Command)
+      → ((name : List ℕ) → IsAllowed H (record { caller = Some maker; command = aimed name })) → option_map aimed (name_told t user) ≡ Some command
       → IsAllowed H (record { caller = Some maker; command = command })
-  naming-allowed maker user command naming allowed told =
-      let name = with-name (name_told t user) naming command told in
+  target-allowed maker user command aimed allowed told =
+      let name = with-name (name_told t user) aimed command told in
       subst (λ (c : Command). IsAllowed H (record { caller = Some maker; command = c })) name.2 (allowed name.0)
 
   -- a user's is allowed, where the entry is within its bounds
@@ -506,13 +506,13 @@ module _ (H : History) (legal : Legal H) where
   user-allowed authors maker more (Decided paper decision) command bounded made told =
       same-allowed (Some maker) (Decide (Some paper) decision) command told (record { caller = made; bounded = tt })
   user-allowed authors maker more (Named user role) command bounded made told =
-      naming-allowed maker user command (λ name. Name (Some name) role) (λ name. record { caller = made; bounded = member_named role bounded.n2.0 }) told
+      target-allowed maker user command (λ name. Name (Some name) role) (λ name. record { caller = made; bounded = member_named role bounded.n2.0 }) told
   user-allowed authors maker more (Conflict paper user on) command bounded made told =
-      naming-allowed maker user command (λ name. SetConflict (Some paper) (Some name) on) (λ name. record { caller = made; bounded = tt }) told
+      target-allowed maker user command (λ name. SetConflict (Some paper) (Some name) on) (λ name. record { caller = made; bounded = tt }) told
   user-allowed authors maker more (Assigned paper user kind ordinal) command bounded made told =
-      naming-allowed maker user command (λ name. Assign (Some paper) (Some name) kind) (λ name. record { caller = made; bounded = tt }) told
+      target-allowed maker user command (λ name. Assign (Some paper) (Some name) kind) (λ name. record { caller = made; bounded = tt }) told
   user-allowed authors maker more (Unassigned paper user ordinal) command bounded made told =
-      naming-allowed maker user command (λ name. Unassign (Some paper) (Some name)) (λ name. record { caller = made; bounded = tt }) told
+      target-allowed maker user command (λ name. Unassign (Some paper) (Some name)) (λ name. record { caller = made; bounded = tt }) told
   user-allowed authors maker more e command bounded made told = absurd (none_some command told)
 
   -- and so is any

@@ -12,7 +12,7 @@ use Rattle.cr_base.specs.Tables.{Tables, tables_of, tables_from, FitInTurn}
 use Rattle.cr_view.specs.Rows.{AreEarlier}
 use Rattle.cr_policy.specs.Legal.{Legal}
 use Rattle.cr_policy.proofs.LegalLaws.{Legal-accepted}
-use Rattle.cr_history.proofs.TableTies.{tables_of-append, rows_of-append}
+use Rattle.cr_history.proofs.TableAgreement.{tables_of-append, rows_of-append}
 use Rattle.cr_book.specs.Opening.{Continue}
 use Rattle.cr_book.specs.Reading.{IsOpen, IsGroup, IsReading, IsGoing, IsRowRefused}
 use Rattle.cr_book.specs.declared.reading.ReadError.{ReadError}
@@ -27,7 +27,7 @@ use Rattle.cr_book.specs.BulkRebuilding.{begins_bulk, GoesOn, NoBulk, is_of_bulk
 use Rattle.cr_book.proofs.OpeningBulkRows.{call-of, bulk-refused, bulk-last, bulk-more}
 use Rattle.cr_book.proofs.OpeningLegal.{MayAdd, may_add-group}
 use Rattle.cr_book.proofs.OpeningOnward.{legal-bounded, first-bounded, Onward, onward}
-use Rattle.cr_book.proofs.OpeningCommands.{Told, accepted-told, told-adds}
+use Rattle.cr_book.proofs.OpeningCommands.{ToldByRows, accepted-told, told-adds}
 
 -- ---- legal histories and their rows
 
@@ -108,11 +108,11 @@ none-begun log t pending row reading no_bulk none goes =
     bounded = subst (λ (g : History). AllByRecursion IsBoundedEntry g) add.group_is group_bounded
 
     begun-told : (pending : List Row) (log : History) (call : Call) (drawn : Drawn) → Legal log → IsAllowed log call → judge call.caller (view call.caller log) call.command ≡ Ok drawn
-        → take (length (pending ++ row ∷ [])) (rows_of drawn.group) ≡ pending ++ row ∷ [] → AllByRecursion IsBoundedEntry drawn.group → Told (tables_of log) (pending ++ row ∷ []) drawn
+        → take (length (pending ++ row ∷ [])) (rows_of drawn.group) ≡ pending ++ row ∷ [] → AllByRecursion IsBoundedEntry drawn.group → ToldByRows (tables_of log) (pending ++ row ∷ []) drawn
     begun-told [] log call drawn legal allowed accepted begins bounded = accepted-told log call drawn row [] legal allowed accepted begins bounded
     begun-told (p ∷ ps) log call drawn legal allowed accepted begins bounded = accepted-told log call drawn p (ps ++ row ∷ []) legal allowed accepted begins bounded
 
-    told : Told (tables_of log) rows add.drawn
+    told : ToldByRows (tables_of log) rows add.drawn
     told = begun-told pending log add.call add.drawn reading.legal add.allowed add.accepted (ap (λ (g : History). take (length rows) (rows_of g)) (sym add.group_is) ∙ covered) bounded
 
     first : NoneBegun t (row_of told.first) rows

@@ -28,7 +28,7 @@ use Rattle.cr_base.specs.Papers.{paper_numbers, is_withdrawn_at}
 use Rattle.cr_base.specs.Phases.{is_from}
 use Rattle.cr_base.specs.Reviews.{is_written_in}
 use Rattle.cr_base.specs.Rows.{IsBoundedEntry}
-use Rattle.cr_base.specs.Seats.{labels_in, seat_in}
+use Rattle.cr_base.specs.Seats.{labels_in, ordinal_in}
 use Rattle.cr_base.specs.Sources.{facts_of_tables, shown_in_tables, standing_at, paper_named, target_named, role_among, user_among}
 use Rattle.cr_base.specs.Bulk.{row_judged_by}
 use Rattle.cr_base.specs.TagTexts.{is_for_chairs}
@@ -120,7 +120,7 @@ module _ (t : Tables) (user : ℕ) (work : IsAtWork t user) where
           let target : Option ℕ = user_among (lines_of t.accounts) (Some name) in
           let wrote : Bool = list_any (is_number target) (authors_in t.ties p) in
           let declared : Bool = list_any (is_number target) (users_tied_to p t.ties.conflicts) in
-          record { role = role; herself = is_number target user; author = wrote; conflicted = wrote || declared; reviewer = is_some (seat_in t.seats target p) }
+          record { role = role; herself = is_number target user; author = wrote; conflicted = wrote || declared; reviewer = is_some (ordinal_in t.seats target p) }
 
       phases : (is_from Bidding t.stage.phase ≡ true) × (is_from Notification t.stage.phase ≡ false)
       phases = committee (is_from Bidding t.stage.phase) (is_from Notification t.stage.phase) work.phase
@@ -142,7 +142,7 @@ module _ (t : Tables) (user : ℕ) (work : IsAtWork t user) where
   unassign-clear : (p : ℕ) (name : List ℕ) (drawn : Drawn) → judge_by_role t (Some user) (Unassign (Some p) (Some name)) ≡ Ok drawn → IsClear t user p
   unassign-clear p name drawn accepted =
       let target : Option ℕ = user_among (lines_of t.accounts) (Some name) in
-      let seat : Option ℕ = seat_in t.seats target p in
+      let seat : Option ℕ = ordinal_in t.seats target p in
       let k = judged-Ok (unassign_checks (stands (Some p)) (named (Some p)) (target_of p target) (at_some (is_written_in t.reviews p) seat)) (unassignment_drawn user p (unwrap_or target 0) (unwrap_or seat 0)) drawn accepted in
       record { there = k.0.0; clear = k.0.1.1.1.0; standing = k.0.1.1.1.1.1.0 }
 

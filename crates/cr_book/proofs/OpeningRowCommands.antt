@@ -16,7 +16,7 @@ use Rattle.cr_base.specs.Drawn.{Drawn, grouped, conflict_drawn, assignment_drawn
 use Rattle.cr_base.specs.Judging.{judge_by_role}
 use Rattle.cr_base.specs.Lists.{at_some}
 use Rattle.cr_base.specs.Reviews.{is_written_in}
-use Rattle.cr_base.specs.Seats.{labels_in, seat_in}
+use Rattle.cr_base.specs.Seats.{labels_in, ordinal_in}
 use Rattle.cr_base.specs.Sources.{paper_named, target_named, user_among, facts_of_tables, shown_in_tables, standing_at}
 use Rattle.cr_base.specs.TagTexts.{is_for_chairs}
 use Rattle.cr_base.specs.Tables.{Tables}
@@ -114,7 +114,7 @@ module _ (t : Tables) (user : ℕ) where
     }
 
     abbrev seat : Option ℕ → Option ℕ → Option ℕ
-    seat paper target = seat_in t.seats target (unwrap_or paper 0)
+    seat paper target = ordinal_in t.seats target (unwrap_or paper 0)
 
     abbrev written : Option ℕ → Option ℕ → Bool
     written paper target = at_some (is_written_in t.reviews (unwrap_or paper 0)) (seat paper target)

@@ -16,7 +16,7 @@ use Rattle.cr_base.specs.declared.reply.Rule.TheVariants as rules
 use Rattle.cr_base.specs.declared.words.Kind.{Kind}
 use Rattle.cr_base.specs.declared.words.Kind.TheVariants.{Primary, Secondary, Pc}
 use Rattle.cr_base.specs.Bulk.{row_command}
-use Rattle.cr_base.specs.Spelt.{is_paper_number, paper_spelt, name_spelt}
+use Rattle.cr_base.specs.Parse.{is_paper_number, parse_paper, parse_name}
 use Rattle.cr_base.specs.TagTexts.{is_tag}
 use Rattle.cr_base.specs.Texts.{is_name}
 
@@ -41,7 +41,7 @@ number-spelt (b ∷ rest) some few first digits =
     ∙ ap (λ (c : Bool). c && list_all is_ascii_digit (b ∷ rest)) (nonzero b first)
     ∙ all-digits (b ∷ rest) digits
 
-pub paper-spelt : (p : ℕ) → 1 ≤ p → p ≤ 9999 → paper_spelt (decimal p) ≡ Some p
+pub paper-spelt : (p : ℕ) → 1 ≤ p → p ≤ 9999 → parse_paper (decimal p) ≡ Some p
 paper-spelt p low high =
     let fits : p < 2 ^ 64 = omega (arith, high) in
     let numeral = decimal_is_IsNumeral p fits in
@@ -65,9 +65,9 @@ Spelled command = (row : BulkRow) × (row_command row ≡ Ok command)
 module _ (p : ℕ) (low : 1 ≤ p) (high : p ≤ 9999) where
   module _ (name : List ℕ) (is : is_name name ≡ true) where
     told : (made : Option ℕ → Option (List ℕ) → Command)
-        → ◌≡◌ {A = Result Command Rule} (Ok (made (paper_spelt (decimal p)) (name_spelt name))) (Ok (made (Some p) (Some name)))
+        → ◌≡◌ {A = Result Command Rule} (Ok (made (parse_paper (decimal p)) (parse_name name))) (Ok (made (Some p) (Some name)))
     told made =
-        ap (λ (o : Option ℕ). Ok (made o (name_spelt name))) (paper-spelt p low high)
+        ap (λ (o : Option ℕ). Ok (made o (parse_name name))) (paper-spelt p low high)
         ∙ ap (λ (b : Bool). Ok (made (Some p) (cond b (Some name) None))) is
 
     pub assign-spelled : (kind : Kind) → Spelled (commands.Assign (Some p) (Some name) kind)
@@ -86,9 +86,9 @@ module _ (p : ℕ) (low : 1 ≤ p) (high : p ≤ 9999) where
     conflict-spelled false = (of_user (codes "clearconflict") p name, told (λ paper user. commands.SetConflict paper user false))
 
   tagged : (tag : List ℕ) (on : Bool) → is_tag tag ≡ true
-      → ◌≡◌ {A = Result Command Rule} (cond (is_tag tag) (Ok (commands.Tag (paper_spelt (decimal p)) tag on)) (Err rules.BadTag)) (Ok (commands.Tag (Some p) tag on))
+      → ◌≡◌ {A = Result Command Rule} (cond (is_tag tag) (Ok (commands.Tag (parse_paper (decimal p)) tag on)) (Err rules.BadTag)) (Ok (commands.Tag (Some p) tag on))
   tagged tag on is =
-      ap (λ (b : Bool). cond b (Ok (commands.Tag (paper_spelt (decimal p)) tag on)) (Err rules.BadTag)) is
+      ap (λ (b : Bool). cond b (Ok (commands.Tag (parse_paper (decimal p)) tag on)) (Err rules.BadTag)) is
       ∙ ap (λ (o : Option ℕ). Ok (commands.Tag o tag on)) (paper-spelt p low high)
 
   pub tag-spelled : (tag : List ℕ) (on : Bool) → is_tag tag ≡ true → Spelled (commands.Tag (Some p) tag on)

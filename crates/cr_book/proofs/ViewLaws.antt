@@ -10,8 +10,8 @@ use Rattle.cr_policy.specs.Legal.{Legal}
 use Rattle.cr_policy.specs.Triggers.{Reader, reader}
 use Rattle.cr_policy.specs.View.{sights, view}
 use Rattle.cr_policy.proofs.LegalLaws.{Legal-fits}
-use Rattle.cr_history.proofs.DecisionTies.{is_accepted-tables}
-use Rattle.cr_history.proofs.TableTies.{standing_of-tables}
+use Rattle.cr_history.proofs.DecisionAgreement.{is_accepted-tables}
+use Rattle.cr_history.proofs.TableAgreement.{standing_of-tables}
 use Rattle.cr_sights.specs.Readers.{reader_in}
 use Rattle.cr_book.specs.Sound.{IsSound}
 

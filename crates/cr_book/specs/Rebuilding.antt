@@ -66,12 +66,12 @@ giver_told maker (Registered user name digest) = None
 giver_told maker e = Some maker
 
 -- what a user's command that names a user was, where the user named is there
-abbrev pub naming_command_told : Tables → Entry → Option Command
-naming_command_told t (Named user role) = option_map (λ name. commands.Name (Some name) role) (name_told t user)
-naming_command_told t (Conflict paper user on) = option_map (λ name. commands.SetConflict (Some paper) (Some name) on) (name_told t user)
-naming_command_told t (Assigned paper user kind ordinal) = option_map (λ name. commands.Assign (Some paper) (Some name) kind) (name_told t user)
-naming_command_told t (Unassigned paper user ordinal) = option_map (λ name. commands.Unassign (Some paper) (Some name)) (name_told t user)
-naming_command_told t _ = None
+abbrev pub target_command_told : Tables → Entry → Option Command
+target_command_told t (Named user role) = option_map (λ name. commands.Name (Some name) role) (name_told t user)
+target_command_told t (Conflict paper user on) = option_map (λ name. commands.SetConflict (Some paper) (Some name) on) (name_told t user)
+target_command_told t (Assigned paper user kind ordinal) = option_map (λ name. commands.Assign (Some paper) (Some name) kind) (name_told t user)
+target_command_told t (Unassigned paper user ordinal) = option_map (λ name. commands.Unassign (Some paper) (Some name)) (name_told t user)
+target_command_told t _ = None
 
 -- what a user's command was that is on a paper and names no user, or that names one who is there
 abbrev pub paper_command_told : Tables → Entry → Option Command
@@ -83,7 +83,7 @@ paper_command_told t (Reviewed paper ordinal version form) = Some (commands.Revi
 paper_command_told t (Commented paper n ordinal text) = Some (commands.Comment (Some paper) text)
 paper_command_told t (Tagged paper tag on) = Some (commands.Tag (Some paper) tag on)
 paper_command_told t (Decided paper decision) = Some (commands.Decide (Some paper) decision)
-paper_command_told t e = naming_command_told t e
+paper_command_told t e = target_command_told t e
 
 -- what a user's command was, where the users that it names are there, and co-authors, if it tells them, no more than 19; an
 -- entry that begins no such command's has none

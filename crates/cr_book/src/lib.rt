@@ -4,11 +4,11 @@
 
 mod book;
 mod bulks;
+mod coauthor_names;
 mod empty;
 mod judging;
 mod kinds;
 mod laws;
-mod naming;
 mod opening;
 mod reading;
 mod rebuilding;

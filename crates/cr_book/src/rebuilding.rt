@@ -5,11 +5,11 @@ ghost use Rattle.std.specs.Option.{option_map};
 ghost use Rattle.cr_base.specs.Tables.{FitInTurn};
 ghost use Rattle.cr_base.specs.declared.command.Command.TheVariants as commands;
 ghost use Rattle.cr_view.specs.Draws.{drawn_by};
-ghost use Rattle.cr_book.specs.Rebuilding.{giver_told, command_told, naming_command_told, paper_command_told, user_command_told};
+ghost use Rattle.cr_book.specs.Rebuilding.{giver_told, command_told, target_command_told, paper_command_told, user_command_told};
 ghost use Rattle.cr_book.specs.Rebuilding.{drawn_told, is_known, IsBegun, NoneBegun};
 ghost use Rattle.cr_base.specs.declared.row.Row.{Row};
 
-use crate::naming::authors_told;
+use crate::coauthor_names::authors_told;
 use crate::rows::rows_of;
 use cr_base::{Command, Entry, MOST_COAUTHORS, Row, Stamped, Text, ToldNames, UserNo};
 use cr_view::{Draw, Live};
@@ -103,13 +103,13 @@ pub(crate) fn paper_command_of(live: &Live, first: Entry) -> Option<Command>
             paper: Some(paper),
             decision,
         }),
-        other => naming_command_of(live, other),
+        other => target_command_of(live, other),
     }
 }
 
 /// The same, where the command names a user.
-fn naming_command_of(live: &Live, first: Entry) -> Option<Command>
-    ensures { result ≡ naming_command_told live.now.tables first }
+fn target_command_of(live: &Live, first: Entry) -> Option<Command>
+    ensures { result ≡ target_command_told live.now.tables first }
 {
     match first {
         Entry::Named { user, role } => {

@@ -4,16 +4,16 @@ use Rattle.std.specs.Prelude.{option_and_then, unwrap_or}
 use Rattle.std.proofs.lemmas.Bool.Decides.{nat_tests}
 use Rattle.csv.specs.Records.{field_at}
 use Rattle.cr_base.specs.declared.bulk.BulkRow.{BulkRow}
-use Rattle.cr_bulk.specs.Rows.{and_row, if_few, row_spelt, rows_told}
+use Rattle.cr_bulk.specs.Rows.{and_row, if_few, parse_row, rows_told}
 
 -- ---- one row
 
--- a field by its place, empty where there is none
+-- a field by its column, empty where there is none
 abbrev pub field_or : List (List ℕ) → ℕ → List ℕ
-field_or fields place = unwrap_or (field_at fields place) []
+field_or fields column = unwrap_or (field_at fields column) []
 
 pub four_fields : (fields : List (List ℕ)) → length fields ≡ 4
-    → row_spelt fields ≡ Some (record { paper = field_or fields 0; action = field_or fields 1; user = field_or fields 2; tag = field_or fields 3 })
+    → parse_row fields ≡ Some (record { paper = field_or fields 0; action = field_or fields 1; user = field_or fields 2; tag = field_or fields 3 })
 unfolding field_at
 four_fields [] e = cc e
 four_fields (a ∷ []) e = cc e
@@ -22,7 +22,7 @@ four_fields (a ∷ b ∷ c ∷ []) e = cc e
 four_fields (a ∷ b ∷ c ∷ d ∷ []) e = refl
 four_fields (a ∷ b ∷ c ∷ d ∷ f ∷ rest) e = absurd (omega (arith, e))
 
-pub other_fields : (fields : List (List ℕ)) → length fields ≢ 4 → row_spelt fields ≡ None
+pub other_fields : (fields : List (List ℕ)) → length fields ≢ 4 → parse_row fields ≡ None
 other_fields [] other = refl
 other_fields (a ∷ []) other = refl
 other_fields (a ∷ b ∷ []) other = refl
@@ -42,7 +42,7 @@ prepended-nil None = refl
 prepended-nil (Some more) = refl
 
 -- one more was read
-pub row_more : (rows : List BulkRow) (fields : List (List ℕ)) (left : List (List (List ℕ))) (row : BulkRow) → row_spelt fields ≡ Some row
+pub row_more : (rows : List BulkRow) (fields : List (List ℕ)) (left : List (List (List ℕ))) (row : BulkRow) → parse_row fields ≡ Some row
     → prepended rows (rows_told (fields ∷ left)) ≡ prepended (rows ++ (row ∷ [])) (rows_told left)
 row_more rows fields left row e = rw e (by (rows_told left))
   where
@@ -51,7 +51,7 @@ row_more rows fields left row e = rw e (by (rows_told left))
     by (Some more) = ap (λ (all : List BulkRow). Some all) (sym (append_assoc rows (row ∷ []) more))
 
 -- the next one isn't one
-pub no_row : (rows : List BulkRow) (fields : List (List ℕ)) (left : List (List (List ℕ))) → row_spelt fields ≡ None
+pub no_row : (rows : List BulkRow) (fields : List (List ℕ)) (left : List (List (List ℕ))) → parse_row fields ≡ None
     → option_and_then if_few (prepended rows (rows_told (fields ∷ left))) ≡ None
 no_row rows fields left e = rw e refl
 
@@ -69,7 +69,7 @@ all_rows rows few = by (nat_le (length (rows ++ [])) 512) refl
 -- there is one more behind so many
 pub one_too_many : (rows : List BulkRow) (fields : List (List ℕ)) (left : List (List (List ℕ))) → length rows ≡ 512
     → option_and_then if_few (prepended rows (rows_told (fields ∷ left))) ≡ None
-one_too_many rows fields left many = by (row_spelt fields) (rows_told left)
+one_too_many rows fields left many = by (parse_row fields) (rows_told left)
   where
     long : (row : BulkRow) (more : List BulkRow) (test : Bool) → nat_le (length (rows ++ (row ∷ more))) 512 ≡ test → (if test then Some (rows ++ (row ∷ more)) else None) ≡ None
     long row more true e =

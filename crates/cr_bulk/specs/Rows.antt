@@ -9,9 +9,9 @@ abbrev pub records_of : List ℕ → List (List (List ℕ))
 records_of text = records default_config (strip_bom text)
 
 -- the row of a record, which has four fields
-abbrev pub row_spelt : List (List ℕ) → Option BulkRow
-row_spelt (paper ∷ action ∷ user ∷ tag ∷ []) = Some (record { paper = paper; action = action; user = user; tag = tag })
-row_spelt fields = None
+abbrev pub parse_row : List (List ℕ) → Option BulkRow
+parse_row (paper ∷ action ∷ user ∷ tag ∷ []) = Some (record { paper = paper; action = action; user = user; tag = tag })
+parse_row fields = None
 
 -- one row more
 abbrev pub and_row : Option BulkRow → Option (List BulkRow) → Option (List BulkRow)
@@ -22,7 +22,7 @@ and_row (Some row) (Some rows) = Some (row ∷ rows)
 -- the rows of records, each of which has four fields
 abbrev pub rows_told : List (List (List ℕ)) → Option (List BulkRow)
 rows_told [] = Some []
-rows_told (fields ∷ more) = and_row (row_spelt fields) (rows_told more)
+rows_told (fields ∷ more) = and_row (parse_row fields) (rows_told more)
 
 -- at most 512 of them
 abbrev pub if_few : List BulkRow → Option (List BulkRow)
@@ -40,8 +40,8 @@ rows_behind (Some row) more = if is_header row then option_and_then if_few (rows
 -- the rows under the header; None where it is missing
 abbrev pub rows_under : List (List (List ℕ)) → Option (List BulkRow)
 rows_under [] = None
-rows_under (fields ∷ more) = rows_behind (row_spelt fields) more
+rows_under (fields ∷ more) = rows_behind (parse_row fields) more
 
 -- the rows of a file: it is UTF-8, its records have four fields each, the first is the header, and at most 512 follow
-unfoldable pub rows_spelt : List ℕ → Option (List BulkRow)
-rows_spelt text = if is_utf8 text then rows_under (records_of text) else None
+unfoldable pub parse_rows : List ℕ → Option (List BulkRow)
+parse_rows text = if is_utf8 text then rows_under (records_of text) else None

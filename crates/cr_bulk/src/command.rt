@@ -4,7 +4,7 @@ ghost use Rattle.cr_base.specs.Bulk.{command_by, row_command};
 ghost use Rattle.cr_bulk.specs.Actions.{seen, tag_command};
 
 use crate::action::Action;
-use cr_base::{BulkRow, Command, Rule, Tag, name_spelt, paper_spelt};
+use cr_base::{BulkRow, Command, Rule, Tag, parse_name, parse_paper};
 
 /// The command of a row that turns a tag on or off.
 fn tag_command(row: &BulkRow, on: bool) -> Result<Command, Rule>
@@ -12,7 +12,7 @@ fn tag_command(row: &BulkRow, on: bool) -> Result<Command, Rule>
 {
     match Tag::read(row.tag.as_slice()) {
         Some(tag) => Ok(Command::Tag {
-            paper: paper_spelt(row.paper.as_slice()),
+            paper: parse_paper(row.paper.as_slice()),
             tag,
             on,
         }),
@@ -24,20 +24,20 @@ fn tag_command(row: &BulkRow, on: bool) -> Result<Command, Rule>
 fn command_by(action: Action, row: &BulkRow) -> Result<Command, Rule>
     ensures { result ≡ command_by (seen action) row.now }
 {
-    let paper = paper_spelt(row.paper.as_slice());
+    let paper = parse_paper(row.paper.as_slice());
     match action {
         Action::Assign(kind) => Ok(Command::Assign {
             paper,
-            user: name_spelt(row.user.as_slice()),
+            user: parse_name(row.user.as_slice()),
             kind,
         }),
         Action::Unassign => Ok(Command::Unassign {
             paper,
-            user: name_spelt(row.user.as_slice()),
+            user: parse_name(row.user.as_slice()),
         }),
         Action::TurnConflict(on) => Ok(Command::SetConflict {
             paper,
-            user: name_spelt(row.user.as_slice()),
+            user: parse_name(row.user.as_slice()),
             on,
         }),
         Action::TurnTag(on) => tag_command(row, on),

@@ -3,7 +3,7 @@ ghost use Rattle.std.specs.Prelude.{◌≡◌, [], IfOk, unwrap_or};
 ghost use Rattle.csv.specs.Records.{field_at, fields_of};
 ghost use Rattle.cr_base.specs.Decoding.{Decodes};
 ghost use Rattle.cr_bulk.specs.Reading.{IsReading, NextTold, left_of};
-ghost use Rattle.cr_bulk.specs.Rows.{records_of, row_spelt};
+ghost use Rattle.cr_bulk.specs.Rows.{records_of, parse_row};
 
 use cr_base::{Blob, BulkRow, DecodeError};
 use csv::{ByteRecord, Reader, ReaderBuilder};
@@ -35,11 +35,11 @@ pub(crate) fn read_next(
     Ok(found)
 }
 
-/// A field of a record by its place, copied; empty where the record is shorter.
-fn field(alloc: Global, fields: &ByteRecord, place: usize) -> Result<Blob, AllocError>
-    ensures { IfOk result (λ blob. blob ≡ unwrap_or (field_at (fields_of fields.now) place) []) }
+/// A field of a record by its column, copied; empty where the record is shorter.
+fn field(alloc: Global, fields: &ByteRecord, column: usize) -> Result<Blob, AllocError>
+    ensures { IfOk result (λ blob. blob ≡ unwrap_or (field_at (fields_of fields.now) column) []) }
 {
-    match fields.get(place) {
+    match fields.get(column) {
         Some(bytes) => Blob::from_slice(alloc, bytes),
         None => Ok(Blob::empty()),
     }
@@ -47,7 +47,7 @@ fn field(alloc: Global, fields: &ByteRecord, place: usize) -> Result<Blob, Alloc
 
 /// The row of a record: `Malformed` where it hasn't four fields.
 pub(crate) fn row_of(alloc: Global, fields: &ByteRecord) -> Result<BulkRow, DecodeError>
-    ensures { Decodes result (row_spelt (fields_of fields.now)) }
+    ensures { Decodes result (parse_row (fields_of fields.now)) }
 {
     if fields.len() != 4 {
         return Err(DecodeError::Malformed);

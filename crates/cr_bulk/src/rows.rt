@@ -3,7 +3,7 @@ ghost use Rattle.std.specs.Prelude.{◌≡◌, IfOk, option_and_then};
 ghost use Rattle.cr_base.specs.Bulk.{IsBoundedBulk};
 ghost use Rattle.cr_base.specs.Decoding.{Decodes, DecodesSeen};
 ghost use Rattle.cr_bulk.specs.Reading.{IsReading, left_of};
-ghost use Rattle.cr_bulk.specs.Rows.{if_few, records_of, rows_spelt, rows_told, rows_under};
+ghost use Rattle.cr_bulk.specs.Rows.{if_few, records_of, parse_rows, rows_told, rows_under};
 
 use crate::header::read_header;
 use crate::record::{read_next, reader_over, row_of};
@@ -48,9 +48,9 @@ fn read_under(alloc: Global, text: &[u8]) -> Result<Vec<BulkRow>, DecodeError>
 /// CR or both. `Malformed` comes exactly where it isn't UTF-8, a record hasn't four fields, the first isn't the
 /// header, or more than 512 follow, memory aside. Reads the file for its UTF-8, and then up to the record at which
 /// it turns out to be bad; each field is copied into a block of its own.
-#[tactic(auto, unfolding(crate::specs::Rows::rows_spelt))]
+#[tactic(auto, unfolding(crate::specs::Rows::parse_rows))]
 pub fn read_rows(alloc: Global, bytes: &[u8]) -> Result<BulkRows, DecodeError>
-    ensures told { Decodes result (rows_spelt bytes.now) }
+    ensures told { Decodes result (parse_rows bytes.now) }
     ensures bounded { IfOk result IsBoundedBulk }
 {
     if !is_text(bytes) {

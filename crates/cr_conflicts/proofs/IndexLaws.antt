@@ -10,13 +10,13 @@ use Rattle.cr_base.specs.declared.pairs.Order.TheVariants.{ByPaper, ByUser}
 use Rattle.cr_base.specs.declared.pairs.Pair.{Pair}
 use Rattle.cr_base.specs.declared.pairs.Tie.{Tie}
 use Rattle.cr_base.specs.Lists.{IsRising, is_number}
-use Rattle.cr_base.specs.Pairs.{same_pair, is_tied, leads, follows, stands, IsSortedBy, IsAscending, has_pair, with_tie, users_tied_to, papers_tied_to}
+use Rattle.cr_base.specs.Pairs.{same_pair, is_tied, major, minor, stands, IsSortedBy, IsAscending, has_pair, with_tie, users_tied_to, papers_tied_to}
 use Rattle.cr_base.specs.Ties.{BareTies, pair_of, bare_tie, are_before, are_up_to}
 use Rattle.cr_base.proofs.PairLaws.{IsAscending-with_tie, has_pair-with_tie, list_any-others_of}
 use Rattle.cr_base.proofs.RisingLists.{rising-sorted, rising-others_of, others_of-same}
 use Rattle.cr_base.proofs.TieLaws.{has_pair-push, all-push}
-use Rattle.cr_pairs.specs.Places.{RisesBy}
-use Rattle.cr_pairs.proofs.Searches.{leads-rise}
+use Rattle.cr_pairs.specs.BinarySearch.{RisesBy}
+use Rattle.cr_pairs.proofs.Searches.{major-rise}
 use Rattle.cr_conflicts.specs.Index.{is_told_before, all_before, AuthorsIndexed}
 
 -- ---- what is read
@@ -27,15 +27,15 @@ author-pair authors u p = list_any-others_of ByPaper p u authors
 
 -- the papers of the authors never fall
 pub authors-rise : (authors : BareTies) → IsSortedBy is_told_before authors → RisesBy ByPaper authors
-authors-rise authors told = leads-rise ByPaper is_told_before (λ p q h. least p.paper q.paper (same_pair p q) h) authors told
+authors-rise authors told = major-rise ByPaper is_told_before (λ p q h. least p.paper q.paper (same_pair p q) h) authors told
   where
     least : (n m : ℕ) (same : Bool) → (nat_le n m && not same) ≡ true → n ≤ m
     least n m same h = grind (arith, nat_tests)
 
 -- a user's papers are the same by paper and by user
 module _ (authors : BareTies) (users : Order) (authored : BareTies) (declared bids : Order) (index : AuthorsIndexed authors users authored declared bids) (u : ℕ) where
-  rises : (p q : Pair) → eqb u (leads ByUser p) ≡ true → eqb u (leads ByUser q) ≡ true → is_told_before p q ≡ true
-      → nat_lt (follows ByUser p) (follows ByUser q) ≡ true
+  rises : (p q : Pair) → eqb u (major ByUser p) ≡ true → eqb u (major ByUser q) ≡ true → is_told_before p q ≡ true
+      → nat_lt (minor ByUser p) (minor ByUser q) ≡ true
   rises p q here there before = grind (arith, nat_tests)
 
   pub indexed-papers : (papers_tied_to u authored ≡ papers_tied_to u authors) × IsRising (papers_tied_to u authors)

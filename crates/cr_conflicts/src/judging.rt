@@ -8,7 +8,7 @@ use cr_base::{Phase, Rule, Standing, Target};
 pub(crate) fn bid(by: &Standing, withdrawn: bool) -> Result<(), Rule>
     ensures { result ≡ judged (bid_checks by.now (record { there = true; withdrawn = withdrawn })) tt }
 {
-    match by.may_handle() {
+    match by.check_eligible() {
         Ok(()) => {}
         Err(rule) => return Err(rule),
     }

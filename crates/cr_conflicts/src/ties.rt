@@ -25,7 +25,7 @@ use std::marker::Model;
 #[derive(Drop)]
 pub struct Ties {
     // Papers and their authors, in the order in which they were told: a paper's stand together, the
-    // submitter first, so the place of an author among them needn't be kept.
+    // submitter first, so the index of an author among them needn't be kept.
     authors: Vec<Tie<()>>,
     // The same, by user.
     authored: PairMap<()>,
@@ -302,7 +302,7 @@ impl Ties {
     /// One more entry, for which there is room; takes no memory. The paper that it adds comes behind
     /// all that have authors, and a co-author's is the last of these, of which she is no author yet. A
     /// submission, a co-author or a bid costs one binary search, a conflict four at most, and each a
-    /// move of the ties behind the place, of 4 to 6 bytes.
+    /// move of the ties behind the index, of 4 to 6 bytes.
     pub fn apply(&mut self, stamped: &Stamped)
         requires room { 0 < self.old.room }
         requires fits { TiesFit self.old.ties stamped.now.entry }

@@ -17,8 +17,8 @@ use Rattle.cr_policy.specs.Judge.{judge}
 use Rattle.cr_policy.specs.Legal.{Call, Legal, followed_by, step}
 use Rattle.cr_policy.specs.View.{view}
 use Rattle.cr_drill.specs.declared.dice.Roll.{Roll}
-use Rattle.cr_drill.specs.declared.drill_commands.Action.{Action}
-use Rattle.cr_drill.specs.Cast.{action_in, actor_of, cast_name, command_of}
+use Rattle.cr_drill.specs.declared.drill_commands.Operation.{Operation}
+use Rattle.cr_drill.specs.Cast.{operation_in, actor_of, cast_name, command_of}
 use Rattle.cr_drill.specs.Dice.{after_roll, roll_of}
 use Rattle.cr_drill.specs.Drill.{Drilled, call_at, call_by, call_of_nobody, drilled_for, is_accepted, members_named, moved_to, named, phase_at, registered_first}
 use Rattle.cr_drill.specs.Drill.{stepped, stepped_in}
@@ -97,9 +97,9 @@ unfolding stepped
 stepped-in steps s phase d is = ap (λ (p : Phase). stepped_in p s d) is
 
 -- by what was moved to, drawn, made up and asked
-pub step-taken : (phase : Phase) (s : ℕ) (d : Drilled) (G G' : History) (papers seed actor : ℕ) (roll : Roll) (action : Action) (command : Command) (accepted : Bool)
+pub step-taken : (phase : Phase) (s : ℕ) (d : Drilled) (G G' : History) (papers seed actor : ℕ) (roll : Roll) (operation : Operation) (command : Command) (accepted : Bool)
     → G ≡ moved_to phase d.history → papers ≡ length (papers_of G) → roll ≡ roll_of papers d.seed → seed ≡ after_roll d.seed
-    → action ≡ action_in phase roll.action → command ≡ command_of action s roll → actor ≡ actor_of action roll.user
+    → operation ≡ operation_in phase roll.operation → command ≡ command_of operation s roll → actor ≡ actor_of operation roll.user
     → G' ≡ step G (call_by actor command) → accepted ≡ is_accepted G (call_by actor command)
     → ◌≡◌ {A = Drilled} (record {
       seed = seed;
@@ -107,13 +107,13 @@ pub step-taken : (phase : Phase) (s : ℕ) (d : Drilled) (G G' : History) (paper
       accepted = d.accepted + (if accepted then 1 else 0);
       refused = d.refused + (if accepted then 0 else 1);
     }) (stepped_in phase s d)
-step-taken phase s d G G' papers seed actor roll action command accepted moved count rolled left acts made by stepped answered =
+step-taken phase s d G G' papers seed actor roll operation command accepted moved count rolled left acts made by stepped answered =
     let M : History = moved_to phase d.history in
     let R : Roll = roll_of (length (papers_of M)) d.seed in
     let roll_is : roll ≡ R = rolled ∙ ap (λ (n : ℕ). roll_of n d.seed) (count ∙ ap (λ (H : History). length (papers_of H)) moved) in
-    let action_is : action ≡ action_in phase R.action = acts ∙ ap (λ (r : Roll). action_in phase r.action) roll_is in
-    let actor_is : actor ≡ actor_of (action_in phase R.action) R.user = by ∙ (λ i. actor_of (action_is i) (roll_is i).user) in
-    let command_is : command ≡ command_of (action_in phase R.action) s R = made ∙ (λ i. command_of (action_is i) s (roll_is i)) in
+    let operation_is : operation ≡ operation_in phase R.operation = acts ∙ ap (λ (r : Roll). operation_in phase r.operation) roll_is in
+    let actor_is : actor ≡ actor_of (operation_in phase R.operation) R.user = by ∙ (λ i. actor_of (operation_is i) (roll_is i).user) in
+    let command_is : command ≡ command_of (operation_in phase R.operation) s R = made ∙ (λ i. command_of (operation_is i) s (roll_is i)) in
     let call_is : call_by actor command ≡ call_at phase s M d.seed = (λ i. call_by (actor_is i) (command_is i)) in
     let history_is : G' ≡ step M (call_at phase s M d.seed) = stepped ∙ (λ i. step (moved i) (call_is i)) in
     let accepted_is : accepted ≡ is_accepted M (call_at phase s M d.seed) = answered ∙ (λ i. is_accepted (moved i) (call_is i)) in

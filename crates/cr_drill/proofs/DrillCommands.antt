@@ -9,8 +9,8 @@ use Rattle.cr_base.specs.Bounds.{IsBoundedCommand}
 use Rattle.cr_base.specs.Texts.{IsTitle, is_title_byte}
 use Rattle.cr_policy.proofs.WitnessLaws.{ascii-utf8}
 use Rattle.cr_drill.specs.declared.dice.Roll.{Roll}
-use Rattle.cr_drill.specs.declared.drill_commands.Action.{Action}
-use Rattle.cr_drill.specs.declared.drill_commands.Action.TheVariants as actions
+use Rattle.cr_drill.specs.declared.drill_commands.Operation.{Operation}
+use Rattle.cr_drill.specs.declared.drill_commands.Operation.TheVariants as operations
 use Rattle.cr_drill.specs.Cast.{command_of, step_title}
 
 -- ---- titles
@@ -59,20 +59,20 @@ title s few =
 
 -- ---- commands
 
-pub bounded : (action : Action) (s : ℕ) (roll : Roll) → s < 100000 → roll.other ≤ 8 → IsBoundedCommand (command_of action s roll)
-bounded actions.Declare s roll few other = tt
-bounded actions.Clear s roll few other = tt
-bounded actions.Upload s roll few other = omega arith
-bounded actions.Submit s roll few other = (title s few, record { few = omega arith; utf8 = ascii-utf8 [] refl }, omega arith)
-bounded actions.Bid s roll few other = omega (arith, other)
-bounded actions.Tag s roll few other = refl
-bounded actions.Assign s roll few other = tt
-bounded actions.Unassign s roll few other = tt
-bounded actions.Review s roll few other = record {
+pub bounded : (operation : Operation) (s : ℕ) (roll : Roll) → s < 100000 → roll.other ≤ 8 → IsBoundedCommand (command_of operation s roll)
+bounded operations.Declare s roll few other = tt
+bounded operations.Clear s roll few other = tt
+bounded operations.Upload s roll few other = omega arith
+bounded operations.Submit s roll few other = (title s few, record { few = omega arith; utf8 = ascii-utf8 [] refl }, omega arith)
+bounded operations.Bid s roll few other = omega (arith, other)
+bounded operations.Tag s roll few other = refl
+bounded operations.Assign s roll few other = tt
+bounded operations.Unassign s roll few other = tt
+bounded operations.Review s roll few other = record {
   score = (omega arith, omega arith);
   confidence = (omega arith, omega arith);
   to_authors = record { few = omega arith; utf8 = ascii-utf8 (codes "a") refl };
   to_pc = record { few = omega arith; utf8 = ascii-utf8 (codes "b") refl };
 }
-bounded actions.Comment s roll few other = record { some = omega arith; few = omega arith; utf8 = ascii-utf8 (codes "c") refl }
-bounded actions.Decide s roll few other = tt
+bounded operations.Comment s roll few other = record { some = omega arith; few = omega arith; utf8 = ascii-utf8 (codes "c") refl }
+bounded operations.Decide s roll few other = tt

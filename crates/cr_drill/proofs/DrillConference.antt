@@ -10,7 +10,7 @@ use Rattle.cr_base.specs.History.{History}
 use Rattle.cr_base.specs.HistoryFacts.{papers_of, phase_of}
 use Rattle.cr_base.specs.Tables.{Tables, tables_of}
 use Rattle.cr_base.proofs.ListLaws.{length-numbers_from}
-use Rattle.cr_history.proofs.SizeTies.{sized-tables}
+use Rattle.cr_history.proofs.SizeAgreement.{sized-tables}
 use Rattle.cr_policy.specs.Judge.{answer}
 use Rattle.cr_policy.specs.Legal.{Legal}
 use Rattle.cr_policy.specs.View.{view}

@@ -10,8 +10,8 @@ use Rattle.cr_base.specs.declared.words.Kind.TheVariants as seats
 use Rattle.cr_base.specs.declared.words.Phase.{Phase}
 use Rattle.cr_base.specs.declared.words.Phase.TheVariants as phases
 use Rattle.cr_drill.specs.declared.dice.Roll.{Roll}
-use Rattle.cr_drill.specs.declared.drill_commands.Action.{Action}
-use Rattle.cr_drill.specs.declared.drill_commands.Action.TheVariants as actions
+use Rattle.cr_drill.specs.declared.drill_commands.Operation.{Operation}
+use Rattle.cr_drill.specs.declared.drill_commands.Operation.TheVariants as operations
 
 -- ---- users
 
@@ -42,24 +42,24 @@ cast_name user = 117 ∷ (48 + user) ∷ []
 unfoldable pub cast_digest : ℕ → List ℕ
 cast_digest user = sha256 (cast_name user ++ codes "-secret-000001")
 
--- ---- actions
+-- ---- operations
 
 -- the four from which a step in a phase draws
 abbrev pub one_of_four : {A : Type 0} → A → A → A → A → ℕ → A
 one_of_four a b c d n = if n == 0 then a else (if n == 1 then b else (if n == 2 then c else d))
 
-abbrev pub action_in : Phase → ℕ → Action
-action_in phases.Submission = one_of_four actions.Declare actions.Upload actions.Submit actions.Submit
-action_in phases.Bidding = one_of_four actions.Bid actions.Tag actions.Assign actions.Assign
-action_in phases.Reviewing = one_of_four actions.Assign actions.Unassign actions.Review actions.Review
-action_in _ = one_of_four actions.Comment actions.Review actions.Decide actions.Clear
+abbrev pub operation_in : Phase → ℕ → Operation
+operation_in phases.Submission = one_of_four operations.Declare operations.Upload operations.Submit operations.Submit
+operation_in phases.Bidding = one_of_four operations.Bid operations.Tag operations.Assign operations.Assign
+operation_in phases.Reviewing = one_of_four operations.Assign operations.Unassign operations.Review operations.Review
+operation_in _ = one_of_four operations.Comment operations.Review operations.Decide operations.Clear
 
 -- chairs assign, decide and clear; all else does the user drawn
-abbrev pub is_chairs : Action → Bool
-is_chairs actions.Assign = true
-is_chairs actions.Unassign = true
-is_chairs actions.Decide = true
-is_chairs actions.Clear = true
+abbrev pub is_chairs : Operation → Bool
+is_chairs operations.Assign = true
+is_chairs operations.Unassign = true
+is_chairs operations.Decide = true
+is_chairs operations.Clear = true
 is_chairs _ = false
 
 abbrev pub is_even : ℕ → Bool
@@ -69,8 +69,8 @@ is_even n = n % 2 == 0
 abbrev pub chair_for : ℕ → ℕ
 chair_for user = if is_even user then first_chair else second_chair
 
-abbrev pub actor_of : Action → ℕ → ℕ
-actor_of action user = if is_chairs action then chair_for user else user
+abbrev pub actor_of : Operation → ℕ → ℕ
+actor_of operation user = if is_chairs operation then chair_for user else user
 
 -- ---- commands
 
@@ -88,16 +88,16 @@ decision_of n = if is_even n then Accept else Reject
 abbrev pub form_of : ℕ → Form
 form_of n = record { score = 1 + n % 5; confidence = 3; to_authors = codes "a"; to_pc = codes "b" }
 
--- the command of an action, by the number of its step and what was drawn; a bid is kept plus 20
-abbrev pub command_of : Action → ℕ → Roll → Command
-command_of actions.Declare step roll = commands.SetConflict (Some roll.paper) (Some (cast_name roll.other)) true
-command_of actions.Clear step roll = commands.SetConflict (Some roll.paper) (Some (cast_name roll.other)) false
-command_of actions.Upload step roll = commands.Upload (Some roll.paper) (codes "x")
-command_of actions.Submit step roll = submission_at step
-command_of actions.Bid step roll = commands.Bid (Some roll.paper) (16 + roll.other)
-command_of actions.Tag step roll = commands.Tag (Some roll.paper) (codes "hot") true
-command_of actions.Assign step roll = commands.Assign (Some roll.paper) (Some (cast_name roll.other)) seats.Pc
-command_of actions.Unassign step roll = commands.Unassign (Some roll.paper) (Some (cast_name roll.other))
-command_of actions.Review step roll = commands.Review (Some roll.paper) (form_of roll.other)
-command_of actions.Comment step roll = commands.Comment (Some roll.paper) (codes "c")
-command_of actions.Decide step roll = commands.Decide (Some roll.paper) (decision_of roll.other)
+-- the command of an operation, by the number of its step and what was drawn; a bid is kept plus 20
+abbrev pub command_of : Operation → ℕ → Roll → Command
+command_of operations.Declare step roll = commands.SetConflict (Some roll.paper) (Some (cast_name roll.other)) true
+command_of operations.Clear step roll = commands.SetConflict (Some roll.paper) (Some (cast_name roll.other)) false
+command_of operations.Upload step roll = commands.Upload (Some roll.paper) (codes "x")
+command_of operations.Submit step roll = submission_at step
+command_of operations.Bid step roll = commands.Bid (Some roll.paper) (16 + roll.other)
+command_of operations.Tag step roll = commands.Tag (Some roll.paper) (codes "hot") true
+command_of operations.Assign step roll = commands.Assign (Some roll.paper) (Some (cast_name roll.other)) seats.Pc
+command_of operations.Unassign step roll = commands.Unassign (Some roll.paper) (Some (cast_name roll.other))
+command_of operations.Review step roll = commands.Review (Some roll.paper) (form_of roll.other)
+command_of operations.Comment step roll = commands.Comment (Some roll.paper) (codes "c")
+command_of operations.Decide step roll = commands.Decide (Some roll.paper) (decision_of roll.other)

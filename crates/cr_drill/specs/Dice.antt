@@ -10,14 +10,14 @@ turned x = (1103515245 * x + 12345) % 2147483648
 unfoldable pub drawn : ℕ → ℕ
 drawn x = x / 65536
 
--- A step draws four numbers: a user, an action, a paper and another user. There are so many papers; where there is none, paper 1
+-- A step draws four numbers: a user, an operation, a paper and another user. There are so many papers; where there is none, paper 1
 -- is drawn.
 unfoldable pub roll_of : ℕ → ℕ → Roll
 roll_of papers x =
     let a = turned x in let b = turned a in let c = turned b in let d = turned c in
     record {
       user = 1 + drawn a % 8;
-      action = drawn b % 4;
+      operation = drawn b % 4;
       paper = 1 + drawn c % max 1 papers;
       other = 1 + drawn d % 8;
     }

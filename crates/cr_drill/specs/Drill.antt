@@ -19,7 +19,7 @@ use Rattle.cr_policy.specs.Judge.{judge}
 use Rattle.cr_policy.specs.Legal.{Call, step}
 use Rattle.cr_policy.specs.View.{view}
 use Rattle.cr_drill.specs.Cast.{cast, cast_size, first_chair, second_chair, first_member, member_count, cast_name, cast_digest}
-use Rattle.cr_drill.specs.Cast.{action_in, actor_of, command_of}
+use Rattle.cr_drill.specs.Cast.{operation_in, actor_of, command_of}
 use Rattle.cr_drill.specs.Dice.{roll_of, after_roll}
 
 -- ---- calls
@@ -98,8 +98,8 @@ phase_at steps s = phase_in_quarter (4 * s / steps)
 abbrev pub call_at : Phase → ℕ → History → ℕ → Call
 call_at phase s H seed =
     let roll = roll_of (length (papers_of H)) seed in
-    let action = action_in phase roll.action in
-    call_by (actor_of action roll.user) (command_of action s roll)
+    let operation = operation_in phase roll.operation in
+    call_by (actor_of operation roll.user) (command_of operation s roll)
 
 abbrev pub asked : Drilled → Call → Drilled
 asked d call = record {

@@ -28,8 +28,8 @@ pub struct Dice {
 pub struct Roll {
     /// Who acts, unless a chair does in her place: one of the eight.
     pub user: UserNo,
-    /// Which of the four actions of the phase, from 0 to 3.
-    pub action: u64,
+    /// Which of the four operations of the phase, from 0 to 3.
+    pub operation: u64,
     /// On which paper; 1 where there is none.
     pub paper: PaperNo,
     /// Whom it is about, and what number it tells: one of the eight.
@@ -60,12 +60,12 @@ impl Dice {
         ensures among { (1 ≤ result.user) × (result.user ≤ 8) × (1 ≤ result.other) × (result.other ≤ 8) }
     {
         let user = 1 + self.draw() % 8;
-        let action = self.draw() % 4;
+        let operation = self.draw() % 4;
         let paper = 1 + self.draw() % papers.max(1);
         let other = 1 + self.draw() % 8;
         Roll {
             user: UserNo::new(user),
-            action,
+            operation,
             paper: PaperNo::new(paper),
             other: UserNo::new(other),
         }

@@ -1,6 +1,6 @@
 //! Who takes part in a drill, and the commands that its steps make up.
 ghost use Rattle.std.specs.Prelude.{◌≡◌, ◌≤◌, ◌+◌, IfOk, codes};
-ghost use Rattle.cr_drill.specs.Cast.{action_in, actor_of, cast_digest, cast_name, chair_for, command_of, decision_of, first_chair, form_of, is_chairs, is_even};
+ghost use Rattle.cr_drill.specs.Cast.{operation_in, actor_of, cast_digest, cast_name, chair_for, command_of, decision_of, first_chair, form_of, is_chairs, is_even};
 ghost use Rattle.cr_drill.specs.Cast.{second_chair, step_title, submission_at};
 
 use crate::dice::Roll;
@@ -13,7 +13,7 @@ use std::alloc::{AllocError, Global};
 
 /// What a step may do.
 #[derive(Clone, Copy, Debug, PartialEq, Eq)]
-pub enum Action {
+pub enum Operation {
     /// The user drawn tells that somebody is in conflict with the paper.
     Declare,
     /// A chair tells that somebody isn't any longer.
@@ -57,40 +57,40 @@ pub(crate) fn cast_digest(user: UserNo) -> cr_base::Digest
     Sha256::digest(secret.as_slice())
 }
 
-/// The action of a number from 0 to 3 in a phase.
-pub(crate) fn action_in(phase: Phase, number: u64) -> Action
-    ensures { result ≡ action_in phase number }
+/// The operation of a number from 0 to 3 in a phase.
+pub(crate) fn operation_in(phase: Phase, number: u64) -> Operation
+    ensures { result ≡ operation_in phase number }
 {
     match (phase, number) {
-        (Phase::Submission, 0) => Action::Declare,
-        (Phase::Submission, 1) => Action::Upload,
-        (Phase::Submission, _) => Action::Submit,
-        (Phase::Bidding, 0) => Action::Bid,
-        (Phase::Bidding, 1) => Action::Tag,
-        (Phase::Bidding, _) | (Phase::Reviewing, 0) => Action::Assign,
-        (Phase::Reviewing, 1) => Action::Unassign,
-        (Phase::Reviewing, _) => Action::Review,
-        (_, 0) => Action::Comment,
-        (_, 1) => Action::Review,
-        (_, 2) => Action::Decide,
-        _ => Action::Clear,
+        (Phase::Submission, 0) => Operation::Declare,
+        (Phase::Submission, 1) => Operation::Upload,
+        (Phase::Submission, _) => Operation::Submit,
+        (Phase::Bidding, 0) => Operation::Bid,
+        (Phase::Bidding, 1) => Operation::Tag,
+        (Phase::Bidding, _) | (Phase::Reviewing, 0) => Operation::Assign,
+        (Phase::Reviewing, 1) => Operation::Unassign,
+        (Phase::Reviewing, _) => Operation::Review,
+        (_, 0) => Operation::Comment,
+        (_, 1) => Operation::Review,
+        (_, 2) => Operation::Decide,
+        _ => Operation::Clear,
     }
 }
 
-impl Action {
+impl Operation {
     /// Whether a chair does it in place of the user drawn.
     fn is_chairs(self) -> bool
         ensures { result ≡ is_chairs self }
     {
         match self {
-            Action::Assign | Action::Unassign | Action::Decide | Action::Clear => true,
-            Action::Declare
-            | Action::Upload
-            | Action::Submit
-            | Action::Bid
-            | Action::Tag
-            | Action::Review
-            | Action::Comment => false,
+            Operation::Assign | Operation::Unassign | Operation::Decide | Operation::Clear => true,
+            Operation::Declare
+            | Operation::Upload
+            | Operation::Submit
+            | Operation::Bid
+            | Operation::Tag
+            | Operation::Review
+            | Operation::Comment => false,
         }
     }
 }
@@ -127,11 +127,11 @@ fn chair_for(user: UserNo) -> UserNo
     }
 }
 
-/// Who takes an action where this user is drawn: one of the eight.
-pub(crate) fn actor_of(action: Action, user: UserNo) -> UserNo
-    ensures { result ≡ actor_of action user }
+/// Who takes an operation where this user is drawn: one of the eight.
+pub(crate) fn actor_of(operation: Operation, user: UserNo) -> UserNo
+    ensures { result ≡ actor_of operation user }
 {
-    if action.is_chairs() {
+    if operation.is_chairs() {
         chair_for(user)
     } else {
         user
@@ -208,58 +208,58 @@ fn hot() -> Tag
     }
 }
 
-/// The command of an action, by the number of its step and what was drawn; an error only for lack of memory.
+/// The command of an operation, by the number of its step and what was drawn; an error only for lack of memory.
 pub(crate) fn command_of(
     alloc: Global,
-    action: Action,
+    operation: Operation,
     step: u64,
     roll: &Roll,
 ) -> Result<Command, AllocError>
     requires { roll.now.other ≤ 8 }
-    ensures { IfOk result (λ command. command ≡ command_of action step roll.now) }
+    ensures { IfOk result (λ command. command ≡ command_of operation step roll.now) }
 {
     let paper = Some(roll.paper);
     let user = Some(cast_name(roll.other));
-    match action {
-        Action::Declare => Ok(Command::SetConflict {
+    match operation {
+        Operation::Declare => Ok(Command::SetConflict {
             paper,
             user,
             on: true,
         }),
-        Action::Clear => Ok(Command::SetConflict {
+        Operation::Clear => Ok(Command::SetConflict {
             paper,
             user,
             on: false,
         }),
-        Action::Upload => {
+        Operation::Upload => {
             let content = Blob::from_slice(alloc, b"x")?;
             Ok(Command::Upload { paper, content })
         }
-        Action::Submit => submission_at(alloc, step),
-        Action::Bid => Ok(Command::Bid {
+        Operation::Submit => submission_at(alloc, step),
+        Operation::Bid => Ok(Command::Bid {
             paper,
             value: bid_of(roll.other),
         }),
-        Action::Tag => Ok(Command::Tag {
+        Operation::Tag => Ok(Command::Tag {
             paper,
             tag: hot(),
             on: true,
         }),
-        Action::Assign => Ok(Command::Assign {
+        Operation::Assign => Ok(Command::Assign {
             paper,
             user,
             kind: Kind::Pc,
         }),
-        Action::Unassign => Ok(Command::Unassign { paper, user }),
-        Action::Review => {
+        Operation::Unassign => Ok(Command::Unassign { paper, user }),
+        Operation::Review => {
             let form = form_of(alloc, roll.other)?;
             Ok(Command::Review { paper, form })
         }
-        Action::Comment => {
+        Operation::Comment => {
             let text = Text::from_str(alloc, "c")?;
             Ok(Command::Comment { paper, text })
         }
-        Action::Decide => Ok(Command::Decide {
+        Operation::Decide => Ok(Command::Decide {
             paper,
             decision: decision_of(roll.other),
         }),

@@ -13,7 +13,9 @@ ghost use Rattle.cr_drill.specs.Drill.{phase_at, phase_in_quarter, stepped_in, s
 ghost use Rattle.cr_drill.specs.Drilling.{GoesOn, HasCast, drilled_of};
 
 use crate::dice::Dice;
-use crate::drill_commands::{action_in, actor_of, cast_digest, cast_name, command_of, first_chair};
+use crate::drill_commands::{
+    actor_of, cast_digest, cast_name, command_of, first_chair, operation_in,
+};
 use crate::drill_summary::summary;
 use cr_base::{Command, Conference, Phase, Query, Reply, Role, UserNo};
 use cr_book::{Book, BookError, empty_book};
@@ -269,9 +271,9 @@ fn take_step(
 {
     move_to(book, phase)?;
     let roll = progress.dice.roll(conference(book).papers);
-    let action = action_in(phase, roll.action);
-    let command = command_of(alloc, action, step, &roll)?;
-    let is_accepted = ask_as(book, actor_of(action, roll.user), command)?;
+    let operation = operation_in(phase, roll.operation);
+    let command = command_of(alloc, operation, step, &roll)?;
+    let is_accepted = ask_as(book, actor_of(operation, roll.user), command)?;
     progress.count(is_accepted);
     Ok(())
 }

@@ -25,29 +25,29 @@ use Rattle.cr_base.specs.declared.words.Kind.TheVariants as kind
 use Rattle.cr_base.specs.declared.words.Role.TheVariants as role
 use Rattle.cr_base.specs.Accounts.{lines_from}
 use Rattle.cr_base.specs.Drawn.{grouped, submission}
-use Rattle.cr_base.specs.HistoryFacts.{role_of, accounts_of, seat_of}
+use Rattle.cr_base.specs.HistoryFacts.{role_of, accounts_of, ordinal_of}
 use Rattle.cr_base.specs.History.{History, Registration, all_told, registration_told}
 use Rattle.cr_base.specs.Lists.{numbers_from}
 use Rattle.cr_base.specs.Papers.{IsPaper}
 use Rattle.cr_base.specs.Reviews.{forms_in, written_told}
 use Rattle.cr_base.specs.Rows.{label_number, IsBoundedEntry}
-use Rattle.cr_base.specs.Shapes.{InRange, user_range, paper_range, role_range, seat_range, decision_range, ordinal_range, some_ordinal_range, unused}
+use Rattle.cr_base.specs.Shapes.{InRange, user_range, paper_range, role_range, review_kind_range, decision_range, ordinal_range, some_ordinal_range, unused}
 use Rattle.cr_base.specs.Tables.{no_tables, tables_of, Fits, FitInTurn}
 use Rattle.cr_base.specs.Talk.{comments_in, comment_as_told}
-use Rattle.cr_base.specs.Words.{phase_number, mode_number, role_number, seat_number, decision_number}
+use Rattle.cr_base.specs.Words.{phase_number, mode_number, role_number, review_kind_number, decision_number}
 use Rattle.cr_base.proofs.AccountLaws.{length-lines_of}
 use Rattle.cr_base.proofs.ListLaws.{length-numbers_from, list_any-numbers_from}
 use Rattle.cr_history.specs.Groups.{IsRuled, Adds, single, submitted, first_user, Grows, adds, goes_on}
 use Rattle.cr_history.specs.Invariants.{IsRegistered, IsMadeByUser, HasNextNumber, HasNewName, IsAboutThose, IsSubmitted, InTurn}
 use Rattle.cr_history.proofs.CallerLaws.{registered-from}
-use Rattle.cr_history.proofs.SizeTies.{IsSized, sized-tables}
-use Rattle.cr_history.proofs.LineTies.{stamp, accounts_of-tables}
-use Rattle.cr_history.proofs.NumberTies.{number_of-tables}
-use Rattle.cr_history.proofs.PaperTies.{papers_of-tables, uploads_of-tables}
-use Rattle.cr_history.proofs.ReviewTies.{forms_of-tables}
-use Rattle.cr_history.proofs.SeatTies.{labels-tables, seat_of-tables, seat-drawn}
+use Rattle.cr_history.proofs.SizeAgreement.{IsSized, sized-tables}
+use Rattle.cr_history.proofs.LineAgreement.{stamp, accounts_of-tables}
+use Rattle.cr_history.proofs.NumberAgreement.{number_of-tables}
+use Rattle.cr_history.proofs.PaperAgreement.{papers_of-tables, uploads_of-tables}
+use Rattle.cr_history.proofs.ReviewAgreement.{forms_of-tables}
+use Rattle.cr_history.proofs.SeatAgreement.{labels-tables, ordinal_of-tables, seat-drawn}
 use Rattle.cr_history.proofs.SubmissionLaws.{submission-in_turn}
-use Rattle.cr_history.proofs.TalkTies.{comments_of-tables}
+use Rattle.cr_history.proofs.TalkAgreement.{comments_of-tables}
 
 -- ---- numbers, names, and what is named
 
@@ -141,10 +141,10 @@ mode_number-few Overt = omega arith
 mode_number-few Blind = omega arith
 mode_number-few Anonymous = omega arith
 
-seat_number-few : (kind : Kind) → InRange seat_range (seat_number kind)
-seat_number-few kind.Primary = (omega arith, omega arith)
-seat_number-few kind.Secondary = (omega arith, omega arith)
-seat_number-few kind.Pc = (omega arith, omega arith)
+review_kind_number-few : (kind : Kind) → InRange review_kind_range (review_kind_number kind)
+review_kind_number-few kind.Primary = (omega arith, omega arith)
+review_kind_number-few kind.Secondary = (omega arith, omega arith)
+review_kind_number-few kind.Pc = (omega arith, omega arith)
 
 decision_number-few : (decision : Decision) → InRange decision_range (decision_number decision)
 decision_number-few Accept = (omega arith, omega arith)
@@ -183,8 +183,8 @@ module _ (H : History) (fits : FitInTurn no_tables H) where
   paper_numbered paper there = let high = there.1 in let few = sized.papers in (there.0, omega (arith, high, few))
 
   -- the ordinal under which a user reviews a paper, too
-  label_drawn : (user paper ordinal : ℕ) → seat_of (Some user) paper H ≡ Some ordinal → InRange ordinal_range ordinal
-  label_drawn user paper ordinal is = seat-drawn H fits user paper ordinal (sym (seat_of-tables (Some user) paper H fits) ∙ is)
+  label_drawn : (user paper ordinal : ℕ) → ordinal_of (Some user) paper H ≡ Some ordinal → InRange ordinal_range ordinal
+  label_drawn user paper ordinal is = seat-drawn H fits user paper ordinal (sym (ordinal_of-tables (Some user) paper H fits) ∙ is)
 
   bounded-coauthor : (maker : ℕ) (more : Bool) (paper user : ℕ) → IsRegistered H maker → Fits (tables_of H) (stamp maker more (Coauthor paper user))
       → IsBoundedEntry (stamp maker more (Coauthor paper user))
@@ -217,7 +217,7 @@ module _ (H : History) (fits : FitInTurn no_tables H) where
       record { maker = numbered maker made; more = bit_few more; n1 = paper_numbered paper fit.papers; n2 = (omega arith, ruled.texts); n3 = zero_in; n4 = zero_in; n5 = zero_in; b1 = refl; b2 = refl }
   bounded-entry maker more (Assigned paper user kind' ordinal) made ruled fit =
       let next = fit.seats.0 in
-      record { maker = numbered maker made; more = bit_few more; n1 = paper_numbered paper fit.papers; n2 = account_numbered user fit.accounts; n3 = seat_number-few kind'; n4 = (omega (arith, next), fit.seats.1); n5 = zero_in; b1 = refl; b2 = refl }
+      record { maker = numbered maker made; more = bit_few more; n1 = paper_numbered paper fit.papers; n2 = account_numbered user fit.accounts; n3 = review_kind_number-few kind'; n4 = (omega (arith, next), fit.seats.1); n5 = zero_in; b1 = refl; b2 = refl }
   bounded-entry maker more (Unassigned paper user ordinal) made ruled fit =
       let drawn = seat-drawn H fits user paper ordinal fit.seats in
       record { maker = numbered maker made; more = bit_few more; n1 = paper_numbered paper fit.papers; n2 = account_numbered user fit.accounts; n3 = drawn; n4 = zero_in; n5 = zero_in; b1 = refl; b2 = refl }

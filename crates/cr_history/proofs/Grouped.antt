@@ -8,7 +8,7 @@ use Rattle.cr_base.specs.declared.entry.Stamped.{Stamped}
 use Rattle.cr_base.specs.Drawn.{grouped, besides, submission}
 use Rattle.cr_history.specs.Invariants.{IsWhole}
 use Rattle.cr_history.proofs.Folds.{each-silent}
-use Rattle.cr_history.proofs.LineTies.{stamp}
+use Rattle.cr_history.proofs.LineAgreement.{stamp}
 
 -- what is so of each entry, with its maker and whatever mark, is so of each in the group
 pub grouped-each : (maker : ℕ) (P : Stamped → Type 0) → (es : List Entry) → AllByRecursion (λ (e : Entry). (more : Bool) → P (stamp maker more e)) es → AllByRecursion P (grouped maker es)

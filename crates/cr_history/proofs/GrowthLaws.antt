@@ -6,21 +6,21 @@ use Rattle.cr_base.specs.Rows.{IsBoundedEntry}
 use Rattle.cr_base.specs.Tables.{no_tables}
 use Rattle.cr_base.proofs.RowLaws.{stamped-row_of}
 use Rattle.cr_history.specs.Laws.{TablesTell, GrowthKeeps}
-use Rattle.cr_history.proofs.BidTies.{bid_of-tables}
-use Rattle.cr_history.proofs.ConflictTies.{is_conflict_on-tables, declared_by_authors-tables}
-use Rattle.cr_history.proofs.DecisionTies.{decision_of-tables, is_accepted-tables}
+use Rattle.cr_history.proofs.BidAgreement.{bid_of-tables}
+use Rattle.cr_history.proofs.ConflictAgreement.{is_conflict_on-tables, declared_by_authors-tables}
+use Rattle.cr_history.proofs.DecisionAgreement.{decision_of-tables, is_accepted-tables}
 use Rattle.cr_history.proofs.GroupLaws.{grown-bounded}
 use Rattle.cr_history.proofs.InOrder.{in_order-append, whole-added}
 use Rattle.cr_history.proofs.InTime.{in_time-nil, in_time-append, discussed-append}
-use Rattle.cr_history.proofs.LineTies.{accounts_of-tables}
-use Rattle.cr_history.proofs.NumberTies.{number_of-tables, caller_of-tables}
-use Rattle.cr_history.proofs.PaperTies.{papers_of-tables, own_papers_of-tables, own_bytes_of-tables, title_of-tables, abstract_of-tables, uploads_of-tables, is_withdrawn-tables, authors_of-tables}
-use Rattle.cr_history.proofs.ReviewTies.{forms_of-tables}
-use Rattle.cr_history.proofs.SeatTies.{seat_of-tables, seats_of-tables, labels-tables, reviewers_of-tables}
+use Rattle.cr_history.proofs.LineAgreement.{accounts_of-tables}
+use Rattle.cr_history.proofs.NumberAgreement.{number_of-tables, caller_of-tables}
+use Rattle.cr_history.proofs.PaperAgreement.{papers_of-tables, own_papers_of-tables, own_bytes_of-tables, title_of-tables, abstract_of-tables, uploads_of-tables, is_withdrawn-tables, authors_of-tables}
+use Rattle.cr_history.proofs.ReviewAgreement.{forms_of-tables}
+use Rattle.cr_history.proofs.SeatAgreement.{ordinal_of-tables, seats_of-tables, labels-tables, reviewers_of-tables}
 use Rattle.cr_history.proofs.Staying.{stay-append}
-use Rattle.cr_history.proofs.TagTies.{tags_of-tables}
-use Rattle.cr_history.proofs.TalkTies.{comments_of-tables, own_comments_of-tables}
-use Rattle.cr_history.proofs.TableTies.{FitInTurn-append, standing_of-tables}
+use Rattle.cr_history.proofs.TagAgreement.{tags_of-tables}
+use Rattle.cr_history.proofs.TalkAgreement.{comments_of-tables, own_comments_of-tables}
+use Rattle.cr_history.proofs.TableAgreement.{FitInTurn-append, standing_of-tables}
 
 pub tables_tell : TablesTell
 tables_tell H fits first = record {
@@ -39,7 +39,7 @@ tables_tell H fits first = record {
   conflict = λ u p. is_conflict_on-tables u p H;
   declared = λ p v. declared_by_authors-tables p v H fits first;
   bid = λ u p. bid_of-tables u p H;
-  seat = λ u p. seat_of-tables u p H fits;
+  ordinal = λ u p. ordinal_of-tables u p H fits;
   labels = λ p. labels-tables p H;
   seats = λ p. seats_of-tables p H;
   reviewers = λ p. reviewers_of-tables p H fits;

@@ -13,9 +13,9 @@ use Rattle.cr_base.specs.Bulk.{IsRowEntry}
 use Rattle.cr_history.specs.Invariants.{IsMadeByUser, IsMarked, ComesFirst, IsInOrder, InTurn, IsWhole}
 use Rattle.cr_history.proofs.GroupLaws.{accounts-counted, fits-number, fits-name, fits-about}
 use Rattle.cr_history.specs.Groups.{IsRuled, StandsAlone, Adds, single, submitted, first_user, Grows, adds, goes_on}
-use Rattle.cr_history.proofs.ConflictTies.{TellFirst}
+use Rattle.cr_history.proofs.ConflictAgreement.{TellFirst}
 use Rattle.cr_history.proofs.Grouped.{grouped-whole}
-use Rattle.cr_history.proofs.LineTies.{stamp}
+use Rattle.cr_history.proofs.LineAgreement.{stamp}
 use Rattle.cr_history.proofs.SubmissionLaws.{IsSubmitting, submission-in_turn}
 
 -- ---- the first registration

@@ -14,14 +14,14 @@ use Rattle.cr_base.specs.declared.words.Phase.TheVariants.{Setup, Submission, Bi
 use Rattle.cr_base.specs.Lists.{last_or, is_number, until, since}
 use Rattle.cr_base.specs.History.{History, all_told, opens, phase_told, author_told}
 use Rattle.cr_base.specs.HistoryFacts.{phase_of, authors_of, is_author}
-use Rattle.cr_base.specs.Phases.{phase_place, is_from, is_phase}
+use Rattle.cr_base.specs.Phases.{phase_rank, is_from, is_phase}
 use Rattle.cr_base.specs.Drawn.{submission}
 use Rattle.cr_history.proofs.Folds.{last_or-append}
 use Rattle.cr_history.specs.Invariants.{is_opening, ByAuthor, ByHerselfOrOther, Early, Late, DeclaresInTime, IsDiscussedInTime, IsInPhase, IsByRight}
 use Rattle.cr_history.proofs.ListCuts.{AllByRecursion-append, AllByRecursion-map, AllByRecursion-until, until-none, since-none, until-append, since-append, until-before, since-before}
 use Rattle.cr_history.specs.Groups.{IsRuled, Adds, single, submitted, first_user, Grows, adds, goes_on}
 use Rattle.cr_history.proofs.Grouped.{grouped-each, submission-each, all-silent}
-use Rattle.cr_history.proofs.LineTies.{stamp}
+use Rattle.cr_history.proofs.LineAgreement.{stamp}
 
 -- ---- what the rules say of one group
 
@@ -50,11 +50,11 @@ added-allowed H g (first_user user name digest is texts) = (tt, (tt, tt))
 
 -- a group moves the phase on and does nothing else, or leaves the phase
 data Moves (H : History) : History → Type 0 where
-  moved : (maker : ℕ) (more : Bool) (to : Phase) → phase_place to ≡ phase_place (phase_of H) + 1 → Moves H (stamp maker more (PhaseSet to) ∷ [])
+  moved : (maker : ℕ) (more : Bool) (to : Phase) → phase_rank to ≡ phase_rank (phase_of H) + 1 → Moves H (stamp maker more (PhaseSet to) ∷ [])
   stayed : (g : History) → all_told phase_told g ≡ [] → Moves H g
 
 ruled-moves : (H : History) (maker : ℕ) (more : Bool) (e : Entry) → IsRuled H maker e → Moves H (stamp maker more e ∷ [])
-ruled-moves H maker more (PhaseSet to) ruled = moved maker more to (eqb-true (phase_place to) (phase_place (phase_of H) + 1) ruled.phase)
+ruled-moves H maker more (PhaseSet to) ruled = moved maker more to (eqb-true (phase_rank to) (phase_rank (phase_of H) + 1) ruled.phase)
 ruled-moves H maker more e ruled = stayed _ refl
 
 added-moves : (H g : History) → Adds H g → Moves H g
@@ -195,9 +195,9 @@ module _ (first : Phase) where
       by : (H g : History) → Moves H g → (opened : Bool) → is_from first (phase_of H) ≡ opened
           → (opened || list_any opens_first g) ≡ is_from first (phase_of (H ++ g))
       by H g (moved maker more to e) true h =
-          still_open (phase_place first) (phase_place (phase_of H)) (phase_place to) e h ∙ ap (is_from first) (sym (phase_moves H maker more to))
+          still_open (phase_rank first) (phase_rank (phase_of H)) (phase_rank to) e h ∙ ap (is_from first) (sym (phase_moves H maker more to))
       by H g (moved maker more to e) false h =
-          opens_now (phase_place first) (phase_place (phase_of H)) (phase_place to) e h ∙ ap (is_from first) (sym (phase_moves H maker more to))
+          opens_now (phase_rank first) (phase_rank (phase_of H)) (phase_rank to) e h ∙ ap (is_from first) (sym (phase_moves H maker more to))
       by H g (stayed k e) true h = sym (ap (is_from first) (phase_stays H g e) ∙ h)
       by H g (stayed k e) false h = no_opening g e ∙ sym (ap (is_from first) (phase_stays H g e) ∙ h)
 

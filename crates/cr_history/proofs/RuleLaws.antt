@@ -25,7 +25,7 @@ use Rattle.cr_base.specs.declared.words.Role.TheVariants.{Account, Chair}
 use Rattle.cr_base.specs.Lists.{at_some, is_number, listed}
 use Rattle.cr_base.specs.History.{History, Registration, all_told, registration_told}
 use Rattle.cr_base.specs.HistoryFacts.{phase_of, role_of, accounts_of, papers_of, own_papers_of, own_bytes_of}
-use Rattle.cr_base.specs.HistoryFacts.{is_author, is_conflicted, bid_of, seat_of, seats_of, is_written, own_forms_of, own_comments_of, is_accepted, standing_of}
+use Rattle.cr_base.specs.HistoryFacts.{is_author, is_conflicted, bid_of, ordinal_of, seats_of, is_written, own_forms_of, own_comments_of, is_accepted, standing_of}
 use Rattle.cr_base.specs.Page.{gets_conflicts}
 use Rattle.cr_base.specs.Phases.{is_from, is_phase, is_next}
 use Rattle.cr_base.specs.Words.{role_number, is_member, is_chair}
@@ -57,7 +57,7 @@ facts_of u H = record {
   own_papers = own_papers_of u H;
   own_bytes = own_bytes_of u H;
   own_bid = λ p. bid_of u p H;
-  own_seat = λ p. seat_of u p H;
+  own_ordinal = λ p. ordinal_of u p H;
   own_forms = λ p. own_forms_of u p H;
   own_comments = own_comments_of u H;
   accepted = λ p. is_accepted p H;
@@ -209,7 +209,7 @@ is_told_all H maker p = gets_conflicts (standing_of (Some maker) (Some p) H)
 pub record TellsSeats (H : History) (maker : ℕ) (shown : Shown) : Type 0 where
   pub conflicted : (p v : ℕ) → IsRegistered H v → is_told_all H maker p ≡ true
       → (list_any (is_number (Some v)) (shown.authors p) || list_any (is_number (Some v)) (shown.conflicts p)) ≡ is_conflicted (Some v) p H
-  pub seat : (p v : ℕ) → is_told_all H maker p ≡ true → shown.seat (Some v) p ≡ seat_of (Some v) p H
+  pub ordinal : (p v : ℕ) → is_told_all H maker p ≡ true → shown.ordinal (Some v) p ≡ ordinal_of (Some v) p H
   pub labels : (p : ℕ) → is_told_all H maker p ≡ true → shown.labels p ≡ length (seats_of p H)
   pub written : (p o : ℕ) → is_told_all H maker p ≡ true → shown.written p o ≡ is_written p o H
 
@@ -243,7 +243,7 @@ module _ (H : History) (maker : ℕ) (shown : Shown) (registered : IsRegistered 
 
   -- whether she is shown a form under the label of the user named
   abbrev under_label : Option ℕ → Option ℕ → Bool
-  under_label paper target = at_some (shown.written (unwrap_or paper 0)) (shown.seat target (unwrap_or paper 0))
+  under_label paper target = at_some (shown.written (unwrap_or paper 0)) (shown.ordinal target (unwrap_or paper 0))
 
   abbrev wrote : ℕ → ℕ → Bool
   wrote p v = list_any (is_number (Some v)) (shown.authors p)
@@ -252,7 +252,7 @@ module _ (H : History) (maker : ℕ) (shown : Shown) (registered : IsRegistered 
   declared p v = list_any (is_number (Some v)) (shown.conflicts p)
 
   abbrev asked_in : ℕ → ℕ → Role → Target
-  asked_in p v role = named H maker p v role (eqb v maker) (wrote p v) (wrote p v || declared p v) (is_some (shown.seat (Some v) p))
+  asked_in p v role = named H maker p v role (eqb v maker) (wrote p v) (wrote p v || declared p v) (is_some (shown.ordinal (Some v) p))
 
   -- what holds of a user named who is there
   record HoldsOf (P : Option Target → Type 0) (p v : ℕ) : Type 0 where
@@ -279,7 +279,7 @@ module _ (H : History) (maker : ℕ) (shown : Shown) (registered : IsRegistered 
       let by = standing_of (Some maker) (Some p) H in
       let k = asked-there (λ target. NoneBroken (conflict_checks by (paper_named facts shown (Some p)) target on)) p v none.1.0 none in
       case-ruled H maker p v on (is_from Bidding (phase_of H)) (is_from Notification (phase_of H)) (shown.withdrawn p) k.role
-      (eqb v maker) (wrote p v) (wrote p v || declared p v) (is_some (shown.seat (Some v) p)) refl refl k.held refl k.holds.1.1
+      (eqb v maker) (wrote p v) (wrote p v || declared p v) (is_some (shown.ordinal (Some v) p)) refl refl k.held refl k.holds.1.1
 
   -- ---- bids and assignments
 
@@ -331,7 +331,7 @@ module _ (H : History) (maker : ℕ) (shown : Shown) (registered : IsRegistered 
         right = of_chair.1.0;
         seat = (
           sym (tells.conflicted p v k.there all) ∙ of_target.1.0,
-          sym (tells.seat p v all) ∙ none-where (shown.seat (Some v) p) of_target.1.1.0,
+          sym (tells.ordinal p v all) ∙ none-where (shown.ordinal (Some v) p) of_target.1.1.0,
           subst (λ n. n < 26) (tells.labels p all) (leb-false 26 (shown.labels p) of_target.1.1.1.0),
         );
         texts = tt;
@@ -339,7 +339,7 @@ module _ (H : History) (maker : ℕ) (shown : Shown) (registered : IsRegistered 
 
   unassigned-ruled : (paper target : Option ℕ)
       → NoneBroken (unassign_checks (standing_of (Some maker) paper H) (paper_named facts shown paper) (asked paper target) (under_label paper target))
-      → IsRuled H maker (Unassigned (unwrap_or paper 0) (unwrap_or target 0) (unwrap_or (shown.seat target (unwrap_or paper 0)) 0))
+      → IsRuled H maker (Unassigned (unwrap_or paper 0) (unwrap_or target 0) (unwrap_or (shown.ordinal target (unwrap_or paper 0)) 0))
   unassigned-ruled None target none = absurd (true≢false none.0)
   unassigned-ruled (Some p) None none = absurd (true≢false none.1.0)
   unassigned-ruled (Some p) (Some v) none =
@@ -347,7 +347,7 @@ module _ (H : History) (maker : ℕ) (shown : Shown) (registered : IsRegistered 
       let k = asked-there (λ target. NoneBroken (unassign_checks by (paper_named facts shown (Some p)) target (under_label (Some p) (Some v)))) p v none.1.0 none in
       let of_chair = k.holds.1.1 in
       let all = chair-told p (shown.withdrawn p) (of_chair.0, (of_chair.1.0, (of_chair.1.1.0, (of_chair.1.1.1.0, tt)))) in
-      let taken = some-where (shown.seat (Some v) p) (not-false (is_some (shown.seat (Some v) p)) of_chair.1.1.1.1.0) in
+      let taken = some-where (shown.ordinal (Some v) p) (not-false (is_some (shown.ordinal (Some v) p)) of_chair.1.1.1.1.0) in
       record {
         phase = not-false (is_in_committee by.phase) of_chair.1.1.0;
         chair = not-false (is_chair by.role) of_chair.0;
@@ -355,8 +355,8 @@ module _ (H : History) (maker : ℕ) (shown : Shown) (registered : IsRegistered 
         member = tt;
         right = of_chair.1.0;
         seat = (
-          sym (tells.seat p v all) ∙ taken,
-          sym (tells.written p (unwrap_or (shown.seat (Some v) p) 0) all)
+          sym (tells.ordinal p v all) ∙ taken,
+          sym (tells.written p (unwrap_or (shown.ordinal (Some v) p) 0) all)
               ∙ sym (ap (at_some (shown.written p)) taken) ∙ of_chair.1.1.1.1.1.0,
         );
         texts = tt;
@@ -366,7 +366,7 @@ module _ (H : History) (maker : ℕ) (shown : Shown) (registered : IsRegistered 
 
   reviewed-ruled : (paper : Option ℕ) (version : ℕ) (form : Form) → IsForm form
       → NoneBroken (review_checks (standing_of (Some maker) paper H) (paper_named facts shown paper))
-      → IsRuled H maker (Reviewed (unwrap_or paper 0) (unwrap_or (facts.own_seat (unwrap_or paper 0)) 0) version form)
+      → IsRuled H maker (Reviewed (unwrap_or paper 0) (unwrap_or (facts.own_ordinal (unwrap_or paper 0)) 0) version form)
   reviewed-ruled None version form bounded none = absurd (true≢false none.0)
   reviewed-ruled (Some p) version form bounded none =
       let by = standing_of (Some maker) (Some p) H in
@@ -376,13 +376,13 @@ module _ (H : History) (maker : ℕ) (shown : Shown) (registered : IsRegistered 
         role = tt;
         member = tt;
         right = clear (is_member by.role) by.conflicted (not-false (is_member by.role) none.1.0) none.1.1.0;
-        seat = some-where (facts.own_seat p) (not-false (is_some (facts.own_seat p)) none.1.1.1.0);
+        seat = some-where (facts.own_ordinal p) (not-false (is_some (facts.own_ordinal p)) none.1.1.1.0);
         texts = bounded;
       }
 
   commented-ruled : (paper : Option ℕ) (n own : ℕ) (text : List ℕ) → IsCommentText text
       → NoneBroken (comment_checks (standing_of (Some maker) paper H) (paper_named facts shown paper) own)
-      → IsRuled H maker (Commented (unwrap_or paper 0) n (facts.own_seat (unwrap_or paper 0)) text)
+      → IsRuled H maker (Commented (unwrap_or paper 0) n (facts.own_ordinal (unwrap_or paper 0)) text)
   commented-ruled None n own text bounded none = absurd (true≢false none.0)
   commented-ruled (Some p) n own text bounded none =
       let by = standing_of (Some maker) (Some p) H in
@@ -493,14 +493,14 @@ module _ (H : History) (maker : ℕ) (shown : Shown) (registered : IsRegistered 
   command-adds (Unassign paper name) drawn bounded accepted =
       let target : Option ℕ = user_among facts.accounts name in
       let p : ℕ = unwrap_or paper 0 in
-      let ordinal : ℕ = unwrap_or (shown.seat target p) 0 in
+      let ordinal : ℕ = unwrap_or (shown.ordinal target p) 0 in
       let k = judged-Ok (unassign_checks (standing_of (Some maker) paper H) (paper_named facts shown paper) (asked paper target) (under_label paper target))
       (unassignment_drawn maker p (unwrap_or target 0) ordinal) drawn accepted in
       subst (λ (d : Drawn). Adds H d.group) k.1
       (single maker (Unassigned p (unwrap_or target 0) ordinal) registered tt (unassigned-ruled paper target k.0))
   command-adds (Review paper form) drawn bounded accepted =
       let p : ℕ = unwrap_or paper 0 in
-      let ordinal : ℕ = unwrap_or (facts.own_seat p) 0 in
+      let ordinal : ℕ = unwrap_or (facts.own_ordinal p) 0 in
       let version : ℕ = length (facts.own_forms p) + 1 in
       let k = judged-Ok (review_checks (standing_of (Some maker) paper H) (paper_named facts shown paper))
       (review_drawn maker p ordinal version form) drawn accepted in
@@ -510,9 +510,9 @@ module _ (H : History) (maker : ℕ) (shown : Shown) (registered : IsRegistered 
       let p : ℕ = unwrap_or paper 0 in
       let n : ℕ = length (shown.comments p) + 1 in
       let k = judged-Ok (comment_checks (standing_of (Some maker) paper H) (paper_named facts shown paper) facts.own_comments)
-      (comment_drawn maker p n (facts.own_seat p) text) drawn accepted in
+      (comment_drawn maker p n (facts.own_ordinal p) text) drawn accepted in
       subst (λ (d : Drawn). Adds H d.group) k.1
-      (single maker (Commented p n (facts.own_seat p) text) registered tt (commented-ruled paper n facts.own_comments text bounded k.0))
+      (single maker (Commented p n (facts.own_ordinal p) text) registered tt (commented-ruled paper n facts.own_comments text bounded k.0))
   command-adds (Tag paper tag on) drawn bounded accepted =
       let k = judged-Ok (tag_checks (standing_of (Some maker) paper H) (paper_named facts shown paper) (is_for_chairs tag))
       (tag_drawn maker (unwrap_or paper 0) tag on) drawn accepted in

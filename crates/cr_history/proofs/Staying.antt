@@ -9,14 +9,14 @@ use Rattle.cr_base.specs.declared.entry.Entry.{Entry}
 use Rattle.cr_base.specs.declared.entry.Entry.TheVariants.{Assigned, Unassigned, Reviewed}
 use Rattle.cr_base.specs.declared.entry.Stamped.{Stamped}
 use Rattle.cr_base.specs.Drawn.{submission}
-use Rattle.cr_base.specs.History.{History, all_told, seat_told, form_told, whole_form}
-use Rattle.cr_base.specs.HistoryFacts.{seat_of, forms_of, is_written}
+use Rattle.cr_base.specs.History.{History, all_told, ordinal_told, form_told, whole_form}
+use Rattle.cr_base.specs.HistoryFacts.{ordinal_of, forms_of, is_written}
 use Rattle.cr_base.specs.Lists.{given, is_nothing, last_or}
 use Rattle.cr_history.specs.Groups.{IsRuled, Adds, single, submitted, first_user, Grows, adds, goes_on}
 use Rattle.cr_history.specs.Invariants.{IsHeld, ReviewersStay}
 use Rattle.cr_history.proofs.Folds.{last_or-append}
 use Rattle.cr_history.proofs.Grouped.{grouped-each, submission-each, all-silent}
-use Rattle.cr_history.proofs.LineTies.{stamp}
+use Rattle.cr_history.proofs.LineAgreement.{stamp}
 use Rattle.cr_history.proofs.ListCuts.{AllByRecursion-append, AllByRecursion-map, AllByRecursion-both}
 
 -- ---- labels with forms
@@ -56,16 +56,16 @@ has_forms (s ∷ H) = (
 
 -- it takes no seat under which a form is written, and gives whoever has one no other
 abbrev LeavesSeats : History → History → Type 0
-LeavesSeats H g = (user paper ordinal : ℕ) → seat_of (Some user) paper H ≡ Some ordinal → is_written paper ordinal H ≡ true
-    → all_told (seat_told (Some user) paper) g ≡ []
+LeavesSeats H g = (user paper ordinal : ℕ) → ordinal_of (Some user) paper H ≡ Some ordinal → is_written paper ordinal H ≡ true
+    → all_told (ordinal_told (Some user) paper) g ≡ []
 
 ruled-leaves : (H : History) (maker : ℕ) (more : Bool) (e : Entry) → IsRuled H maker e → LeavesSeats H (stamp maker more e ∷ [])
 ruled-leaves H maker more (Assigned paper' user' kind ordinal') ruled user paper ordinal held written = by (eqb paper' paper) (eqb user user') refl refl
   where
     by : (b c : Bool) → eqb paper' paper ≡ b → eqb user user' ≡ c → given (b && c) (Some ordinal') ++ [] ≡ []
     by true true same is =
-        let none : seat_of (Some user) paper H ≡ None = subst (λ n. seat_of (Some n) paper H ≡ None) (sym (eqb-true user user' is))
-        (subst (λ n. seat_of (Some user') n H ≡ None) (eqb-true paper' paper same) ruled.seat.1) in
+        let none : ordinal_of (Some user) paper H ≡ None = subst (λ n. ordinal_of (Some n) paper H ≡ None) (sym (eqb-true user user' is))
+        (subst (λ n. ordinal_of (Some user') n H ≡ None) (eqb-true paper' paper same) ruled.seat.1) in
         absurd (filled (sym none ∙ held))
       where
         filled : None ≡ Some ordinal → ⊥
@@ -76,8 +76,8 @@ ruled-leaves H maker more (Unassigned paper' user' ordinal') ruled user paper or
   where
     by : (b c : Bool) → eqb paper' paper ≡ b → eqb user user' ≡ c → given {A = Option ℕ} (b && c) None ++ [] ≡ []
     by true true same is =
-        let seat : seat_of (Some user) paper H ≡ Some ordinal' = subst (λ n. seat_of (Some n) paper H ≡ Some ordinal') (sym (eqb-true user user' is))
-        (subst (λ n. seat_of (Some user') n H ≡ Some ordinal') (eqb-true paper' paper same) ruled.seat.0) in
+        let seat : ordinal_of (Some user) paper H ≡ Some ordinal' = subst (λ n. ordinal_of (Some n) paper H ≡ Some ordinal') (sym (eqb-true user user' is))
+        (subst (λ n. ordinal_of (Some user') n H ≡ Some ordinal') (eqb-true paper' paper same) ruled.seat.0) in
         let e : ordinal' ≡ ordinal = same_some (sym seat ∙ held) in
         let none : is_written paper ordinal H ≡ false = subst (λ o. is_written paper o H ≡ false) e
         (subst (λ n. is_written n ordinal' H ≡ false) (eqb-true paper' paper same) ruled.seat.1) in
@@ -92,9 +92,9 @@ ruled-leaves H maker more e ruled user paper ordinal held written = refl
 added-leaves : (H g : History) → Adds H g → LeavesSeats H g
 added-leaves H g (single maker e made alone ruled) user paper ordinal held written = ruled-leaves H maker false e ruled user paper ordinal held written
 added-leaves H g (submitted maker p title abstract users made ruled registered) user paper ordinal held written =
-    all-silent (λ (e : Stamped). seat_told (Some user) paper e.entry) _
-    (grouped-each maker (λ (e : Stamped). seat_told (Some user) paper e.entry ≡ []) (submission maker p title abstract users)
-    (submission-each (λ (e : Entry). (more : Bool) → seat_told (Some user) paper e ≡ []) maker p title abstract users (λ more. refl) (λ user more. refl)))
+    all-silent (λ (e : Stamped). ordinal_told (Some user) paper e.entry) _
+    (grouped-each maker (λ (e : Stamped). ordinal_told (Some user) paper e.entry ≡ []) (submission maker p title abstract users)
+    (submission-each (λ (e : Entry). (more : Bool) → ordinal_told (Some user) paper e ≡ []) maker p title abstract users (λ more. refl) (λ user more. refl)))
 added-leaves H g (first_user n name digest is texts) user paper ordinal held written = refl
 
 grown-leaves : (H g : History) → Grows H g → LeavesSeats H g
@@ -102,11 +102,11 @@ grown-leaves H g (adds same added) = added-leaves H g added
 grown-leaves H g (goes_on maker e made goes ruled) = ruled-leaves H maker true e ruled
 
 -- a group that tells of no seat of hers leaves it
-seat-stays : (u : Option ℕ) (p : ℕ) (H g : History) → all_told (seat_told u p) g ≡ [] → seat_of u p (H ++ g) ≡ seat_of u p H
+seat-stays : (u : Option ℕ) (p : ℕ) (H g : History) → all_told (ordinal_told u p) g ≡ [] → ordinal_of u p (H ++ g) ≡ ordinal_of u p H
 seat-stays u p H g none =
-    ap (last_or None) (flat_map-append (λ (e : Stamped). seat_told u p e.entry) H g)
-    ∙ last_or-append None (all_told (seat_told u p) H) (all_told (seat_told u p) g)
-    ∙ ap (last_or (seat_of u p H)) none
+    ap (last_or None) (flat_map-append (λ (e : Stamped). ordinal_told u p e.entry) H g)
+    ∙ last_or-append None (all_told (ordinal_told u p) H) (all_told (ordinal_told u p) g)
+    ∙ ap (last_or (ordinal_of u p H)) none
 
 -- a form in it is under its maker's own label
 ruled-held : (H : History) (maker : ℕ) (more : Bool) (e : Entry) → IsRuled H maker e → IsHeld (H ++ stamp maker more e ∷ []) maker e

@@ -19,10 +19,10 @@ use Rattle.cr_base.specs.Phases.{is_phase}
 use Rattle.cr_base.specs.Tables.{Tables, no_tables, tables_after, tables_from, tables_of, Fits, FitInTurn}
 use Rattle.cr_base.proofs.PaperLaws.{length-with_paper}
 use Rattle.cr_history.specs.Invariants.{IsRegistered, InTurn, is_conflict_with}
-use Rattle.cr_history.proofs.ConflictTies.{has_conflict}
+use Rattle.cr_history.proofs.ConflictAgreement.{has_conflict}
 use Rattle.cr_history.proofs.InTime.{author-append, phase_stays}
-use Rattle.cr_history.proofs.LineTies.{stamp}
-use Rattle.cr_history.proofs.TableTies.{tables_of-append, FitInTurn-append}
+use Rattle.cr_history.proofs.LineAgreement.{stamp}
+use Rattle.cr_history.proofs.TableAgreement.{tables_of-append, FitInTurn-append}
 
 -- ---- a paper that isn't there yet
 

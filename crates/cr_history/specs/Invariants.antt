@@ -8,7 +8,7 @@ use Rattle.cr_base.specs.declared.entry.Entry.TheVariants.{Bid, Assigned, Unassi
 use Rattle.cr_base.specs.declared.entry.Stamped.{Stamped}
 use Rattle.cr_base.specs.declared.words.Phase.TheVariants.{Setup, Submission, Bidding, Reviewing, Discussion, Notification}
 use Rattle.cr_base.specs.Checks.{is_in_committee}
-use Rattle.cr_base.specs.HistoryFacts.{phase_of, role_of, accounts_of, papers_of, uploads_of, number_of, is_author, is_conflicted, seat_of, seats_of}
+use Rattle.cr_base.specs.HistoryFacts.{phase_of, role_of, accounts_of, papers_of, uploads_of, number_of, is_author, is_conflicted, ordinal_of, seats_of}
 use Rattle.cr_base.specs.HistoryFacts.{forms_of, is_written, comments_of}
 use Rattle.cr_base.specs.History.{History, Registration, all_told, registration_told, opens, opens_discussion}
 use Rattle.cr_base.specs.Lists.{until, since}
@@ -174,10 +174,10 @@ IsByRight H maker _ = Unit {0}
 -- label, where its maker has one
 abbrev pub IsSeated : History → ℕ → Entry → Type 0
 IsSeated H maker (Assigned paper user kind ordinal) =
-    IsFalse (is_conflicted (Some user) paper H) × (seat_of (Some user) paper H ≡ None) × (length (seats_of paper H) < 26)
-IsSeated H maker (Unassigned paper user ordinal) = (seat_of (Some user) paper H ≡ Some ordinal) × IsFalse (is_written paper ordinal H)
-IsSeated H maker (Reviewed paper ordinal version form) = seat_of (Some maker) paper H ≡ Some ordinal
-IsSeated H maker (Commented paper n ordinal text) = seat_of (Some maker) paper H ≡ ordinal
+    IsFalse (is_conflicted (Some user) paper H) × (ordinal_of (Some user) paper H ≡ None) × (length (seats_of paper H) < 26)
+IsSeated H maker (Unassigned paper user ordinal) = (ordinal_of (Some user) paper H ≡ Some ordinal) × IsFalse (is_written paper ordinal H)
+IsSeated H maker (Reviewed paper ordinal version form) = ordinal_of (Some maker) paper H ≡ Some ordinal
+IsSeated H maker (Commented paper n ordinal text) = ordinal_of (Some maker) paper H ≡ ordinal
 IsSeated H maker _ = Unit {0}
 
 -- the entry turns a conflict with the paper on or off
@@ -251,7 +251,7 @@ IsDiscussedInTime H = list_any opens_discussion H ≡ is_from Discussion (phase_
 
 -- of a form: who wrote it reviews the paper under that label at the end of the history
 abbrev pub IsHeld : History → ℕ → Entry → Type 0
-IsHeld H maker (Reviewed paper ordinal version form) = seat_of (Some maker) paper H ≡ Some ordinal
+IsHeld H maker (Reviewed paper ordinal version form) = ordinal_of (Some maker) paper H ≡ Some ordinal
 IsHeld H maker e = Unit {0}
 
 -- whoever has written a form stays a reviewer of the paper, under the label under which she wrote it

@@ -3,7 +3,7 @@ use Rattle.std.specs.Prelude.{ℕ, ◌≡◌, ◌==◌, List, [], ◌++◌, leng
 use Rattle.std.specs.List.{list_any}
 use Rattle.cr_base.specs.Accounts.{lines_of, number_at, caller_at}
 use Rattle.cr_base.specs.HistoryFacts.{standing_of, accounts_of, number_of, caller_of, papers_of, own_papers_of, own_bytes_of}
-use Rattle.cr_base.specs.HistoryFacts.{bid_of, seat_of, seats_of, reviewers_of, forms_of, forms_discussed_of, own_forms_of, comments_of, own_comments_of, tags_of}
+use Rattle.cr_base.specs.HistoryFacts.{bid_of, ordinal_of, seats_of, reviewers_of, forms_of, forms_discussed_of, own_forms_of, comments_of, own_comments_of, tags_of}
 use Rattle.cr_base.specs.HistoryFacts.{title_of, abstract_of, uploads_of, is_withdrawn, decision_of, is_accepted, authors_of, is_conflict_on, declared_by_authors}
 use Rattle.cr_base.specs.declared.entry.Stamped.{Stamped}
 use Rattle.cr_base.specs.History.{History}
@@ -14,7 +14,7 @@ use Rattle.cr_base.specs.Sources.{standing_at, own_forms_in, is_accepted_in}
 use Rattle.cr_base.specs.Pairs.{has_pair}
 use Rattle.cr_base.specs.Papers.{paper_numbers, own_count, own_bytes, title_at, abstract_at, uploads_at, is_withdrawn_at}
 use Rattle.cr_base.specs.Tables.{no_tables, tables_of, FitInTurn}
-use Rattle.cr_base.specs.Seats.{labels_in, reviewers_in, seat_in, seats_in}
+use Rattle.cr_base.specs.Seats.{labels_in, reviewers_in, ordinal_in, seats_in}
 use Rattle.cr_base.specs.Talk.{comments_in, comment_as_told, own_comments_in}
 use Rattle.cr_base.specs.Ties.{pair_of, authors_in, is_conflict_on_in, bid_in}
 use Rattle.cr_history.specs.Groups.{Adds, Grows}
@@ -37,7 +37,7 @@ pub record AreTold (H : History) : Type 0 where
   pub conflict : (u : Option ℕ) (p : ℕ) → is_conflict_on u p H ≡ is_conflict_on_in (tables_of H).ties u p
   pub declared : (p v : ℕ) → list_any (λ w. w == v) (declared_by_authors p H) ≡ has_pair (pair_of p v) (tables_of H).ties.declared
   pub bid : (u : Option ℕ) (p : ℕ) → bid_of u p H ≡ bid_in (tables_of H).ties u p
-  pub seat : (u : Option ℕ) (p : ℕ) → seat_of u p H ≡ seat_in (tables_of H).seats u p
+  pub ordinal : (u : Option ℕ) (p : ℕ) → ordinal_of u p H ≡ ordinal_in (tables_of H).seats u p
   pub labels : (p : ℕ) → length (seats_of p H) ≡ labels_in (tables_of H).seats p
   pub seats : (p : ℕ) → seats_of p H ≡ seats_in (tables_of H).seats p
   pub reviewers : (p : ℕ) → reviewers_of p H ≡ reviewers_in (tables_of H).seats p

@@ -1,4 +1,4 @@
-//! What a history tells, tied to the tables, and what is kept as it grows: all that is so of histories whatever anybody sees
+//! What a history tells, on which the tables agree with it, and what is kept as it grows: all that is so of histories whatever anybody sees
 //! of them.
 //!
 //! The definitions stand in this crate's specs: the invariants of legal histories, and what an accepted command may add to

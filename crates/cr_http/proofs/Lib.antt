@@ -1,4 +1,4 @@
-pub mod Places
+pub mod Offsets
 pub mod Windows
 pub mod Searching
 pub mod Moving

@@ -13,7 +13,7 @@ use Rattle.cr_http.specs.declared.head_range.Search.{Search}
 use Rattle.cr_http.specs.declared.head_range.Search.TheVariants as searches
 use Rattle.cr_http.specs.declared.head_range.Look.{Look}
 use Rattle.cr_http.specs.declared.head_range.Look.TheVariants as looks
-use Rattle.cr_http.proofs.Places.{blank_end_from-goes_on, blank_end_from-stops}
+use Rattle.cr_http.proofs.Offsets.{blank_end_from-goes_on, blank_end_from-stops}
 use Rattle.cr_http.proofs.Windows.{front_grows}
 
 -- what was found now, where nothing follows
@@ -69,7 +69,7 @@ waits bytes from at l line =
 next : (at : ℕ) → suc at ≡ at + 1
 next at = omega arith
 
--- the bytes as they are, split at a place
+-- the bytes as they are, split at an offset
 split_here : (bytes : List ℕ) (at : ℕ) → at < length bytes → drop at bytes ≡ get_or bytes at 0 ∷ drop (at + 1) bytes
 split_here bytes at lt = drop-cons bytes at 0 lt ∙ ap (λ n. get_or bytes at 0 ∷ drop n bytes) (next at)
 

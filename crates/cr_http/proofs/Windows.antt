@@ -56,7 +56,7 @@ drop_less at end a bytes le = let e : end - at ≡ suc (end - (at + 1)) = omega 
 drop_two_less : (at end : ℕ) (a b : ℕ) (bytes : List ℕ) → at + 2 ≤ end → drop (end - at) (a ∷ b ∷ bytes) ≡ drop (end - (at + 2)) bytes
 drop_two_less at end a b bytes le = let e : end - at ≡ suc (suc (end - (at + 2))) = omega arith in rw e refl
 
--- a head from this place on, behind the empty lines
+-- a head from this offset on, behind the empty lines
 abbrev pub behind_blank : ℕ → ℕ → List ℕ → Option ℕ
 behind_blank at start bytes = head_end_from start (drop (start - at) bytes)
 
@@ -143,7 +143,7 @@ head_end_bounds at (a ∷ bytes) end is = first (a == 10) (empty_line_len bytes 
     first true false le go is = let h : at + 1 + empty_line_len bytes ≡ end = cc in (omega arith, omega arith)
     first false z le go is = let h : (at + 1 < end) × (end ≤ at + 1 + length bytes) = go is in (omega arith, omega arith)
 
--- where a head begins and ends, as its two places
+-- where a head begins and ends, as its two offsets
 pub head_within_is : (bytes : List ℕ) (range : ℕ × ℕ) → head_within bytes ≡ Some range
     → (range.0 ≡ blank_end_from 0 bytes) × (head_end_from (blank_end_from 0 bytes) (drop (blank_end_from 0 bytes) bytes) ≡ Some range.1)
 head_within_is bytes range is = found (head_end_from (blank_end_from 0 bytes) (drop (blank_end_from 0 bytes) bytes)) is

@@ -1,11 +1,11 @@
 -- The bytes of a body, wherever they lie.
 use Rattle.std.specs.Prelude.{ℕ, ◌≤◌, List, length}
-use Rattle.cr_http.specs.declared.body.BodyPlace.{BodyPlace}
-use Rattle.cr_http.specs.declared.body.BodyPlace.TheVariants.{Buffer, Block}
+use Rattle.cr_http.specs.declared.body.BodyMemory.{BodyMemory}
+use Rattle.cr_http.specs.declared.body.BodyMemory.TheVariants.{Buffer, Block}
 
-abbrev pub place_bytes : BodyPlace → List ℕ
-place_bytes (Buffer bytes) = bytes.now
-place_bytes (Block blob) = blob.now
+abbrev pub memory_bytes : BodyMemory → List ℕ
+memory_bytes (Buffer bytes) = bytes.now
+memory_bytes (Block blob) = blob.now
 
 -- a body is not longer than is read
 abbrev pub IsBody : List ℕ → Type 0

@@ -67,7 +67,7 @@ found_and (refused why head) more = refused why head
 found_and clean more = clean
 found_and cut more = cut
 
--- The head between these two places was read, and its body is to have so many bytes.
+-- The head between these two offsets was read, and its body is to have so many bytes.
 pub record IsFramed (text : List ℕ) (start end : ℕ) (head : HeadText) (len : ℕ) : Type 0 where
   pub range : head_at text ≡ Some (start, end)
   pub few : nat_lt 66 (line_feeds (slice_range text start end)) ≡ false

@@ -8,14 +8,14 @@ empty_line_len [] = 0
 empty_line_len (a ∷ []) = if a == 10 then 1 else 0
 empty_line_len (a ∷ b ∷ bytes) = if a == 10 then 1 else if a == 13 && b == 10 then 2 else 0
 
--- where the empty lines at the front end, for bytes that begin at this place
+-- where the empty lines at the front end, for bytes that begin at this offset
 abbrev pub blank_end_from : ℕ → List ℕ → ℕ
 blank_end_from at [] = at
 blank_end_from at (a ∷ []) = if a == 10 then at + 1 else at
 blank_end_from at (a ∷ b ∷ bytes) =
     if a == 10 then blank_end_from (at + 1) (b ∷ bytes) else if a == 13 && b == 10 then blank_end_from (at + 2) bytes else at
 
--- the place behind an LF and the empty line that follows it there, if one does, else what comes later
+-- the offset behind an LF and the empty line that follows it there, if one does, else what comes later
 abbrev pub or_later : ℕ → ℕ → Option ℕ → Option ℕ
 or_later at empty later = if empty == 0 then later else Some (at + 1 + empty)
 

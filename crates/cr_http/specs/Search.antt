@@ -8,13 +8,13 @@ use Rattle.cr_http.specs.declared.head_range.Search.TheVariants as searches
 use Rattle.cr_http.specs.declared.head_range.Look.{Look}
 use Rattle.cr_http.specs.declared.head_range.Look.TheVariants as looks
 
--- what the bytes at a place say of whether an empty line begins there
+-- what the bytes at an offset say of whether an empty line begins there
 abbrev pub IsLine : Line → List ℕ → Type 0
 IsLine (lines.Empty n) bytes = (0 < n) × (n ≤ length bytes) × ((more : List ℕ) → empty_line_len (bytes ++ more) ≡ n)
 IsLine lines.Other bytes = (0 < length bytes) × ((more : List ℕ) → empty_line_len (bytes ++ more) ≡ 0)
 IsLine lines.Open bytes = (empty_line_len bytes ≡ 0) × ((at : ℕ) → (blank_end_from at bytes ≡ at) × (head_end_from at bytes ≡ None))
 
--- the place up to which a search has come
+-- the offset up to which a search has come
 abbrev pub reached : Search → ℕ
 reached (searches.Skipping at) = at
 reached (searches.InHead start at) = at

@@ -1,6 +1,6 @@
 //! The body of a request, lent.
 ghost use Rattle.std.specs.Prelude.{◌≡◌, ◌≤◌, length, IfOk};
-ghost use Rattle.cr_http.specs.Body.{IsBody, place_bytes};
+ghost use Rattle.cr_http.specs.Body.{IsBody, memory_bytes};
 
 use cr_base::Blob;
 use std::alloc::{AllocError, Global};
@@ -8,7 +8,7 @@ use std::marker::Model;
 
 /// Where the bytes of a body are.
 #[derive(Drop)]
-pub(crate) enum BodyPlace<'b> {
+pub(crate) enum BodyMemory<'b> {
     /// Among those that were read.
     Buffer(&'b [u8]),
     /// In a block of their own.
@@ -18,18 +18,18 @@ pub(crate) enum BodyPlace<'b> {
 /// The body of a request, lent: at most 4,194,304 bytes. Contracts see the list of its bytes.
 #[derive(Drop)]
 pub struct Body<'b> {
-    place: BodyPlace<'b>,
+    memory: BodyMemory<'b>,
 }
 
 impl<'b> Model for Body<'b> {
     ghost use Rattle.std.specs.Prelude.{List, ℕ};
-    ghost use Rattle.cr_http.specs.Body.{IsBody, place_bytes};
+    ghost use Rattle.cr_http.specs.Body.{IsBody, memory_bytes};
 
     ghost Value = { List ℕ };
 
-    ghost view = { λ b. place_bytes b.place };
+    ghost view = { λ b. memory_bytes b.memory };
 
-    ghost invariant = { λ b. IsBody (place_bytes b.place) };
+    ghost invariant = { λ b. IsBody (memory_bytes b.memory) };
 }
 
 impl<'b> Body<'b> {
@@ -39,7 +39,7 @@ impl<'b> Body<'b> {
         ensures { result ≡ bytes.now }
     {
         Body {
-            place: BodyPlace::Buffer(bytes),
+            memory: BodyMemory::Buffer(bytes),
         }
     }
 
@@ -49,7 +49,7 @@ impl<'b> Body<'b> {
         ensures { result ≡ bytes.now }
     {
         Body {
-            place: BodyPlace::Block(bytes),
+            memory: BodyMemory::Block(bytes),
         }
     }
 
@@ -58,9 +58,9 @@ impl<'b> Body<'b> {
         ensures value { result.now ≡ self.now }
         ensures short { IsBody self.now }
     {
-        match &self.place {
-            BodyPlace::Buffer(bytes) => bytes,
-            BodyPlace::Block(blob) => blob.as_slice(),
+        match &self.memory {
+            BodyMemory::Buffer(bytes) => bytes,
+            BodyMemory::Block(blob) => blob.as_slice(),
         }
     }
 
@@ -70,9 +70,9 @@ impl<'b> Body<'b> {
         ensures value { IfOk result (λ blob. blob ≡ self.now) }
         ensures short { IsBody self.now }
     {
-        match &self.place {
-            BodyPlace::Buffer(bytes) => Blob::from_slice(alloc, bytes),
-            BodyPlace::Block(blob) => blob.copy(),
+        match &self.memory {
+            BodyMemory::Buffer(bytes) => Blob::from_slice(alloc, bytes),
+            BodyMemory::Block(blob) => blob.copy(),
         }
     }
 }

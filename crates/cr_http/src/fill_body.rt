@@ -89,7 +89,7 @@ fn fill_block<S: Source>(source: &mut S, buffer: &mut Buffer, head: usize, end: 
     }
 }
 
-/// Reads on until the body is whole that lies between these two places.
+/// Reads on until the body is whole that lies between these two offsets.
 pub fn fill_body<S: Source>(
     source: &mut S,
     buffer: &mut Buffer,

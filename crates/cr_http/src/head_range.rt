@@ -3,7 +3,7 @@ ghost use Rattle.std.specs.Prelude.{◌≡◌, ◌+◌, ◌<◌, ◌≤◌, leng
 ghost use Rattle.cr_http.specs.HeadRange.{blank_end_from, head_end_from};
 ghost use Rattle.cr_http.specs.Search.{IsLine, Looks, reached};
 
-/// How many bytes from the place on are looked at for a head, the empty lines before it included.
+/// How many bytes from the offset on are looked at for a head, the empty lines before it included.
 pub const WINDOW: usize = 16_384;
 
 /// Where a head begins and ends.
@@ -38,7 +38,7 @@ pub enum Look {
     NotYet(Search),
 }
 
-/// What begins at a place.
+/// What begins at an offset.
 #[derive(Clone, Copy, Debug, PartialEq, Eq)]
 pub enum Line {
     /// An empty line of so many bytes, LF or CR LF.
@@ -109,7 +109,7 @@ fn look_in_head(bytes: &[u8], start: usize, from: usize) -> Look
 }
 
 /// Where the empty lines at the front end.
-#[tactic(auto, using(crate::proofs::Places::blank_behind))]
+#[tactic(auto, using(crate::proofs::Offsets::blank_behind))]
 pub fn blank_end(bytes: &[u8]) -> usize
     ensures is { result ≡ blank_end_from 0 bytes.now }
     ensures within { result ≤ length bytes.now }

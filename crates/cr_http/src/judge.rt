@@ -1,4 +1,4 @@
-//! From the place of a head to its parts and the length of its body.
+//! From the offset of a head to its parts and the length of its body.
 ghost use Rattle.std.specs.Prelude.{◌≡◌, ◌≤◌, length, slice_range};
 ghost use Rattle.cr_http.specs.HeadRange.{head_at};
 ghost use Rattle.cr_http.specs.Found.{line_feeds};

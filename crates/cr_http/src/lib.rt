@@ -2,7 +2,7 @@
 //!
 //! [`read_request`] reads the head and the body of one request (RFC 9112), and refuses what isn't
 //! one, each refusal under its own name. Its contract speaks of the whole text of the stream: what
-//! stands at a place is a relation on texts that knows nothing of pieces, and it is one thing.
+//! stands at an offset is a relation on texts that knows nothing of pieces, and it is one thing.
 //!
 //! The head is parsed once, by `httparse`, and head and body are lent from the connection's
 //! [`Inbox`]. It allocates one block of bytes, and one more for a body of [`LARGE_BODY`] bytes or more

@@ -4,7 +4,7 @@ use Rattle.json.specs.Print.{quoted}
 use Rattle.cr_anonymity.specs.Letters.{letter_of}
 use Rattle.cr_base.specs.declared.words.Decision.{Decision}
 use Rattle.cr_base.specs.declared.words.Kind.{Kind}
-use Rattle.cr_base.specs.Words.{bid_size, decision_name, no_bid, seat_name}
+use Rattle.cr_base.specs.Words.{bid_size, decision_name, no_bid, review_kind_name}
 use Rattle.cr_json.specs.Put.{Bytes}
 
 -- ---- values
@@ -25,8 +25,8 @@ unfoldable pub label_text : ℕ → List ℕ
 label_text ordinal = quoted (letter_of ordinal ∷ [])
 
 -- a kind of assignment, by its word
-abbrev pub seat_text : Kind → List ℕ
-seat_text kind = quoted (seat_name kind)
+abbrev pub review_kind_text : Kind → List ℕ
+review_kind_text kind = quoted (review_kind_name kind)
 
 -- a decision, by its word
 abbrev pub decision_text : Decision → List ℕ

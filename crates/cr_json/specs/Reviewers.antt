@@ -4,7 +4,8 @@ use Rattle.std.specs.Option.{option_map}
 use Rattle.json.specs.Print.{quoted}
 use Rattle.cr_base.specs.declared.page.Bidder.{Bidder}
 use Rattle.cr_base.specs.declared.page.Reviewer.{Reviewer}
-use Rattle.cr_json.specs.Json.{Member, array_text, bid_text, label_text, member_of, object_text, seat_text, truth_text}
+use Rattle.cr_json.specs.Json.{Member, array_text, bid_text, label_text}
+use Rattle.cr_json.specs.Json.{member_of, object_text, review_kind_text, truth_text}
 
 -- the keys of a bid in the order of their bytes
 unfoldable pub bidder_members : Bidder → List Member
@@ -22,7 +23,7 @@ bids_text bids = array_text (map bidder_text bids)
 unfoldable pub reviewer_members : Reviewer → List Member
 reviewer_members reviewer =
     member_of (codes "done") (option_map truth_text reviewer.done)
-    ++ member_of (codes "kind") (option_map seat_text reviewer.kind)
+    ++ member_of (codes "kind") (option_map review_kind_text reviewer.kind)
     ++ member_of (codes "label") (Some (label_text reviewer.label))
     ++ member_of (codes "user") (option_map quoted reviewer.user)
 

@@ -2,7 +2,7 @@
 ghost use Rattle.std.specs.Prelude.{◌≡◌, List, ℕ, decimal, map};
 ghost use Rattle.json.specs.Print.{quoted};
 ghost use Rattle.cr_json.specs.Put.{Appends, Takes};
-ghost use Rattle.cr_json.specs.Json.{array_text, bid_text, decided_text, decided_word as word_for, label_text, minus, seat_text};
+ghost use Rattle.cr_json.specs.Json.{array_text, bid_text, decided_text, decided_word as word_for, label_text, minus, review_kind_text};
 
 use crate::list::append_list;
 use crate::put::{append, append_number};
@@ -86,7 +86,7 @@ impl Value for Ordinal {
 
 /// The word for a kind of assignment.
 impl Value for Kind {
-    ghost text = { seat_text };
+    ghost text = { review_kind_text };
 
     fn append_to(&self, into: &mut Vec<u8>) -> Result<(), AllocError> {
         append_quoted(into, self.name().as_bytes())

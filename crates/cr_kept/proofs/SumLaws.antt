@@ -2,7 +2,7 @@
 use Rattle.std.proofs.Common.{ℕ, ◌≡◌, ◌+◌, ◌-◌, List, [], ◌∷◌, ◌++◌, length, get_or, set, replicate, append-nil, refl, ap, ◌∙◌, arith, zero, suc}
 use Rattle.cr_base.specs.Papers.{with_more}
 
--- of one value alone each place reads it, and so does what is behind the last
+-- of one value alone each index reads it, and so does what is behind the last
 pub get-replicate : {A : Type 0} (k i : ℕ) (x : A) → get_or (replicate k x) i x ≡ x
 get-replicate zero i x = refl
 get-replicate (suc k) zero x = refl
@@ -14,7 +14,7 @@ padded [] k i = get-replicate k i 0
 padded (x ∷ xs) k zero = refl
 padded (x ∷ xs) k (suc i) = padded xs k i
 
--- more in sums that are filled up to the place
+-- more in sums that are filled up to the index
 with_more-by : (i more : ℕ) (xs : List ℕ) (k : ℕ) → k ≡ i + 1 - length xs → set (xs ++ replicate k 0) i (get_or xs i 0 + more) ≡ with_more i more xs
 with_more-by zero more [] k is = ap (λ m. set (replicate k 0) 0 m) (none more) ∙ ap (λ k. set (replicate k 0) 0 more) is
   where

@@ -2,7 +2,7 @@
 ghost use Rattle.std.specs.Prelude.{◌≡◌, ◌≤◌, ◌<◌, ◌+◌, [], OnOk, length, map};
 ghost use Rattle.cr_base.specs.Filed.{filed, with_filed, filed_of};
 
-use crate::places::{place_from, run_of};
+use crate::partition::{index_from, run_of};
 use cr_base::{Filed, PaperNo};
 use std::alloc::{AllocError, Global};
 use std::marker::Model;
@@ -17,7 +17,7 @@ pub struct Files<V> {
 
 impl<V> Model for Files<V> {
     ghost use Rattle.std.specs.Prelude.{◌-◌, vec_len, vec_capacity};
-    ghost use Rattle.cr_kept.specs.Places.{PapersRise};
+    ghost use Rattle.cr_kept.specs.Partition.{PapersRise};
     ghost use Rattle.cr_kept.specs.Seen.{SeenFiles};
 
     ghost Value = { SeenFiles V };
@@ -68,8 +68,8 @@ impl<V: Drop> Files<V> {
         ensures files { self.new.files ≡ with_filed (filed paper value) self.old.files }
         ensures room { self.old.room ≤ self.new.room + 1 }
     {
-        let place = place_from(&self.values, paper.number() + 1);
-        match self.values.insert(place, Filed { paper, value }) {
+        let index = index_from(&self.values, paper.number() + 1);
+        match self.values.insert(index, Filed { paper, value }) {
             Ok(()) => {}
             Err(_) => unreachable!(),
         }

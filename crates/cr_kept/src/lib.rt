@@ -2,9 +2,9 @@
 #![tactic(auto)]
 
 mod files;
-mod places;
+mod partition;
 mod sums;
 
 pub use files::Files;
-pub use places::run_of;
+pub use partition::run_of;
 pub use sums::Sums;

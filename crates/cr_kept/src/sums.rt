@@ -63,23 +63,23 @@ impl Sums {
         ensures sums { self.new.sums ≡ with_more user more self.old.sums }
         ensures capacity { self.old.capacity ≤ self.new.capacity }
     {
-        let place = user.number() as usize;
-        fill(&mut self.sums, place);
-        self.sums[place] += more as u32;
+        let index = user.number() as usize;
+        fill(&mut self.sums, index);
+        self.sums[index] += more as u32;
     }
 }
 
-/// Fills the sums up with zeros, so that one stands at this place, for which there is room.
-fn fill(sums: &mut Vec<u32>, place: usize)
-    requires { place < vec_capacity sums.old }
-    ensures items { sums.new.items ≡ sums.old.items ++ replicate (place + 1 - length sums.old.items) 0 }
-    ensures within { place < vec_len sums.new }
+/// Fills the sums up with zeros, so that one stands at this index, for which there is room.
+fn fill(sums: &mut Vec<u32>, index: usize)
+    requires { index < vec_capacity sums.old }
+    ensures items { sums.new.items ≡ sums.old.items ++ replicate (index + 1 - length sums.old.items) 0 }
+    ensures within { index < vec_len sums.new }
     ensures capacity { vec_capacity sums.old ≤ vec_capacity sums.new }
 {
-    if place < sums.len() {
+    if index < sums.len() {
         return;
     }
-    match sums.resize(place + 1, 0) {
+    match sums.resize(index + 1, 0) {
         Ok(()) => {}
         Err(_) => unreachable!(),
     }

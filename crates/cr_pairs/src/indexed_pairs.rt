@@ -1,7 +1,8 @@
 //! Ties of papers and users that are found by paper and by user.
 ghost use Rattle.std.specs.Prelude.{◌≡◌, ◌≤◌, ◌<◌, ◌+◌, [], OnOk, map};
 ghost use Rattle.cr_base.specs.Lists.{IsRising};
-ghost use Rattle.cr_base.specs.Pairs.{IsAscending, has_pair, value_of, with_tie, without_pair, ties_of, papers_tied_to};
+ghost use Rattle.cr_base.specs.Pairs.{IsAscending, has_pair, tie_value};
+ghost use Rattle.cr_base.specs.Pairs.{with_tie, without_pair, ties_of, papers_tied_to};
 ghost use Rattle.cr_base.specs.declared.pairs.Order.TheVariants.{ByPaper};
 
 use crate::PairMap;
@@ -52,7 +53,7 @@ impl<V: Copy + Drop> IndexedPairs<V> {
 
     /// What is kept of the pair, and none where it isn't there. One binary search.
     pub fn value(&self, pair: &Pair) -> Option<V>
-        ensures { result ≡ value_of pair.now self.now.ties }
+        ensures { result ≡ tie_value pair.now self.now.ties }
     {
         self.by_paper.value(pair)
     }

@@ -1,8 +1,8 @@
 //! Ties of papers and users, each pair at most once, in ascending order.
 ghost use Rattle.std.specs.Prelude.{◌≡◌, ◌≤◌, ◌<◌, ◌+◌, [], OnOk, MatchResult};
-ghost use Rattle.cr_base.specs.Pairs.{IsAscending, has_pair, value_of, with_tie, without_pair, ties_of};
+ghost use Rattle.cr_base.specs.Pairs.{IsAscending, has_pair, tie_value, with_tie, without_pair, ties_of};
 ghost use Rattle.cr_base.specs.declared.pairs.Order.TheVariants.{ByPaper, ByUser};
-ghost use Rattle.cr_pairs.specs.Places.{IsAt, IsGapFor, pair_order};
+ghost use Rattle.cr_pairs.specs.BinarySearch.{IsAt, IsGapFor, pair_order};
 
 use crate::run::run_of;
 use cr_base::{Order, Pair, PaperNo, Tie, UserNo};
@@ -36,8 +36,8 @@ impl<V> Model for PairMap<V> {
 fn compare(order: Order, first: &Pair, second: &Pair) -> Ordering
     ensures { result ≡ pair_order order first.now second.now }
 {
-    let leads = first.leads(order).cmp(&second.leads(order));
-    leads.then(first.follows(order).cmp(&second.follows(order)))
+    let major = first.major(order).cmp(&second.major(order));
+    major.then(first.minor(order).cmp(&second.minor(order)))
 }
 
 impl<V: Copy + Drop> PairMap<V> {
@@ -56,15 +56,15 @@ impl<V: Copy + Drop> PairMap<V> {
     pub fn contains(&self, pair: &Pair) -> bool
         ensures { result ≡ has_pair pair.now self.now.ties }
     {
-        self.place_of(pair).is_ok()
+        self.index_of(pair).is_ok()
     }
 
     /// What is kept of the pair, and none where it isn't there. One binary search.
     pub fn value(&self, pair: &Pair) -> Option<V>
-        ensures { result ≡ value_of pair.now self.now.ties }
+        ensures { result ≡ tie_value pair.now self.now.ties }
     {
-        match self.place_of(pair) {
-            Ok(place) => Some(self.ties[place].value),
+        match self.index_of(pair) {
+            Ok(index) => Some(self.ties[index].value),
             Err(_) => None,
         }
     }
@@ -108,9 +108,9 @@ impl<V: Copy + Drop> PairMap<V> {
         ensures ties { self.new.ties ≡ with_tie self.old.order tie self.old.ties }
         ensures room { self.old.room ≤ self.new.room + 1 }
     {
-        match self.place_of(&tie.pair) {
-            Ok(place) => self.ties[place] = tie,
-            Err(place) => match self.ties.insert(place, tie) {
+        match self.index_of(&tie.pair) {
+            Ok(index) => self.ties[index] = tie,
+            Err(index) => match self.ties.insert(index, tie) {
                 Ok(()) => {}
                 Err(_) => unreachable!(),
             },
@@ -124,13 +124,13 @@ impl<V: Copy + Drop> PairMap<V> {
         ensures ties { self.new.ties ≡ without_pair pair.now self.old.ties }
         ensures room { self.old.room ≤ self.new.room }
     {
-        if let Ok(place) = self.place_of(pair) {
-            self.ties.remove(place);
+        if let Ok(index) = self.index_of(pair) {
+            self.ties.remove(index);
         }
     }
 
     /// Where the pair stands, or else where it would stand.
-    fn place_of(&self, pair: &Pair) -> Result<usize, usize>
+    fn index_of(&self, pair: &Pair) -> Result<usize, usize>
         ensures { MatchResult result (IsAt pair.now self.now.ties) (IsGapFor self.now.order pair.now self.now.ties) }
     {
         let order = self.order;

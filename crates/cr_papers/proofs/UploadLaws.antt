@@ -145,12 +145,12 @@ get-next xs x n is = numbered-push xs x (suc n) ∙ ap (λ b. cond b (Some x) (s
 get-before : {A : Type 0} (xs : List A) (x : A) (n : ℕ) → n < length xs → slice_get (xs ++ x ∷ []) n ≡ slice_get xs n
 get-before xs x n low = numbered-push xs x (suc n) ∙ ap (λ b. cond b (Some x) (slice_get xs n)) (apart (suc n) (length xs + 1) (omega (arith, low)))
 
-abbrev Places : Type 0
-Places = IndexMap VersionOf ℕ (BuildHasherDefault FoldHasher)
+abbrev Indices : Type 0
+Indices = IndexMap VersionOf ℕ (BuildHasherDefault FoldHasher)
 
--- the map stays an index where an upload is pushed, counted and its place inserted
-module _ (uploads : List PaperUpload) (counts : List ℕ) (old new : Places) (u : PaperUpload) (i : ℕ)
-    (index : IsVersionIndex uploads counts old)
+-- the map stays an index where an upload is pushed, counted and its index inserted
+module _ (uploads : List PaperUpload) (counts : List ℕ) (old new : Indices) (u : PaperUpload) (i : ℕ)
+    (is_index : IsVersionIndex uploads counts old)
     (at : u.paper ≡ i + 1) (there : u.paper ≤ length counts)
     (next : u.upload.version ≡ length (uploads_to u.paper uploads) + 1)
     (puts : (k : VersionOf) → get is_same new k ≡ cond (is_same (version_of u) k) (Some (length uploads)) (get is_same old k)) where
@@ -167,7 +167,7 @@ module _ (uploads : List PaperUpload) (counts : List ℕ) (old new : Places) (u 
     where
       by : (b : Bool) → eqb u.paper p ≡ b → cond b u.upload.version (unwrap_or (numbered counts p) 0) ≡ length (uploads_to p uploads) + length (given b u.upload)
       by true is = next ∙ ap (λ q. length (uploads_to q uploads) + 1) (eqb-true u.paper p is)
-      by false is = index.counted p ∙ nothing (length (uploads_to p uploads))
+      by false is = is_index.counted p ∙ nothing (length (uploads_to p uploads))
         where
           nothing : (n : ℕ) → n ≡ n + 0
           nothing n = omega arith
@@ -179,12 +179,12 @@ module _ (uploads : List PaperUpload) (counts : List ℕ) (old new : Places) (u 
       by true is =
           let count : u.upload.version ≡ 1 + length (uploads_to p uploads) = next ∙ ap (λ q. length (uploads_to q uploads) + 1) (eqb-true u.paper p is) ∙ turned (length (uploads_to p uploads)) in
           map-append (λ (v : Upload). v.version) (uploads_to p uploads) (u.upload ∷ [])
-          ∙ ap (λ ns. ns ++ u.upload.version ∷ []) (index.versions p)
+          ∙ ap (λ ns. ns ++ u.upload.version ∷ []) (is_index.versions p)
           ∙ sym (numbers_from-push 1 u.upload.version (uploads_to p uploads) u.upload count)
         where
           turned : (n : ℕ) → n + 1 ≡ 1 + n
           turned n = omega arith
-      by false is = subst (λ (us : List Upload). numbers_of us ≡ numbers_from 1 us) (sym (append-nil (uploads_to p uploads))) (index.versions p)
+      by false is = subst (λ (us : List Upload). numbers_of us ≡ numbers_from 1 us) (sym (append-nil (uploads_to p uploads))) (is_index.versions p)
 
   -- it was not there before
   fresh : (k : VersionOf) → is_same (version_of u) k ≡ true → find (λ (v : PaperUpload). is_same (version_of v) k) uploads ≡ None
@@ -194,12 +194,12 @@ module _ (uploads : List PaperUpload) (counts : List ℕ) (old new : Places) (u 
       let version : u.upload.version ≡ k.version = eqb-true u.upload.version k.version parts.1 in
       let before : u.upload.version ≡ length (uploads_to k.paper uploads) + 1 = next ∙ ap (λ q. length (uploads_to q uploads) + 1) paper in
       none_behind (λ (v : PaperUpload). v.upload) _
-      (found-to k uploads ∙ fresh_number 1 k.version (uploads_to k.paper uploads) (index.versions k.paper) (omega (arith, version, before)))
+      (found-to k uploads ∙ fresh_number 1 k.version (uploads_to k.paper uploads) (is_index.versions k.paper) (omega (arith, version, before)))
 
-  -- a place that was told before has the same upload
+  -- an index that was told before has the same upload
   kept : (k : VersionOf) (o : Option ℕ) → get is_same old k ≡ o → upload_at pushed o ≡ upload_at uploads o
   kept k None is = refl
-  kept k (Some place) is = get-before uploads u place (index.within k place is)
+  kept k (Some index) is = get-before uploads u index (is_index.within k index is)
 
   found-push : (k : VersionOf) → upload_at pushed (get is_same new k) ≡ find (λ (v : PaperUpload). is_same (version_of v) k) pushed
   found-push k = ap (upload_at pushed) (puts k) ∙ by (is_same (version_of u) k) refl ∙ sym (find-append (λ (v : PaperUpload). is_same (version_of v) k) uploads (u ∷ []))
@@ -209,43 +209,43 @@ module _ (uploads : List PaperUpload) (counts : List ℕ) (old new : Places) (u 
 
       by : (b : Bool) → is_same (version_of u) k ≡ b → upload_at pushed (cond b (Some (length uploads)) (get is_same old k)) ≡ option_or all (cond b (Some u) None)
       by true is = get-next uploads u (length uploads) refl ∙ ap (λ (o : Option PaperUpload). option_or o (Some u)) (sym (fresh k is))
-      by false is = kept k (get is_same old k) refl ∙ index.found k ∙ sym (nothing_or all)
+      by false is = kept k (get is_same old k) refl ∙ is_index.found k ∙ sym (nothing_or all)
 
-  within-push : (k : VersionOf) (place : ℕ) → get is_same new k ≡ Some place → place < length pushed
-  within-push k place is = by (is_same (version_of u) k) (sym (puts k) ∙ is)
+  within-push : (k : VersionOf) (index : ℕ) → get is_same new k ≡ Some index → index < length pushed
+  within-push k index is = by (is_same (version_of u) k) (sym (puts k) ∙ is)
     where
       more : length pushed ≡ length uploads + 1
       more = length-append uploads (u ∷ [])
 
-      by : (b : Bool) → cond b (Some (length uploads)) (get is_same old k) ≡ Some place → place < length pushed
-      by true h = let e : length uploads ≡ place = cc in omega (arith, e, more)
-      by false h = let low = index.within k place h in omega (arith, low, more)
+      by : (b : Bool) → cond b (Some (length uploads)) (get is_same old k) ≡ Some index → index < length pushed
+      by true h = let e : length uploads ≡ index = cc in omega (arith, e, more)
+      by false h = let low = is_index.within k index h in omega (arith, low, more)
 
   indexed : IsVersionIndex pushed (slice_set counts i u.upload.version) new
   indexed = record { counted = counted-push; versions = versions-push; found = found-push; within = within-push }
 
-pub indexed-push : (uploads all : List PaperUpload) (counts : List ℕ) (old new : Places) (u : PaperUpload) (i paper place : ℕ) → IsVersionIndex uploads counts old
-    → paper ≡ u.paper → u.paper ≡ i + 1 → u.paper ≤ length counts → u.upload.version ≡ length (uploads_to u.paper uploads) + 1 → place ≡ length uploads
-    → ((k : VersionOf) → get is_same new k ≡ cond (is_same (record { paper = paper; version = u.upload.version }) k) (Some place) (get is_same old k))
+pub indexed-push : (uploads all : List PaperUpload) (counts : List ℕ) (old new : Indices) (u : PaperUpload) (i paper index : ℕ) → IsVersionIndex uploads counts old
+    → paper ≡ u.paper → u.paper ≡ i + 1 → u.paper ≤ length counts → u.upload.version ≡ length (uploads_to u.paper uploads) + 1 → index ≡ length uploads
+    → ((k : VersionOf) → get is_same new k ≡ cond (is_same (record { paper = paper; version = u.upload.version }) k) (Some index) (get is_same old k))
     → all ≡ uploads ++ u ∷ [] → IsVersionIndex all (slice_set counts i u.upload.version) new
-indexed-push uploads all counts old new u i paper place index key at there next behind puts is =
+indexed-push uploads all counts old new u i paper index is_index key at there next behind puts is =
     let put : (k : VersionOf) → get is_same new k ≡ cond (is_same (version_of u) k) (Some (length uploads)) (get is_same old k) = λ k.
     puts k
-    ∙ ap (λ (p : ℕ). cond (is_same (record { paper = p; version = u.upload.version }) k) (Some place) (get is_same old k)) key
+    ∙ ap (λ (p : ℕ). cond (is_same (record { paper = p; version = u.upload.version }) k) (Some index) (get is_same old k)) key
     ∙ ap (λ (n : ℕ). cond (is_same (version_of u) k) (Some n) (get is_same old k)) behind in
-    subst (λ (us : List PaperUpload). IsVersionIndex us (slice_set counts i u.upload.version) new) (sym is) (indexed uploads counts old new u i index at there next put)
+    subst (λ (us : List PaperUpload). IsVersionIndex us (slice_set counts i u.upload.version) new) (sym is) (indexed uploads counts old new u i is_index at there next put)
 
 -- ---- what is read
 
 abbrev content_of : Option PaperUpload → Option (List ℕ)
 content_of o = option_map (λ (u : PaperUpload). u.upload.content) o
 
--- the content at the place of a version is that of the paper's upload of that number
-pub content_at : (uploads : List PaperUpload) (counts : List ℕ) (places : Places) → IsVersionIndex uploads counts places → (p n : ℕ)
-    → option_map (λ (u : PaperUpload). u.upload.content) (upload_at uploads (get is_same places (record { paper = p; version = n }))) ≡ option_map (λ (u : Upload). u.content) (find (λ (u : Upload). eqb u.version n) (uploads_to p uploads))
-content_at uploads counts places index p n =
+-- the content at the index of a version is that of the paper's upload of that number
+pub content_at : (uploads : List PaperUpload) (counts : List ℕ) (indices : Indices) → IsVersionIndex uploads counts indices → (p n : ℕ)
+    → option_map (λ (u : PaperUpload). u.upload.content) (upload_at uploads (get is_same indices (record { paper = p; version = n }))) ≡ option_map (λ (u : Upload). u.content) (find (λ (u : Upload). eqb u.version n) (uploads_to p uploads))
+content_at uploads counts indices is_index p n =
     let k : VersionOf = record { paper = p; version = n } in
-    ap content_of (index.found k)
+    ap content_of (is_index.found k)
     ∙ apart_of (find (λ (u : PaperUpload). is_same (version_of u) k) uploads)
     ∙ ap (option_map (λ (u : Upload). u.content)) (found-to k uploads)
   where
@@ -254,11 +254,11 @@ content_at uploads counts places index p n =
     apart_of (Some u) = refl
 
 -- what is counted of a paper
-pub count-at : (uploads : List PaperUpload) (counts : List ℕ) (places : Places) → IsVersionIndex uploads counts places → (p i : ℕ) → p ≡ i + 1
+pub count-at : (uploads : List PaperUpload) (counts : List ℕ) (indices : Indices) → IsVersionIndex uploads counts indices → (p i : ℕ) → p ≡ i + 1
     → unwrap_or (slice_get counts i) 0 ≡ length (uploads_to p uploads)
-count-at uploads counts places index p i is =
+count-at uploads counts indices is_index p i is =
     let e : p ≡ suc i = omega (arith, is) in
-    ap (λ n. unwrap_or (numbered counts n) 0) (sym e) ∙ index.counted p
+    ap (λ n. unwrap_or (numbered counts n) 0) (sym e) ∙ is_index.counted p
 
 pub length-uploads_to : (p : ℕ) (uploads : List PaperUpload) → length (uploads_to p uploads) ≤ length uploads
 length-uploads_to p [] = omega arith

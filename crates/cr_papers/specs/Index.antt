@@ -25,13 +25,13 @@ version_of u = record { paper = u.paper; version = u.upload.version }
 abbrev pub is_same : VersionOf → VersionOf → Bool
 is_same k l = k.paper == l.paper && k.version == l.version
 
--- the upload that stands at a place, if one is told
+-- the upload that stands at an index, if one is told
 abbrev pub upload_at : List PaperUpload → Option ℕ → Option PaperUpload
-upload_at uploads place = option_and_then (slice_get uploads) place
+upload_at uploads index = option_and_then (slice_get uploads) index
 
--- each paper's versions are 1, 2 and so on, as many as are counted; and each is found at its place, and no other
-pub record IsVersionIndex (uploads : List PaperUpload) (counts : List ℕ) (places : IndexMap VersionOf ℕ (BuildHasherDefault FoldHasher)) : Type 0 where
+-- each paper's versions are 1, 2 and so on, as many as are counted; and each is found at its index, and no other
+pub record IsVersionIndex (uploads : List PaperUpload) (counts : List ℕ) (indices : IndexMap VersionOf ℕ (BuildHasherDefault FoldHasher)) : Type 0 where
   pub counted : (p : ℕ) → unwrap_or (numbered counts p) 0 ≡ length (uploads_to p uploads)
   pub versions : (p : ℕ) → map (λ (u : Upload). u.version) (uploads_to p uploads) ≡ numbers_from 1 (uploads_to p uploads)
-  pub found : (k : VersionOf) → upload_at uploads (get is_same places k) ≡ find (λ (u : PaperUpload). is_same (version_of u) k) uploads
-  pub within : (k : VersionOf) (i : ℕ) → get is_same places k ≡ Some i → i < length uploads
+  pub found : (k : VersionOf) → upload_at uploads (get is_same indices k) ≡ find (λ (u : PaperUpload). is_same (version_of u) k) uploads
+  pub within : (k : VersionOf) (i : ℕ) → get is_same indices k ≡ Some i → i < length uploads

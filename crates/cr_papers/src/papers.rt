@@ -108,7 +108,7 @@ impl Papers {
     pub fn last_title(&self, paper: PaperNo) -> Option<&Text>
         ensures { option_copied result ≡ title_at self.now.papers paper }
     {
-        let paper = self.papers.get(paper.place())?;
+        let paper = self.papers.get(paper.from_zero())?;
         Some(&paper.title)
     }
 
@@ -117,7 +117,7 @@ impl Papers {
     pub fn last_abstract(&self, paper: PaperNo) -> Option<&Text>
         ensures { option_copied result ≡ abstract_at self.now.papers paper }
     {
-        let paper = self.papers.get(paper.place())?;
+        let paper = self.papers.get(paper.from_zero())?;
         Some(&paper.abstract_)
     }
 
@@ -125,7 +125,7 @@ impl Papers {
     pub fn is_withdrawn(&self, paper: PaperNo) -> bool
         ensures { result ≡ is_withdrawn_at self.now.papers paper }
     {
-        match self.papers.get(paper.place()) {
+        match self.papers.get(paper.from_zero()) {
             Some(paper) => paper.withdrawn,
             None => false,
         }
@@ -317,7 +317,7 @@ impl Papers {
                 title,
                 abstract_,
             } => {
-                let revised = &mut self.papers[paper.place()];
+                let revised = &mut self.papers[paper.from_zero()];
                 revised.title = title;
                 revised.abstract_ = abstract_;
             }
@@ -330,7 +330,7 @@ impl Papers {
                 self.uploads.add(paper, version, content);
             }
             Entry::Withdrawn { paper } => {
-                self.papers[paper.place()].withdrawn = true;
+                self.papers[paper.from_zero()].withdrawn = true;
             }
             _ => {}
         }

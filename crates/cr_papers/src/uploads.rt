@@ -32,7 +32,7 @@ impl Model for Kept {
     ghost view = { λ k. record { paper = k.paper; upload = record { version = k.version; content = k.content } } };
 }
 
-/// All uploads in their order, and the place of each version of a paper among them.
+/// All uploads in their order, and the index of each version of a paper among them.
 ///
 /// Contracts see the uploads, how many papers there are, and for how many more of either there is room.
 /// A paper's versions are 1, 2 and so on, and each is found by its number: that is true of every table.
@@ -41,8 +41,8 @@ pub(crate) struct Uploads {
     uploads: Vec<Kept>,
     // How many versions each paper has, by its number.
     counts: Vec<u64>,
-    // The place of each among the uploads.
-    places: IndexMap<VersionOf, usize>,
+    // The index of each among the uploads.
+    indices: IndexMap<VersionOf, usize>,
 }
 
 impl Model for Uploads {
@@ -56,10 +56,10 @@ impl Model for Uploads {
     ghost view = { λ t. record {
       uploads = t.uploads.items;
       papers = length t.counts.items;
-      room = min (vec_capacity t.uploads - vec_len t.uploads) (min (vec_capacity t.counts - vec_len t.counts) (spare t.places));
+      room = min (vec_capacity t.uploads - vec_len t.uploads) (min (vec_capacity t.counts - vec_len t.counts) (spare t.indices));
     } };
 
-    ghost invariant = { λ t. IsVersionIndex t.uploads.items t.counts.items t.places };
+    ghost invariant = { λ t. IsVersionIndex t.uploads.items t.counts.items t.indices };
 }
 
 /// What is read.
@@ -72,7 +72,7 @@ impl Uploads {
         Uploads {
             uploads: Vec::new(alloc),
             counts: Vec::new(alloc),
-            places: IndexMap::new(alloc),
+            indices: IndexMap::new(alloc),
         }
     }
 
@@ -83,7 +83,7 @@ impl Uploads {
         ensures numbers { map (λ u. u.version) (uploads_to paper self.now.uploads) ≡ numbers_from 1 (uploads_to paper self.now.uploads) }
         ensures few { result < 2 ^ 63 }
     {
-        count_at(&self.counts, paper.place())
+        count_at(&self.counts, paper.from_zero())
     }
 
     /// The number of a paper's last version, and none where it has none. One read by number.
@@ -113,7 +113,7 @@ impl Uploads {
             paper: paper.number(),
             version,
         };
-        content_at(&self.uploads, self.places.get(&key).copied())
+        content_at(&self.uploads, self.indices.get(&key).copied())
     }
 
     /// The content of a paper's last version, and none where it has none. One look-up.
@@ -136,7 +136,7 @@ impl Uploads {
     {
         self.uploads.reserve(more)?;
         self.counts.reserve(more)?;
-        self.places.reserve(more)
+        self.indices.reserve(more)
     }
 
     /// One more paper, with no versions, for which there is room; takes no memory.
@@ -162,11 +162,11 @@ impl Uploads {
             paper: paper.number(),
             version,
         };
-        match self.places.insert(key, self.uploads.len()) {
+        match self.indices.insert(key, self.uploads.len()) {
             Ok(_) => {}
             Err(_) => unreachable!(),
         }
-        self.counts[paper.place()] = version;
+        self.counts[paper.from_zero()] = version;
         self.uploads.push_reserved(Kept {
             paper,
             version,
@@ -175,21 +175,21 @@ impl Uploads {
     }
 }
 
-/// The count at a place, and 0 behind the last.
-fn count_at(counts: &[u64], place: usize) -> u64
-    ensures { result ≡ unwrap_or (slice_get counts.now place) 0 }
+/// The count at an index, and 0 behind the last.
+fn count_at(counts: &[u64], index: usize) -> u64
+    ensures { result ≡ unwrap_or (slice_get counts.now index) 0 }
 {
-    match counts.get(place) {
+    match counts.get(index) {
         Some(count) => *count,
         None => 0,
     }
 }
 
-/// The content of the upload at a place, if one is told.
-fn content_at(uploads: &[Kept], place: Option<usize>) -> Option<&Blob>
-    ensures { option_copied result ≡ option_map (λ u. u.upload.content) (upload_at uploads.now place) }
+/// The content of the upload at an index, if one is told.
+fn content_at(uploads: &[Kept], index: Option<usize>) -> Option<&Blob>
+    ensures { option_copied result ≡ option_map (λ u. u.upload.content) (upload_at uploads.now index) }
 {
-    let kept = uploads.get(place?)?;
+    let kept = uploads.get(index?)?;
     Some(&kept.content)
 }
 

@@ -24,14 +24,14 @@ use Rattle.cr_history.specs.Laws.{AreTold, AreFormsTold}
 use Rattle.cr_history.specs.Invariants.{IsRegistered, Invariants, InTurn, IsInOrder, ComesFirst}
 use Rattle.cr_history.proofs.GrowthLaws.{tables_tell}
 use Rattle.cr_history.proofs.RuleLaws.{facts_of, is_told_all, TellsSeats, registration-adds, command-adds}
-use Rattle.cr_history.proofs.SizeTies.{sized-tables}
+use Rattle.cr_history.proofs.SizeAgreement.{sized-tables}
 use Rattle.cr_policy.specs.Judge.{judge}
 use Rattle.cr_policy.specs.Legal.{IsCaller, IsUser}
 use Rattle.cr_policy.specs.View.{View, view}
 use Rattle.cr_policy.specs.ViewFacts.{accounts_in_view, is_conflict_on_in_view, users_where, facts_in_view, shown_in_view}
-use Rattle.cr_policy.proofs.BidTies.{users-registered}
+use Rattle.cr_policy.proofs.BidAgreement.{users-registered}
 use Rattle.cr_policy.proofs.DecisionTells.{accepted-seen}
-use Rattle.cr_policy.proofs.JudgeTies.{judge-tables}
+use Rattle.cr_policy.proofs.JudgeAgreement.{judge-tables}
 use Rattle.cr_policy.proofs.PageTells.{authors-seen, conflicts-seen}
 use Rattle.cr_policy.proofs.ReviewerTells.{seat-seen_by_chair, labels-seen}
 use Rattle.cr_policy.proofs.ReviewTells.{own_forms-seen, written-seen}
@@ -59,7 +59,7 @@ facts-seen u H = λ i. record {
   own_papers = own_papers-seen u H i;
   own_bytes = own_bytes-seen u H i;
   own_bid = λ p. own_bid-seen u p H i;
-  own_seat = λ p. seat-seen u p H i;
+  own_ordinal = λ p. seat-seen u p H i;
   own_forms = λ p. own_forms-seen u p H i;
   own_comments = own_comments-seen u H i;
   accepted = λ p. accepted-seen u p H i;
@@ -98,7 +98,7 @@ module _ (user : ℕ) (H : History) where
         (authors-seen (Some user) p H (shown (is_author (Some user) p H) (is_told_all H user p) _ (is_accepted p H) told))
         ∙ ap (λ b. is_author (Some v) p H || b)
         (users_where-seen v (λ w. is_conflict_on_in_view (Some w) p V) registered ∙ conflicts-seen (Some user) p H told (Some v));
-    seat = λ p v told. seat-seen_by_chair (Some user) (Some v) p H told;
+    ordinal = λ p v told. seat-seen_by_chair (Some user) (Some v) p H told;
     labels = λ p told. labels-seen (Some user) p H told;
     written = λ p o told. written-seen (Some user) p o H (and_parts (is_clear_chair (standing_of (Some user) (Some p) H)) _ told).0;
   }

@@ -30,7 +30,7 @@ use Rattle.cr_base.specs.Drawn.{Drawn, grouped, registration, besides, submissio
 use Rattle.cr_base.specs.Drawn.{unassignment_drawn, review_drawn}
 use Rattle.cr_base.specs.Drawn.{registration_drawn}
 use Rattle.cr_base.specs.History.{History, FormTold}
-use Rattle.cr_base.specs.HistoryFacts.{standing_of, phase_of, accounts_of, papers_of, number_of, seat_of, seats_of, forms_of, own_forms_of}
+use Rattle.cr_base.specs.HistoryFacts.{standing_of, phase_of, accounts_of, papers_of, number_of, ordinal_of, seats_of, forms_of, own_forms_of}
 use Rattle.cr_base.specs.HistoryFacts.{own_papers_of, own_bytes_of, own_comments_of, is_written}
 use Rattle.cr_base.specs.Judging.{judge_by, name_judged, conflict_judged, assignment_judged, unassignment_judged}
 use Rattle.cr_base.specs.Lists.{listed, given, at_some, is_number, is_nothing}
@@ -238,7 +238,7 @@ module _ (w : ℕ) (H : History) (legal : Legal H) where
   comments None text drawn accepted = refused rules.NoPaper drawn (judged-by u H legal (commands.Comment None text) drawn accepted)
   comments (Some p) text drawn accepted =
       one (commands.Comment (Some p) text) drawn (comment_checks (by p) (named p) (own_comments_of u H))
-      (entries.Commented p (next_comment p H) (seat_of u p H) text) (receipts.Comment (next_comment p H)) refl accepted
+      (entries.Commented p (next_comment p H) (ordinal_of u p H) text) (receipts.Comment (next_comment p H)) refl accepted
 
   tags : (paper : Option ℕ) (tag : List ℕ) (on : Bool) (drawn : Drawn) → Accepted (commands.Tag paper tag on) drawn → Adds (commands.Tag paper tag on) drawn
   tags None tag on drawn accepted = refused rules.NoPaper drawn (judged-by u H legal (commands.Tag None tag on) drawn accepted)
@@ -328,7 +328,7 @@ module _ (w : ℕ) (H : History) (legal : Legal H) where
             herself = eqb v w;
             author = wrote;
             conflicted = wrote || list_any (is_number (Some v)) ((shown_of H).conflicts p);
-            reviewer = is_some (seat_of (Some v) p H);
+            reviewer = is_some (ordinal_of (Some v) p H);
           }
 
       -- who reviews has a seat
@@ -345,32 +345,32 @@ module _ (w : ℕ) (H : History) (legal : Legal H) where
       each : (target : Option ℕ) → unassignment_judged (facts_of u H) (shown_of H) u (Some p) target ≡ Ok drawn
           → IsAdded w (flat_map (λ v. for_label v p H (λ o. entries.Unassigned p v o)) (listed target)) (receipts.Changed p ∷ []) drawn
       each None is =
-          absurd (true≢false (judged-Ok (unassign_checks (by p) (named p) None (at_some (λ o. is_written p o H) (seat_of None p H)))
-          (unassignment_drawn w p 0 (unwrap_or (seat_of None p H) 0)) drawn is).0.1.0)
+          absurd (true≢false (judged-Ok (unassign_checks (by p) (named p) None (at_some (λ o. is_written p o H) (ordinal_of None p H)))
+          (unassignment_drawn w p 0 (unwrap_or (ordinal_of None p H) 0)) drawn is).0.1.0)
       each (Some v) is =
-          let k = judged-Ok (unassign_checks (by p) (named p) (asked p (Some v)) (at_some (λ o. is_written p o H) (seat_of (Some v) p H)))
-          (unassignment_drawn w p v (unwrap_or (seat_of (Some v) p H) 0)) drawn is in
+          let k = judged-Ok (unassign_checks (by p) (named p) (asked p (Some v)) (at_some (λ o. is_written p o H) (ordinal_of (Some v) p H)))
+          (unassignment_drawn w p v (unwrap_or (ordinal_of (Some v) p H) 0)) drawn is in
           subst (IsAdded w (for_label v p H (λ o. entries.Unassigned p v o) ++ []) (receipts.Changed p ∷ [])) k.1
-          (under v (seat_of (Some v) p H)
-          (seated (role_among (accounts_of H) (Some v)) (target_at p v) (is_some (seat_of (Some v) p H)) (λ r. refl) k.0.1.1.1.1.1.1.0))
+          (under v (ordinal_of (Some v) p H)
+          (seated (role_among (accounts_of H) (Some v)) (target_at p v) (is_some (ordinal_of (Some v) p H)) (λ r. refl) k.0.1.1.1.1.1.1.0))
 
   reviewed : (paper : Option ℕ) (form : Form) (drawn : Drawn) → Accepted (commands.Review paper form) drawn → Adds (commands.Review paper form) drawn
   reviewed None form drawn accepted = refused rules.NoPaper drawn (judged-by u H legal (commands.Review None form) drawn accepted)
   reviewed (Some p) form drawn accepted =
       let k = drawn-by u H legal (commands.Review (Some p) form) (review_checks (by p) (named p))
-      (review_drawn w p (unwrap_or (seat_of u p H) 0) (length (own_forms_of u p H) + 1) form) drawn refl accepted in
-      subst (Adds (commands.Review (Some p) form)) k.1 (under (seat_of u p H) refl (was-true (is_some (seat_of u p H)) k.0.1.1.1.0))
+      (review_drawn w p (unwrap_or (ordinal_of u p H) 0) (length (own_forms_of u p H) + 1) form) drawn refl accepted in
+      subst (Adds (commands.Review (Some p) form)) k.1 (under (ordinal_of u p H) refl (was-true (is_some (ordinal_of u p H)) k.0.1.1.1.0))
     where
       -- her forms are those under her label
-      hers : (o : ℕ) → seat_of u p H ≡ Some o → own_forms_of u p H ≡ forms_of p o H
+      hers : (o : ℕ) → ordinal_of u p H ≡ Some o → own_forms_of u p H ≡ forms_of p o H
       hers o is =
           (forms u H legal).own u p
           ∙ ap (λ (seat : Option ℕ). flat_map (λ (o : ℕ). map written_told (forms_in (tables_of H).reviews p o)) (listed seat))
-          (sym ((told u H legal).seat u p) ∙ is)
+          (sym ((told u H legal).ordinal u p) ∙ is)
           ∙ append-nil (map written_told (forms_in (tables_of H).reviews p o))
           ∙ sym ((told u H legal).forms p o)
 
-      under : (seat : Option ℕ) → seat_of u p H ≡ seat → is_some seat ≡ true
+      under : (seat : Option ℕ) → ordinal_of u p H ≡ seat → is_some seat ≡ true
           → IsAdded w (listed (option_map (λ o. entries.Reviewed p o (next_form p o H) form) seat))
           (listed (option_map (λ o. receipts.Version (next_form p o H)) seat))
           (review_drawn w p (unwrap_or seat 0) (length (own_forms_of u p H) + 1) form)

@@ -15,8 +15,8 @@ use Rattle.cr_base.specs.History.{History, all_told, role_told}
 use Rattle.cr_base.specs.HistoryFacts.{mode_of, phase_of, role_of, authors_of, is_author}
 use Rattle.cr_policy.specs.Sighting.{Sighting, blank}
 use Rattle.cr_policy.specs.ViewFacts.{is_user}
-use Rattle.cr_policy.specs.ShownTo.{is_on_committee, leads_committee, is_past_submission, is_past_reviewing, is_past_discussion}
-use Rattle.cr_policy.specs.ShownTo.{hides_authors, hides_reviewers, names_reviewers, has_conflict, serves, handles, oversees, leads, discusses, is_answered}
+use Rattle.cr_policy.specs.ShownTo.{is_on_committee, chairs_committee, is_past_submission, is_past_reviewing, is_past_discussion}
+use Rattle.cr_policy.specs.ShownTo.{hides_authors, hides_reviewers, names_reviewers, has_conflict, serves, is_eligible, oversees, administers, discusses, is_answered}
 use Rattle.cr_policy.specs.ShownTo.{is_in_programme, appears, is_decided_again, learns_outcome, is_announced}
 use Rattle.cr_policy.specs.ShownTo.{is_replaced, is_superseded, is_reviewed, is_discussed, is_party, is_told, where_known, paper_for, reviewer_for}
 use Rattle.cr_policy.specs.ShownTo.{knows_writers, learns_form, is_committees, is_chairs}
@@ -36,7 +36,7 @@ known-alone known true x h = refl
 known-alone known false x h = known-not known x (h refl)
 
 -- a text isn't shown to one who is no author of the paper and may not know the last one, where it isn't public; nor is who made it
--- to one who doesn't handle the paper
+-- to one who isn't eligible for the paper
 text-hidden : (a n s p : Bool) → a ≡ false → (s || p) ≡ false → (a || (n && (s || p))) ≡ false
 text-hidden a n s p ha hs = grind (arith, ha, hs)
 
@@ -72,7 +72,7 @@ seat-untold : (n own chair clear h d a names past : Bool) → n ≡ false → ow
     → ((n || own || (chair && clear)) || (h && d) || (a && names && past)) ≡ true → ⊥
 seat-untold n own chair clear h d a names past hn ho hl hh ha told = grind (arith, hn, ho, hl, hh, ha, told)
 
--- of forms none is told but their makers and those who lead the paper, and these read nothing of them; of comments and tags none
+-- of forms none is told but their makers and those who administer the paper, and these read nothing of them; of comments and tags none
 -- but their makers
 form-left : (own h past k l n a d r : Bool) → h ≡ false → a ≡ false → ((own || ((h && past) && k)) || (l && n) || ((a && d) && r)) ≡ true → (own || l) ≡ true
 form-left own h past k l n a d r hh ha told = grind (arith, hh, ha, told)
@@ -108,18 +108,18 @@ pub user-known : (u : Option ℕ) (known : Bool) (user : ℕ) → is_user u (whe
 user-known u true user = refl
 user-known u false user = refl
 
--- ---- who neither wrote a paper nor handles it
+-- ---- who neither wrote a paper nor is eligible for it
 
-module _ (u : Option ℕ) (H : History) (paper : ℕ) (wrote : is_author u paper H ≡ false) (handled : handles u paper H ≡ false) where
+module _ (u : Option ℕ) (H : History) (paper : ℕ) (wrote : is_author u paper H ≡ false) (handled : is_eligible u paper H ≡ false) where
   -- who submitted the paper is known where the paper is in the programme; a title to those who serve besides; and a text that isn't
   -- her own where the paper appears
   abbrev maker_known : Bool
-  maker_known = is_author u paper H || oversees u paper H || (handles u paper H && not (hides_authors (mode_of H))) || is_in_programme paper H
+  maker_known = is_author u paper H || oversees u paper H || (is_eligible u paper H && not (hides_authors (mode_of H))) || is_in_programme paper H
 
   maker-left : (maker : ℕ) → where_known maker_known maker ≡ cond (is_in_programme paper H) (where_known maker_known maker) None
   maker-left maker =
       known-alone maker_known (is_in_programme paper H) maker
-      (maker-hidden (is_author u paper H) (handles u paper H) (leads_committee (role_of u H)) (hides_authors (mode_of H)) (is_in_programme paper H)
+      (maker-hidden (is_author u paper H) (is_eligible u paper H) (chairs_committee (role_of u H)) (hides_authors (mode_of H)) (is_in_programme paper H)
       wrote handled)
 
   abbrev title_known : Bool → Bool
@@ -132,24 +132,24 @@ module _ (u : Option ℕ) (H : History) (paper : ℕ) (wrote : is_author u paper
       (text-hidden (is_author u paper H) (not replaced) (serves u H) (is_in_programme paper H) wrote)
 
   abbrev text_known : Bool → Bool → Bool
-  text_known own replaced = (own || is_author u paper H) || (not replaced && (handles u paper H || appears paper H))
+  text_known own replaced = (own || is_author u paper H) || (not replaced && (is_eligible u paper H || appears paper H))
 
   text-left : (own replaced : Bool) (text : List ℕ)
       → where_known (text_known own replaced) text ≡ cond (own || appears paper H) (where_known (text_known own replaced) text) None
   text-left own replaced text =
       known-alone (text_known own replaced) (own || appears paper H) text
-      (text-unread own (is_author u paper H) (not replaced) (handles u paper H) (appears paper H) wrote handled)
+      (text-unread own (is_author u paper H) (not replaced) (is_eligible u paper H) (appears paper H) wrote handled)
 
   -- whoever is told of an assignment is a party to it
   party : (user maker : ℕ) → (is_party u H maker paper user || discusses u paper H || is_answered u paper H) ≡ true
-      → (is_number u maker || is_user u (reviewer_for u H maker paper user) || leads u paper H) ≡ true
+      → (is_number u maker || is_user u (reviewer_for u H maker paper user) || administers u paper H) ≡ true
   party user maker told =
-      ap (λ b. is_number u maker || b || leads u paper H) (user-known u _ user)
-      ∙ seat-left (is_number u user) (is_number u maker) (leads u paper H) (handles u paper H) (is_past_reviewing (phase_of H))
+      ap (λ b. is_number u maker || b || administers u paper H) (user-known u _ user)
+      ∙ seat-left (is_number u user) (is_number u maker) (administers u paper H) (is_eligible u paper H) (is_past_reviewing (phase_of H))
       (not (hides_reviewers (mode_of H))) (is_author u paper H) (names_reviewers (mode_of H)) (is_past_discussion (phase_of H))
       handled wrote told
 
-  -- a form is left to its maker, who reads it, and to those who lead the paper, who are told that it is there
+  -- a form is left to its maker, who reads it, and to those who administer the paper, who are told that it is there
   module _ (before later : History) (ordinal : ℕ) where
     abbrev form_known : Bool → Bool
     form_known own = own || (discusses u paper H && is_discussed paper ordinal before later)
@@ -160,21 +160,21 @@ module _ (u : Option ℕ) (H : History) (paper : ℕ) (wrote : is_author u paper
     abbrev done_known : Bool → Bool
     done_known led = led && not (is_reviewed paper ordinal before)
 
-    left-form : (own : Bool) → (form_known own || done_known (leads u paper H) || learns_form u H later paper ordinal) ≡ true → (own || leads u paper H) ≡ true
+    left-form : (own : Bool) → (form_known own || done_known (administers u paper H) || learns_form u H later paper ordinal) ≡ true → (own || administers u paper H) ≡ true
     left-form own told =
-        form-left own (handles u paper H) (is_past_reviewing (phase_of H)) (is_discussed paper ordinal before later) (leads u paper H)
+        form-left own (is_eligible u paper H) (is_past_reviewing (phase_of H)) (is_discussed paper ordinal before later) (administers u paper H)
         (not (is_reviewed paper ordinal before)) (is_author u paper H) (is_past_discussion (phase_of H)) (not (is_reviewed paper ordinal later))
         handled wrote told
 
     form-own : {A : Type 0} (own : Bool) (x : A) → where_known (form_known own) x ≡ cond own (where_known (form_known own) x) None
     form-own own x =
         known-alone (form_known own) own x (λ other. ap (λ b. b || (discusses u paper H && is_discussed paper ordinal before later)) other
-        ∙ form-unread (handles u paper H) (is_past_reviewing (phase_of H)) (is_discussed paper ordinal before later) handled)
+        ∙ form-unread (is_eligible u paper H) (is_past_reviewing (phase_of H)) (is_discussed paper ordinal before later) handled)
 
     review-own : {A : Type 0} (own : Bool) (x : A) → where_known (review_known own) x ≡ cond own (where_known (review_known own) x) None
     review-own own x =
         known-alone (review_known own) own x (λ other. ap review_known other
-        ∙ review-unread (handles u paper H) (is_past_reviewing (phase_of H)) (is_discussed paper ordinal before later) (is_author u paper H)
+        ∙ review-unread (is_eligible u paper H) (is_past_reviewing (phase_of H)) (is_discussed paper ordinal before later) (is_author u paper H)
         (is_past_discussion (phase_of H)) (not (is_reviewed paper ordinal later)) handled wrote)
 
     done-led : (led : Bool) → where_known (done_known led) true ≡ cond led (where_known (done_known led) true) None
@@ -187,7 +187,7 @@ module _ (u : Option ℕ) (H : History) (paper : ℕ) (wrote : is_author u paper
 
     decision-told : (own : Bool) → (verdict_known own || is_announced H later paper) ≡ true → (own || is_announced H later paper) ≡ true
     decision-told own told =
-        decision-left own (handles u paper H) (is_past_reviewing (phase_of H)) (not (is_decided_again paper later)) (is_author u paper H)
+        decision-left own (is_eligible u paper H) (is_past_reviewing (phase_of H)) (not (is_decided_again paper later)) (is_author u paper H)
         (is_past_discussion (phase_of H)) (is_announced H later paper) handled wrote told
 
     announced-in : is_announced H later paper ≡ true → is_in_programme paper H ≡ true
@@ -195,7 +195,7 @@ module _ (u : Option ℕ) (H : History) (paper : ℕ) (wrote : is_author u paper
 
     verdict-unknown : (own : Bool) → own ≡ false → verdict_known own ≡ false
     verdict-unknown own other =
-        verdict-unread own (handles u paper H) (is_past_reviewing (phase_of H)) (not (is_decided_again paper later)) (is_author u paper H)
+        verdict-unread own (is_eligible u paper H) (is_past_reviewing (phase_of H)) (not (is_decided_again paper later)) (is_author u paper H)
         (is_past_discussion (phase_of H)) other handled wrote
 
     outcome-unknown : learns_outcome u H later paper ≡ false
@@ -209,7 +209,7 @@ module _ (u : Option ℕ) (H : History) (paper : ℕ) (wrote : is_author u paper
 -- what the bounds leave of an entry, on its paper
 abbrev LeftAt : Option ℕ → History → Sighting → Option ℕ → Type 0
 LeftAt u H s None = Unit {0}
-LeftAt u H s (Some paper) = is_author u paper H ≡ false → handles u paper H ≡ false → IsLeft u (outsider u paper H) s.kind s
+LeftAt u H s (Some paper) = is_author u paper H ≡ false → is_eligible u paper H ≡ false → IsLeft u (outsider u paper H) s.kind s
 
 module _ (u : Option ℕ) (H : History) where
   left-one : (before later : History) (maker : ℕ) (e : Entry) → IsWriters u H maker e → is_told u H before later maker e ≡ true
@@ -229,7 +229,7 @@ module _ (u : Option ℕ) (H : History) where
           by true h = absurd (false≢true (sym wrote ∙ h refl))
           by false h = refl
   left-one before later maker (Coauthor paper user) writes told = λ wrote handled. (
-    coauthor-left (is_number u maker) (is_author u paper H) (handles u paper H) (leads_committee (role_of u H)) (hides_authors (mode_of H))
+    coauthor-left (is_number u maker) (is_author u paper H) (is_eligible u paper H) (chairs_committee (role_of u H)) (hides_authors (mode_of H))
         (is_in_programme paper H) wrote handled told,
     refl,
   )
@@ -240,26 +240,26 @@ module _ (u : Option ℕ) (H : History) where
     },
   )
   left-one before later maker (Uploaded paper version content) writes told = λ wrote handled. (
-    upload-left (is_number u maker) (is_author u paper H) (not (is_superseded paper later)) (handles u paper H) (appears paper H) wrote handled told,
+    upload-left (is_number u maker) (is_author u paper H) (not (is_superseded paper later)) (is_eligible u paper H) (appears paper H) wrote handled told,
     refl,
   )
   left-one before later maker (Withdrawn paper) writes told = λ wrote handled.
       (withdrawal-left (is_number u maker) (is_author u paper H) (serves u H) wrote told, refl)
   left-one before later maker (Conflict paper user on) writes told = λ wrote handled. (
     hers (is_number u user) (is_number u maker) (is_author u paper H) (is_author (Some maker) paper H) (oversees u paper H) wrote
-        (ap (λ b. b && leads_committee (role_of u H)) handled) told,
+        (ap (λ b. b && chairs_committee (role_of u H)) handled) told,
     refl,
   )
     where
       hers : (named own a w o : Bool) → a ≡ false → o ≡ false → (named || own || (a && w) || o) ≡ true → (own || named) ≡ true
       hers named own a w o ha ho h = grind arith
   left-one before later maker (Bid paper value) writes told = λ wrote handled. (
-    bid-own (is_number u maker) (handles u paper H) (leads_committee (role_of u H)) handled told,
+    bid-own (is_number u maker) (is_eligible u paper H) (chairs_committee (role_of u H)) handled told,
     λ i. record (shown_to u H before later maker (Bid paper value)) {
-      by = known-not _ maker (ap (λ b. b && leads_committee (role_of u H)) handled) i;
+      by = known-not _ maker (ap (λ b. b && chairs_committee (role_of u H)) handled) i;
     },
   )
-  left-one before later maker (Assigned paper user seat ordinal) writes told = λ wrote handled. (party u H paper wrote handled user maker told, refl)
+  left-one before later maker (Assigned paper user review_kind ordinal) writes told = λ wrote handled. (party u H paper wrote handled user maker told, refl)
   left-one before later maker (Unassigned paper user ordinal) writes told = λ wrote handled. (party u H paper wrote handled user maker told, refl)
   left-one before later maker (Reviewed paper ordinal version form) writes told = λ wrote handled. (
     left-form u H paper wrote handled before later ordinal (is_number u maker) told,
@@ -269,17 +269,17 @@ module _ (u : Option ℕ) (H : History) where
       confidence = review-own u H paper wrote handled before later ordinal (is_number u maker) form.confidence i;
       to_authors = review-own u H paper wrote handled before later ordinal (is_number u maker) form.to_authors i;
       to_pc = form-own u H paper wrote handled before later ordinal (is_number u maker) form.to_pc i;
-      done = done-led u H paper wrote handled before later ordinal (leads u paper H) i;
+      done = done-led u H paper wrote handled before later ordinal (administers u paper H) i;
     },
   )
   left-one before later maker (Commented paper n ordinal text) writes told = λ wrote handled. (
-    comment-own (is_number u maker) (handles u paper H) (is_past_reviewing (phase_of H)) handled told,
+    comment-own (is_number u maker) (is_eligible u paper H) (is_past_reviewing (phase_of H)) handled told,
     λ i. record (shown_to u H before later maker (Commented paper n ordinal text)) {
-      by = known-not _ maker (form-unread (handles u paper H) (is_past_reviewing (phase_of H)) (knows_writers u H) handled) i;
+      by = known-not _ maker (form-unread (is_eligible u paper H) (is_past_reviewing (phase_of H)) (knows_writers u H) handled) i;
     },
   )
   left-one before later maker (Tagged paper tag on) writes told = λ wrote handled. (
-    tag-own (is_number u maker) (is_committees tag) (is_chairs tag) (handles u paper H) (leads_committee (role_of u H)) handled told,
+    tag-own (is_number u maker) (is_committees tag) (is_chairs tag) (is_eligible u paper H) (chairs_committee (role_of u H)) handled told,
     refl,
   )
   left-one before later maker (Decided paper decision) writes told = λ wrote handled. (
@@ -310,24 +310,24 @@ outsiders-shown u p H out =
     on-paper s None left on_it = absurd (false≢true on_it)
     on-paper s (Some paper) left on_it =
         let same : paper ≡ p = eqb-true paper p on_it in
-        let parts = or_parts (is_author u p H) (handles u p H) out in
+        let parts = or_parts (is_author u p H) (is_eligible u p H) out in
         subst (λ n. IsLeft u (outsider u n H) s.kind s) same
-        (left (ap (λ n. is_author u n H) same ∙ parts.0) (ap (λ n. handles u n H) same ∙ parts.1))
+        (left (ap (λ n. is_author u n H) same ∙ parts.0) (ap (λ n. is_eligible u n H) same ∙ parts.1))
 
 -- ---- strangers, and nobody
 
 -- the entry doesn't name her on a paper, nor is she a chair whom it would show an assignment or a form
 abbrev IsUnnamed : Option ℕ → History → Entry → Type 0
-IsUnnamed u H e = (names_her u e ≡ false) × ((leads_committee (role_of u H) && is_reviewing e) ≡ false)
+IsUnnamed u H e = (names_her u e ≡ false) × ((chairs_committee (role_of u H) && is_reviewing e) ≡ false)
 
 module _ (u : Option ℕ) (H : History) (stranger : IsStranger u H) where
-  unhandled : (p : ℕ) → handles u p H ≡ false
+  unhandled : (p : ℕ) → is_eligible u p H ≡ false
   unhandled p = ap (λ b. b && not (has_conflict u p H)) stranger.serving
 
-  untold : (paper user maker : ℕ) → is_number u user ≡ false → (leads_committee (role_of u H) && true) ≡ false
+  untold : (paper user maker : ℕ) → is_number u user ≡ false → (chairs_committee (role_of u H) && true) ≡ false
       → (is_party u H maker paper user || discusses u paper H || is_answered u paper H) ≡ true → is_number u maker ≡ false → ⊥
   untold paper user maker unnamed chair told other =
-      seat-untold (is_number u user) (is_number u maker) (leads_committee (role_of u H)) (not (has_conflict u paper H)) (handles u paper H)
+      seat-untold (is_number u user) (is_number u maker) (chairs_committee (role_of u H)) (not (has_conflict u paper H)) (is_eligible u paper H)
       (is_past_reviewing (phase_of H)) (is_author u paper H) (names_reviewers (mode_of H)) (is_past_discussion (phase_of H))
       unnamed other chair (unhandled paper) (stranger.author paper) told
 
@@ -372,7 +372,7 @@ module _ (u : Option ℕ) (H : History) (stranger : IsStranger u H) where
   }
   public-one before later maker (Coauthor paper user) unnamed told other = (
     public (is_number u maker) (is_in_programme paper H) other
-        (coauthor-left (is_number u maker) (is_author u paper H) (handles u paper H) (leads_committee (role_of u H)) (hides_authors (mode_of H))
+        (coauthor-left (is_number u maker) (is_author u paper H) (is_eligible u paper H) (chairs_committee (role_of u H)) (hides_authors (mode_of H))
         (is_in_programme paper H) (stranger.author paper) (unhandled paper) told),
     λ i. record (shown_to u H before later maker (Coauthor paper user)) { mine = other i },
   )
@@ -387,25 +387,25 @@ module _ (u : Option ℕ) (H : History) (stranger : IsStranger u H) where
   )
   public-one before later maker (Uploaded paper version content) unnamed told other = (
     public (is_number u maker) (appears paper H) other
-        (upload-left (is_number u maker) (is_author u paper H) (not (is_superseded paper later)) (handles u paper H) (appears paper H)
+        (upload-left (is_number u maker) (is_author u paper H) (not (is_superseded paper later)) (is_eligible u paper H) (appears paper H)
         (stranger.author paper) (unhandled paper) told),
     λ i. record (shown_to u H before later maker (Uploaded paper version content)) { mine = other i },
   )
   public-one before later maker (Bid paper value) unnamed told other =
-      hers other (bid-own (is_number u maker) (handles u paper H) (leads_committee (role_of u H)) (unhandled paper) told)
-  public-one before later maker (Assigned paper user seat ordinal) unnamed told other = absurd (untold paper user maker unnamed.0 unnamed.1 told other)
+      hers other (bid-own (is_number u maker) (is_eligible u paper H) (chairs_committee (role_of u H)) (unhandled paper) told)
+  public-one before later maker (Assigned paper user review_kind ordinal) unnamed told other = absurd (untold paper user maker unnamed.0 unnamed.1 told other)
   public-one before later maker (Unassigned paper user ordinal) unnamed told other = absurd (untold paper user maker unnamed.0 unnamed.1 told other)
   public-one before later maker (Reviewed paper ordinal version form) unnamed told other =
-      absurd (unreviewed (is_number u maker) (leads_committee (role_of u H)) (not (has_conflict u paper H)) other unnamed.1
+      absurd (unreviewed (is_number u maker) (chairs_committee (role_of u H)) (not (has_conflict u paper H)) other unnamed.1
       (left-form u H paper (stranger.author paper) (unhandled paper) before later ordinal (is_number u maker) told))
     where
       unreviewed : (own chair clear : Bool) → own ≡ false → (chair && true) ≡ false → (own || (chair && clear)) ≡ true → ⊥
       unreviewed own chair clear o c led = grind (arith, o, c, led)
   public-one before later maker (Commented paper n ordinal text) unnamed told other =
-      hers other (comment-own (is_number u maker) (handles u paper H) (is_past_reviewing (phase_of H)) (unhandled paper) told)
+      hers other (comment-own (is_number u maker) (is_eligible u paper H) (is_past_reviewing (phase_of H)) (unhandled paper) told)
   public-one before later maker (Tagged paper tag on) unnamed told other =
       hers other
-      (tag-own (is_number u maker) (is_committees tag) (is_chairs tag) (handles u paper H) (leads_committee (role_of u H)) (unhandled paper) told)
+      (tag-own (is_number u maker) (is_committees tag) (is_chairs tag) (is_eligible u paper H) (chairs_committee (role_of u H)) (unhandled paper) told)
   public-one before later maker (Withdrawn paper) unnamed told other =
       hers (or_from (is_number u maker) (serves u H) other stranger.serving)
       (withdrawal-left (is_number u maker) (is_author u paper H) (serves u H) (stranger.author paper) told)
@@ -430,12 +430,12 @@ module _ (u : Option ℕ) (H : History) (stranger : IsStranger u H) where
   public-one before later maker e unnamed told other = λ i. record (shown_to u H before later maker e) { mine = other i }
 
   unnamed-all : (G : History) → list_any (λ (e : Stamped). names_her u e.entry) G ≡ false
-      → (leads_committee (role_of u H) && list_any (λ (e : Stamped). is_reviewing e.entry) G) ≡ false
+      → (chairs_committee (role_of u H) && list_any (λ (e : Stamped). is_reviewing e.entry) G) ≡ false
       → AllByRecursion (λ (e : Stamped). IsUnnamed u H e.entry) G
   unnamed-all [] named led = tt
   unnamed-all (e ∷ G) named led =
       let names = or_parts (names_her u e.entry) (list_any (λ (e : Stamped). names_her u e.entry) G) named in
-      let leads = either (leads_committee (role_of u H)) (is_reviewing e.entry) (list_any (λ (e : Stamped). is_reviewing e.entry) G) led in
+      let leads = either (chairs_committee (role_of u H)) (is_reviewing e.entry) (list_any (λ (e : Stamped). is_reviewing e.entry) G) led in
       ((names.0, leads.0), unnamed-all G names.1 leads.1)
     where
       either : (l a b : Bool) → (l && (a || b)) ≡ false → ((l && a) ≡ false) × ((l && b) ≡ false)
@@ -454,7 +454,7 @@ nobody-stranger H = record {
   author = λ p. list_any-nobody (authors_of p H);
   serving = ap (λ (role : Role). is_on_committee role && is_past_submission (phase_of H)) (ap (last_or Account) (no-role H));
   named = no-name H;
-  leading = ap (λ (role : Role). leads_committee role && list_any (λ (e : Stamped). is_reviewing e.entry) H) (ap (last_or Account) (no-role H));
+  leading = ap (λ (role : Role). chairs_committee role && list_any (λ (e : Stamped). is_reviewing e.entry) H) (ap (last_or Account) (no-role H));
 }
   where
     role-entry : (e : Entry) → role_told None e ≡ []
@@ -468,7 +468,7 @@ nobody-stranger H = record {
     name-entry : (e : Entry) → names_her None e ≡ false
     name-entry (Coauthor paper user) = refl
     name-entry (Conflict paper user on) = refl
-    name-entry (Assigned paper user seat ordinal) = refl
+    name-entry (Assigned paper user review_kind ordinal) = refl
     name-entry (Unassigned paper user ordinal) = refl
     name-entry e = refl
 

@@ -24,20 +24,20 @@ use Rattle.cr_base.specs.HistoryFacts.{phase_of, mode_of, role_of, is_author, is
 use Rattle.cr_base.specs.Phases.{is_from, is_phase}
 use Rattle.cr_base.specs.TagTexts.{is_for_all, is_for_chairs}
 use Rattle.cr_base.specs.Words.{is_anonymous, is_overt, is_member, is_chair, is_accept}
-use Rattle.cr_history.proofs.LineTies.{stamp}
+use Rattle.cr_history.proofs.LineAgreement.{stamp}
 use Rattle.cr_policy.specs.Sighting.{Sighting, where_shown}
 use Rattle.cr_policy.specs.Part as part
 use Rattle.cr_policy.specs.Part.{whole}
 use Rattle.cr_policy.specs.Triggers.{Reader, reader, Around, none_in, TriggerRow, ◌see◌, position_of, user_named, seat_rows, rows, applies_any, shows}
 use Rattle.cr_policy.specs.View.{is_seen, joined}
-use Rattle.cr_policy.specs.ShownTo.{is_on_committee, leads_committee, is_past_submission, is_past_reviewing, is_past_discussion, is_over}
+use Rattle.cr_policy.specs.ShownTo.{is_on_committee, chairs_committee, is_past_submission, is_past_reviewing, is_past_discussion, is_over}
 use Rattle.cr_policy.specs.ShownTo.{takes, is_in_programme, appears, decides, is_decided_again, reads_decision, learns_outcome, is_announced}
-use Rattle.cr_policy.specs.ShownTo.{hides_authors, hides_reviewers, names_reviewers, serves, handles, oversees, leads, discusses, is_answered}
+use Rattle.cr_policy.specs.ShownTo.{hides_authors, hides_reviewers, names_reviewers, serves, is_eligible, oversees, administers, discusses, is_answered}
 use Rattle.cr_policy.specs.ShownTo.{is_notified, knows_writers, is_discussion, begins_discussion, gives_form, is_reviewed, is_discussed}
 use Rattle.cr_policy.specs.ShownTo.{reads_form, learns_form, counts_form, reads_review, is_committees, is_chairs}
 use Rattle.cr_policy.specs.ShownTo.{gives_texts, is_replaced, gives_content, is_superseded, owns, is_party, is_told, where_known}
 use Rattle.cr_policy.specs.ShownTo.{kind_for, mark_for, paper_for, reviewer_for, user_for, name_for, digest_for, role_for, phase_for, mode_for, maker_for}
-use Rattle.cr_policy.specs.ShownTo.{title_for, abstract_for, version_for, content_for, switch_for, value_for, seat_for, ordinal_for}
+use Rattle.cr_policy.specs.ShownTo.{title_for, abstract_for, version_for, content_for, switch_for, value_for, review_kind_for, ordinal_for}
 use Rattle.cr_policy.specs.ShownTo.{score_for, confidence_for, to_authors_for, to_pc_for, done_for, n_for, text_for, tag_for, decision_for, outcome_for, accepted_for}
 
 -- ---- the words of the table, and those of the bounds
@@ -47,7 +47,7 @@ member-committee Account = refl
 member-committee Member = refl
 member-committee Chair = refl
 
-chair-leads : (role : Role) → is_chair role ≡ leads_committee role
+chair-leads : (role : Role) → is_chair role ≡ chairs_committee role
 chair-leads Account = refl
 chair-leads Member = refl
 chair-leads Chair = refl
@@ -104,7 +104,7 @@ for-chairs [] = refl
 for-chairs (a ∷ []) = and_right (eqb a 126) false refl
 for-chairs (a ∷ b ∷ tag) = refl
 
--- entries that tell nothing of a matter are those of which none gives a paper anything of it
+-- entries that tell nothing of a series are those of which none gives a paper anything of it
 append-nothing : {A : Type 0} (xs ys : List A) (gives later : Bool) → is_nothing xs ≡ not gives → is_nothing ys ≡ not later → is_nothing (xs ++ ys)
     ≡ not (gives || later)
 append-nothing [] ys true later h rest = absurd (true≢false h)
@@ -276,8 +276,8 @@ module _ (u : Option ℕ) (H : History) (at : Around) (maker : ℕ) (more : Bool
       ap (λ b. b && is_from Bidding (phase_of H)) (member-committee (role_of u H))
       ∙ ap (λ b. is_on_committee (role_of u H) && b) (phase-words (phase_of H)).bidding
 
-  handles-same : (p : ℕ) → (is_member (role_of u H) && not (is_conflicted u p H) && is_from Bidding (phase_of H)) ≡ handles u p H
-  handles-same p = by (is_member (role_of u H)) (not (is_conflicted u p H)) (is_from Bidding (phase_of H)) (serves u H) serves-same
+  is_eligible-same : (p : ℕ) → (is_member (role_of u H) && not (is_conflicted u p H) && is_from Bidding (phase_of H)) ≡ is_eligible u p H
+  is_eligible-same p = by (is_member (role_of u H)) (not (is_conflicted u p H)) (is_from Bidding (phase_of H)) (serves u H) serves-same
     where
       by : (m c f s : Bool) → (m && f) ≡ s → (m && c && f) ≡ (s && c)
       by m c f s h = grind (arith, h)
@@ -290,8 +290,8 @@ module _ (u : Option ℕ) (H : History) (at : Around) (maker : ℕ) (more : Bool
       by : (chair m c f l s : Bool) → (m && chair) ≡ chair → chair ≡ l → f ≡ s → ((chair && c) && f) ≡ (((m && s) && c) && l)
       by chair m c f l s hm hl hs = grind (arith, hm, hl, hs)
 
-  leads-same : (p : ℕ) → (is_chair (role_of u H) && not (is_conflicted u p H)) ≡ leads u p H
-  leads-same p = ap (λ b. b && not (is_conflicted u p H)) (chair-leads (role_of u H))
+  administers-same : (p : ℕ) → (is_chair (role_of u H) && not (is_conflicted u p H)) ≡ administers u p H
+  administers-same p = ap (λ b. b && not (is_conflicted u p H)) (chair-leads (role_of u H))
 
   discusses-same : (p : ℕ) → ((is_member (role_of u H) && not (is_conflicted u p H)) && is_from Discussion (phase_of H)) ≡ discusses u p H
   discusses-same p =
@@ -347,22 +347,22 @@ module _ (u : Option ℕ) (H : History) (at : Around) (maker : ℕ) (more : Bool
 
     assignment-seen : applies_any (seat_rows_to paper user) ≡ (is_party u H maker paper user || discusses u paper H || is_answered u paper H)
     assignment-seen =
-        seat-seen named leading clear discussed hidden answered own (leads u paper H) (discusses u paper H) (is_answered u paper H)
-        (leads-same paper) (discusses-same paper) (answered-same paper)
+        seat-seen named leading clear discussed hidden answered own (administers u paper H) (discusses u paper H) (is_answered u paper H)
+        (administers-same paper) (discusses-same paper) (answered-same paper)
 
     reviewer-shown : where_shown (shows (seat_rows_to paper user) part.user) (Some user) ≡ reviewer_for u H maker paper user
     reviewer-shown =
         known-same _ _ user
-        (seat-user named leading clear discussed hidden answered own (leads u paper H) (discusses u paper H) (hides_reviewers (mode_of H))
-        (is_answered u paper H) (leads-same paper) (discusses-same paper) (mode-words (mode_of H)).reviewers (answered-same paper))
+        (seat-user named leading clear discussed hidden answered own (administers u paper H) (discusses u paper H) (hides_reviewers (mode_of H))
+        (is_answered u paper H) (administers-same paper) (discusses-same paper) (mode-words (mode_of H)).reviewers (answered-same paper))
 
-    kind-shown : shows (seat_rows_to paper user) part.seat ≡ (is_party u H maker paper user || discusses u paper H)
-    kind-shown = seat-kind named leading clear discussed own (leads u paper H) (discusses u paper H) (leads-same paper) (discusses-same paper)
+    kind-shown : shows (seat_rows_to paper user) part.review_kind ≡ (is_party u H maker paper user || discusses u paper H)
+    kind-shown = seat-kind named leading clear discussed own (administers u paper H) (discusses u paper H) (administers-same paper) (discusses-same paper)
 
     label-shown : shows (seat_rows_to paper user) part.ordinal ≡ (is_party u H maker paper user || discusses u paper H || is_answered u paper H)
     label-shown =
-        seat-ordinal named leading clear discussed answered own (leads u paper H) (discusses u paper H) (is_answered u paper H)
-        (leads-same paper) (discusses-same paper) (answered-same paper)
+        seat-ordinal named leading clear discussed answered own (administers u paper H) (discusses u paper H) (is_answered u paper H)
+        (administers-same paper) (discusses-same paper) (answered-same paper)
 
   -- ---- who is told of a form, and what of it
 
@@ -376,7 +376,7 @@ module _ (u : Option ℕ) (H : History) (at : Around) (maker : ℕ) (more : Bool
     abbrev reviewed : Entry
     reviewed = Reviewed paper ordinal version form
 
-    -- the tests of the rows: it is the first and she leads the paper; it is among those that are discussed, and she discusses the
+    -- the tests of the rows: it is the first and she administers the paper; it is among those that are discussed, and she discusses the
     -- paper; it is the last, and she is notified
     abbrev counted : Bool
     counted = (position_of at reviewed).first && (is_chair (role_of u H) && not (is_conflicted u paper H))
@@ -390,7 +390,7 @@ module _ (u : Option ℕ) (H : History) (at : Around) (maker : ℕ) (more : Bool
     learnt = (position_of at reviewed).last && is_author u paper H && is_from Notification (phase_of H)
 
     counted-same : counted ≡ counts_form u H at.before paper ordinal
-    counted-same = by _ _ _ _ (none_in-reviewed paper ordinal at.before) (leads-same paper)
+    counted-same = by _ _ _ _ (none_in-reviewed paper ordinal at.before) (administers-same paper)
       where
         by : (n n' c c' : Bool) → n ≡ n' → c ≡ c' → (n && c) ≡ (c' && n')
         by n n' c c' hn hc = grind (arith, hn, hc)
@@ -424,10 +424,10 @@ module _ (u : Option ℕ) (H : History) (at : Around) (maker : ℕ) (more : Bool
     abbrev discussing : Bool
     discussing = (is_member (role_of u H) && not (is_conflicted u paper H)) && is_from Discussion (phase_of H)
 
-    abbrev naming : Bool
-    naming = (is_chair (role_of u H) && not (is_conflicted u paper H)) || not (is_anonymous (mode_of H))
+    abbrev shows_names : Bool
+    shows_names = (is_chair (role_of u H) && not (is_conflicted u paper H)) || not (is_anonymous (mode_of H))
 
-    writer-same : (discussing && naming) ≡ (discusses u paper H && knows_writers u H)
+    writer-same : (discussing && shows_names) ≡ (discusses u paper H && knows_writers u H)
     writer-same =
         by (is_member (role_of u H)) (not (is_conflicted u paper H)) (is_from Discussion (phase_of H)) _ _ _ _ _
         (chair-leads (role_of u H)) (mode-words (mode_of H)).reviewers (discusses-same paper)
@@ -435,7 +435,7 @@ module _ (u : Option ℕ) (H : History) (at : Around) (maker : ℕ) (more : Bool
         by : (m c f chair l a h d : Bool) → chair ≡ l → a ≡ h → ((m && c) && f) ≡ d → (((m && c) && f) && ((chair && c) || not a)) ≡ (d && (l || not h))
         by m c f chair l a h d hc ha hd = grind (arith, hc, ha, hd)
 
-    label-same : (discussing && not naming) ≡ (discusses u paper H && not (knows_writers u H))
+    label-same : (discussing && not shows_names) ≡ (discusses u paper H && not (knows_writers u H))
     label-same =
         by (is_member (role_of u H)) (not (is_conflicted u paper H)) (is_from Discussion (phase_of H)) _ _ _ _ _
         (chair-leads (role_of u H)) (mode-words (mode_of H)).reviewers (discusses-same paper)
@@ -481,22 +481,22 @@ module _ (u : Option ℕ) (H : History) (at : Around) (maker : ℕ) (more : Bool
   seen-told (Coauthor paper user) =
       coauthor-seen (is_author u paper H) (is_chair (role_of u H) && not (is_conflicted u paper H))
       (is_member (role_of u H) && not (is_conflicted u paper H)) (is_anonymous (mode_of H)) (is_from Bidding (phase_of H)) (is_accepted paper H)
-      (is_number u maker) _ _ _ _ (oversees-same paper) (handles-same paper) (mode-words (mode_of H)).authors (programme-same paper)
+      (is_number u maker) _ _ _ _ (oversees-same paper) (is_eligible-same paper) (mode-words (mode_of H)).authors (programme-same paper)
   seen-told (Revised paper title abstract) =
       revision-seen (is_author u paper H) _ (is_member (role_of u H)) (is_from Bidding (phase_of H)) (is_conflicted u paper H) (is_accepted paper H)
       (is_from Closed (phase_of H)) (is_number u maker) _ _ _ (none_in-replaced paper at.after) serves-same (programme-same paper)
   seen-told (Uploaded paper version content) =
       text-known (is_author u paper H) _ (is_member (role_of u H) && not (is_conflicted u paper H)) (is_from Bidding (phase_of H))
       (is_published (phase_of H) (is_accepted paper H)) (is_number u maker) _ _ _
-      (none_in-superseded paper at.after) (handles-same paper) (appears-same paper)
-  seen-told (Assigned paper user seat ordinal) = assignment-seen paper user
+      (none_in-superseded paper at.after) (is_eligible-same paper) (appears-same paper)
+  seen-told (Assigned paper user review_kind ordinal) = assignment-seen paper user
   seen-told (Unassigned paper user ordinal) = assignment-seen paper user
   seen-told (Reviewed paper ordinal version form) = review-seen paper ordinal version form
-  seen-told (Commented paper n ordinal text) = comment-seen (discussing paper) (naming paper) (is_number u maker) _ (discusses-same paper)
+  seen-told (Commented paper n ordinal text) = comment-seen (discussing paper) (shows_names paper) (is_number u maker) _ (discusses-same paper)
   seen-told (Tagged paper tag on) =
       tag-seen (is_for_all tag) (is_for_chairs tag) (is_member (role_of u H) && not (is_conflicted u paper H))
       (is_chair (role_of u H) && not (is_conflicted u paper H)) (is_from Bidding (phase_of H)) (is_number u maker) _ _ _ _
-      (for-committee tag) (for-chairs tag) (handles-same paper) (oversees-same paper)
+      (for-committee tag) (for-chairs tag) (is_eligible-same paper) (oversees-same paper)
   seen-told (Decided paper decision) = verdict-seen paper
   seen-told e =
       let chair = chair-leads (role_of u H) in
@@ -525,7 +525,7 @@ module _ (u : Option ℕ) (H : History) (at : Around) (maker : ℕ) (more : Bool
   pub user-one : (e : Entry) → is_told u H at.before at.after maker e ≡ true → (seen e).user ≡ user_for u H at.before at.after maker e
   user-one (Coauthor paper user) told = ap (λ b. where_known b user) (seen-told (Coauthor paper user) ∙ told)
   user-one (Conflict paper user on) told = ap (λ b. where_known b user) (seen-told (Conflict paper user on) ∙ told)
-  user-one (Assigned paper user seat ordinal) told = reviewer-shown paper user
+  user-one (Assigned paper user review_kind ordinal) told = reviewer-shown paper user
   user-one (Unassigned paper user ordinal) told = reviewer-shown paper user
   user-one e told = refl
 
@@ -544,7 +544,7 @@ module _ (u : Option ℕ) (H : History) (at : Around) (maker : ℕ) (more : Bool
       known-same _ _ maker
       (submitter-seen (is_author u paper H) (is_chair (role_of u H) && not (is_conflicted u paper H))
       (is_member (role_of u H) && not (is_conflicted u paper H)) (is_anonymous (mode_of H)) (is_from Bidding (phase_of H)) (is_accepted paper H)
-      _ _ _ _ (oversees-same paper) (handles-same paper) (mode-words (mode_of H)).authors (programme-same paper))
+      _ _ _ _ (oversees-same paper) (is_eligible-same paper) (mode-words (mode_of H)).authors (programme-same paper))
   maker-one (Bid paper value) = known-same _ _ maker (or-false _ ∙ oversees-same paper)
   maker-one (Commented paper n ordinal text) = known-same _ _ maker (or-false _ ∙ writer-same paper)
   maker-one e = refl
@@ -575,12 +575,12 @@ module _ (u : Option ℕ) (H : History) (at : Around) (maker : ℕ) (more : Bool
       serves-same (programme-same paper) same
 
   abstract-shown : (paper : ℕ) (abstract : List ℕ) (known : Bool)
-      → (owns u H maker paper || (not (is_replaced paper at.after) && (handles u paper H || appears paper H))) ≡ known
+      → (owns u H maker paper || (not (is_replaced paper at.after) && (is_eligible u paper H || appears paper H))) ≡ known
       → IsTextShown paper (is_member (role_of u H) && not (is_conflicted u paper H)) (is_published (phase_of H) (is_accepted paper H)) known abstract
   abstract-shown paper abstract known same =
-      text-one paper (is_member (role_of u H) && not (is_conflicted u paper H)) (handles u paper H)
+      text-one paper (is_member (role_of u H) && not (is_conflicted u paper H)) (is_eligible u paper H)
       (is_published (phase_of H) (is_accepted paper H)) (appears paper H) known abstract
-      (handles-same paper) (appears-same paper) same
+      (is_eligible-same paper) (appears-same paper) same
 
   pub title-one : (e : Entry) → IsWriters u H maker e → (seen e).title ≡ title_for u H at.before at.after maker e
   title-one (Submitted paper title abstract) writes = title-shown paper title _ (own-author (is_author u paper H) (is_number u maker) _ writes)
@@ -610,16 +610,16 @@ module _ (u : Option ℕ) (H : History) (at : Around) (maker : ℕ) (more : Bool
   value-one (Bid paper value) told = ap (λ b. where_known b value) (seen-told (Bid paper value) ∙ told)
   value-one e told = refl
 
-  pub seat-one : (e : Entry) → (seen e).seat ≡ seat_for u H at.before at.after maker e
-  seat-one (Assigned paper user seat ordinal) = known-same _ _ seat (kind-shown paper user)
+  pub seat-one : (e : Entry) → (seen e).review_kind ≡ review_kind_for u H at.before at.after maker e
+  seat-one (Assigned paper user review_kind ordinal) = known-same _ _ review_kind (kind-shown paper user)
   seat-one e = refl
 
   pub ordinal-one : (e : Entry) → is_told u H at.before at.after maker e ≡ true → (seen e).ordinal ≡ ordinal_for u H at.before at.after maker e
-  ordinal-one (Assigned paper user seat ordinal) told = ap (λ b. where_known b ordinal) (label-shown paper user ∙ told)
+  ordinal-one (Assigned paper user review_kind ordinal) told = ap (λ b. where_known b ordinal) (label-shown paper user ∙ told)
   ordinal-one (Unassigned paper user ordinal) told = ap (λ b. where_known b ordinal) (label-shown paper user ∙ told)
   ordinal-one (Reviewed paper ordinal version form) told = ap (λ b. where_known b ordinal) (review-seen paper ordinal version form ∙ told)
   ordinal-one (Commented paper n ordinal text) told =
-      known-same _ _ (unwrap_or ordinal 0) (comment-label (discussing paper) (naming paper) (is_number u maker) _ _ (label-same paper))
+      known-same _ _ (unwrap_or ordinal 0) (comment-label (discussing paper) (shows_names paper) (is_number u maker) _ _ (label-same paper))
   ordinal-one e told = refl
 
   -- of a form its grades and the text to the authors are shown to those who read or learn it, the text to the committee to those

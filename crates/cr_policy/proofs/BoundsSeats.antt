@@ -11,7 +11,7 @@ use Rattle.cr_base.specs.HistoryFacts.{phase_of, mode_of, is_author}
 use Rattle.cr_policy.specs.Sighting.{Sighting}
 use Rattle.cr_policy.specs.View.{view}
 use Rattle.cr_policy.specs.ViewFacts.{is_user, is_kind}
-use Rattle.cr_policy.specs.ShownTo.{is_past_reviewing, is_past_discussion, hides_reviewers, names_reviewers, handles, oversees, leads, discusses, is_answered}
+use Rattle.cr_policy.specs.ShownTo.{is_past_reviewing, is_past_discussion, hides_reviewers, names_reviewers, is_eligible, oversees, administers, discusses, is_answered}
 use Rattle.cr_policy.specs.ShownTo.{is_party, is_told, reviewer_for}
 use Rattle.cr_policy.specs.ViewBounds.{is_of_other, BidsAreOwn, ReviewersFromAuthors, ReviewersEarly, ReviewersUnnamed}
 use Rattle.cr_policy.proofs.BoundsParts.{phase-words, mode-words}
@@ -35,7 +35,7 @@ own-bids u p H apart =
 
 -- ---- who reviews
 
--- an assignment on the paper: `n` is that it names the reader, `o` that it is her own, `l` that she leads the paper, `d` that she
+-- an assignment on the paper: `n` is that it names the reader, `o` that it is her own, `l` that she administers the paper, `d` that she
 -- discusses it, `v` that reviewers aren't hidden, `r` that she is named the paper's reviewers
 none-other : (n o l d v r : Bool) → l ≡ false → d ≡ false → r ≡ false → ((n || o || l) || d || r) ≡ true
     → not (o || (((n || o || l) || (d && v) || r) && n)) ≡ false
@@ -57,8 +57,8 @@ module _ (u : Option ℕ) (p : ℕ) (H : History) where
   other-known : (maker paper user : ℕ) → is_other maker paper user ≡ not (is_number u maker || (is_known maker paper user && is_number u user))
   other-known maker paper user = ap (λ b. not (is_number u maker || b)) (user-known u _ user)
 
-  -- who neither leads the paper nor discusses it nor is named its reviewers sees none of another
-  unseen : leads u p H ≡ false → discusses u p H ≡ false → is_answered u p H ≡ false → All (λ (s : Sighting). is_of_other u p s ≡ false) (view u H)
+  -- who neither administers the paper nor discusses it nor is named its reviewers sees none of another
+  unseen : administers u p H ≡ false → discusses u p H ≡ false → is_answered u p H ≡ false → All (λ (s : Sighting). is_of_other u p s ≡ false) (view u H)
   unseen apart silent unanswered =
       each-view u H (λ (s : Sighting). is_of_other u p s ≡ false) each
     where
@@ -67,18 +67,18 @@ module _ (u : Option ℕ) (p : ℕ) (H : History) where
       one maker paper user told false on_it = refl
       one maker paper user told true on_it =
           other-known maker paper user
-          ∙ none-other (is_number u user) (is_number u maker) (leads u paper H) (discusses u paper H) (not (hides_reviewers (mode_of H)))
-          (is_answered u paper H) (ap (λ n. leads u n H) (on_it refl) ∙ apart) (ap (λ n. discusses u n H) (on_it refl) ∙ silent)
+          ∙ none-other (is_number u user) (is_number u maker) (administers u paper H) (discusses u paper H) (not (hides_reviewers (mode_of H)))
+          (is_answered u paper H) (ap (λ n. administers u n H) (on_it refl) ∙ apart) (ap (λ n. discusses u n H) (on_it refl) ∙ silent)
           (ap (λ n. is_answered u n H) (on_it refl) ∙ unanswered) told
 
       each : (before later : History) (maker : ℕ) (e : Entry) → is_told u H before later maker e ≡ true
           → is_of_other u p (shown_to u H before later maker e) ≡ false
-      each before later maker (Assigned paper user seat ordinal) told = one maker paper user told (eqb paper p) (eqb-true paper p)
+      each before later maker (Assigned paper user review_kind ordinal) told = one maker paper user told (eqb paper p) (eqb-true paper p)
       each before later maker (Unassigned paper user ordinal) told = one maker paper user told (eqb paper p) (eqb-true paper p)
       each before later maker e told = refl
 
-  -- an author is in conflict, so she neither leads nor discusses her paper
-  pub author-apart : is_author u p H ≡ true → (leads u p H ≡ false) × (handles u p H ≡ false)
+  -- an author is in conflict, so she neither administers nor discusses her paper
+  pub author-apart : is_author u p H ≡ true → (administers u p H ≡ false) × (is_eligible u p H ≡ false)
   author-apart wrote = (by _ _ _ wrote, by _ _ _ wrote)
     where
       by : (rest a c : Bool) → a ≡ true → (rest && not (a || c)) ≡ false
@@ -91,7 +91,7 @@ module _ (u : Option ℕ) (p : ℕ) (H : History) where
       by a n d h = grind (arith, h)
 
   -- the sighting of another's assignment doesn't name her, where reviewers are hidden
-  unnamed : leads u p H ≡ false → hides_reviewers (mode_of H) ≡ true → is_answered u p H ≡ false
+  unnamed : administers u p H ≡ false → hides_reviewers (mode_of H) ≡ true → is_answered u p H ≡ false
       → All (λ (s : Sighting). is_of_other u p s ≡ true → s.user ≡ None) (view u H)
   unnamed apart hides unanswered =
       each-view u H (λ (s : Sighting). is_of_other u p s ≡ true → s.user ≡ None) each
@@ -101,12 +101,12 @@ module _ (u : Option ℕ) (p : ℕ) (H : History) where
           let parts = and_parts (eqb paper p) (is_other maker paper user) other in
           let same : paper ≡ p = eqb-true paper p parts.0 in
           known-not _ user
-          (none-named (is_number u user) (is_number u maker) (leads u paper H) (discusses u paper H) (not (hides_reviewers (mode_of H))) (is_answered u paper H)
-          (ap (λ n. leads u n H) same ∙ apart) (ap not hides) (ap (λ n. is_answered u n H) same ∙ unanswered) (sym (other-known maker paper user) ∙ parts.1))
+          (none-named (is_number u user) (is_number u maker) (administers u paper H) (discusses u paper H) (not (hides_reviewers (mode_of H))) (is_answered u paper H)
+          (ap (λ n. administers u n H) same ∙ apart) (ap not hides) (ap (λ n. is_answered u n H) same ∙ unanswered) (sym (other-known maker paper user) ∙ parts.1))
 
       each : (before later : History) (maker : ℕ) (e : Entry) → is_told u H before later maker e ≡ true
           → is_of_other u p (shown_to u H before later maker e) ≡ true → (shown_to u H before later maker e).user ≡ None
-      each before later maker (Assigned paper user seat ordinal) told other = one maker paper user other
+      each before later maker (Assigned paper user review_kind ordinal) told other = one maker paper user other
       each before later maker (Unassigned paper user ordinal) told other = one maker paper user other
       each before later maker e told other = absurd (false≢true other)
 
@@ -117,7 +117,7 @@ reviewers-from-authors u p H wrote unnamed =
 
 pub reviewers-early : ReviewersEarly
 reviewers-early u p H apart early =
-    unseen u p H apart (behind (handles u p H) (is_past_reviewing (phase_of H)) early)
+    unseen u p H apart (behind (is_eligible u p H) (is_past_reviewing (phase_of H)) early)
     (unanswered-by u p H (behind (names_reviewers (mode_of H)) (is_past_discussion (phase_of H)) not-yet))
   where
     behind : (a b : Bool) → b ≡ false → (a && b) ≡ false

@@ -17,7 +17,7 @@ use Rattle.cr_base.specs.HistoryFacts.{is_author}
 use Rattle.cr_policy.specs.Sighting.{Sighting}
 use Rattle.cr_policy.specs.View.{view}
 use Rattle.cr_policy.specs.ViewFacts.{only}
-use Rattle.cr_policy.specs.ShownTo.{serves, handles, discusses, is_notified, is_in_programme, appears, decides, is_decided_again, is_told, where_known, gives_texts, is_replaced, gives_content, is_superseded, each_told}
+use Rattle.cr_policy.specs.ShownTo.{serves, is_eligible, discusses, is_notified, is_in_programme, appears, decides, is_decided_again, is_told, where_known, gives_texts, is_replaced, gives_content, is_superseded, each_told}
 use Rattle.cr_policy.specs.ViewBounds.{part_shown, OneTitle, OneAbstract, OneContent, OneDecision}
 use Rattle.cr_policy.proofs.BoundsWalk.{shown_to, view-told}
 use Rattle.cr_policy.proofs.Walk.{only-true, only-false, flat_map-given}
@@ -25,27 +25,27 @@ use Rattle.cr_policy.proofs.Walk.{only-true, only-false, flat_map-given}
 -- ---- one entry
 
 -- what a sighting shows of a text that it tells of the paper, where another than the reader made it
-abbrev told_of : {A : Type 0} → Bool → Bool → Bool → A → List A
-told_of same own known x = only (same && not own) (listed (where_known known x))
+abbrev told_known : {A : Type 0} → Bool → Bool → Bool → A → List A
+told_known same own known x = only (same && not own) (listed (where_known known x))
 
-told_of-few : {A : Type 0} (same own known : Bool) (x : A) → length (told_of same own known x) ≤ 1
-told_of-few false own true x = omega arith
-told_of-few false own false x = omega arith
-told_of-few true true true x = omega arith
-told_of-few true true false x = omega arith
-told_of-few true false true x = omega arith
-told_of-few true false false x = omega arith
+told_known-few : {A : Type 0} (same own known : Bool) (x : A) → length (told_known same own known x) ≤ 1
+told_known-few false own true x = omega arith
+told_known-few false own false x = omega arith
+told_known-few true true true x = omega arith
+told_known-few true true false x = omega arith
+told_known-few true false true x = omega arith
+told_known-few true false false x = omega arith
 
 -- it counts who may know it only where it is on the paper and another made it
-told_of-same : {A : Type 0} (same own known known' : Bool) (x : A) → (same ≡ true → own ≡ false → known ≡ known')
-    → told_of same own known x ≡ told_of same own known' x
-told_of-same false own known known' x h = only-false _ ∙ sym (only-false _)
-told_of-same true true known known' x h = only-false _ ∙ sym (only-false _)
-told_of-same true false known known' x h = ap (λ b. told_of true false b x) (h refl refl)
+told_known-same : {A : Type 0} (same own known known' : Bool) (x : A) → (same ≡ true → own ≡ false → known ≡ known')
+    → told_known same own known x ≡ told_known same own known' x
+told_known-same false own known known' x h = only-false _ ∙ sym (only-false _)
+told_known-same true true known known' x h = only-false _ ∙ sym (only-false _)
+told_known-same true false known known' x h = ap (λ b. told_known true false b x) (h refl refl)
 
--- ---- one matter: titles, abstracts, contents or decisions
+-- ---- one series: titles, abstracts, contents or decisions
 
--- the paper's entries on this matter are those that `gives` tells, and `value` is what each gives
+-- the paper's entries on this series are those that `gives` tells, and `value` is what each gives
 module _ {A : Type 0} (u : Option ℕ) (p : ℕ) (H : History) (gives : Entry → Bool) (value : Entry → A) (may : Bool) (seen : Sighting → List A) where
   -- a later entry gives the paper another
   abbrev is_late : History → Bool
@@ -55,7 +55,7 @@ module _ {A : Type 0} (u : Option ℕ) (p : ℕ) (H : History) (gives : Entry �
   abbrev ShowsLast : Type 0
   ShowsLast =
       (before later : History) (maker : ℕ) (e : Entry)
-      → seen (shown_to u H before later maker e) ≡ told_of (gives e) (is_number u maker) (not (is_late later) && may) (value e)
+      → seen (shown_to u H before later maker e) ≡ told_known (gives e) (is_number u maker) (not (is_late later) && may) (value e)
 
   module _ (shows : ShowsLast) where
     abbrev all_seen : History → History → List A
@@ -64,13 +64,13 @@ module _ {A : Type 0} (u : Option ℕ) (p : ℕ) (H : History) (gives : Entry �
     -- of each entry at most one, nothing of those that give it none, and nothing where a later entry gives it another
     few : (before later : History) (maker : ℕ) (e : Entry) → length (seen (shown_to u H before later maker e)) ≤ 1
     few before later maker e =
-        subst (λ (xs : List A). length xs ≤ 1) (sym (shows before later maker e)) (told_of-few (gives e) (is_number u maker) _ (value e))
+        subst (λ (xs : List A). length xs ≤ 1) (sym (shows before later maker e)) (told_known-few (gives e) (is_number u maker) _ (value e))
 
     other : (before later : History) (maker : ℕ) (e : Entry) → gives e ≡ false → seen (shown_to u H before later maker e) ≡ []
-    other before later maker e h = shows before later maker e ∙ ap (λ b. told_of b (is_number u maker) (not (is_late later) && may) (value e)) h ∙ only-false _
+    other before later maker e h = shows before later maker e ∙ ap (λ b. told_known b (is_number u maker) (not (is_late later) && may) (value e)) h ∙ only-false _
 
     late : (before later : History) (maker : ℕ) (e : Entry) → is_late later ≡ true → seen (shown_to u H before later maker e) ≡ []
-    late before later maker e h = shows before later maker e ∙ ap (λ b. told_of (gives e) (is_number u maker) (not b && may) (value e)) h
+    late before later maker e h = shows before later maker e ∙ ap (λ b. told_known (gives e) (is_number u maker) (not b && may) (value e)) h
 
     first-seen : (before : History) (e : Stamped) (G : History)
         → all_seen before (e ∷ G) ≡ only (is_told u H before G e.maker e.entry) (seen (shown_to u H before G e.maker e.entry)) ++ all_seen (before ++ e ∷ []) G
@@ -117,7 +117,7 @@ module _ {A : Type 0} (u : Option ℕ) (p : ℕ) (H : History) (gives : Entry �
     one-view : length (flat_map seen (view u H)) ≤ 1
     one-view = subst (λ (V : List Sighting). length (flat_map seen V) ≤ 1) (sym (view-told u H)) (one-seen [] H)
 
--- ---- the four matters
+-- ---- the four series
 
 -- what an entry gives: a title, an abstract, or the content of a version
 abbrev title_given : Entry → List ℕ
@@ -143,15 +143,15 @@ decision_given _ = Reject
 -- those who discuss it, `late` whether another comes later to a paper, and `may` who may know the last
 module _ (u : Option ℕ) (p : ℕ) (H : History) (knows late may : ℕ → Bool) (stranger : knows p ≡ false) where
   author-known : {A : Type 0} (own : Bool) (paper : ℕ) (x : A)
-      → told_of (eqb paper p) own (knows paper || (not (late paper) && may paper)) x ≡ told_of (eqb paper p) own (not (late p) && may p) x
-  author-known own paper x = told_of-same (eqb paper p) own _ _ x (λ same other.
+      → told_known (eqb paper p) own (knows paper || (not (late paper) && may paper)) x ≡ told_known (eqb paper p) own (not (late p) && may p) x
+  author-known own paper x = told_known-same (eqb paper p) own _ _ x (λ same other.
       let e : paper ≡ p = eqb-true paper p same in
       ap (λ n. knows n || (not (late n) && may n)) e ∙ ap (λ b. b || (not (late p) && may p)) stranger)
 
   owner-known : {A : Type 0} (own : Bool) (paper : ℕ) (x : A)
-      → told_of (eqb paper p) own ((own || knows paper) || (not (late paper) && may paper)) x ≡ told_of (eqb paper p) own (not (late p) && may p) x
+      → told_known (eqb paper p) own ((own || knows paper) || (not (late paper) && may paper)) x ≡ told_known (eqb paper p) own (not (late p) && may p) x
   owner-known own paper x =
-      told_of-same (eqb paper p) own _ _ x (λ same other. ap (λ b. (b || knows paper) || (not (late paper) && may paper)) other)
+      told_known-same (eqb paper p) own _ _ x (λ same other. ap (λ b. (b || knows paper) || (not (late paper) && may paper)) other)
       ∙ author-known own paper x
 
 pub one-title : OneTitle
@@ -171,7 +171,7 @@ pub one-abstract : OneAbstract
 one-abstract u p H stranger = one-view u p H (gives_texts p) abstract_given (may p) (part_shown (λ (s : Sighting). s.abstract) p) shows
   where
     may : ℕ → Bool
-    may n = handles u n H || appears n H
+    may n = is_eligible u n H || appears n H
 
     shows : ShowsLast u p H (gives_texts p) abstract_given (may p) (part_shown (λ (s : Sighting). s.abstract) p)
     shows before later maker (Submitted paper title abstract) =
@@ -184,7 +184,7 @@ pub one-content : OneContent
 one-content u p H stranger = one-view u p H (gives_content p) content_given (may p) (part_shown (λ (s : Sighting). s.content) p) shows
   where
     may : ℕ → Bool
-    may n = handles u n H || appears n H
+    may n = is_eligible u n H || appears n H
 
     shows : ShowsLast u p H (gives_content p) content_given (may p) (part_shown (λ (s : Sighting). s.content) p)
     shows before later maker (Uploaded paper version content) =

@@ -13,12 +13,12 @@ use Rattle.cr_base.specs.declared.entry.Stamped.{Stamped}
 use Rattle.cr_base.specs.Lists.{given, is_number}
 use Rattle.cr_base.specs.History.{History, author_told}
 use Rattle.cr_base.specs.HistoryFacts.{authors_of, is_author}
-use Rattle.cr_history.proofs.LineTies.{stamp}
+use Rattle.cr_history.proofs.LineAgreement.{stamp}
 use Rattle.cr_policy.specs.Sighting.{Sighting}
 use Rattle.cr_policy.specs.Triggers.{reader, Around}
 use Rattle.cr_policy.specs.View.{sight, sights, view, is_seen, joined}
 use Rattle.cr_policy.specs.ShownTo.{PartFor, is_told, each_told, kind_for, mark_for, paper_for, user_for, name_for, digest_for, role_for, phase_for, mode_for}
-use Rattle.cr_policy.specs.ShownTo.{maker_for, title_for, abstract_for, version_for, content_for, switch_for, value_for, seat_for, ordinal_for}
+use Rattle.cr_policy.specs.ShownTo.{maker_for, title_for, abstract_for, version_for, content_for, switch_for, value_for, review_kind_for, ordinal_for}
 use Rattle.cr_policy.specs.ShownTo.{score_for, confidence_for, to_authors_for, to_pc_for, done_for, n_for, text_for, tag_for, decision_for, outcome_for, accepted_for}
 use Rattle.cr_policy.specs.ViewBounds.{EntriesShown, MarksShown, PapersShown, UsersShown, NamesShown, DigestsShown, RolesShown, PhasesShown, ModesShown}
 use Rattle.cr_policy.specs.ViewBounds.{MakersShown, TitlesShown, AbstractsShown, VersionsShown, ContentsShown, SwitchesShown, ValuesShown}
@@ -49,7 +49,7 @@ shown_to u H before later maker e = record {
   content = content_for u H before later maker e;
   on = switch_for u H before later maker e;
   value = value_for u H before later maker e;
-  seat = seat_for u H before later maker e;
+  review_kind = review_kind_for u H before later maker e;
   ordinal = ordinal_for u H before later maker e;
   score = score_for u H before later maker e;
   confidence = confidence_for u H before later maker e;
@@ -91,7 +91,7 @@ module _ (u : Option ℕ) (H : History) where
     content = content-one u H at maker more e i;
     on = switch-one u H at maker more e told i;
     value = value-one u H at maker more e told i;
-    seat = seat-one u H at maker more e i;
+    review_kind = seat-one u H at maker more e i;
     ordinal = ordinal-one u H at maker more e told i;
     score = score-one u H at maker more e i;
     confidence = confidence-one u H at maker more e i;
@@ -254,7 +254,7 @@ pub values-shown : ValuesShown
 values-shown u H = map-view u H (λ (s : Sighting). s.value)
 
 pub seats-shown : SeatsShown
-seats-shown u H = map-view u H (λ (s : Sighting). s.seat)
+seats-shown u H = map-view u H (λ (s : Sighting). s.review_kind)
 
 pub ordinals-shown : OrdinalsShown
 ordinals-shown u H = map-view u H (λ (s : Sighting). s.ordinal)

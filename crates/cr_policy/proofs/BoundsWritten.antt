@@ -13,7 +13,7 @@ use Rattle.cr_base.specs.HistoryFacts.{phase_of, mode_of, role_of, is_author, is
 use Rattle.cr_policy.specs.Sighting.{Sighting, blank}
 use Rattle.cr_policy.specs.View.{view}
 use Rattle.cr_policy.specs.ViewFacts.{is_kind}
-use Rattle.cr_policy.specs.ShownTo.{leads_committee, is_past_reviewing, is_past_discussion, hides_reviewers, has_conflict, serves, handles, oversees, leads, discusses}
+use Rattle.cr_policy.specs.ShownTo.{chairs_committee, is_past_reviewing, is_past_discussion, hides_reviewers, has_conflict, serves, is_eligible, oversees, administers, discusses}
 use Rattle.cr_policy.specs.ShownTo.{is_discussed, is_reviewed, is_committees, is_chairs, is_setters, is_told, takes, is_in_programme, is_decided_again, is_announced, where_known}
 use Rattle.cr_policy.specs.ViewBounds.{is_others, is_tag_so, FormsEarly, FormsFromAuthors, CommentsFromAuthors, WritersUnnamed, PrivateTagsAreOwn, ChairsTags}
 use Rattle.cr_policy.specs.ViewBounds.{DecisionsEarly, DecisionsUntold}
@@ -24,7 +24,7 @@ use Rattle.cr_policy.proofs.BoundsSeats.{author-apart}
 
 -- ---- forms
 
--- a form that isn't her own: `o` is that it is, `h` and `l` that she handles or leads the paper, `past` and `d` that it is the
+-- a form that isn't her own: `o` is that it is, `h` and `l` that she is eligible for the paper or administers it, `past` and `d` that it is the
 -- discussion or the notification, `k` that the form is discussed, `n` and `r` that it is the first and the last of its label, `a` that
 -- she is an author of the paper
 form-hidden : (o h past k : Bool) → o ≡ false → past ≡ false → (o || ((h && past) && k)) ≡ false
@@ -56,8 +56,8 @@ forms-early u p H early = each-view u H IsUnread each
     each before later maker (Reviewed paper ordinal version form) told = λ other.
         let own : is_number u maker ≡ false = (other-parts (eqb paper p) (is_number u maker) other).1 in
         let discussed : Bool = is_discussed paper ordinal before later in
-        let unread = form-hidden (is_number u maker) (handles u paper H) (is_past_reviewing (phase_of H)) discussed own early in
-        let unlearnt = review-hidden (is_number u maker) (handles u paper H) (is_past_reviewing (phase_of H)) discussed (is_author u paper H)
+        let unread = form-hidden (is_number u maker) (is_eligible u paper H) (is_past_reviewing (phase_of H)) discussed own early in
+        let unlearnt = review-hidden (is_number u maker) (is_eligible u paper H) (is_past_reviewing (phase_of H)) discussed (is_author u paper H)
         (is_past_discussion (phase_of H)) (not (is_reviewed paper ordinal later)) own early silent in
         λ i. record (shown_to u H before later maker (Reviewed paper ordinal version form)) {
           mine = own i;
@@ -69,13 +69,13 @@ forms-early u p H early = each-view u H IsUnread each
         }
     each before later maker e told = λ other. absurd (false≢true other)
 
--- who neither leads the paper nor handles it
-module _ (u : Option ℕ) (p : ℕ) (H : History) (apart : leads u p H ≡ false) (unhandled : handles u p H ≡ false) where
-  handled-at : (paper : ℕ) → eqb paper p ≡ true → handles u paper H ≡ false
-  handled-at paper same = ap (λ n. handles u n H) (eqb-true paper p same) ∙ unhandled
+-- who neither administers the paper nor is eligible for it
+module _ (u : Option ℕ) (p : ℕ) (H : History) (apart : administers u p H ≡ false) (unhandled : is_eligible u p H ≡ false) where
+  handled-at : (paper : ℕ) → eqb paper p ≡ true → is_eligible u paper H ≡ false
+  handled-at paper same = ap (λ n. is_eligible u n H) (eqb-true paper p same) ∙ unhandled
 
-  led-at : (paper : ℕ) → eqb paper p ≡ true → leads u paper H ≡ false
-  led-at paper same = ap (λ n. leads u n H) (eqb-true paper p same) ∙ apart
+  led-at : (paper : ℕ) → eqb paper p ≡ true → administers u paper H ≡ false
+  led-at paper same = ap (λ n. administers u n H) (eqb-true paper p same) ∙ apart
 
   abbrev IsForAuthors : Sighting → Type 0
   IsForAuthors s = is_others kinds.Reviewed p s ≡ true → (is_past_discussion (phase_of H) ≡ true) × (s.to_pc ≡ None)
@@ -87,12 +87,12 @@ module _ (u : Option ℕ) (p : ℕ) (H : History) (apart : leads u p H ≡ false
       each before later maker (Reviewed paper ordinal version form) told = λ other.
           let parts = other-parts (eqb paper p) (is_number u maker) other in
           let discussed : Bool = is_discussed paper ordinal before later in (
-            author-form (is_number u maker) (handles u paper H) (is_past_reviewing (phase_of H)) discussed (leads u paper H)
+            author-form (is_number u maker) (is_eligible u paper H) (is_past_reviewing (phase_of H)) discussed (administers u paper H)
                 (not (is_reviewed paper ordinal before)) (is_author u paper H) (is_past_discussion (phase_of H)) (not (is_reviewed paper ordinal later))
                 parts.1 (handled-at paper parts.0) (led-at paper parts.0) told,
             known-not _ form.to_pc
                 (or_from (is_number u maker) _ parts.1
-                (form-unread (handles u paper H) (is_past_reviewing (phase_of H)) discussed (handled-at paper parts.0))),
+                (form-unread (is_eligible u paper H) (is_past_reviewing (phase_of H)) discussed (handled-at paper parts.0))),
           )
       each before later maker e told = λ other. absurd (false≢true other)
 
@@ -113,10 +113,10 @@ module _ (u : Option ℕ) (p : ℕ) (H : History) (apart : leads u p H ≡ false
       each before later maker (Commented paper n ordinal text) told =
           or-false _
           ∙ none (eqb paper p) (is_number u maker)
-          (λ same. comment-own (is_number u maker) (handles u paper H) (is_past_reviewing (phase_of H)) (handled-at paper same) told)
+          (λ same. comment-own (is_number u maker) (is_eligible u paper H) (is_past_reviewing (phase_of H)) (handled-at paper same) told)
       each before later maker (Tagged paper tag on) told =
           none (eqb paper p) (is_number u maker)
-          (λ same. tag-own (is_number u maker) (is_committees tag) (is_chairs tag) (handles u paper H) (leads_committee (role_of u H))
+          (λ same. tag-own (is_number u maker) (is_committees tag) (is_chairs tag) (is_eligible u paper H) (chairs_committee (role_of u H))
           (handled-at paper same) told)
       each before later maker e told = refl
 
@@ -142,11 +142,11 @@ writers-unnamed u p H apart hides =
         → (shown_to u H before later maker e).by ≡ None
     each before later maker (Commented paper n ordinal text) told on_it =
         known-not _ maker
-        (unnamed (serves u H) (not (has_conflict u paper H)) (is_past_reviewing (phase_of H)) (leads_committee (role_of u H)) (hides_reviewers (mode_of H))
-        (ap (λ n. leads u n H) (eqb-true paper p on_it) ∙ apart) hides)
+        (unnamed (serves u H) (not (has_conflict u paper H)) (is_past_reviewing (phase_of H)) (chairs_committee (role_of u H)) (hides_reviewers (mode_of H))
+        (ap (λ n. administers u n H) (eqb-true paper p on_it) ∙ apart) hides)
     each before later maker e told on_it = absurd (false≢true on_it)
 
--- a tag that she is told of: `m` and `c` are that it is the committee's or the chairs', `h` and `o` that she handles or oversees the
+-- a tag that she is told of: `m` and `c` are that it is the committee's or the chairs', `h` and `o` that she is eligible for or oversees the
 -- paper
 pub private-tags : PrivateTagsAreOwn
 private-tags u p H =
@@ -158,7 +158,7 @@ private-tags u p H =
     each : (before later : History) (maker : ℕ) (e : Entry) → is_told u H before later maker e ≡ true
         → (is_others kinds.Tagged p (shown_to u H before later maker e) && is_tag_so is_setters (shown_to u H before later maker e).tag) ≡ false
     each before later maker (Tagged paper tag on) told =
-        none (eqb paper p) (is_number u maker) (is_committees tag) (is_chairs tag) (handles u paper H) (oversees u paper H) told
+        none (eqb paper p) (is_number u maker) (is_committees tag) (is_chairs tag) (is_eligible u paper H) (oversees u paper H) told
     each before later maker e told = refl
 
 pub chairs-tags : ChairsTags
@@ -183,7 +183,7 @@ chairs-tags u p H apart =
     each : (before later : History) (maker : ℕ) (e : Entry) → is_told u H before later maker e ≡ true
         → (is_others kinds.Tagged p (shown_to u H before later maker e) && is_tag_so is_chairs (shown_to u H before later maker e).tag) ≡ false
     each before later maker (Tagged paper tag on) told =
-        none (eqb paper p) (is_number u maker) (is_committees tag) (is_chairs tag) (handles u paper H) (oversees u paper H)
+        none (eqb paper p) (is_number u maker) (is_committees tag) (is_chairs tag) (is_eligible u paper H) (oversees u paper H)
         (chairs-apart tag) (λ same. ap (λ n. oversees u n H) (eqb-true paper p same) ∙ apart) told
     each before later maker e told = refl
 

@@ -19,7 +19,7 @@ use Rattle.cr_base.specs.Drawn.{Drawn, grouped, conflict_drawn, assignment_drawn
 use Rattle.cr_base.specs.History.{History}
 use Rattle.cr_base.specs.Judging.{judge_by}
 use Rattle.cr_base.specs.Lists.{at_some, is_number}
-use Rattle.cr_base.specs.Spelt.{paper_spelt}
+use Rattle.cr_base.specs.Parse.{parse_paper}
 use Rattle.cr_base.specs.Sources.{Facts, Shown, user_among, paper_named, target_named, facts_of_tables, shown_in_tables}
 use Rattle.cr_base.specs.Tables.{Tables, tables_of, tables_from, Fits, FitInTurn}
 use Rattle.cr_base.specs.TagTexts.{is_tag, is_for_chairs}
@@ -27,18 +27,18 @@ use Rattle.cr_base.proofs.CheckLaws.{judged-Ok}
 use Rattle.cr_history.specs.Groups.{IsRuled, StandsAlone, Adds, single, submitted, first_user, Grows, adds, goes_on}
 use Rattle.cr_history.specs.Invariants.{IsRegistered, IsMadeByUser, Invariants}
 use Rattle.cr_history.specs.Laws.{AreTold, AreFormsTold}
-use Rattle.cr_history.proofs.FormTies.{forms_tell}
+use Rattle.cr_history.proofs.FormAgreement.{forms_tell}
 use Rattle.cr_history.proofs.GrowthLaws.{growth_keeps}
-use Rattle.cr_history.proofs.LineTies.{stamp}
-use Rattle.cr_history.proofs.TableTies.{tables_of-append}
+use Rattle.cr_history.proofs.LineAgreement.{stamp}
+use Rattle.cr_history.proofs.TableAgreement.{tables_of-append}
 use Rattle.cr_policy.specs.Judge.{judge, view_basis, own_sightings, judge_row, judge_bulk}
 use Rattle.cr_policy.specs.Legal.{IsCaller}
 use Rattle.cr_policy.specs.View.{View, view}
 use Rattle.cr_policy.specs.ViewFacts.{facts_in_view, shown_in_view}
 use Rattle.cr_policy.proofs.AcceptedLaws.{Kept-told, accepted-adds, accepted-fits}
 use Rattle.cr_policy.proofs.BulkViews.{IsOfRow, row-goes, registered-behind, view-behind}
-use Rattle.cr_policy.proofs.FactTies.{facts_in_view-tables}
-use Rattle.cr_policy.proofs.JudgeTies.{judge-tables}
+use Rattle.cr_policy.proofs.FactAgreement.{facts_in_view-tables}
+use Rattle.cr_policy.proofs.JudgeAgreement.{judge-tables}
 
 -- ---- the command of a row
 
@@ -58,7 +58,7 @@ command-told (Some (turns_conflict on)) row command is = told_as _ command (reco
 command-told (Some (turns_tag on)) row command is = by (is_tag row.tag) refl is
   where
     tagged : Command
-    tagged = Tag (paper_spelt row.paper) row.tag on
+    tagged = Tag (parse_paper row.paper) row.tag on
 
     by : (b : Bool) → is_tag row.tag ≡ b → ◌≡◌ {A = Result Command Rule} (cond b (Ok tagged) (Err rules.BadTag)) (Ok command) → IsTold command
     by true is_one is = told_as tagged command (record { of_row = tt; bounded = is_one }) is
@@ -113,7 +113,7 @@ module _ (facts : Facts) (shown : Shown) (user : ℕ) where
   row-draws (Unassign paper name) drawn told other accepted =
       let target : Option ℕ = user_among facts.accounts name in
       let p : ℕ = unwrap_or paper 0 in
-      let seat : Option ℕ = shown.seat target p in
+      let seat : Option ℕ = shown.ordinal target p in
       let draws : Drawn = unassignment_drawn user p (unwrap_or target 0) (unwrap_or seat 0) in
       let k = judged-Ok (unassign_checks (facts.standing paper) (paper_named facts shown paper) (target_named facts shown (Some user) paper target)
       (at_some (shown.written p) seat)) draws drawn accepted in

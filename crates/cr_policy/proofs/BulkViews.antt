@@ -18,7 +18,7 @@ use Rattle.cr_base.specs.Lists.{given, last, last_or, is_nothing, is_number, unt
 use Rattle.cr_base.proofs.ListLaws.{turned}
 use Rattle.cr_base.specs.Bulk.{IsRowEntry}
 use Rattle.cr_history.specs.Invariants.{IsRegistered}
-use Rattle.cr_history.proofs.LineTies.{stamp}
+use Rattle.cr_history.proofs.LineAgreement.{stamp}
 use Rattle.cr_history.proofs.ListCuts.{until-none, until-append, until-before}
 use Rattle.cr_policy.specs.Part.{Part, whole}
 use Rattle.cr_policy.specs.Sighting.{Sighting, entire, masked, sighting}
@@ -43,7 +43,7 @@ module _ (user : ℕ) where
   row-goes (Tagged paper tag on) row = tt
   row-goes e row = absurd row
 
-  -- it tells nothing of what the table asks, and is of the matter of no other entry
+  -- it tells nothing of what the table asks, and is of the series of no other entry
   no_phase : (e : Entry) → IsOfRow user e → phase_told e ≡ []
   no_phase (PhaseSet phase) row = absurd row
   no_phase e row = refl
@@ -163,7 +163,7 @@ module _ (user : ℕ) (more : Bool) (e : Entry) (row : IsOfRow user e) where
   registered-behind H v registered =
       ap (list_any (λ r. eqb r.user v)) (behind-silent (λ (x : Stamped). registration_told x.entry) H s (no_registration user e row)) ∙ registered
 
-  -- each entry before it stands where it stood among those of its matter
+  -- each entry before it stands where it stood among those of its series
   alike-behind : (x : Entry) (G : History) → none_alike x (G ++ s ∷ []) ≡ none_alike x G
   alike-behind (Submitted paper title abstract) G = ap is_nothing (behind-silent (λ (x : Stamped). title_told paper x.entry) G s (no_title user e row paper))
   alike-behind (Revised paper title abstract) G = ap is_nothing (behind-silent (λ (x : Stamped). title_told paper x.entry) G s (no_title user e row paper))

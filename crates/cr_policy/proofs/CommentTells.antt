@@ -22,7 +22,7 @@ use Rattle.cr_base.specs.Phases.{is_from}
 use Rattle.cr_base.specs.Rows.{label_number, IsBoundedEntry}
 use Rattle.cr_base.specs.Sources.{name_in}
 use Rattle.cr_base.specs.Words.{is_anonymous, is_chair, is_member}
-use Rattle.cr_history.proofs.LineTies.{stamp}
+use Rattle.cr_history.proofs.LineAgreement.{stamp}
 use Rattle.cr_policy.specs.Part as part
 use Rattle.cr_policy.specs.Sighting.{Sighting, where_shown}
 use Rattle.cr_policy.specs.Triggers.{Reader, reader, Around, user_named}

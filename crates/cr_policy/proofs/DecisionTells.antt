@@ -17,7 +17,7 @@ use Rattle.cr_base.specs.Page.{gets_decision}
 use Rattle.cr_base.specs.Phases.{is_from}
 use Rattle.cr_base.specs.Words.{is_accept}
 use Rattle.cr_base.proofs.LastLaws.{last_from-map}
-use Rattle.cr_history.proofs.LineTies.{stamp}
+use Rattle.cr_history.proofs.LineAgreement.{stamp}
 use Rattle.cr_policy.specs.Part as part
 use Rattle.cr_policy.specs.Triggers.{Reader, reader, Around, none_in, discusses, user_named}
 use Rattle.cr_policy.specs.View.{view, sight}

@@ -20,7 +20,7 @@ use Rattle.cr_policy.specs.Triggers.{Reader, reader, Around, standing_to, user_n
 use Rattle.cr_policy.specs.View.{view, sight}
 use Rattle.cr_policy.specs.ViewFacts.{only, is_user, conflict_user_seen, own_or_other_seen, bidding_seen, declared_in_view}
 use Rattle.cr_policy.proofs.Cuts.{opening_cuts, sights-until, sights-since, kept_until-each, kept_since-each, flat_map-cut}
-use Rattle.cr_history.proofs.LineTies.{stamp}
+use Rattle.cr_history.proofs.LineAgreement.{stamp}
 use Rattle.cr_policy.proofs.Tells.{passes, silent, told_where, paper_value}
 use Rattle.cr_policy.proofs.Walk.{only-false, list_any-nobody, Tells}
 

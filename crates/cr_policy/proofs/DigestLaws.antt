@@ -9,7 +9,7 @@ use Rattle.cr_base.specs.History.{History}
 use Rattle.cr_base.specs.Lists.{given, is_number}
 use Rattle.cr_history.specs.Invariants.{IsMadeByUser, IsInOrder, InTurn}
 use Rattle.cr_history.proofs.ListCuts.{AllByRecursion-append}
-use Rattle.cr_history.proofs.LineTies.{stamp}
+use Rattle.cr_history.proofs.LineAgreement.{stamp}
 use Rattle.cr_policy.specs.Laws.{IsOwnDigest}
 use Rattle.cr_policy.specs.Sighting.{where_shown}
 use Rattle.cr_policy.specs.Triggers.{Reader, Around}

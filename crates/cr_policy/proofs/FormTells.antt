@@ -9,7 +9,7 @@ use Rattle.cr_base.specs.declared.entry.Stamped.{Stamped}
 use Rattle.cr_base.specs.declared.form.Form.{Form}
 use Rattle.cr_base.specs.Lists.{given, listed, is_number}
 use Rattle.cr_base.specs.History.{FormTold, whole_form, form_told, own_form_told}
-use Rattle.cr_history.proofs.LineTies.{stamp}
+use Rattle.cr_history.proofs.LineAgreement.{stamp}
 use Rattle.cr_policy.specs.Part as part
 use Rattle.cr_policy.specs.Part.{Part}
 use Rattle.cr_policy.specs.Sighting.{Sighting, where_shown}

@@ -100,7 +100,7 @@ rows-plain r at by e = of e.entry
   where
     of : (entry : Entry) → rows r at by entry ≡ rows r at by (plain r.number (record { maker = e.maker; more = e.more; entry = entry }))
     of (Conflict paper user on) = λ i. (sym (stands_in r.number user) i see whole) ∷ behind (rows r at by (Conflict paper user on))
-    of (Assigned paper user seat ordinal) = λ i. (sym (stands_in r.number user) i see whole) ∷ behind (rows r at by (Assigned paper user seat ordinal))
+    of (Assigned paper user review_kind ordinal) = λ i. (sym (stands_in r.number user) i see whole) ∷ behind (rows r at by (Assigned paper user review_kind ordinal))
     of (Unassigned paper user ordinal) = λ i. (sym (stands_in r.number user) i see whole) ∷ behind (rows r at by (Unassigned paper user ordinal))
     of entry = refl
 
@@ -197,7 +197,7 @@ none_in-same told by u (e ∷ H) (other ∷ H') same =
     here : is_nothing (told e.entry) ≡ is_nothing (told other.entry)
     here = by e ∙ (λ i. is_nothing (told (blank_entry (same.0.alike i) 0))) ∙ sym (by other)
 
--- whether any is of the same matter, for one entry and two histories; and for two entries
+-- whether any is of the same series, for one entry and two histories; and for two entries
 none_alike-histories : (e : Entry) (u : Option ℕ) (H H' : History) → SamePlaces u H H' → none_alike e H ≡ none_alike e H'
 none_alike-histories (Submitted paper title abstract) u H H' same = none_in-same (title_told paper) (titles-outlined paper) u H H' same
 none_alike-histories (Revised paper title abstract) u H H' same = none_in-same (title_told paper) (titles-outlined paper) u H H' same

@@ -301,7 +301,7 @@ is_primary _ = false
 pub seat-hidden : pairs.SeatHidden
 seat-hidden d are =
     once (bids-so d are Blind) (assigns alice (codes "dave") Primary) (assigns alice (codes "dave") Secondary) []
-    (list_any (λ (s : Sighting). is_primary s.seat)) refl refl refl refl refl
+    (list_any (λ (s : Sighting). is_primary s.review_kind)) refl refl refl refl refl
 
 pub assigner-hidden : pairs.AssignerHidden
 assigner-hidden d are =

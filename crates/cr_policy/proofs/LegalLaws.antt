@@ -18,11 +18,11 @@ use Rattle.cr_history.specs.Groups.{Adds, adds}
 use Rattle.cr_history.specs.Invariants.{IsRegistered, Invariants, IsWhole, DeclaresInTime}
 use Rattle.cr_history.specs.Laws.{AreTold}
 use Rattle.cr_history.proofs.CallerLaws.{caller-registered}
-use Rattle.cr_history.proofs.FormTies.{forms_tell}
+use Rattle.cr_history.proofs.FormAgreement.{forms_tell}
 use Rattle.cr_history.proofs.Grouped.{grouped-whole}
 use Rattle.cr_history.proofs.GrowthLaws.{growth_keeps}
 use Rattle.cr_history.proofs.InOrder.{whole-append}
-use Rattle.cr_history.proofs.TableTies.{FitInTurn-behind}
+use Rattle.cr_history.proofs.TableAgreement.{FitInTurn-behind}
 use Rattle.cr_policy.specs.View.{view}
 use Rattle.cr_policy.specs.Judge.{judge, judge_bulk, answer, needs_login}
 use Rattle.cr_policy.specs.Legal.{Call, IsUser, IsAllowed, followed_by, step, BulkCall, IsBulkAllowed, Move, calls, bulks, IsMoveAllowed, moved, LeadsTo, Legal}
@@ -32,9 +32,9 @@ use Rattle.cr_policy.proofs.AcceptedLaws.{Kept-told, accepted-adds, accepted-fit
 use Rattle.cr_policy.proofs.BulkLaws.{bulk-same, bulk-draws, rows-keep}
 use Rattle.cr_policy.proofs.DeclaredLaws.{declared-seen_by_author}
 use Rattle.cr_policy.proofs.DigestLaws.{own_digests}
-use Rattle.cr_policy.proofs.FactTies.{facts_in_view-tables}
-use Rattle.cr_policy.proofs.JudgeTies.{judge-tables}
-use Rattle.cr_policy.proofs.PageTies.{answer-tables}
+use Rattle.cr_policy.proofs.FactAgreement.{facts_in_view-tables}
+use Rattle.cr_policy.proofs.JudgeAgreement.{judge-tables}
+use Rattle.cr_policy.proofs.PageAgreement.{answer-tables}
 
 -- ---- moves one after another
 

@@ -12,7 +12,7 @@ use Rattle.cr_base.specs.declared.reply.Rule.TheVariants as rules
 use Rattle.std.proofs.lemmas.Bool.{true≢false}
 use Rattle.std.specs.Prelude.{codes}
 use Rattle.cr_base.specs.declared.words.Kind.TheVariants.{Primary, Secondary, Pc}
-use Rattle.cr_base.specs.Spelt.{paper_spelt}
+use Rattle.cr_base.specs.Parse.{parse_paper}
 use Rattle.cr_base.specs.Bulk.{assigns, unassigns, turns_conflict, turns_tag}
 use Rattle.cr_base.specs.Bulk.{Action, command_told_by, row_command, turns_own_conflict, row_told_judged, entries_of, and_rows, and_behind, rows_judged}
 use Rattle.cr_base.specs.Bulk.{bulk_checks, bulk_of_rows, bulk_behind}
@@ -23,7 +23,7 @@ use Rattle.cr_base.specs.HistoryFacts.{phase_of, role_of}
 use Rattle.cr_base.specs.Lists.{is_number}
 use Rattle.cr_base.specs.Sources.{Facts, Shown}
 use Rattle.cr_base.specs.Words.{is_chair}
-use Rattle.cr_history.proofs.LineTies.{stamp}
+use Rattle.cr_history.proofs.LineAgreement.{stamp}
 use Rattle.cr_history.proofs.RuleLaws.{facts_of}
 use Rattle.cr_policy.specs.Added.{added}
 use Rattle.cr_policy.specs.Judge.{judge, view_basis, own_sightings, judge_bulk}
@@ -34,7 +34,7 @@ use Rattle.cr_policy.specs.View.{View, view}
 use Rattle.cr_policy.specs.ViewFacts.{facts_in_view, shown_in_view}
 use Rattle.cr_policy.proofs.AddedLaws.{adds_as_said, user-same}
 use Rattle.cr_policy.proofs.BulkLaws.{row_seen, seen, IsReady, RowCalls, row-calls, RowAdds, row-adds, next, next-ready, next-seen}
-use Rattle.cr_policy.proofs.FactTies.{facts_in_view-tables}
+use Rattle.cr_policy.proofs.FactAgreement.{facts_in_view-tables}
 use Rattle.cr_policy.proofs.LegalLaws.{Legal-accepted, legal_invariants}
 use Rattle.cr_policy.proofs.MayDoLaws.{permissions_as_said}
 use Rattle.cr_policy.proofs.SentenceLaws.{none_broken, judged-none_broken, chair-same, in_committee-same, facts-same, told, forms}
@@ -67,10 +67,10 @@ rows_as_said = record {
   clearreview = λ p u t. refl;
   conflict = λ p u t. refl;
   clearconflict = λ p u t. refl;
-  tag = λ p u t is. ap (λ (b : Bool). cond b (Ok (commands.Tag (paper_spelt p) t true)) (Err rules.BadTag)) is;
-  cleartag = λ p u t is. ap (λ (b : Bool). cond b (Ok (commands.Tag (paper_spelt p) t false)) (Err rules.BadTag)) is;
-  bad_tag = λ p u t is. ap (λ (b : Bool). cond b (Ok (commands.Tag (paper_spelt p) t true)) (Err rules.BadTag)) is;
-  bad_cleared_tag = λ p u t is. ap (λ (b : Bool). cond b (Ok (commands.Tag (paper_spelt p) t false)) (Err rules.BadTag)) is;
+  tag = λ p u t is. ap (λ (b : Bool). cond b (Ok (commands.Tag (parse_paper p) t true)) (Err rules.BadTag)) is;
+  cleartag = λ p u t is. ap (λ (b : Bool). cond b (Ok (commands.Tag (parse_paper p) t false)) (Err rules.BadTag)) is;
+  bad_tag = λ p u t is. ap (λ (b : Bool). cond b (Ok (commands.Tag (parse_paper p) t true)) (Err rules.BadTag)) is;
+  bad_cleared_tag = λ p u t is. ap (λ (b : Bool). cond b (Ok (commands.Tag (parse_paper p) t false)) (Err rules.BadTag)) is;
   bad_action = λ p a u t is.
       ap (λ (action : Option Action). command_told_by action (a_row p a u t))
       (no-action (bytes_eq a (codes "primary")) (bytes_eq a (codes "secondary")) (bytes_eq a (codes "pcreview")) (bytes_eq a (codes "clearreview"))

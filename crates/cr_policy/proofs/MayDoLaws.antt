@@ -24,7 +24,7 @@ use Rattle.cr_base.specs.Drawn.{Drawn, naming_drawn, conflict_drawn, assignment_
 use Rattle.cr_base.specs.Judging.{name_judged, conflict_judged, assignment_judged, unassignment_judged}
 use Rattle.cr_base.specs.Lists.{at_some, is_number}
 use Rattle.cr_base.specs.History.{History}
-use Rattle.cr_base.specs.HistoryFacts.{standing_of, phase_of, role_of, is_conflicted, is_withdrawn, is_author, is_reviewer, authors_of, papers_of, seat_of, seats_of}
+use Rattle.cr_base.specs.HistoryFacts.{standing_of, phase_of, role_of, is_conflicted, is_withdrawn, is_author, is_reviewer, authors_of, papers_of, ordinal_of, seats_of}
 use Rattle.cr_base.specs.HistoryFacts.{accounts_of, number_of, is_written, own_comments_of, own_bytes_of, own_papers_of}
 use Rattle.cr_base.specs.Phases.{is_phase, is_from, is_next}
 use Rattle.cr_base.specs.Sources.{maker_of, number_in, users_among, role_among, paper_named}
@@ -40,7 +40,7 @@ use Rattle.cr_policy.proofs.LegalLaws.{Legal-told}
 use Rattle.cr_policy.specs.MayDo.{may_register, may_name, may_set_mode, may_open, may_submit, may_change, may_upload, may_declare, may_take_back, may_bid, may_assign}
 use Rattle.cr_policy.specs.MayDo.{has_written, may_unassign, may_review, may_comment, may_tag, may_decide, PermissionsAsSaid}
 use Rattle.cr_policy.specs.Sentences.{now, comes_behind, committee_works, is_over, is_members, is_chairs, is_above, is_paper, stands}
-use Rattle.cr_policy.specs.Sentences.{leads, of_some, user_named, is_somebody, is_for_chairs_alone}
+use Rattle.cr_policy.specs.Sentences.{administers, of_some, user_named, is_somebody, is_for_chairs_alone}
 use Rattle.cr_policy.proofs.SentenceLaws.{none_broken, judged-none_broken, phase-same, next-same, member-same, chair-same, in_committee-same, above-same, over-same, early-same, none-same, at-same, fewer, up_to}
 use Rattle.cr_policy.proofs.SentenceLaws.{shown_of, accepted-as, accepted-checks, number-same, by_name, all_somebody}
 
@@ -266,7 +266,7 @@ module _ (w : ℕ) (H : History) (legal : Legal H) where
         herself = eqb v w;
         author = wrote;
         conflicted = wrote || list_any (is_number (Some v)) ((shown_of H).conflicts p);
-        reviewer = is_some (seat_of (Some v) p H);
+        reviewer = is_some (ordinal_of (Some v) p H);
       }
 
   abbrev by : ℕ → Standing
@@ -309,7 +309,7 @@ module _ (w : ℕ) (H : History) (legal : Legal H) where
           ∙ declared-said (is_from Bidding (phase_of H)) (is_from Notification (phase_of H)) (is_paper p H) (is_withdrawn p H) (by p)
           (user_at p v (role_of (Some v) H)) (same_user v)
           ∙ (λ i. stands p H && is_members (role_of (Some v) H)
-          && ((early-same (phase_of H) i && is_author (Some w) p H) || (in_committee-same (phase_of H) i && (eqb v w || leads w p H))))
+          && ((early-same (phase_of H) i && is_author (Some w) p H) || (in_committee-same (phase_of H) i && (eqb v w || administers w p H))))
 
   -- what a chair does while the committee works
   chair-said : (t k c n w k' n' rest : Bool) → k ≡ k' → n ≡ n'
@@ -319,7 +319,7 @@ module _ (w : ℕ) (H : History) (legal : Legal H) where
   chair-checks : (p : ℕ) (rest : Bool)
       → (not (not (is_paper p H)) && (not (not (is_chair (role_of (Some w) H))) && (not (is_conflicted (Some w) p H)
       && (not (not (is_in_committee (phase_of H))) && (not (is_withdrawn p H) && rest)))))
-      ≡ (stands p H && leads w p H && committee_works H && rest)
+      ≡ (stands p H && administers w p H && committee_works H && rest)
   chair-checks p rest =
       chair-said (is_paper p H) (is_chair (role_of (Some w) H)) (is_conflicted (Some w) p H) (is_in_committee (phase_of H)) (is_withdrawn p H)
       (is_chairs (role_of (Some w) H)) (committee_works H) rest (chair-same (role_of (Some w) H)) (in_committee-same (phase_of H))
@@ -341,7 +341,7 @@ module _ (w : ℕ) (H : History) (legal : Legal H) where
           ap (λ (o : Option Role). is_ok (judged (conflict_checks (by p) (named p) (option_map (user_at p v) o) false) (conflict_drawn w p v false))) is
           ∙ judged-none_broken (conflict_checks (by p) (named p) (Some (user_at p v (role_of (Some v) H))) false) (conflict_drawn w p v false)
           ∙ chair-checks p (not (not (is_member (role_of (Some v) H))) && (not (is_author (Some v) p H) && true))
-          ∙ said (stands p H && leads w p H && committee_works H) (is_member (role_of (Some v) H)) (is_members (role_of (Some v) H))
+          ∙ said (stands p H && administers w p H && committee_works H) (is_member (role_of (Some v) H)) (is_members (role_of (Some v) H))
           (is_author (Some v) p H) (member-same (role_of (Some v) H))
 
   assignments : (paper : Option ℕ) (name : Option (List ℕ)) (kind : Kind)
@@ -363,7 +363,7 @@ module _ (w : ℕ) (H : History) (legal : Legal H) where
           ∙ judged-none_broken (assign_checks (by p) (named p) (Some (user_at p v (role_of (Some v) H))) (length (seats_of p H))) (assignment_drawn w p v kind (length (seats_of p H) + 1))
           ∙ chair-checks p (not (not (is_member (role_of (Some v) H))) && (not ((user_at p v Account).conflicted)
           && (not (is_reviewer (Some v) p H) && (not (nat_le 26 (length (seats_of p H))) && true))))
-          ∙ said (stands p H && leads w p H && committee_works H) (is_member (role_of (Some v) H)) (is_members (role_of (Some v) H))
+          ∙ said (stands p H && administers w p H && committee_works H) (is_member (role_of (Some v) H)) (is_members (role_of (Some v) H))
           ((user_at p v Account).conflicted) (is_conflicted (Some v) p H) (is_reviewer (Some v) p H)
           (nat_le 26 (length (seats_of p H))) (nat_lt (length (seats_of p H)) 26)
           (member-same (role_of (Some v) H)) (clash-same p v) (fewer 26 (length (seats_of p H)))
@@ -382,13 +382,13 @@ module _ (w : ℕ) (H : History) (legal : Legal H) where
       each : (v : ℕ) → role_among (accounts_of H) (Some v) ≡ Some (role_of (Some v) H)
           → is_ok (unassignment_judged (facts_of (Some w) H) (shown_of H) (Some w) (Some p) (Some v)) ≡ may_unassign w H p v
       each v is =
-          ap (λ (o : Option Role). is_ok (judged (unassign_checks (by p) (named p) (option_map (user_at p v) o) (at_some (λ o. is_written p o H) (seat_of (Some v) p H)))
-          (unassignment_drawn w p v (unwrap_or (seat_of (Some v) p H) 0)))) is
-          ∙ judged-none_broken (unassign_checks (by p) (named p) (Some (user_at p v (role_of (Some v) H))) (at_some (λ o. is_written p o H) (seat_of (Some v) p H)))
-          (unassignment_drawn w p v (unwrap_or (seat_of (Some v) p H) 0))
-          ∙ chair-checks p (not (not (is_reviewer (Some v) p H)) && (not (at_some (λ o. is_written p o H) (seat_of (Some v) p H)) && true))
-          ∙ said (stands p H && leads w p H && committee_works H) (is_reviewer (Some v) p H)
-          (at_some (λ o. is_written p o H) (seat_of (Some v) p H)) (has_written v p H) (at-same (λ o. is_written p o H) (seat_of (Some v) p H))
+          ap (λ (o : Option Role). is_ok (judged (unassign_checks (by p) (named p) (option_map (user_at p v) o) (at_some (λ o. is_written p o H) (ordinal_of (Some v) p H)))
+          (unassignment_drawn w p v (unwrap_or (ordinal_of (Some v) p H) 0)))) is
+          ∙ judged-none_broken (unassign_checks (by p) (named p) (Some (user_at p v (role_of (Some v) H))) (at_some (λ o. is_written p o H) (ordinal_of (Some v) p H)))
+          (unassignment_drawn w p v (unwrap_or (ordinal_of (Some v) p H) 0))
+          ∙ chair-checks p (not (not (is_reviewer (Some v) p H)) && (not (at_some (λ o. is_written p o H) (ordinal_of (Some v) p H)) && true))
+          ∙ said (stands p H && administers w p H && committee_works H) (is_reviewer (Some v) p H)
+          (at_some (λ o. is_written p o H) (ordinal_of (Some v) p H)) (has_written v p H) (at-same (λ o. is_written p o H) (ordinal_of (Some v) p H))
 
 -- ---- the law
 

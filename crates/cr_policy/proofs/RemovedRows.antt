@@ -15,7 +15,7 @@ use Rattle.cr_base.specs.History.{History, opens_discussion, title_told, upload_
 use Rattle.cr_base.specs.Page.{is_clear_member, is_clear_chair}
 use Rattle.cr_base.specs.Phases.{is_from}
 use Rattle.cr_history.proofs.ListCuts.{until-append, until-before}
-use Rattle.cr_history.proofs.LineTies.{stamp}
+use Rattle.cr_history.proofs.LineAgreement.{stamp}
 use Rattle.cr_policy.specs.Part.{Part}
 use Rattle.cr_policy.specs.Triggers.{Reader, Around, Position, position_of, standing_to, members, authors, TriggerRow, rows, applies_any, none_in, none_alike, published, discusses}
 use Rattle.cr_policy.specs.View.{is_seen, rows_at}
@@ -65,7 +65,7 @@ none-applies (row ∷ xs) h = let parts = or_parts row.applies (applies_any xs) 
 
 -- ---- a place, with the entry and without it
 
--- what a row asks of a place, with the entry and without it: the same, where the two are of different matters (apart); and else it holds
+-- what a row asks of a place, with the entry and without it: the same, where the two are of different series (apart); and else it holds
 -- without it where it holds with it, or held of the entry itself (gone)
 record Stands (apart with without gone : Bool) : Type 0 where
   same : apart ≡ true → with ≡ without
@@ -155,7 +155,7 @@ stands-row_discussed false with without gone since asked gone_since s h = by wit
     by false true true false asked gone_since stays comes none = sym none
     by false true false since asked gone_since stays comes none = absurd (true≢false (sym (comes refl)))
 
--- ---- entries of one matter
+-- ---- entries of one series
 
 none_in-append : {A : Type 0} (told : Entry → List A) (H G : History) → none_in told (H ++ G) ≡ (none_in told H && none_in told G)
 none_in-append told H G =
@@ -181,7 +181,7 @@ on_paper : {A : Type 0} (b : Bool) (x : A) → is_nothing (given b x ++ []) ≡ 
 on_paper true x h = refl
 on_paper false x h = absurd (true≢false h)
 
--- whatever is of one matter with the entry is of one matter with what the entry is
+-- whatever is of one series with the entry is of one series with what the entry is
 titles-alike : (p : ℕ) (e : Entry) (H : History) → is_nothing (title_told p e ++ []) ≡ false → none_in (title_told p) H ≡ none_alike e H
 titles-alike p (Submitted paper title abstract) H h = ap (λ q. none_in (title_told q) H) (sym (eqb-true paper p (on_paper (eqb paper p) title h)))
 titles-alike p (Revised paper title abstract) H h = ap (λ q. none_in (title_told q) H) (sym (eqb-true paper p (on_paper (eqb paper p) title h)))
@@ -209,7 +209,7 @@ none_alike-alike (Reviewed paper ordinal version form) gone H h = forms-alike pa
 none_alike-alike (Decided paper decision) gone H h = decisions-alike paper gone.entry H h
 none_alike-alike e gone H h = absurd (true≢false h)
 
--- an entry that sets a phase is of no matter
+-- an entry that sets a phase is of no series
 no-opening : (e : Stamped) (gone : Stamped) → none_alike e.entry (gone ∷ []) ≡ false → opens_discussion e ≡ false
 no-opening e gone = of e.entry
   where
@@ -234,7 +234,7 @@ pub record Moved (apart : Bool) (with without gone : Position) : Type 0 where
   early : Stands apart with.last_before_discussion without.last_before_discussion gone.last_before_discussion
   late : with.from_discussion ≡ without.from_discussion
 
--- none of these rows applies to an entry that gives a paper texts and shows nothing; it is the last of its matter, or it isn't
+-- none of these rows applies to an entry that gives a paper texts and shows nothing; it is the last of its series, or it isn't
 record SilentTexts (r : Reader) (last : Bool) (p : ℕ) : Type 0 where
   title : (last && members r && is_from Bidding r.now) ≡ false
   abstract : (last && is_clear_member (standing_to r p) && is_from Bidding r.now) ≡ false

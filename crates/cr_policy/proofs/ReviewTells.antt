@@ -17,7 +17,7 @@ use Rattle.cr_base.specs.History.{History, FormTold, form_told, own_form_told, o
 use Rattle.cr_base.specs.HistoryFacts.{standing_of, forms_of, last_form_of, forms_discussed_of, own_forms_of, is_written}
 use Rattle.cr_base.specs.Page.{is_clear_member, is_clear_chair, where_told}
 use Rattle.cr_base.specs.Phases.{is_from}
-use Rattle.cr_history.proofs.LineTies.{stamp}
+use Rattle.cr_history.proofs.LineAgreement.{stamp}
 use Rattle.cr_policy.specs.Part as part
 use Rattle.cr_policy.specs.Triggers.{Reader, reader, Around, user_named, standing_to}
 use Rattle.cr_policy.specs.View.{view}

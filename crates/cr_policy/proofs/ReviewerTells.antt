@@ -17,17 +17,17 @@ use Rattle.cr_base.specs.declared.words.Role.TheVariants.{Account, Member, Chair
 use Rattle.cr_base.specs.Answering.{reviewer_told}
 use Rattle.cr_base.specs.Lists.{last}
 use Rattle.cr_base.specs.History.{History, SeatTold, bid_told, assigned_told, unassigned_told}
-use Rattle.cr_base.specs.HistoryFacts.{phase_of, standing_of, is_conflict_on, bid_of, seat_of, seats_of, seats_left, reviewers_of, assigned_under}
+use Rattle.cr_base.specs.HistoryFacts.{phase_of, standing_of, is_conflict_on, bid_of, ordinal_of, seats_of, seats_left, reviewers_of, assigned_under}
 use Rattle.cr_base.specs.Page.{is_clear_member, is_clear_chair, gets_bids, gets_conflicts, gets_reviewers, shows_reviewer, where_told}
 use Rattle.cr_base.specs.Phases.{is_from}
 use Rattle.cr_base.specs.Sources.{name_in}
 use Rattle.cr_base.specs.Words.{is_overt, is_chair, is_member}
-use Rattle.cr_history.proofs.LineTies.{stamp}
+use Rattle.cr_history.proofs.LineAgreement.{stamp}
 use Rattle.cr_policy.specs.Part as part
 use Rattle.cr_policy.specs.Sighting.{Sighting, where_shown}
 use Rattle.cr_policy.specs.Triggers.{reader, Around, user_named, standing_to, unless_anonymous}
 use Rattle.cr_policy.specs.View.{view}
-use Rattle.cr_policy.specs.ViewFacts.{bid_seen, assigned_seen, unassigned_seen, bid_in_view, seat_in_view, seats_in_view, reviewers_in_view}
+use Rattle.cr_policy.specs.ViewFacts.{bid_seen, assigned_seen, unassigned_seen, bid_in_view, ordinal_in_view, seats_in_view, reviewers_in_view}
 use Rattle.cr_policy.proofs.Walk.{map-flat_map, sights-all, fold_all}
 use Rattle.cr_policy.proofs.Tells.{passes, passes_both}
 use Rattle.cr_policy.proofs.SeatTells.{bid_tells, bid_value, unassigned_tells, unassigned_value, ShowsAssigned, assigned_tells}
@@ -48,7 +48,7 @@ bid-seen u v p H told =
 -- ---- seats
 
 -- and each entry by which anybody is assigned to it, or unassigned from it
-pub seat-seen_by_chair : (u v : Option ℕ) (p : ℕ) (H : History) → gets_conflicts (standing_of u (Some p) H) ≡ true → seat_in_view v p (view u H) ≡ seat_of v p H
+pub seat-seen_by_chair : (u v : Option ℕ) (p : ℕ) (H : History) → gets_conflicts (standing_of u (Some p) H) ≡ true → ordinal_in_view v p (view u H) ≡ ordinal_of v p H
 seat-seen_by_chair u v p H told = seat-seen_where u v p H (λ at. record {
   assigned = λ maker more user kind ordinal hers. both_true (clear (user_named (reader u H) user) _) (clear (user_named (reader u H) user) _);
   unassigned = λ maker more user ordinal hers. both_true (clear (user_named (reader u H) user) _) (clear (user_named (reader u H) user) _);
@@ -160,7 +160,7 @@ module _ (u : Option ℕ) (p : ℕ) (H : History) (accounts : List AccountLine) 
       let named : Bool = user_named (reader u H) user in
       let own : Bool = user_named (reader u H) maker in
       let e : Stamped = stamp maker more (Assigned p user kind ordinal) in
-      let shown_kind = where_shown (passes part.seat (reader u H) at e) (Some kind) in
+      let shown_kind = where_shown (passes part.review_kind (reader u H) at e) (Some kind) in
       let shown_user = where_shown (passes part.user (reader u H) at e) (Some user) in
       let name : Option ℕ → Option (List ℕ) = option_and_then (name_in accounts) in
       let kinds = same_key member shown_kind (Some kind) (λ clear. ap (λ b. where_shown b (Some kind)) (kind_shown named own clear)) in

@@ -8,14 +8,14 @@ use Rattle.cr_base.specs.declared.entry.Entry.TheVariants.{Bid, Assigned, Unassi
 use Rattle.cr_base.specs.declared.entry.Stamped.{Stamped}
 use Rattle.cr_base.specs.declared.words.Kind.{Kind}
 use Rattle.cr_base.specs.Lists.{given, listed, is_number}
-use Rattle.cr_base.specs.History.{SeatTold, bid_told, seat_told, assigned_told, unassigned_told}
-use Rattle.cr_history.proofs.LineTies.{stamp}
+use Rattle.cr_base.specs.History.{SeatTold, bid_told, ordinal_told, assigned_told, unassigned_told}
+use Rattle.cr_history.proofs.LineAgreement.{stamp}
 use Rattle.cr_policy.specs.Part as part
 use Rattle.cr_policy.specs.Part.{Part}
 use Rattle.cr_policy.specs.Sighting.{Sighting, where_shown}
 use Rattle.cr_policy.specs.Triggers.{Reader, Around}
 use Rattle.cr_policy.specs.View.{sight, is_seen, joined}
-use Rattle.cr_policy.specs.ViewFacts.{only, bid_seen, own_bid_seen, seat_seen, assigned_seen, unassigned_seen}
+use Rattle.cr_policy.specs.ViewFacts.{only, bid_seen, own_bid_seen, ordinal_seen, assigned_seen, unassigned_seen}
 use Rattle.cr_policy.proofs.Walk.{only-false, flat_map-given, Tells, TellsAll}
 use Rattle.cr_policy.proofs.Tells.{passes, passes_both, paper_value, own_value, pair_value, seen_where, silent, told_where, told_both, shown_value, of_paper}
 
@@ -39,15 +39,15 @@ module _ (r : Reader) (at : Around) (maker : ℕ) (more : Bool) where
       hers own = or_right _ _ (or_left (is_number r.number maker) false own)
   own_bid_at p e = silent r at maker more (own_bid_seen p) e refl
 
-  seat_at : (u : Option ℕ) (p : ℕ) (e : Entry)
-      → flat_map (seat_seen u p) (sight r at (stamp maker more e)) ≡ only (passes_both part.user part.ordinal r at (stamp maker more e)) (seat_told u p e)
-  seat_at u p (Assigned paper user kind ordinal) =
-      told_both r at maker more (seat_seen u p) part.user part.ordinal (Assigned paper user kind ordinal) (seat_told u p (Assigned paper user kind ordinal))
+  ordinal_at : (u : Option ℕ) (p : ℕ) (e : Entry)
+      → flat_map (ordinal_seen u p) (sight r at (stamp maker more e)) ≡ only (passes_both part.user part.ordinal r at (stamp maker more e)) (ordinal_told u p e)
+  ordinal_at u p (Assigned paper user kind ordinal) =
+      told_both r at maker more (ordinal_seen u p) part.user part.ordinal (Assigned paper user kind ordinal) (ordinal_told u p (Assigned paper user kind ordinal))
       (pair_value (eqb paper p) _ _ u user (Some ordinal) (λ b. map (λ (o : ℕ). Some o) (listed (where_shown b (Some ordinal)))) refl refl)
-  seat_at u p (Unassigned paper user ordinal) =
-      told_both r at maker more (seat_seen u p) part.user part.ordinal (Unassigned paper user ordinal) (seat_told u p (Unassigned paper user ordinal))
+  ordinal_at u p (Unassigned paper user ordinal) =
+      told_both r at maker more (ordinal_seen u p) part.user part.ordinal (Unassigned paper user ordinal) (ordinal_told u p (Unassigned paper user ordinal))
       (pair_value (eqb paper p) _ _ u user None (λ b. map (λ (o : ℕ). None) (listed (where_shown b (Some ordinal)))) refl refl)
-  seat_at u p e = silent r at maker more (seat_seen u p) e refl
+  ordinal_at u p e = silent r at maker more (ordinal_seen u p) e refl
 
   unassigned_at : (p : ℕ) (e : Entry)
       → flat_map (unassigned_seen p) (sight r at (stamp maker more e)) ≡ only (passes part.ordinal r at (stamp maker more e)) (unassigned_told p e)
@@ -62,8 +62,8 @@ bid_tells r u p at e = bid_at r at e.maker e.more u p e.entry
 pub own_bid_tells : (r : Reader) (p : ℕ) → TellsAll r (own_bid_seen p) (λ (e : Stamped). bid_told r.number p e.maker e.entry)
 own_bid_tells r p at e = own_bid_at r at e.maker e.more p e.entry
 
-pub seat_tells : (r : Reader) (u : Option ℕ) (p : ℕ) → Tells r (seat_seen u p) (λ (e : Stamped). seat_told u p e.entry) (passes_both part.user part.ordinal r)
-seat_tells r u p at e = seat_at r at e.maker e.more u p e.entry
+pub seat_tells : (r : Reader) (u : Option ℕ) (p : ℕ) → Tells r (ordinal_seen u p) (λ (e : Stamped). ordinal_told u p e.entry) (passes_both part.user part.ordinal r)
+seat_tells r u p at e = ordinal_at r at e.maker e.more u p e.entry
 
 pub unassigned_tells : (r : Reader) (p : ℕ) → Tells r (unassigned_seen p) (λ (e : Stamped). unassigned_told p e.entry) (passes part.ordinal r)
 unassigned_tells r p at e = unassigned_at r at e.maker e.more p e.entry
@@ -101,7 +101,7 @@ module _ (r : Reader) (at : Around) (u : Option ℕ) (p : ℕ) where
   bid_kept shown maker more e = refl
 
   seat_kept : ShowsSeat r at u p → (maker : ℕ) (more : Bool) (e : Entry)
-      → only (passes_both part.user part.ordinal r at (stamp maker more e)) (seat_told u p e) ≡ seat_told u p e
+      → only (passes_both part.user part.ordinal r at (stamp maker more e)) (ordinal_told u p e) ≡ ordinal_told u p e
   seat_kept shown maker more (Assigned paper user kind ordinal) =
       of_pair (λ n. passes_both part.user part.ordinal r at (stamp maker more (Assigned n user kind ordinal))) paper p (is_number u user) (Some ordinal)
       (shown.assigned maker more user kind ordinal)
@@ -119,7 +119,7 @@ module _ (r : Reader) (at : Around) (u : Option ℕ) (p : ℕ) where
   pub bid_value : ShowsBid r at p → (e : Stamped) → only (passes_both part.by part.value r at e) (bid_told u p e.maker e.entry) ≡ bid_told u p e.maker e.entry
   bid_value shown e = bid_kept shown e.maker e.more e.entry
 
-  pub seat_value : ShowsSeat r at u p → (e : Stamped) → only (passes_both part.user part.ordinal r at e) (seat_told u p e.entry) ≡ seat_told u p e.entry
+  pub seat_value : ShowsSeat r at u p → (e : Stamped) → only (passes_both part.user part.ordinal r at e) (ordinal_told u p e.entry) ≡ ordinal_told u p e.entry
   seat_value shown e = seat_kept shown e.maker e.more e.entry
 
   pub unassigned_value : ShowsUnassigned r at p → (e : Stamped) → only (passes part.ordinal r at e) (unassigned_told p e.entry) ≡ unassigned_told p e.entry
@@ -136,7 +136,7 @@ module _ {B : Type 0} (m : SeatTold → B) (r : Reader) (at : Around) where
       → (passes part.ordinal r at (stamp maker more (Assigned p user kind ordinal)) ≡ true)
       × (m (record {
         ordinal = ordinal;
-        kind = where_shown (passes part.seat r at (stamp maker more (Assigned p user kind ordinal))) (Some kind);
+        kind = where_shown (passes part.review_kind r at (stamp maker more (Assigned p user kind ordinal))) (Some kind);
         user = where_shown (passes part.user r at (stamp maker more (Assigned p user kind ordinal))) (Some user);
       }) ≡ m (record { ordinal = ordinal; kind = Some kind; user = Some user }))
 
@@ -156,7 +156,7 @@ module _ {B : Type 0} (m : SeatTold → B) (r : Reader) (at : Around) where
       let e : Stamped = stamp maker more (Assigned paper user kind ordinal) in
       flat_map-given (λ (s : Sighting). map m (assigned_seen p s)) (is_seen r at e) (joined r at e)
       ∙ seat_told_so (eqb paper p) (is_seen r at e) (passes part.ordinal r at e) ordinal
-      (λ (o : ℕ). record { ordinal = o; kind = where_shown (passes part.seat r at e) (Some kind); user = where_shown (passes part.user r at e) (Some user) })
+      (λ (o : ℕ). record { ordinal = o; kind = where_shown (passes part.review_kind r at e) (Some kind); user = where_shown (passes part.user r at e) (Some user) })
       (λ (o : ℕ). record { ordinal = o; kind = Some kind; user = Some user })
       (λ same.
       let hers = subst (λ (n : ℕ). ShowsAssigned n) (sym (eqb-true paper p same)) shown maker more user kind ordinal in

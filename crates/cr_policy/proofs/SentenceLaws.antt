@@ -22,7 +22,7 @@ use Rattle.cr_base.specs.Drawn.{Drawn}
 use Rattle.cr_base.specs.Judging.{judge_by}
 use Rattle.cr_base.specs.Lists.{at_some}
 use Rattle.cr_base.specs.History.{History, Registration, all_told, registration_told}
-use Rattle.cr_base.specs.HistoryFacts.{role_of, is_withdrawn, authors_of, uploads_of, seat_of, seats_of}
+use Rattle.cr_base.specs.HistoryFacts.{role_of, is_withdrawn, authors_of, uploads_of, ordinal_of, seats_of}
 use Rattle.cr_base.specs.HistoryFacts.{accounts_of, number_of, is_written}
 use Rattle.cr_base.specs.Phases.{is_phase, is_from, is_next}
 use Rattle.cr_base.specs.Sources.{Shown, number_in, user_among, users_among, role_among, facts_of_tables, shown_in_tables}
@@ -30,8 +30,8 @@ use Rattle.cr_base.specs.Tables.{tables_of}
 use Rattle.cr_base.specs.Words.{is_member, is_chair, role_number}
 use Rattle.cr_base.proofs.AccountLaws.{number_in-lines_of}
 use Rattle.cr_history.specs.Laws.{AreTold, AreFormsTold}
-use Rattle.cr_history.proofs.FormTies.{forms_tell}
-use Rattle.cr_history.proofs.ReviewTies.{is_written-tables}
+use Rattle.cr_history.proofs.FormAgreement.{forms_tell}
+use Rattle.cr_history.proofs.ReviewAgreement.{is_written-tables}
 use Rattle.cr_history.proofs.RuleLaws.{facts_of}
 use Rattle.cr_policy.specs.Judge.{judge}
 use Rattle.cr_policy.specs.Legal.{Legal}
@@ -223,7 +223,7 @@ shown_of H = record (shown_in_tables (tables_of H)) {
   uploads = λ p. uploads_of p H;
   comments = λ p. comments_of p H;
   withdrawn = λ p. is_withdrawn p H;
-  seat = λ v p. seat_of v p H;
+  ordinal = λ v p. ordinal_of v p H;
   labels = λ p. length (seats_of p H);
   written = λ p o. is_written p o H;
 }
@@ -243,7 +243,7 @@ module _ (u : Option ℕ) (H : History) (legal : Legal H) where
     own_papers = told.own_papers u i;
     own_bytes = told.own_bytes u i;
     own_bid = λ p. told.bid u p i;
-    own_seat = λ p. told.seat u p i;
+    own_ordinal = λ p. told.ordinal u p i;
     own_forms = λ p. forms.own u p i;
     own_comments = told.own_comments u i;
     accepted = λ p. told.accepted p i;
@@ -255,7 +255,7 @@ module _ (u : Option ℕ) (H : History) (legal : Legal H) where
     uploads = λ p. told.uploads p i;
     comments = λ p. told.comments p i;
     withdrawn = λ p. told.withdrawn p i;
-    seat = λ v p. told.seat v p i;
+    ordinal = λ v p. told.ordinal v p i;
     labels = λ p. told.labels p i;
     written = λ p o. is_written-tables p o H i;
   }

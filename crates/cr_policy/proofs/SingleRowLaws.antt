@@ -13,7 +13,7 @@ use Rattle.cr_base.specs.Bulk.{entries_of, and_rows, and_behind, rows_judged, bu
 use Rattle.cr_base.specs.Checks.{judged}
 use Rattle.cr_base.specs.Drawn.{Drawn, grouped}
 use Rattle.cr_base.specs.History.{History}
-use Rattle.cr_history.proofs.LineTies.{stamp}
+use Rattle.cr_history.proofs.LineAgreement.{stamp}
 use Rattle.cr_policy.specs.Judge.{view_basis, own_sightings, judge_bulk}
 use Rattle.cr_policy.specs.Legal.{Call, followed_by, step}
 use Rattle.cr_policy.specs.SingleRows.{call_told, row_calls, IsAccepted, AcceptedInTurn, LeadSingly, unmarked, BulkIsItsRows}

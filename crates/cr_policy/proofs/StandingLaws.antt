@@ -12,21 +12,21 @@ use Rattle.cr_base.specs.declared.words.Role.TheVariants.{Account}
 use Rattle.cr_base.specs.declared.reply.AccountLine.{AccountLine}
 use Rattle.cr_base.specs.Lists.{last, last_or, total, is_number, at_some}
 use Rattle.cr_base.specs.History.{History, Registration, all_told, phase_told, mode_told, paper_told, own_paper_told, own_bytes_told, own_comment_told, author_told}
-use Rattle.cr_base.specs.History.{conflict_told, registration_told, role_told, number_told, bid_told, seat_told}
+use Rattle.cr_base.specs.History.{conflict_told, registration_told, role_told, number_told, bid_told, ordinal_told}
 use Rattle.cr_base.specs.HistoryFacts.{phase_of, mode_of, role_of, papers_of, own_papers_of, own_bytes_of, own_comments_of, accounts_of, number_of, authors_of}
-use Rattle.cr_base.specs.HistoryFacts.{is_author, is_conflict_on, is_conflicted, bid_of, seat_of, is_reviewer}
+use Rattle.cr_base.specs.HistoryFacts.{is_author, is_conflict_on, is_conflicted, bid_of, ordinal_of, is_reviewer}
 use Rattle.cr_policy.specs.Part as part
 use Rattle.cr_policy.specs.Triggers.{reader, Around}
 use Rattle.cr_policy.specs.View.{view}
 use Rattle.cr_policy.specs.ViewFacts.{phase_seen, mode_seen, paper_seen, own_paper_seen, own_bytes_seen, own_comment_seen, author_seen, conflict_seen}
-use Rattle.cr_policy.specs.ViewFacts.{registration_seen, role_seen, number_seen, own_bid_seen, seat_seen, own_bid_in_view, seat_in_view}
+use Rattle.cr_policy.specs.ViewFacts.{registration_seen, role_seen, number_seen, own_bid_seen, ordinal_seen, own_bid_in_view, ordinal_in_view}
 use Rattle.cr_policy.specs.ViewFacts.{phase_in_view, mode_in_view, role_in_view, papers_in_view, own_papers_in_view, own_bytes_in_view, own_comments_in_view}
 use Rattle.cr_policy.specs.ViewFacts.{accounts_in_view, number_in_view, authors_in_view, is_author_in_view, is_conflict_on_in_view}
 use Rattle.cr_policy.specs.ViewFacts.{is_conflicted_in_view}
 use Rattle.cr_policy.specs.Laws.{StandingFromView, PublicFactsFromView}
 use Rattle.cr_policy.proofs.DecisionTells.{accepted-seen}
 use Rattle.cr_policy.proofs.Walk.{sights-all, sights-kept, fold_all, list_any-kept}
-use Rattle.cr_history.proofs.LineTies.{stamp}
+use Rattle.cr_history.proofs.LineAgreement.{stamp}
 use Rattle.cr_policy.proofs.SeatTells.{ShowsSeat, own_bid_tells, seat_tells, seat_value}
 use Rattle.cr_policy.proofs.Tells.{passes, passes_both, names_author, phase_tells, mode_tells, paper_tells, own_paper_tells, own_bytes_tells, own_comment_tells}
 use Rattle.cr_policy.proofs.Tells.{author_tells, author_value, conflict_tells, conflict_value, registration_tells, role_tells, number_tells}
@@ -109,15 +109,15 @@ pub own_bid-seen : (u : Option ℕ) (p : ℕ) (H : History) → own_bid_in_view 
 own_bid-seen u p H = ap last (sights-all (reader u H) (own_bid_seen p) (λ (e : Stamped). bid_told u p e.maker e.entry) (own_bid_tells (reader u H) p) [] H)
 
 -- a user's seat is told the reader, where she is shown each entry on it
-pub seat-seen_where : (u v : Option ℕ) (p : ℕ) (H : History) → ((at : Around) → ShowsSeat (reader u H) at v p) → seat_in_view v p (view u H) ≡ seat_of v p H
+pub seat-seen_where : (u v : Option ℕ) (p : ℕ) (H : History) → ((at : Around) → ShowsSeat (reader u H) at v p) → ordinal_in_view v p (view u H) ≡ ordinal_of v p H
 seat-seen_where u v p H shown =
     ap (last_or None)
-    (fold_all (reader u H) (seat_seen v p) (λ (e : Stamped). seat_told v p e.entry) (passes_both part.user part.ordinal (reader u H))
+    (fold_all (reader u H) (ordinal_seen v p) (λ (e : Stamped). ordinal_told v p e.entry) (passes_both part.user part.ordinal (reader u H))
     (seat_tells (reader u H) v p)
     (λ at e. seat_value (reader u H) at v p (shown at) e) [] H)
 
 -- each entry by which she is assigned or unassigned is shown a user
-pub seat-seen : (u : Option ℕ) (p : ℕ) (H : History) → seat_in_view u p (view u H) ≡ seat_of u p H
+pub seat-seen : (u : Option ℕ) (p : ℕ) (H : History) → ordinal_in_view u p (view u H) ≡ ordinal_of u p H
 seat-seen u p H = seat-seen_where u u p H (λ at. record {
   assigned = λ maker more user kind ordinal hers. both_true (first_of (is_number u user) _ hers) (first_of (is_number u user) _ hers);
   unassigned = λ maker more user ordinal hers. both_true (first_of (is_number u user) _ hers) (first_of (is_number u user) _ hers);
@@ -141,7 +141,7 @@ standing_from_view u paper H = λ i. record {
   role = role-seen u u H i;
   author = at_some-seen paper (λ p. is_author_in_view u p (view u H)) (λ p. is_author u p H) (λ p. author-seen u p H) i;
   conflicted = at_some-seen paper (λ p. is_conflicted_in_view u p (view u H)) (λ p. is_conflicted u p H) (λ p. conflicted-seen u p H) i;
-  reviewer = at_some-seen paper (λ p. is_some (seat_in_view u p (view u H))) (λ p. is_reviewer u p H) (λ p. ap is_some (seat-seen u p H)) i;
+  reviewer = at_some-seen paper (λ p. is_some (ordinal_in_view u p (view u H))) (λ p. is_reviewer u p H) (λ p. ap is_some (seat-seen u p H)) i;
 }
 
 pub public_from_view : (u : Option ℕ) (H : History) → PublicFactsFromView u H

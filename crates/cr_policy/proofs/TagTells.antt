@@ -20,7 +20,7 @@ use Rattle.cr_base.specs.Tags.{tag_owner, is_owner, is_tag_for, tags_for}
 use Rattle.cr_base.specs.TagTexts.{is_tilded, is_private, is_for_chairs, is_for_all}
 use Rattle.cr_base.specs.Words.{is_chair, is_member}
 use Rattle.cr_base.proofs.TagLaws.{IsOwned, owned-by_reader, owned-turned, tags_left-for}
-use Rattle.cr_history.proofs.LineTies.{stamp}
+use Rattle.cr_history.proofs.LineAgreement.{stamp}
 use Rattle.cr_policy.specs.Part as part
 use Rattle.cr_policy.specs.Sighting.{Sighting, where_shown}
 use Rattle.cr_policy.specs.Triggers.{Reader, reader, Around}

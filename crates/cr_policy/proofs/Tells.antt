@@ -12,7 +12,7 @@ use Rattle.cr_base.specs.declared.entry.Stamped.{Stamped}
 use Rattle.cr_base.specs.Lists.{given, listed, is_number}
 use Rattle.cr_base.specs.History.{phase_told, mode_told, paper_told, own_paper_told, own_bytes_told, own_comment_told, author_told, conflict_told}
 use Rattle.cr_base.specs.History.{title_told, abstract_told, upload_told, withdrawal_told, registration_told, role_told, number_told}
-use Rattle.cr_history.proofs.LineTies.{stamp}
+use Rattle.cr_history.proofs.LineAgreement.{stamp}
 use Rattle.cr_policy.specs.Part as part
 use Rattle.cr_policy.specs.Part.{Part, whole}
 use Rattle.cr_policy.specs.Sighting.{Sighting, where_shown}

@@ -17,7 +17,7 @@ use Rattle.cr_base.specs.declared.reply.Receipt.TheVariants as receipts
 use Rattle.cr_base.specs.declared.words.Role.TheVariants.{Chair}
 use Rattle.cr_base.specs.Drawn.{Drawn}
 use Rattle.cr_base.specs.History.{History}
-use Rattle.cr_base.specs.HistoryFacts.{accounts_of, papers_of, uploads_of, seat_of, seats_of, forms_of, comments_of}
+use Rattle.cr_base.specs.HistoryFacts.{accounts_of, papers_of, uploads_of, ordinal_of, seats_of, forms_of, comments_of}
 use Rattle.cr_base.specs.Lists.{listed, given, is_nothing}
 use Rattle.cr_policy.specs.Judge.{judge}
 use Rattle.cr_policy.specs.Legal.{Legal, IsCaller}
@@ -68,7 +68,7 @@ abbrev pub for_user : Option (List ℕ) → History → (ℕ → Entry) → List
 for_user name H entry = listed (option_map entry (user_named name H))
 
 abbrev pub for_label : ℕ → ℕ → History → (ℕ → Entry) → List Entry
-for_label u p H entry = listed (option_map entry (seat_of (Some u) p H))
+for_label u p H entry = listed (option_map entry (ordinal_of (Some u) p H))
 
 abbrev pub for_seated : Option (List ℕ) → ℕ → History → (ℕ → ℕ → Entry) → List Entry
 for_seated name p H entry = flat_map (λ v. for_label v p H (entry v)) (listed (user_named name H))
@@ -91,7 +91,7 @@ added (Some u) H (commands.Bid (Some p) value) = Bid p value ∷ []
 added (Some u) H (commands.Assign (Some p) name kind) = for_user name H (λ v. Assigned p v kind (next_label p H))
 added (Some u) H (commands.Unassign (Some p) name) = for_seated name p H (λ v o. Unassigned p v o)
 added (Some u) H (commands.Review (Some p) form) = for_label u p H (λ o. Reviewed p o (next_form p o H) form)
-added (Some u) H (commands.Comment (Some p) text) = Commented p (next_comment p H) (seat_of (Some u) p H) text ∷ []
+added (Some u) H (commands.Comment (Some p) text) = Commented p (next_comment p H) (ordinal_of (Some u) p H) text ∷ []
 added (Some u) H (commands.Tag (Some p) tag on) = Tagged p tag on ∷ []
 added (Some u) H (commands.Decide (Some p) decision) = Decided p decision ∷ []
 added _ H _ = []
@@ -119,7 +119,7 @@ answered caller H (commands.Bid (Some p) value) = receipts.Bid value ∷ []
 answered caller H (commands.Assign (Some p) name kind) = receipts.Label (next_label p H) ∷ []
 answered caller H (commands.Unassign (Some p) name) = receipts.Changed p ∷ []
 answered (Some u) H (commands.Review (Some p) form) =
-    listed (option_map (λ o. receipts.Version (next_form p o H)) (seat_of (Some u) p H))
+    listed (option_map (λ o. receipts.Version (next_form p o H)) (ordinal_of (Some u) p H))
 answered caller H (commands.Comment (Some p) text) = receipts.Comment (next_comment p H) ∷ []
 answered caller H (commands.Tag (Some p) tag on) = receipts.Changed p ∷ []
 answered caller H (commands.Decide (Some p) decision) = receipts.Changed p ∷ []

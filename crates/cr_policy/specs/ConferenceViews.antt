@@ -86,7 +86,7 @@ bid_by user paper value = record (bid paper value) { by = Some user }
 
 -- that somebody is assigned to the paper, as what, and the ordinal of her label; and that she no longer is
 abbrev pub assignment : ℕ → ℕ → Kind → ℕ → Sighting
-assignment paper user kind ordinal = record (blank kinds.Assigned) { paper = Some paper; user = Some user; seat = Some kind; ordinal = Some ordinal }
+assignment paper user kind ordinal = record (blank kinds.Assigned) { paper = Some paper; user = Some user; review_kind = Some kind; ordinal = Some ordinal }
 
 abbrev pub unassignment : ℕ → ℕ → ℕ → Sighting
 unassignment paper user ordinal = record (blank kinds.Unassigned) { paper = Some paper; user = Some user; ordinal = Some ordinal }
@@ -99,7 +99,7 @@ to_members mode line = line
 
 -- and what authors are shown who are named their reviewers: not as what
 abbrev pub to_authors : Sighting → Sighting
-to_authors line = record line { seat = None }
+to_authors line = record line { review_kind = None }
 
 -- a form, whole; and that there is one under the label, which may be all that is told of it
 abbrev pub form : ℕ → ℕ → ℕ → Form → Sighting

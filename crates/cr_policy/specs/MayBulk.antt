@@ -12,7 +12,7 @@ use Rattle.cr_base.specs.declared.reply.Rule.TheVariants as rules
 use Rattle.cr_base.specs.declared.words.Kind.TheVariants.{Primary, Secondary, Pc}
 use Rattle.cr_base.specs.Bulk.{row_command}
 use Rattle.cr_base.specs.History.{History}
-use Rattle.cr_base.specs.Spelt.{paper_spelt, name_spelt}
+use Rattle.cr_base.specs.Parse.{parse_paper, parse_name}
 use Rattle.cr_base.specs.TagTexts.{is_tag}
 use Rattle.cr_policy.specs.Added.{added}
 use Rattle.cr_policy.specs.Judge.{judge_bulk}
@@ -38,28 +38,28 @@ actions =
 pub record RowsAsSaid : Type 0 where
   pub primary :
       (p u t : List ℕ)
-      → row_command (a_row p (codes "primary") u t) ≡ Ok (commands.Assign (paper_spelt p) (name_spelt u) Primary)
+      → row_command (a_row p (codes "primary") u t) ≡ Ok (commands.Assign (parse_paper p) (parse_name u) Primary)
   pub secondary :
       (p u t : List ℕ)
-      → row_command (a_row p (codes "secondary") u t) ≡ Ok (commands.Assign (paper_spelt p) (name_spelt u) Secondary)
+      → row_command (a_row p (codes "secondary") u t) ≡ Ok (commands.Assign (parse_paper p) (parse_name u) Secondary)
   pub pcreview :
       (p u t : List ℕ)
-      → row_command (a_row p (codes "pcreview") u t) ≡ Ok (commands.Assign (paper_spelt p) (name_spelt u) Pc)
+      → row_command (a_row p (codes "pcreview") u t) ≡ Ok (commands.Assign (parse_paper p) (parse_name u) Pc)
   pub clearreview :
       (p u t : List ℕ)
-      → row_command (a_row p (codes "clearreview") u t) ≡ Ok (commands.Unassign (paper_spelt p) (name_spelt u))
+      → row_command (a_row p (codes "clearreview") u t) ≡ Ok (commands.Unassign (parse_paper p) (parse_name u))
   pub conflict :
       (p u t : List ℕ)
-      → row_command (a_row p (codes "conflict") u t) ≡ Ok (commands.SetConflict (paper_spelt p) (name_spelt u) true)
+      → row_command (a_row p (codes "conflict") u t) ≡ Ok (commands.SetConflict (parse_paper p) (parse_name u) true)
   pub clearconflict : (p u t : List ℕ)
       → row_command (a_row p (codes "clearconflict") u t)
-      ≡ Ok (commands.SetConflict (paper_spelt p) (name_spelt u) false)
+      ≡ Ok (commands.SetConflict (parse_paper p) (parse_name u) false)
   pub tag :
       (p u t : List ℕ)
-      → is_tag t ≡ true → row_command (a_row p (codes "tag") u t) ≡ Ok (commands.Tag (paper_spelt p) t true)
+      → is_tag t ≡ true → row_command (a_row p (codes "tag") u t) ≡ Ok (commands.Tag (parse_paper p) t true)
   pub cleartag :
       (p u t : List ℕ)
-      → is_tag t ≡ true → row_command (a_row p (codes "cleartag") u t) ≡ Ok (commands.Tag (paper_spelt p) t false)
+      → is_tag t ≡ true → row_command (a_row p (codes "cleartag") u t) ≡ Ok (commands.Tag (parse_paper p) t false)
   pub bad_tag : (p u t : List ℕ) → is_tag t ≡ false → row_command (a_row p (codes "tag") u t) ≡ Err rules.BadTag
   pub bad_cleared_tag :
       (p u t : List ℕ) → is_tag t ≡ false → row_command (a_row p (codes "cleartag") u t) ≡ Err rules.BadTag

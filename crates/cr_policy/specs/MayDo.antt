@@ -9,14 +9,14 @@ use Rattle.cr_base.specs.declared.words.Phase.{Phase}
 use Rattle.cr_base.specs.declared.words.Phase.TheVariants.{Setup, Submission, Bidding, Reviewing, Discussion}
 use Rattle.cr_base.specs.declared.words.Role.{Role}
 use Rattle.cr_base.specs.History.{History}
-use Rattle.cr_base.specs.HistoryFacts.{phase_of, role_of, accounts_of, papers_of, number_of, seat_of, seats_of}
+use Rattle.cr_base.specs.HistoryFacts.{phase_of, role_of, accounts_of, papers_of, number_of, ordinal_of, seats_of}
 use Rattle.cr_base.specs.HistoryFacts.{is_written, own_papers_of, own_bytes_of, own_comments_of}
 use Rattle.cr_base.specs.Logins.{command_wants_login}
 use Rattle.cr_policy.specs.Judge.{judge}
 use Rattle.cr_policy.specs.Legal.{Legal}
 use Rattle.cr_policy.specs.Sentences.{now, comes_behind, before_bidding, committee_works, is_over, is_above}
 use Rattle.cr_policy.specs.Sentences.{on_committee, chairs, stands}
-use Rattle.cr_policy.specs.Sentences.{wrote, handles, leads, reviews, of_some, user_named, is_somebody}
+use Rattle.cr_policy.specs.Sentences.{wrote, is_eligible, administers, reviews, of_some, user_named, is_somebody}
 use Rattle.cr_policy.specs.Sentences.{is_for_chairs_alone}
 use Rattle.cr_policy.specs.View.{view}
 
@@ -62,54 +62,55 @@ may_upload u H bytes p = may_change u H p && nat_le (own_bytes_of (Some u) H + b
 abbrev pub may_declare : ℕ → History → ℕ → ℕ → Bool
 may_declare u H p v =
     stands p H && on_committee v H
-    && ((before_bidding H && wrote u p H) || (committee_works H && (v == u || leads u p H)))
+    && ((before_bidding H && wrote u p H) || (committee_works H && (v == u || administers u p H)))
 
 -- while the committee works, a chair in no conflict with a paper that isn't withdrawn takes back that a member is,
 -- who is no author of it
 abbrev pub may_take_back : ℕ → History → ℕ → ℕ → Bool
-may_take_back u H p v = stands p H && leads u p H && committee_works H && on_committee v H && not (wrote v p H)
+may_take_back u H p v = stands p H && administers u p H && committee_works H && on_committee v H && not (wrote v p H)
 
 -- ---- bids, and who reviews
 
 -- a member in no conflict with a paper that isn't withdrawn bids on it, in the bidding
 abbrev pub may_bid : ℕ → History → ℕ → Bool
-may_bid u H p = stands p H && handles u p H && now Bidding H
+may_bid u H p = stands p H && is_eligible u p H && now Bidding H
 
 -- while the committee works, a chair in no conflict with a paper that isn't withdrawn assigns it to a member in none
 -- who doesn't review it, while fewer than 26 of its labels are given
 abbrev pub may_assign : ℕ → History → ℕ → ℕ → Bool
 may_assign u H p v =
-    stands p H && leads u p H && committee_works H && handles v p H && not (reviews v p H)
+    stands p H && administers u p H && committee_works H && is_eligible v p H && not (reviews v p H)
     && nat_lt (length (seats_of p H)) 26
 
 -- there is a form under the label under which she reviews the paper
 abbrev pub has_written : ℕ → ℕ → History → Bool
-has_written v p H = of_some (seat_of (Some v) p H) (λ o. is_written p o H)
+has_written v p H = of_some (ordinal_of (Some v) p H) (λ o. is_written p o H)
 
 -- and takes a reviewer off it under whose label there is no form yet
 abbrev pub may_unassign : ℕ → History → ℕ → ℕ → Bool
-may_unassign u H p v = stands p H && leads u p H && committee_works H && reviews v p H && not (has_written v p H)
+may_unassign u H p v = stands p H && administers u p H && committee_works H && reviews v p H && not (has_written v p H)
 
 -- ---- reviews, comments, tags and decisions
 
 -- a member in no conflict with a paper that isn't withdrawn, who reviews it, writes a form, in the reviewing and in
 -- the discussion
 abbrev pub may_review : ℕ → History → ℕ → Bool
-may_review u H p = stands p H && handles u p H && reviews u p H && (now Reviewing H || now Discussion H)
+may_review u H p = stands p H && is_eligible u p H && reviews u p H && (now Reviewing H || now Discussion H)
 
 -- a member in no conflict with a paper that isn't withdrawn comments on it, in the discussion, while she has written
 -- fewer than 1,000 comments
 abbrev pub may_comment : ℕ → History → ℕ → Bool
-may_comment u H p = stands p H && handles u p H && now Discussion H && nat_lt (own_comments_of (Some u) H) 1000
+may_comment u H p = stands p H && is_eligible u p H && now Discussion H && nat_lt (own_comments_of (Some u) H) 1000
 
 -- while the committee works, a member in no conflict with a paper that isn't withdrawn turns its tags on and off;
 -- those for chairs only where she is one
 abbrev pub may_tag : ℕ → History → List ℕ → ℕ → Bool
-may_tag u H tag p = stands p H && handles u p H && committee_works H && (chairs u H || not (is_for_chairs_alone tag))
+may_tag u H tag p =
+    stands p H && is_eligible u p H && committee_works H && (chairs u H || not (is_for_chairs_alone tag))
 
 -- a chair in no conflict with a paper that isn't withdrawn decides on it, in the discussion
 abbrev pub may_decide : ℕ → History → ℕ → Bool
-may_decide u H p = stands p H && leads u p H && now Discussion H
+may_decide u H p = stands p H && administers u p H && now Discussion H
 
 -- ---- all of them
 

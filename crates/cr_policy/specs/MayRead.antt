@@ -16,7 +16,7 @@ use Rattle.cr_base.specs.Lists.{last, is_nothing}
 use Rattle.cr_policy.specs.Judge.{answer, needs_login}
 use Rattle.cr_policy.specs.Legal.{Legal}
 use Rattle.cr_policy.specs.Sentences.{now, before_bidding, is_over, from_discussion, on_committee, chairs, is_paper}
-use Rattle.cr_policy.specs.Sentences.{is_in, is_public, wrote, handles, reviews, of_some}
+use Rattle.cr_policy.specs.Sentences.{is_in, is_public, wrote, is_eligible, reviews, of_some}
 use Rattle.cr_policy.specs.View.{view}
 
 -- ---- a paper
@@ -27,7 +27,7 @@ may_see_page u H p = on_committee u H || wrote u p H || is_in p H
 
 -- a paper's authors read its content; others do where they are members in no conflict with it, from the bidding on
 abbrev pub may_read_content : ℕ → History → ℕ → Bool
-may_read_content u H p = wrote u p H || (handles u p H && not (before_bidding H))
+may_read_content u H p = wrote u p H || (is_eligible u p H && not (before_bidding H))
 
 -- the version that is asked for is there, as far as it may be read: to authors any that was uploaded, to others the
 -- last one alone; the last one where none is named
@@ -40,11 +40,11 @@ has_version false (Some version) uploads = option_map_or (λ (u : Upload). u.ver
 -- on, and in the reviewing where they review it, of their own
 abbrev pub may_read_reviews : ℕ → History → ℕ → Bool
 may_read_reviews u H p =
-    (wrote u p H && is_over H) || (handles u p H && (from_discussion H || (reviews u p H && now Reviewing H)))
+    (wrote u p H && is_over H) || (is_eligible u p H && (from_discussion H || (reviews u p H && now Reviewing H)))
 
 -- members in no conflict with a paper read the comments on it, from the discussion on
 abbrev pub may_read_comments : ℕ → History → ℕ → Bool
-may_read_comments u H p = handles u p H && from_discussion H
+may_read_comments u H p = is_eligible u p H && from_discussion H
 
 -- ---- reports
 

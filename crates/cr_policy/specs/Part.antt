@@ -3,7 +3,7 @@ use Rattle.std.specs.Prelude.{ℕ, Bool, true, false, List, ◌==◌, ◌||◌}
 use Rattle.std.specs.List.{list_any}
 
 -- the parts that an entry may have beside its kind and its paper, which are never hidden; `by` is who made it, `value` that of a
--- bid, `seat` what a reviewer is to the paper, `n` a comment's number; the others are marks: `done` that under the label is a form,
+-- bid, `review_kind` what a reviewer is to the paper, `n` a comment's number; the others are marks: `done` that under the label is a form,
 -- `outcome` that the decision is what became of the reader's paper, `accepted` that the paper is accepted
 pub data Part : Type 0 where
   user : Part
@@ -19,7 +19,7 @@ pub data Part : Type 0 where
   content : Part
   on : Part
   value : Part
-  seat : Part
+  review_kind : Part
   ordinal : Part
   score : Part
   confidence : Part
@@ -48,7 +48,7 @@ part_number version = 9
 part_number content = 10
 part_number on = 11
 part_number value = 12
-part_number seat = 13
+part_number review_kind = 13
 part_number ordinal = 14
 part_number score = 15
 part_number confidence = 16
@@ -81,7 +81,7 @@ whole version = true
 whole content = true
 whole on = true
 whole value = true
-whole seat = true
+whole review_kind = true
 whole ordinal = true
 whole score = true
 whole confidence = true

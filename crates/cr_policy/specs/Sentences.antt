@@ -114,13 +114,13 @@ wrote u p H = is_author (Some u) p H
 abbrev pub in_conflict : ℕ → ℕ → History → Bool
 in_conflict u p H = wrote u p H || is_conflict_on (Some u) p H
 
--- a member in no conflict with the paper handles it
-abbrev pub handles : ℕ → ℕ → History → Bool
-handles u p H = on_committee u H && not (in_conflict u p H)
+-- a member in no conflict with the paper is eligible for it
+abbrev pub is_eligible : ℕ → ℕ → History → Bool
+is_eligible u p H = on_committee u H && not (in_conflict u p H)
 
--- a chair in none leads on it
-abbrev pub leads : ℕ → ℕ → History → Bool
-leads u p H = chairs u H && not (in_conflict u p H)
+-- a chair in none administers it
+abbrev pub administers : ℕ → ℕ → History → Bool
+administers u p H = chairs u H && not (in_conflict u p H)
 
 abbrev pub reviews : ℕ → ℕ → History → Bool
 reviews u p H = is_reviewer (Some u) p H

@@ -34,10 +34,10 @@ is_on_committee Account = false
 is_on_committee Member = true
 is_on_committee Chair = true
 
-abbrev pub leads_committee : Role → Bool
-leads_committee Account = false
-leads_committee Member = false
-leads_committee Chair = true
+abbrev pub chairs_committee : Role → Bool
+chairs_committee Account = false
+chairs_committee Member = false
+chairs_committee Chair = true
 
 -- the conference is closed
 abbrev pub is_over : Phase → Bool
@@ -86,20 +86,20 @@ abbrev pub serves : Option ℕ → History → Bool
 serves u H = is_on_committee (role_of u H) && is_past_submission (phase_of H)
 
 -- she serves, and is in no conflict with the paper
-abbrev pub handles : Option ℕ → ℕ → History → Bool
-handles u p H = serves u H && not (has_conflict u p H)
+abbrev pub is_eligible : Option ℕ → ℕ → History → Bool
+is_eligible u p H = serves u H && not (has_conflict u p H)
 
--- she handles the paper, and is a chair
+-- she is eligible for the paper, and is a chair
 abbrev pub oversees : Option ℕ → ℕ → History → Bool
-oversees u p H = handles u p H && leads_committee (role_of u H)
+oversees u p H = is_eligible u p H && chairs_committee (role_of u H)
 
 -- she is a chair in no conflict with the paper, in whatever phase
-abbrev pub leads : Option ℕ → ℕ → History → Bool
-leads u p H = leads_committee (role_of u H) && not (has_conflict u p H)
+abbrev pub administers : Option ℕ → ℕ → History → Bool
+administers u p H = chairs_committee (role_of u H) && not (has_conflict u p H)
 
--- she handles the paper, and it is the discussion or later
+-- she is eligible for the paper, and it is the discussion or later
 abbrev pub discusses : Option ℕ → ℕ → History → Bool
-discusses u p H = handles u p H && is_past_reviewing (phase_of H)
+discusses u p H = is_eligible u p H && is_past_reviewing (phase_of H)
 
 -- she wrote the paper and is named its reviewers: in the open mode, from the notification on
 abbrev pub is_answered : Option ℕ → ℕ → History → Bool
@@ -125,7 +125,7 @@ appears p H = is_in_programme p H && is_over (phase_of H)
 
 -- who discusses a paper is told who comments on it: a chair always, others unless reviewers are hidden
 abbrev pub knows_writers : Option ℕ → History → Bool
-knows_writers u H = leads_committee (role_of u H) || not (hides_reviewers (mode_of H))
+knows_writers u H = chairs_committee (role_of u H) || not (hides_reviewers (mode_of H))
 
 -- ---- which entries she is told of
 
@@ -185,9 +185,9 @@ reads_form u H before later maker paper ordinal = is_number u maker || (discusse
 abbrev pub learns_form : Option ℕ → History → History → ℕ → ℕ → Bool
 learns_form u H later paper ordinal = is_notified u paper H && not (is_reviewed paper ordinal later)
 
--- she is told that there is a form under the label: it is the first, and she leads the paper
+-- she is told that there is a form under the label: it is the first, and she administers the paper
 abbrev pub counts_form : Option ℕ → History → History → ℕ → ℕ → Bool
-counts_form u H before paper ordinal = leads u paper H && not (is_reviewed paper ordinal before)
+counts_form u H before paper ordinal = administers u paper H && not (is_reviewed paper ordinal before)
 
 -- a tag is the committee's where no `~` stands first, the chairs' where two do, and else its setter's
 abbrev pub is_committees : List ℕ → Bool
@@ -201,9 +201,10 @@ is_chairs _ = false
 abbrev pub is_setters : List ℕ → Bool
 is_setters tag = not (is_committees tag) && not (is_chairs tag)
 
--- the tag is one that she reads: the committee's, where she handles the paper; the chairs', where she oversees it
+-- the tag is one that she reads: the committee's, where she is eligible for the paper; the chairs', where she oversees
+-- it
 abbrev pub reads_tag : Option ℕ → History → ℕ → List ℕ → Bool
-reads_tag u H paper tag = (is_committees tag && handles u paper H) || (is_chairs tag && oversees u paper H)
+reads_tag u H paper tag = (is_committees tag && is_eligible u paper H) || (is_chairs tag && oversees u paper H)
 
 -- she reads the decision on a paper: she made it, or discusses the paper
 abbrev pub reads_decision : Option ℕ → History → ℕ → ℕ → Bool
@@ -221,17 +222,17 @@ is_announced H later paper = not (is_decided_again paper later) && is_in_program
 abbrev pub owns : Option ℕ → History → ℕ → ℕ → Bool
 owns u H maker paper = is_number u maker || is_author u paper H
 
--- she is told all of an assignment in every phase: she is assigned, made the entry, or leads the paper
+-- she is told all of an assignment in every phase: she is assigned, made the entry, or administers the paper
 abbrev pub is_party : Option ℕ → History → ℕ → ℕ → ℕ → Bool
-is_party u H maker paper user = is_number u user || is_number u maker || leads u paper H
+is_party u H maker paper user = is_number u user || is_number u maker || administers u paper H
 
 -- accounts, roles, phases, modes and submissions, all of them. Of a paper's other entries her own and, as an author, all but
--- conflicts that no author made; co-authors where she oversees the paper, where she handles it unless authors are hidden, and
+-- conflicts that no author made; co-authors where she oversees the paper, where she is eligible for it unless authors are hidden, and
 -- where it is in the programme; a revision that none has replaced where she serves, or the paper is in the programme; an upload
--- that none has superseded where she handles the paper, or it appears; a withdrawal where she serves; of conflicts the ones
+-- that none has superseded where she is eligible for the paper, or it appears; a withdrawal where she serves; of conflicts the ones
 -- that name her, and all where she oversees the paper; of bids her own, and all where she oversees the paper; of assignments
 -- those that she is a party to, all where she discusses the paper, and those to her own paper where she is named its
--- reviewers; of forms her own, the first of each label where she leads the paper, those that are discussed where she discusses
+-- reviewers; of forms her own, the first of each label where she administers the paper, those that are discussed where she discusses
 -- it, and of her own paper the last of each label where she is notified; of comments her own, and all where she discusses the
 -- paper; of tags those that she set, and those that she reads; and of decisions those that she reads, the last one by which
 -- she learns what became of her paper, and the last one of a paper in the programme
@@ -244,12 +245,12 @@ is_told u H before later maker (Submitted paper title abstract) = true
 is_told u H before later maker (Coauthor paper user) =
     owns u H maker paper
     || oversees u paper H
-    || (handles u paper H && not (hides_authors (mode_of H)))
+    || (is_eligible u paper H && not (hides_authors (mode_of H)))
     || is_in_programme paper H
 is_told u H before later maker (Revised paper title abstract) =
     owns u H maker paper || (not (is_replaced paper later) && (serves u H || is_in_programme paper H))
 is_told u H before later maker (Uploaded paper version content) =
-    owns u H maker paper || (not (is_superseded paper later) && (handles u paper H || appears paper H))
+    owns u H maker paper || (not (is_superseded paper later) && (is_eligible u paper H || appears paper H))
 is_told u H before later maker (Withdrawn paper) = owns u H maker paper || serves u H
 is_told u H before later maker (Conflict paper user on) =
     is_number u user
@@ -257,7 +258,7 @@ is_told u H before later maker (Conflict paper user on) =
     || (is_author u paper H && is_author (Some maker) paper H)
     || oversees u paper H
 is_told u H before later maker (Bid paper value) = is_number u maker || oversees u paper H
-is_told u H before later maker (Assigned paper user seat ordinal) = is_party u H maker paper user || discusses u paper H || is_answered u paper H
+is_told u H before later maker (Assigned paper user review_kind ordinal) = is_party u H maker paper user || discusses u paper H || is_answered u paper H
 is_told u H before later maker (Unassigned paper user ordinal) = is_party u H maker paper user || discusses u paper H || is_answered u paper H
 is_told u H before later maker (Reviewed paper ordinal version form) =
     reads_form u H before later maker paper ordinal
@@ -294,7 +295,7 @@ paper_for u H before later maker (Uploaded paper version content) = Some paper
 paper_for u H before later maker (Withdrawn paper) = Some paper
 paper_for u H before later maker (Conflict paper user on) = Some paper
 paper_for u H before later maker (Bid paper value) = Some paper
-paper_for u H before later maker (Assigned paper user seat ordinal) = Some paper
+paper_for u H before later maker (Assigned paper user review_kind ordinal) = Some paper
 paper_for u H before later maker (Unassigned paper user ordinal) = Some paper
 paper_for u H before later maker (Reviewed paper ordinal version form) = Some paper
 paper_for u H before later maker (Commented paper n ordinal text) = Some paper
@@ -314,7 +315,7 @@ user_for u H before later maker (Registered user name digest) = Some user
 user_for u H before later maker (Named user role) = Some user
 user_for u H before later maker (Coauthor paper user) = Some user
 user_for u H before later maker (Conflict paper user on) = Some user
-user_for u H before later maker (Assigned paper user seat ordinal) = reviewer_for u H maker paper user
+user_for u H before later maker (Assigned paper user review_kind ordinal) = reviewer_for u H maker paper user
 user_for u H before later maker (Unassigned paper user ordinal) = reviewer_for u H maker paper user
 user_for u H before later maker _ = None
 
@@ -343,13 +344,13 @@ abbrev pub mode_for : PartFor (Option Mode)
 mode_for u H before later maker (ModeSet mode) = Some mode
 mode_for u H before later maker _ = None
 
--- who submitted a paper: to its authors, to those who oversee it, to those who handle it unless authors are hidden, and to everyone
+-- who submitted a paper: to its authors, to those who oversee it, to those who are eligible for it unless authors are hidden, and to everyone
 -- where it is in the programme;
 -- who made a bid: to those who oversee the paper; who made a comment: to those who discuss the paper and are told who comments;
 -- who made any other entry: to nobody
 abbrev pub maker_for : PartFor (Option ℕ)
 maker_for u H before later maker (Submitted paper title abstract) =
-    where_known (is_author u paper H || oversees u paper H || (handles u paper H && not (hides_authors (mode_of H))) || is_in_programme paper H) maker
+    where_known (is_author u paper H || oversees u paper H || (is_eligible u paper H && not (hides_authors (mode_of H))) || is_in_programme paper H) maker
 maker_for u H before later maker (Bid paper value) = where_known (oversees u paper H) maker
 maker_for u H before later maker (Commented paper n ordinal text) = where_known (discusses u paper H && knows_writers u H) maker
 maker_for u H before later maker _ = None
@@ -363,26 +364,26 @@ title_for u H before later maker (Revised paper title abstract) =
     where_known (owns u H maker paper || (not (is_replaced paper later) && (serves u H || is_in_programme paper H))) title
 title_for u H before later maker _ = None
 
--- an abstract: to the paper's authors and to whoever made the entry, and the last one to those who handle the paper, and to
+-- an abstract: to the paper's authors and to whoever made the entry, and the last one to those who are eligible for the paper, and to
 -- everyone where it appears
 abbrev pub abstract_for : PartFor (Option (List ℕ))
 abstract_for u H before later maker (Submitted paper title abstract) =
-    where_known (is_author u paper H || (not (is_replaced paper later) && (handles u paper H || appears paper H))) abstract
+    where_known (is_author u paper H || (not (is_replaced paper later) && (is_eligible u paper H || appears paper H))) abstract
 abstract_for u H before later maker (Revised paper title abstract) =
-    where_known (owns u H maker paper || (not (is_replaced paper later) && (handles u paper H || appears paper H))) abstract
+    where_known (owns u H maker paper || (not (is_replaced paper later) && (is_eligible u paper H || appears paper H))) abstract
 abstract_for u H before later maker _ = None
 
 -- a version's number, and its content: to the paper's authors and to whoever made the entry, and the last one to those who
--- handle the paper, and to everyone where it appears
+-- are eligible for the paper, and to everyone where it appears
 abbrev pub version_for : PartFor (Option ℕ)
 version_for u H before later maker (Uploaded paper version content) =
-    where_known (owns u H maker paper || (not (is_superseded paper later) && (handles u paper H || appears paper H))) version
+    where_known (owns u H maker paper || (not (is_superseded paper later) && (is_eligible u paper H || appears paper H))) version
 version_for u H before later maker (Reviewed paper ordinal version form) = where_known (reads_form u H before later maker paper ordinal) version
 version_for u H before later maker _ = None
 
 abbrev pub content_for : PartFor (Option (List ℕ))
 content_for u H before later maker (Uploaded paper version content) =
-    where_known (owns u H maker paper || (not (is_superseded paper later) && (handles u paper H || appears paper H))) content
+    where_known (owns u H maker paper || (not (is_superseded paper later) && (is_eligible u paper H || appears paper H))) content
 content_for u H before later maker _ = None
 
 -- whether a conflict, or a tag, is on: always
@@ -397,14 +398,14 @@ value_for u H before later maker (Bid paper value) = Some value
 value_for u H before later maker _ = None
 
 -- what a reviewer is to the paper: to the parties of the assignment, and to those who discuss the paper
-abbrev pub seat_for : PartFor (Option Kind)
-seat_for u H before later maker (Assigned paper user seat ordinal) = where_known (is_party u H maker paper user || discusses u paper H) seat
-seat_for u H before later maker _ = None
+abbrev pub review_kind_for : PartFor (Option Kind)
+review_kind_for u H before later maker (Assigned paper user review_kind ordinal) = where_known (is_party u H maker paper user || discusses u paper H) review_kind
+review_kind_for u H before later maker _ = None
 
 -- the ordinal of a label: of an assignment and of a form always; of a comment to its maker, and to those who discuss the paper and
 -- aren't told who comments
 abbrev pub ordinal_for : PartFor (Option ℕ)
-ordinal_for u H before later maker (Assigned paper user seat ordinal) = Some ordinal
+ordinal_for u H before later maker (Assigned paper user review_kind ordinal) = Some ordinal
 ordinal_for u H before later maker (Unassigned paper user ordinal) = Some ordinal
 ordinal_for u H before later maker (Reviewed paper ordinal version form) = Some ordinal
 ordinal_for u H before later maker (Commented paper n ordinal text) =
@@ -434,7 +435,7 @@ abbrev pub to_pc_for : PartFor (Option (List ℕ))
 to_pc_for u H before later maker (Reviewed paper ordinal version form) = where_known (reads_form u H before later maker paper ordinal) form.to_pc
 to_pc_for u H before later maker _ = None
 
--- the mark that there is a form under the label: to those who lead the paper, of the first
+-- the mark that there is a form under the label: to those who administer the paper, of the first
 abbrev pub done_for : PartFor (Option Bool)
 done_for u H before later maker (Reviewed paper ordinal version form) = where_known (counts_form u H before paper ordinal) true
 done_for u H before later maker _ = None

@@ -34,7 +34,7 @@ pub record Sighting : Type 0 where
   pub content : Option (List ℕ)
   pub on : Option Bool
   pub value : Option ℕ
-  pub seat : Option Kind
+  pub review_kind : Option Kind
   pub ordinal : Option ℕ
   pub score : Option ℕ
   pub confidence : Option ℕ
@@ -69,7 +69,7 @@ blank kind = record {
   content = None;
   on = None;
   value = None;
-  seat = None;
+  review_kind = None;
   ordinal = None;
   score = None;
   confidence = None;
@@ -100,7 +100,7 @@ entire by (Uploaded paper version content) = record (blank kinds.Uploaded) { pap
 entire by (Withdrawn paper) = record (blank kinds.Withdrawn) { paper = Some paper }
 entire by (Conflict paper user on) = record (blank kinds.Conflict) { paper = Some paper; user = Some user; on = Some on }
 entire by (Bid paper value) = record (blank kinds.Bid) { paper = Some paper; by = Some by; value = Some value }
-entire by (Assigned paper user seat ordinal) = record (blank kinds.Assigned) { paper = Some paper; user = Some user; seat = Some seat; ordinal = Some ordinal }
+entire by (Assigned paper user review_kind ordinal) = record (blank kinds.Assigned) { paper = Some paper; user = Some user; review_kind = Some review_kind; ordinal = Some ordinal }
 entire by (Unassigned paper user ordinal) = record (blank kinds.Unassigned) { paper = Some paper; user = Some user; ordinal = Some ordinal }
 entire by (Reviewed paper ordinal version form) = record (blank kinds.Reviewed) {
   paper = Some paper;
@@ -144,7 +144,7 @@ masked shows mine s = record {
   content = where_shown (shows part.content) s.content;
   on = where_shown (shows part.on) s.on;
   value = where_shown (shows part.value) s.value;
-  seat = where_shown (shows part.seat) s.seat;
+  review_kind = where_shown (shows part.review_kind) s.review_kind;
   ordinal = where_shown (shows part.ordinal) s.ordinal;
   score = where_shown (shows part.score) s.score;
   confidence = where_shown (shows part.confidence) s.confidence;

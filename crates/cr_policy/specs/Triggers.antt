@@ -81,14 +81,14 @@ unless_anonymous r = not (is_anonymous r.mode)
 abbrev pub in_open_mode : Reader → Bool
 in_open_mode r = is_overt r.mode
 
--- ---- which entry of its matter
+-- ---- which entry of its series
 
 -- none of the entries tells of it
 abbrev pub none_in : {A : Type 0} → (Entry → List A) → History → Bool
 none_in told H = is_nothing (all_told told H)
 
--- none of these entries is of the same matter as this one: a paper's texts, its content, the review under a label,
--- or the decision; true of every kind that has no matter
+-- none of these entries is of the same series as this one: a paper's texts, its content, the review under a label,
+-- or the decision; true of every kind that has no series
 abbrev pub none_alike : Entry → History → Bool
 none_alike (Registered user name digest) H = true
 none_alike (Named user role) H = true
@@ -101,16 +101,16 @@ none_alike (Uploaded paper version content) H = none_in (upload_told paper) H
 none_alike (Withdrawn paper) H = true
 none_alike (Conflict paper user on) H = true
 none_alike (Bid paper value) H = true
-none_alike (Assigned paper user seat ordinal) H = true
+none_alike (Assigned paper user review_kind ordinal) H = true
 none_alike (Unassigned paper user ordinal) H = true
 none_alike (Reviewed paper ordinal version form) H = none_in (form_told paper ordinal) H
 none_alike (Commented paper n ordinal text) H = true
 none_alike (Tagged paper tag on) H = true
 none_alike (Decided paper decision) H = none_in (decision_told paper) H
 
--- What a row may ask of where an entry stands: whether it is the first of its matter; the last; the last of those
+-- What a row may ask of where an entry stands: whether it is the first of its series; the last; the last of those
 -- before the discussion was opened; and whether it was made when the discussion was opened already. To an entry of
--- a kind that has no matter none is alike, so it counts as the first and as the last; no row of such a kind asks.
+-- a kind that has no series none is alike, so it counts as the first and as the last; no row of such a kind asks.
 pub record Position : Type 0 where
   pub first : Bool
   pub last : Bool
@@ -146,7 +146,8 @@ abbrev pub seat_rows : Reader → ℕ → ℕ → List TriggerRow
 seat_rows r paper user =
     user_named r user see whole
     ∷ is_clear_chair (standing_to r paper) see whole
-    ∷ (is_clear_member (standing_to r paper) && is_from Discussion r.now) see these (part.seat ∷ part.ordinal ∷ [])
+    ∷ (is_clear_member (standing_to r paper) && is_from Discussion r.now)
+    see these (part.review_kind ∷ part.ordinal ∷ [])
     ∷ (is_clear_member (standing_to r paper) && unless_anonymous r && is_from Discussion r.now) see these (part.user ∷ [])
     ∷ (authors r paper && in_open_mode r && is_from Notification r.now) see these (part.user ∷ part.ordinal ∷ [])
     ∷ []
@@ -218,7 +219,7 @@ rows r at by (Conflict paper user on) =
 rows r at by (Bid paper value) =
     (is_clear_chair (standing_to r paper) && is_from Bidding r.now) see these (part.value ∷ part.by ∷ [])
     ∷ []
-rows r at by (Assigned paper user seat ordinal) = seat_rows r paper user
+rows r at by (Assigned paper user review_kind ordinal) = seat_rows r paper user
 rows r at by (Unassigned paper user ordinal) = seat_rows r paper user
 rows r at by (Reviewed paper ordinal version form) =
     (at.first && is_clear_chair (standing_to r paper)) see these (part.ordinal ∷ part.done ∷ [])

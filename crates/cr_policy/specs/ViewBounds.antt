@@ -14,10 +14,10 @@ use Rattle.cr_base.specs.HistoryFacts.{phase_of, mode_of, role_of, is_author}
 use Rattle.cr_policy.specs.Sighting.{Sighting, blank}
 use Rattle.cr_policy.specs.View.{view}
 use Rattle.cr_policy.specs.ViewFacts.{only, is_user, is_kind}
-use Rattle.cr_policy.specs.ShownTo.{PartFor, each_told, leads_committee, is_past_reviewing, is_past_discussion, hides_reviewers, names_reviewers}
-use Rattle.cr_policy.specs.ShownTo.{serves, handles, oversees, leads, discusses, is_in_programme, appears, is_chairs, is_setters, kind_for, mark_for, paper_for, user_for, name_for}
+use Rattle.cr_policy.specs.ShownTo.{PartFor, each_told, chairs_committee, is_past_reviewing, is_past_discussion, hides_reviewers, names_reviewers}
+use Rattle.cr_policy.specs.ShownTo.{serves, is_eligible, oversees, administers, discusses, is_in_programme, appears, is_chairs, is_setters, kind_for, mark_for, paper_for, user_for, name_for}
 use Rattle.cr_policy.specs.ShownTo.{digest_for, role_for, phase_for, mode_for, maker_for, title_for, abstract_for, version_for, content_for}
-use Rattle.cr_policy.specs.ShownTo.{switch_for, value_for, seat_for, ordinal_for}
+use Rattle.cr_policy.specs.ShownTo.{switch_for, value_for, review_kind_for, ordinal_for}
 use Rattle.cr_policy.specs.ShownTo.{score_for, confidence_for, to_authors_for, to_pc_for, done_for, n_for, text_for, tag_for, decision_for, outcome_for, accepted_for}
 
 -- ---- each part
@@ -79,7 +79,7 @@ abbrev pub ValuesShown : Type 0
 ValuesShown = Shows (λ (s : Sighting). s.value) value_for
 
 abbrev pub SeatsShown : Type 0
-SeatsShown = Shows (λ (s : Sighting). s.seat) seat_for
+SeatsShown = Shows (λ (s : Sighting). s.review_kind) review_kind_for
 
 abbrev pub OrdinalsShown : Type 0
 OrdinalsShown = Shows (λ (s : Sighting). s.ordinal) ordinal_for
@@ -142,13 +142,13 @@ ReviewersFromAuthors =
 -- nor is anybody before the discussion, but chairs in no conflict with the paper
 abbrev pub ReviewersEarly : Type 0
 ReviewersEarly =
-    (u : Option ℕ) (p : ℕ) (H : History) → IsFalse (leads u p H) → IsFalse (is_past_reviewing (phase_of H))
+    (u : Option ℕ) (p : ℕ) (H : History) → IsFalse (administers u p H) → IsFalse (is_past_reviewing (phase_of H))
     → All (λ (s : Sighting). IsFalse (is_of_other u p s)) (view u H)
 
 -- and in the anonymous mode nobody but such a chair is ever shown who it is
 abbrev pub ReviewersUnnamed : Type 0
 ReviewersUnnamed =
-    (u : Option ℕ) (p : ℕ) (H : History) → IsFalse (leads u p H) → IsTrue (hides_reviewers (mode_of H))
+    (u : Option ℕ) (p : ℕ) (H : History) → IsFalse (administers u p H) → IsTrue (hides_reviewers (mode_of H))
     → All (λ (s : Sighting). IsTrue (is_of_other u p s) → s.user ≡ None) (view u H)
 
 -- ---- what is written of a paper
@@ -181,7 +181,7 @@ CommentsFromAuthors =
 -- in the anonymous mode nobody but a chair in no conflict with the paper is shown who comments on it
 abbrev pub WritersUnnamed : Type 0
 WritersUnnamed =
-    (u : Option ℕ) (p : ℕ) (H : History) → IsFalse (leads u p H) → IsTrue (hides_reviewers (mode_of H))
+    (u : Option ℕ) (p : ℕ) (H : History) → IsFalse (administers u p H) → IsTrue (hides_reviewers (mode_of H))
     → All (λ (s : Sighting). IsTrue (is_kind kinds.Commented s && is_number s.paper p) → s.by ≡ None) (view u H)
 
 -- the tag that is shown is so
@@ -240,18 +240,18 @@ OneDecision =
     (u : Option ℕ) (p : ℕ) (H : History) → IsFalse (discusses u p H)
     → length (flat_map (part_shown (λ (s : Sighting). s.decision) p) (view u H)) ≤ 1
 
--- ---- who neither wrote a paper nor handles it
+-- ---- who neither wrote a paper nor is eligible for it
 
--- what lets one know more of a paper who neither wrote nor handles it: whether she serves, whether she leads the paper, whether it
+-- what lets one know more of a paper who neither wrote it nor is eligible for it: whether she serves, whether she administers the paper, whether it
 -- is in the programme, and whether it appears
 pub record Outsider : Type 0 where
   pub serving : Bool
-  pub leading : Bool
+  pub administering : Bool
   pub announced : Bool
   pub appearing : Bool
 
 -- all that a sighting on a paper has for her: the number; the title where she serves, and that it is withdrawn; the whole of a
--- conflict or an assignment that names her; the whole of what she made; where she leads the paper before the bidding the whole of
+-- conflict or an assignment that names her; the whole of what she made; where she administers the paper before the bidding the whole of
 -- each assignment, and under which labels there is a form; of a paper in the programme that it is accepted, its authors and its
 -- title; and of one that appears its abstract and its content
 abbrev pub IsLeft : Option ℕ → Outsider → EntryKind → Sighting → Type 0
@@ -278,13 +278,13 @@ IsLeft u is kinds.Conflict s =
     IsTrue (s.mine || is_user u s.user) × (s ≡ record (blank kinds.Conflict) { mine = s.mine; paper = s.paper; user = s.user; on = s.on })
 IsLeft u is kinds.Bid s = IsTrue s.mine × (s ≡ record (blank kinds.Bid) { mine = s.mine; paper = s.paper; value = s.value })
 IsLeft u is kinds.Assigned s =
-    IsTrue (s.mine || is_user u s.user || is.leading)
-    × (s ≡ record (blank kinds.Assigned) { mine = s.mine; paper = s.paper; user = s.user; seat = s.seat; ordinal = s.ordinal })
+    IsTrue (s.mine || is_user u s.user || is.administering)
+    × (s ≡ record (blank kinds.Assigned) { mine = s.mine; paper = s.paper; user = s.user; review_kind = s.review_kind; ordinal = s.ordinal })
 IsLeft u is kinds.Unassigned s =
-    IsTrue (s.mine || is_user u s.user || is.leading)
+    IsTrue (s.mine || is_user u s.user || is.administering)
     × (s ≡ record (blank kinds.Unassigned) { mine = s.mine; paper = s.paper; user = s.user; ordinal = s.ordinal })
 IsLeft u is kinds.Reviewed s =
-    IsTrue (s.mine || is.leading)
+    IsTrue (s.mine || is.administering)
     × (s ≡ record (blank kinds.Reviewed) {
       mine = s.mine;
       paper = s.paper;
@@ -294,7 +294,7 @@ IsLeft u is kinds.Reviewed s =
       confidence = if s.mine then s.confidence else None;
       to_authors = if s.mine then s.to_authors else None;
       to_pc = if s.mine then s.to_pc else None;
-      done = if is.leading then s.done else None;
+      done = if is.administering then s.done else None;
     })
 IsLeft u is kinds.Commented s =
     IsTrue s.mine × (s ≡ record (blank kinds.Commented) { mine = s.mine; paper = s.paper; n = s.n; ordinal = s.ordinal; text = s.text })
@@ -310,12 +310,12 @@ IsLeft u is kinds.Decided s =
 
 -- what she is to the paper
 abbrev pub outsider : Option ℕ → ℕ → History → Outsider
-outsider u p H = record { serving = serves u H; leading = leads u p H; announced = is_in_programme p H; appearing = appears p H }
+outsider u p H = record { serving = serves u H; administering = administers u p H; announced = is_in_programme p H; appearing = appears p H }
 
 -- so of any other than an author: one in conflict, one who isn't on the committee, and all before the bidding
 abbrev pub OutsidersShown : Type 0
 OutsidersShown =
-    (u : Option ℕ) (p : ℕ) (H : History) → IsFalse (is_author u p H || handles u p H)
+    (u : Option ℕ) (p : ℕ) (H : History) → IsFalse (is_author u p H || is_eligible u p H)
     → All (λ (s : Sighting). IsTrue (is_number s.paper p) → IsLeft u (outsider u p H) s.kind s) (view u H)
 
 -- ---- strangers, and nobody
@@ -358,13 +358,13 @@ IsPublicIn H s = IsPublic (at_some (λ p. is_in_programme p H) s.paper) (at_some
 abbrev pub names_her : Option ℕ → Entry → Bool
 names_her u (Coauthor paper user) = is_number u user
 names_her u (Conflict paper user on) = is_number u user
-names_her u (Assigned paper user seat ordinal) = is_number u user
+names_her u (Assigned paper user review_kind ordinal) = is_number u user
 names_her u (Unassigned paper user ordinal) = is_number u user
 names_her u _ = false
 
 -- the entry is one of those that chairs are told of in every phase: it assigns a reviewer, unassigns one, or is a form
 abbrev pub is_reviewing : Entry → Bool
-is_reviewing (Assigned paper user seat ordinal) = true
+is_reviewing (Assigned paper user review_kind ordinal) = true
 is_reviewing (Unassigned paper user ordinal) = true
 is_reviewing (Reviewed paper ordinal version form) = true
 is_reviewing _ = false
@@ -374,7 +374,7 @@ pub record IsStranger (u : Option ℕ) (H : History) : Type 0 where
   pub author : (p : ℕ) → IsFalse (is_author u p H)
   pub serving : IsFalse (serves u H)
   pub named : IsFalse (list_any (λ (e : Stamped). names_her u e.entry) H)
-  pub leading : IsFalse (leads_committee (role_of u H) && list_any (λ (e : Stamped). is_reviewing e.entry) H)
+  pub leading : IsFalse (chairs_committee (role_of u H) && list_any (λ (e : Stamped). is_reviewing e.entry) H)
 
 -- strangers are shown what is public, and their own entries
 abbrev pub StrangersShown : Type 0

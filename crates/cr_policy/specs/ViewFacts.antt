@@ -67,10 +67,10 @@ upload_shown (Some version) (Some content) = record { version = version; content
 upload_shown _ _ = []
 
 -- the seat that is shown, of the kinds of entry that give a user hers: the ordinal of an assignment, and that it is gone
-abbrev pub seat_by_kind : EntryKind → Option ℕ → List (Option ℕ)
-seat_by_kind kinds.Assigned ordinal = map (λ (o : ℕ). Some o) (listed ordinal)
-seat_by_kind kinds.Unassigned ordinal = map (λ (o : ℕ). None) (listed ordinal)
-seat_by_kind _ ordinal = []
+abbrev pub ordinal_by_kind : EntryKind → Option ℕ → List (Option ℕ)
+ordinal_by_kind kinds.Assigned ordinal = map (λ (o : ℕ). Some o) (listed ordinal)
+ordinal_by_kind kinds.Unassigned ordinal = map (λ (o : ℕ). None) (listed ordinal)
+ordinal_by_kind _ ordinal = []
 
 -- the form whose grades and whose text to the authors are shown
 abbrev pub form_shown : Option ℕ → Option ℕ → Option ℕ → Option (List ℕ) → Option (List ℕ) → List FormTold
@@ -144,13 +144,13 @@ abbrev pub own_bid_seen : ℕ → Sighting → List ℕ
 own_bid_seen p s = only (is_number s.paper p && s.mine) (of_kind kinds.Bid s (listed s.value))
 
 -- the ordinal under which the user reviews the paper from here on, none where she no longer does
-abbrev pub seat_seen : Option ℕ → ℕ → Sighting → List (Option ℕ)
-seat_seen u p s = only (is_number s.paper p && is_user u s.user) (seat_by_kind s.kind s.ordinal)
+abbrev pub ordinal_seen : Option ℕ → ℕ → Sighting → List (Option ℕ)
+ordinal_seen u p s = only (is_number s.paper p && is_user u s.user) (ordinal_by_kind s.kind s.ordinal)
 
 -- the reviewer whom it gives the paper, and the ordinal of the one whom it takes
 abbrev pub assigned_seen : ℕ → Sighting → List SeatTold
 assigned_seen p s =
-    only (is_number s.paper p) (of_kind kinds.Assigned s (map (λ (o : ℕ). record { ordinal = o; kind = s.seat; user = s.user }) (listed s.ordinal)))
+    only (is_number s.paper p) (of_kind kinds.Assigned s (map (λ (o : ℕ). record { ordinal = o; kind = s.review_kind; user = s.user }) (listed s.ordinal)))
 
 abbrev pub unassigned_seen : ℕ → Sighting → List ℕ
 unassigned_seen p s = only (is_number s.paper p) (of_kind kinds.Unassigned s (listed s.ordinal))
@@ -274,8 +274,8 @@ abbrev pub declared_in_view : Option ℕ → ℕ → View → List ℕ
 declared_in_view u p V = flat_map (conflict_user_seen p) (until bidding_seen V) ++ flat_map (own_or_other_seen u p) (since bidding_seen V)
 
 -- the ordinal under which the user reviews the paper: the last entry shown on the two tells it, or that there is none
-abbrev pub seat_in_view : Option ℕ → ℕ → View → Option ℕ
-seat_in_view u p V = last_or None (flat_map (seat_seen u p) V)
+abbrev pub ordinal_in_view : Option ℕ → ℕ → View → Option ℕ
+ordinal_in_view u p V = last_or None (flat_map (ordinal_seen u p) V)
 
 -- StandingOf: what a view says of how its reader stands to the conference, and to a paper, if one is named
 abbrev pub standing_in_view : Option ℕ → Option ℕ → View → Standing
@@ -285,7 +285,7 @@ standing_in_view u paper V = record {
   role = role_in_view u V;
   author = at_some (λ p. is_author_in_view u p V) paper;
   conflicted = at_some (λ p. is_conflicted_in_view u p V) paper;
-  reviewer = at_some (λ p. is_some (seat_in_view u p V)) paper;
+  reviewer = at_some (λ p. is_some (ordinal_in_view u p V)) paper;
 }
 
 -- ---- bids and assignments
@@ -386,7 +386,7 @@ facts_in_view u V = record {
   own_papers = own_papers_in_view V;
   own_bytes = own_bytes_in_view V;
   own_bid = λ p. own_bid_in_view p V;
-  own_seat = λ p. seat_in_view u p V;
+  own_ordinal = λ p. ordinal_in_view u p V;
   own_forms = λ p. own_forms_in_view p V;
   own_comments = own_comments_in_view V;
   accepted = λ p. is_accepted_in_view p V;
@@ -407,7 +407,7 @@ shown_in_view u V = record {
   withdrawn = λ p. is_withdrawn_in_view p V;
   bids = λ p. bids_in_view p V;
   reviewers = λ p. reviewers_in_view p V;
-  seat = λ v p. seat_in_view v p V;
+  ordinal = λ v p. ordinal_in_view v p V;
   labels = λ p. length (seats_in_view p V);
   assigned = λ p o. assigned_under o (seats_in_view p V);
   last_form = λ p o. last_form_in_view p o V;

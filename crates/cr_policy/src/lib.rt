@@ -174,7 +174,7 @@ pub fn law_views()
 /// for whoever sets them, and tags for chairs for such chairs; no decision before the notification for all but those who
 /// discuss the paper, and for all but them and its authors never more than that it is accepted; of a paper's titles, abstracts
 /// and contents the last one, for all but its authors, and of decisions for all but those who discuss it; little of a paper for
-/// outsiders, who neither wrote nor handle it, so in conflict, or on no committee, or before the bidding; for strangers what is
+/// outsiders, who neither wrote it nor are eligible for it, so in conflict, or on no committee, or before the bidding; for strangers what is
 /// public and their own entries; and for nobody what is public, an accepted paper's title and authors among it, and once the
 /// conference is closed its abstract and its content.
 pub fn law_bounds()

@@ -5,10 +5,10 @@ use Rattle.std.specs.Map.{lookup}
 use Rattle.std.specs.Option.{option_map_or}
 use Rattle.std.specs.Str.{bytes_eq}
 use Rattle.cr_base.specs.declared.row.Row.{Row}
-use Rattle.cr_ports.specs.Shelving.{StoresByPath, has_place, is_path}
+use Rattle.cr_ports.specs.Shelving.{StoresByPath, has_store, is_path}
 
 abbrev pub rows_or_none : Option (Vec Row Global) → List Row
-rows_or_none place = option_map_or (λ rows. rows.items) place []
+rows_or_none store = option_map_or (λ rows. rows.items) store []
 
 -- these rows stand at a path, and elsewhere what stood there
 pub put_rows : (b : Bool) (rows : Vec Row Global) (old new : Option (Vec Row Global))
@@ -17,20 +17,20 @@ pub put_rows : (b : Bool) (rows : Vec Row Global) (old new : Option (Vec Row Glo
 put_rows true rows old new is = ap rows_or_none is
 put_rows false rows old new is = ap rows_or_none is
 
--- a place without rows is as none
+-- a store without rows is as none
 pub add_none : (b : Bool) (rows : Vec Row Global) (old new : Option (Vec Row Global))
     → new ≡ cond b (Some rows) old → (b ≡ true → old ≡ None) → rows.items ≡ []
     → rows_or_none new ≡ rows_or_none old
 add_none true rows old new is absent none = rw (is, absent refl) none
 add_none false rows old new is absent none = ap rows_or_none is
 
--- no place is found under an equal name
-pub absent_at : (stores : StoresByPath) (path name q : List ℕ) → IsFalse (has_place stores path) → name ≡ path
+-- no store is found under an equal name
+pub absent_at : (stores : StoresByPath) (path name q : List ℕ) → IsFalse (has_store stores path) → name ≡ path
     → bytes_eq name q ≡ true → lookup (is_path q) stores ≡ None
 absent_at stores path name q absent is same =
     let equal : path ≡ q = sym is ∙ (bytes_eq-Decides name q).0 same in
     rw (← equal) (none_of (lookup (is_path path) stores) absent)
   where
-    none_of : (place : Option (Vec Row Global)) → is_some place ≡ false → place ≡ None
+    none_of : (store : Option (Vec Row Global)) → is_some store ≡ false → store ≡ None
     none_of None h = refl
     none_of (Some _) h = grind arith

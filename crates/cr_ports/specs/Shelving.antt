@@ -29,8 +29,8 @@ is_path path name = is_eq (slice_cmp nat_cmp path (string_bytes name))
 abbrev pub files : StoresByPath → List ℕ → List Row
 files stores path = option_map_or (λ rows. rows.items) (lookup (is_path path) stores) []
 
-abbrev pub has_place : StoresByPath → List ℕ → Bool
-has_place stores path = is_some (lookup (is_path path) stores)
+abbrev pub has_store : StoresByPath → List ℕ → Bool
+has_store stores path = is_some (lookup (is_path path) stores)
 
 -- a shelf in memory: the rows at each path, its opens, which calls of its keepers fail, and its faults
 pub record Shelved : Type 0 where

@@ -3,7 +3,7 @@ ghost use Rattle.std.specs.Prelude.{◌≡◌, ◌+◌, ◌^◌, ◌-◌, ◌↔
 ghost use Rattle.cr_ports.specs.Calls.{Advances, fails};
 ghost use Rattle.cr_ports.specs.Count.{Gains};
 ghost use Rattle.cr_ports.specs.Keeping.{HasCause, faults_after};
-ghost use Rattle.cr_ports.specs.Shelving.{and_file, files, has_place, with_rows};
+ghost use Rattle.cr_ports.specs.Shelving.{and_file, files, has_store, with_rows};
 
 use crate::calls::Calls;
 use crate::keeper::KeeperError;
@@ -79,9 +79,9 @@ impl MemShelf {
         }
     }
 
-    /// Makes a place for the path where it has none; it has no rows then.
-    fn make_place(&mut self, path: &str) -> Result<(), AllocError>
-        ensures opened { OnOk result (IsTrue (has_place self.new.stores path.now)) }
+    /// Makes a store for the path where it has none; it has no rows then.
+    fn make_store(&mut self, path: &str) -> Result<(), AllocError>
+        ensures opened { OnOk result (IsTrue (has_store self.new.stores path.now)) }
         ensures files { files self.new.stores ≡ files self.old.stores }
         ensures opens { self.new.opens ≡ self.old.opens }
         ensures appends { self.new.failing_appends ≡ self.old.failing_appends }
@@ -91,7 +91,7 @@ impl MemShelf {
         if self.stores.contains_key(path) {
             return Ok(());
         }
-        add_place(self.alloc, &mut self.stores, path)
+        add_store(self.alloc, &mut self.stores, path)
     }
 
     /// A keeper of copies of the rows at the path, which fails as the lists tell.
@@ -108,14 +108,14 @@ impl MemShelf {
     }
 }
 
-/// Makes a place for a path that has none; it has no rows then.
-fn add_place(
+/// Makes a store for a path that has none; it has no rows then.
+fn add_store(
     alloc: Global,
     stores: &mut BTreeMap<String, Vec<Row>>,
     path: &str,
 ) -> Result<(), AllocError>
-    requires { IsFalse (has_place stores.old.entries path.now) }
-    ensures opened { OnOk result (IsTrue (has_place stores.new.entries path.now)) }
+    requires { IsFalse (has_store stores.old.entries path.now) }
+    ensures opened { OnOk result (IsTrue (has_store stores.new.entries path.now)) }
     ensures files { files stores.new.entries ≡ files stores.old.entries }
 {
     let name = String::from_str(alloc, path)?;
@@ -125,13 +125,13 @@ fn add_place(
     }
 }
 
-/// Puts rows at a path that has a place.
+/// Puts rows at a path that has a store.
 fn put(stores: &mut BTreeMap<String, Vec<Row>>, path: &str, rows: Vec<Row>)
-    requires { IsTrue (has_place stores.old.entries path.now) }
+    requires { IsTrue (has_store stores.old.entries path.now) }
     ensures { files stores.new.entries ≡ with_rows (files stores.old.entries) path.now rows.items }
 {
-    if let Some(place) = stores.get_mut(path) {
-        *place = rows;
+    if let Some(store) = stores.get_mut(path) {
+        *store = rows;
     }
 }
 
@@ -140,14 +140,14 @@ impl Shelf for MemShelf {
 
     ghost rows = { λ s. Some (files s.stores) };
 
-    ghost has_opened = { λ s path. IsTrue (has_place s.stores path) };
+    ghost has_opened = { λ s path. IsTrue (has_store s.stores path) };
 
     ghost faults = { λ s. s.faults };
 
     fn open(&mut self, path: &str) -> Result<MemKeeper, KeeperError>
         ensures found { IfOk result (λ keeper. IfSome (Some (files self.old.stores)) (λ found. Some keeper.rows ≡ Some (found path.now))) }
         ensures fresh { IfOk result (λ keeper. keeper.faults ≡ 0) }
-        ensures opened { OnOk result (IsTrue (has_place self.new.stores path.now)) }
+        ensures opened { OnOk result (IsTrue (has_store self.new.stores path.now)) }
         ensures same { Some (files self.new.stores) ≡ Some (files self.old.stores) }
         ensures cause { HasCause self.old.faults self.new.faults result }
 
@@ -163,7 +163,7 @@ impl Shelf for MemShelf {
             self.faults = self.faults.saturating_add(1);
             return Err(KeeperError::Failed);
         }
-        if self.make_place(path).is_err() {
+        if self.make_store(path).is_err() {
             return Err(KeeperError::OutOfMemory);
         }
         match self.keeper_at(path) {
@@ -173,7 +173,7 @@ impl Shelf for MemShelf {
     }
 
     fn shut(&mut self, path: &str, keeper: MemKeeper)
-        requires { IsTrue (has_place self.old.stores path.now) }
+        requires { IsTrue (has_store self.old.stores path.now) }
         ensures kept { IfSome (Some keeper.rows) (λ kept. Some (files self.new.stores) ≡ and_file (Some (files self.old.stores)) path.now kept) }
         ensures count { Gains self.old.faults keeper.faults self.new.faults }
 

@@ -18,7 +18,7 @@ status_line status = codes "HTTP/1.1 " ++ code_digits (code_of status) ++ codes 
 unfoldable pub extra_line : Extra → List ℕ
 extra_line Nothing = []
 extra_line Challenge = codes "WWW-Authenticate: Bearer realm=\"confd\"\r\n"
-extra_line (Allow place) = codes "Allow: " ++ allow_text place ++ codes "\r\n"
+extra_line (Allow resource) = codes "Allow: " ++ allow_text resource ++ codes "\r\n"
 
 -- the registered names (RFC 8259, section 11; RFC 2046, sections 4.1 and 4.5.1)
 unfoldable pub media_type_name : MediaType → List ℕ

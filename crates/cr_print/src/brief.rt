@@ -3,9 +3,9 @@ ghost use Rattle.std.specs.Prelude.{◌≡◌, ◌+◌, ◌≤◌, ◌++◌, len
 ghost use Rattle.cr_json.specs.Put.{HasRoom, Puts};
 ghost use Rattle.cr_print.specs.Answers.{answer_text, unless_head};
 
-use crate::form::Form;
 use crate::head::{AnswerHead, HEAD_ROOM, print_head};
 use crate::put::put;
+use crate::sending::Sending;
 use arrayvec::ArrayVec;
 
 /// Bytes that suffice for any brief content: 288. The longest has 232: it tells of a user's role, with a
@@ -28,17 +28,17 @@ fn put_content(into: &mut Vec<u8>, content: &[u8], is_head: bool)
 
 /// Puts the head before a brief content that stands at the end, from `start` on. A head tells its
 /// content's length, so the content is written first, and moved behind it. It can't fail.
-pub(crate) fn print_brief(into: &mut Vec<u8>, start: usize, head: AnswerHead, form: Form)
+pub(crate) fn print_brief(into: &mut Vec<u8>, start: usize, head: AnswerHead, sending: Sending)
     requires begins { start ≤ vec_len into.old }
     requires brief { vec_len into.old ≤ start + 288 }
     requires room { start + 512 ≤ vec_capacity into.old }
-    ensures items { into.new.items ≡ take start into.old.items ++ answer_text head (drop start into.old.items) form }
+    ensures items { into.new.items ≡ take start into.old.items ++ answer_text head (drop start into.old.items) sending }
     ensures within { vec_len into.new ≤ start + 512 }
     ensures capacity { vec_capacity into.old ≤ vec_capacity into.new }
 {
     let mut content: ArrayVec<u8, CONTENT_ROOM> = ArrayVec::new();
     content.try_extend_from_slice(&into[start..]).unwrap();
     into.truncate(start);
-    print_head(into, head, content.len(), form.closes);
-    put_content(into, content.as_slice(), form.is_head);
+    print_head(into, head, content.len(), sending.closes);
+    put_content(into, content.as_slice(), sending.is_head);
 }

@@ -4,8 +4,8 @@ ghost use Rattle.cr_print.specs.Conference.{conference_content};
 ghost use Rattle.cr_print.specs.Answers.{conference_text};
 
 use crate::brief::print_brief;
-use crate::form::Form;
 use crate::head::{Extra, json};
+use crate::sending::Sending;
 use crate::status::Status;
 use cr_base::Conference;
 use cr_json::Object;
@@ -25,11 +25,11 @@ fn append_conference(into: &mut Vec<u8>, conference: Conference) -> Result<(), A
 /// Appends what everyone may know of the conference, which can't fail and takes no memory: `into` has
 /// room for 512 bytes.
 #[tactic(auto, unfolding(crate::specs::Answers::conference_text))]
-pub(crate) fn print_conference(into: &mut Vec<u8>, conference: Conference, form: Form)
+pub(crate) fn print_conference(into: &mut Vec<u8>, conference: Conference, sending: Sending)
     requires { HasRoom into.old 512 }
-    ensures { Puts into.old into.new (conference_text conference form) 512 }
+    ensures { Puts into.old into.new (conference_text conference sending) 512 }
 {
     let start = into.len();
     append_conference(into, conference).unwrap();
-    print_brief(into, start, json(Status::Okay, Extra::Nothing), form);
+    print_brief(into, start, json(Status::Okay, Extra::Nothing), sending);
 }

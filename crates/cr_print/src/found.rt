@@ -4,8 +4,8 @@ ghost use Rattle.cr_print.specs.Found.{count_content, found_content};
 ghost use Rattle.cr_print.specs.Answers.{count_text};
 
 use crate::brief::print_brief;
-use crate::form::Form;
 use crate::head::{Extra, json};
+use crate::sending::Sending;
 use crate::status::Status;
 use cr_base::FoundPapers;
 use cr_json::Object;
@@ -33,11 +33,11 @@ fn append_count(into: &mut Vec<u8>, count: u64) -> Result<(), AllocError>
 
 /// Appends how many papers were found, which can't fail and takes no memory: `into` has room for 512 bytes.
 #[tactic(auto, unfolding(crate::specs::Answers::count_text))]
-pub(crate) fn print_count(into: &mut Vec<u8>, count: u64, form: Form)
+pub(crate) fn print_count(into: &mut Vec<u8>, count: u64, sending: Sending)
     requires { HasRoom into.old 512 }
-    ensures { Puts into.old into.new (count_text count form) 512 }
+    ensures { Puts into.old into.new (count_text count sending) 512 }
 {
     let start = into.len();
     append_count(into, count).unwrap();
-    print_brief(into, start, json(Status::Okay, Extra::Nothing), form);
+    print_brief(into, start, json(Status::Okay, Extra::Nothing), sending);
 }

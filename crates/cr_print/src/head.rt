@@ -6,7 +6,7 @@ ghost use Rattle.cr_print.specs.Head.{media_type_name, status_line, extra_line, 
 
 use crate::put::put;
 use crate::status::Status;
-use cr_routes::Place;
+use cr_routes::Resource;
 use itoa::Buffer;
 
 /// Bytes that suffice for any status line.
@@ -73,7 +73,7 @@ pub(crate) enum Extra {
     /// How to log in: `WWW-Authenticate`.
     Challenge,
     /// The methods of a path: `Allow`.
-    Allow(Place),
+    Allow(Resource),
 }
 
 /// What a head tells that follows from what is answered.
@@ -110,12 +110,12 @@ fn put_status(into: &mut Vec<u8>, status: Status)
 }
 
 #[tactic(auto, unfolding(crate::specs::Head::extra_line))]
-fn put_allow(into: &mut Vec<u8>, place: Place)
+fn put_allow(into: &mut Vec<u8>, resource: Resource)
     requires { HasRoom into.old 41 }
-    ensures { Puts into.old into.new (extra_line (Extra.Allow place)) 41 }
+    ensures { Puts into.old into.new (extra_line (Extra.Allow resource)) 41 }
 {
     put(into, b"Allow: ");
-    put(into, place.allow().as_bytes());
+    put(into, resource.allow().as_bytes());
     put(into, b"\r\n");
 }
 
@@ -127,7 +127,7 @@ fn put_extra(into: &mut Vec<u8>, extra: Extra)
     match extra {
         Extra::Nothing => {}
         Extra::Challenge => put(into, b"WWW-Authenticate: Bearer realm=\"confd\"\r\n"),
-        Extra::Allow(place) => put_allow(into, place),
+        Extra::Allow(resource) => put_allow(into, resource),
     }
 }
 

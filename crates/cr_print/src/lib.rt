@@ -9,7 +9,6 @@
 
 mod brief;
 mod conference;
-mod form;
 mod found;
 mod head;
 mod me;
@@ -19,11 +18,12 @@ mod put;
 mod receipt;
 mod refused;
 mod reply;
+mod sending;
 mod status;
 
 pub use brief::ANSWER_ROOM;
-pub use form::Form;
 pub use no_memory::no_memory_text;
 pub use receipt::print_receipt;
 pub use refused::{Refused, print_refusal};
 pub use reply::{block, print_reply};
+pub use sending::Sending;

@@ -7,8 +7,8 @@ ghost use Rattle.cr_print.specs.Receipt.{receipt_status, receipt_members, receip
 ghost use Rattle.cr_print.specs.Answers.{receipt_text};
 
 use crate::brief::print_brief;
-use crate::form::Form;
 use crate::head::{Extra, json};
+use crate::sending::Sending;
 use crate::status::Status;
 use cr_base::{Receipt, Role, Short};
 use cr_json::Object;
@@ -81,9 +81,9 @@ fn append_receipt(into: &mut Vec<u8>, receipt: &Receipt) -> Result<(), AllocErro
 /// Appends the answer of an accepted command, which can't fail and takes no memory: `into` has room
 /// for 512 bytes.
 #[tactic(auto, unfolding(crate::specs::Answers::receipt_text))]
-pub fn print_receipt(into: &mut Vec<u8>, receipt: &Receipt, form: Form)
+pub fn print_receipt(into: &mut Vec<u8>, receipt: &Receipt, sending: Sending)
     requires { HasRoom into.old 512 }
-    ensures { Puts into.old into.new (receipt_text receipt.now form) 512 }
+    ensures { Puts into.old into.new (receipt_text receipt.now sending) 512 }
 {
     let start = into.len();
     append_receipt(into, receipt).unwrap();
@@ -91,6 +91,6 @@ pub fn print_receipt(into: &mut Vec<u8>, receipt: &Receipt, form: Form)
         into,
         start,
         json(receipt_status(receipt), Extra::Nothing),
-        form,
+        sending,
     );
 }

@@ -7,13 +7,13 @@ ghost use Rattle.cr_print.specs.Answers.{refusal_text};
 ghost use Rattle.cr_print.specs.declared.refused.Refused.TheVariants as refused;
 
 use crate::brief::print_brief;
-use crate::form::Form;
 use crate::head::{Extra, json};
+use crate::sending::Sending;
 use crate::status::Status;
 use cr_base::Rule;
 use cr_http::Refusal;
 use cr_json::Object;
-use cr_routes::Place;
+use cr_routes::Resource;
 use std::alloc::AllocError;
 
 /// Why a request is refused.
@@ -24,7 +24,7 @@ pub enum Refused {
     /// The path is none of the server's (404).
     NoRoute,
     /// The path doesn't answer the method (405); the answer names the methods that it answers.
-    WrongMethod(Place),
+    WrongMethod(Resource),
     /// The request names no user by her name and secret, and what it asks for wants one (401); the answer
     /// has a challenge (RFC 9110, section 11.6.1), and is the same whatever was wrong.
     Unauthorized,
@@ -32,9 +32,9 @@ pub enum Refused {
     BadBody,
     /// The search spells nothing that can be searched for (400); the answer tells where.
     BadQuery {
-        /// The last place in the search's text, in bytes from 0 to 1,024, up to which that can be the beginning of a search; 0 where
+        /// The last offset in the search's text, in bytes from 0 to 1,024, up to which that can be the beginning of a search; 0 where
         /// there is no text.
-        place: usize,
+        offset: usize,
     },
     /// A rule of the conference is broken.
     Rule(Rule),
@@ -185,7 +185,7 @@ fn extra(refused: Refused) -> Extra
     ensures { result ≡ extra_of refused }
 {
     match refused {
-        Refused::WrongMethod(place) => Extra::Allow(place),
+        Refused::WrongMethod(resource) => Extra::Allow(resource),
         Refused::Unauthorized => Extra::Challenge,
         _ => Extra::Nothing,
     }
@@ -208,7 +208,7 @@ fn add_further(object: &mut Object, into: &mut Vec<u8>, refused: Refused) -> Res
     ensures room { Takes result into.old into.new 133 }
 {
     match refused {
-        Refused::BadQuery { place } => object.number(into, "place", place as u64),
+        Refused::BadQuery { offset } => object.number(into, "place", offset as u64),
         Refused::Row { row, rule } => add_row(object, into, row, rule),
         _ => Ok(()),
     }
@@ -228,11 +228,11 @@ fn append_refusal(into: &mut Vec<u8>, refused: Refused) -> Result<(), AllocError
 /// Appends the answer of a refused request, which can't fail and takes no memory: `into` has room for
 /// 512 bytes.
 #[tactic(auto, unfolding(crate::specs::Answers::refusal_text))]
-pub fn print_refusal(into: &mut Vec<u8>, refused: Refused, form: Form)
+pub fn print_refusal(into: &mut Vec<u8>, refused: Refused, sending: Sending)
     requires { HasRoom into.old 512 }
-    ensures { Puts into.old into.new (refusal_text refused form) 512 }
+    ensures { Puts into.old into.new (refusal_text refused sending) 512 }
 {
     let start = into.len();
     append_refusal(into, refused).unwrap();
-    print_brief(into, start, json(status(refused), extra(refused)), form);
+    print_brief(into, start, json(status(refused), extra(refused)), sending);
 }

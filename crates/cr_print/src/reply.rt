@@ -6,7 +6,6 @@ ghost use Rattle.cr_print.specs.Answers.{bytes_head, content_front, text_head, r
 
 use crate::brief::ANSWER_ROOM;
 use crate::conference::print_conference;
-use crate::form::Form;
 use crate::found::{append_found, print_count};
 use crate::head::{AnswerHead, Extra, HEAD_ROOM, MediaType, json, print_head};
 use crate::me::append_me;
@@ -14,16 +13,17 @@ use crate::page::{append_page, page_room};
 use crate::put::put;
 use crate::receipt::print_receipt;
 use crate::refused::{Refused, print_refusal};
+use crate::sending::Sending;
 use crate::status::Status;
 use cr_base::{AcceptedPapers, FoundPapers, Me, Page, Reply};
 use cr_json::{Value, append_list_alone};
 use std::alloc::AllocError;
 
 /// Appends the answer that has this content, whatever its length.
-fn print_content(into: &mut Vec<u8>, content: &[u8], form: Form) -> Result<(), AllocError>
-    ensures { Prints result into.old into.new (served_text content.now form) }
+fn print_content(into: &mut Vec<u8>, content: &[u8], sending: Sending) -> Result<(), AllocError>
+    ensures { Prints result into.old into.new (served_text content.now sending) }
 {
-    let sent = if form.is_head {
+    let sent = if sending.is_head {
         b"".as_slice()
     } else {
         content
@@ -33,7 +33,7 @@ fn print_content(into: &mut Vec<u8>, content: &[u8], form: Form) -> Result<(), A
         into,
         json(Status::Okay, Extra::Nothing),
         content.len(),
-        form.closes,
+        sending.closes,
     );
     put(into, sent);
     Ok(())
@@ -44,47 +44,51 @@ fn print_list<T: Value>(
     into: &mut Vec<u8>,
     key: &str,
     items: &[T],
-    form: Form,
+    sending: Sending,
 ) -> Result<(), AllocError>
-    ensures { Prints result into.old into.new (list_text key.now (map T.text items.now) form) }
+    ensures { Prints result into.old into.new (list_text key.now (map T.text items.now) sending) }
 {
     let mut content = Vec::new(*into.allocator());
     append_list_alone(&mut content, key, items)?;
-    print_content(into, content.as_slice(), form)
+    print_content(into, content.as_slice(), sending)
 }
 
 #[tactic(auto, unfolding(crate::specs::Answers::papers_text))]
-fn print_accepted(into: &mut Vec<u8>, papers: &AcceptedPapers, form: Form) -> Result<(), AllocError>
-    ensures { Prints result into.old into.new (papers_text papers.now form) }
+fn print_accepted(
+    into: &mut Vec<u8>,
+    papers: &AcceptedPapers,
+    sending: Sending,
+) -> Result<(), AllocError>
+    ensures { Prints result into.old into.new (papers_text papers.now sending) }
 {
-    print_list(into, "papers", papers.as_slice(), form)
+    print_list(into, "papers", papers.as_slice(), sending)
 }
 
 #[tactic(auto, unfolding(crate::specs::Answers::found_text))]
-fn print_found(into: &mut Vec<u8>, papers: &FoundPapers, form: Form) -> Result<(), AllocError>
-    ensures { Prints result into.old into.new (found_text papers.now form) }
+fn print_found(into: &mut Vec<u8>, papers: &FoundPapers, sending: Sending) -> Result<(), AllocError>
+    ensures { Prints result into.old into.new (found_text papers.now sending) }
 {
     let mut content = Vec::new(*into.allocator());
     append_found(&mut content, papers)?;
-    print_content(into, content.as_slice(), form)
+    print_content(into, content.as_slice(), sending)
 }
 
 #[tactic(auto, unfolding(crate::specs::Answers::page_text))]
-fn print_page(into: &mut Vec<u8>, page: &Page, form: Form) -> Result<(), AllocError>
-    ensures { Prints result into.old into.new (page_text page.now form) }
+fn print_page(into: &mut Vec<u8>, page: &Page, sending: Sending) -> Result<(), AllocError>
+    ensures { Prints result into.old into.new (page_text page.now sending) }
 {
     let mut content = Vec::with_capacity(*into.allocator(), page_room(page))?;
     append_page(&mut content, page)?;
-    print_content(into, content.as_slice(), form)
+    print_content(into, content.as_slice(), sending)
 }
 
 #[tactic(auto, unfolding(crate::specs::Answers::me_text))]
-fn print_me(into: &mut Vec<u8>, me: &Me, form: Form) -> Result<(), AllocError>
-    ensures { Prints result into.old into.new (me_text me.now form) }
+fn print_me(into: &mut Vec<u8>, me: &Me, sending: Sending) -> Result<(), AllocError>
+    ensures { Prints result into.old into.new (me_text me.now sending) }
 {
     let mut content = Vec::new(*into.allocator());
     append_me(&mut content, me)?;
-    print_content(into, content.as_slice(), form)
+    print_content(into, content.as_slice(), sending)
 }
 
 /// The head of an answer whose content is bytes as they are.
@@ -100,11 +104,11 @@ fn head_of_bytes() -> AnswerHead
 
 /// Appends what stands in front of a content of so many bytes. It can't fail.
 #[tactic(auto, unfolding(crate::specs::Answers::content_front))]
-fn print_front(into: &mut Vec<u8>, length: usize, form: Form)
+fn print_front(into: &mut Vec<u8>, length: usize, sending: Sending)
     requires { HasRoom into.old 224 }
-    ensures { Puts into.old into.new (content_front length form) 224 }
+    ensures { Puts into.old into.new (content_front length sending) 224 }
 {
-    print_head(into, head_of_bytes(), length, form.closes);
+    print_head(into, head_of_bytes(), length, sending.closes);
 }
 
 /// The head of an answer whose content is text.
@@ -120,11 +124,11 @@ fn head_of_text() -> AnswerHead
 
 /// Appends what stands in front of a report of so many bytes. It can't fail.
 #[tactic(auto, unfolding(crate::specs::Answers::report_front))]
-fn print_report_front(into: &mut Vec<u8>, length: usize, form: Form)
+fn print_report_front(into: &mut Vec<u8>, length: usize, sending: Sending)
     requires { HasRoom into.old 224 }
-    ensures { Puts into.old into.new (report_front length form) 224 }
+    ensures { Puts into.old into.new (report_front length sending) 224 }
 {
-    print_head(into, head_of_text(), length, form.closes);
+    print_head(into, head_of_text(), length, sending.closes);
 }
 
 /// Appends the answer of a reply, all but what `block` lends: so neither a paper's content nor a report is ever copied here, and
@@ -135,19 +139,19 @@ fn print_report_front(into: &mut Vec<u8>, length: usize, form: Form)
 /// bytes is there. The content of a list, a page, what was found or what one is told of oneself is made in a vector of its
 /// own, to HEAD too, and copied once.
 #[tactic(auto, unfolding(crate::specs::Answers::accounts_text, crate::specs::Answers::reviews_text, crate::specs::Answers::comments_text))]
-pub fn print_reply(into: &mut Vec<u8>, reply: &Reply, form: Form) -> Result<(), AllocError>
-    ensures prints { Prints result into.old into.new (front_text form reply.now) }
+pub fn print_reply(into: &mut Vec<u8>, reply: &Reply, sending: Sending) -> Result<(), AllocError>
+    ensures prints { Prints result into.old into.new (front_text sending reply.now) }
     ensures sure { OnErr result (IsBrief reply.now → HasRoom into.old 512 → ⊥) }
 {
     match reply {
         Reply::Accepted(receipt) => {
             into.reserve(ANSWER_ROOM)?;
-            print_receipt(into, receipt, form);
+            print_receipt(into, receipt, sending);
             Ok(())
         }
         Reply::Refused(rule) => {
             into.reserve(ANSWER_ROOM)?;
-            print_refusal(into, Refused::Rule(*rule), form);
+            print_refusal(into, Refused::Rule(*rule), sending);
             Ok(())
         }
         Reply::RowRefused { row, rule } => {
@@ -156,34 +160,34 @@ pub fn print_reply(into: &mut Vec<u8>, reply: &Reply, form: Form) -> Result<(), 
                 row: *row,
                 rule: *rule,
             };
-            print_refusal(into, refused, form);
+            print_refusal(into, refused, sending);
             Ok(())
         }
-        Reply::Accounts(accounts) => print_list(into, "accounts", accounts.as_slice(), form),
-        Reply::AcceptedPapers(papers) => print_accepted(into, papers, form),
-        Reply::Reviews(reviews) => print_list(into, "reviews", reviews.as_slice(), form),
-        Reply::Comments(comments) => print_list(into, "comments", comments.as_slice(), form),
-        Reply::Found(papers) => print_found(into, papers, form),
+        Reply::Accounts(accounts) => print_list(into, "accounts", accounts.as_slice(), sending),
+        Reply::AcceptedPapers(papers) => print_accepted(into, papers, sending),
+        Reply::Reviews(reviews) => print_list(into, "reviews", reviews.as_slice(), sending),
+        Reply::Comments(comments) => print_list(into, "comments", comments.as_slice(), sending),
+        Reply::Found(papers) => print_found(into, papers, sending),
         Reply::Count(count) => {
             into.reserve(ANSWER_ROOM)?;
-            print_count(into, *count, form);
+            print_count(into, *count, sending);
             Ok(())
         }
-        Reply::Page(page) => print_page(into, page, form),
-        Reply::Me(me) => print_me(into, me, form),
+        Reply::Page(page) => print_page(into, page, sending),
+        Reply::Me(me) => print_me(into, me, sending),
         Reply::Conference(conference) => {
             into.reserve(ANSWER_ROOM)?;
-            print_conference(into, *conference, form);
+            print_conference(into, *conference, sending);
             Ok(())
         }
         Reply::Content(content) => {
             into.reserve(HEAD_ROOM)?;
-            print_front(into, content.as_slice().len(), form);
+            print_front(into, content.as_slice().len(), sending);
             Ok(())
         }
         Reply::Report(text) => {
             into.reserve(HEAD_ROOM)?;
-            print_report_front(into, text.as_slice().len(), form);
+            print_report_front(into, text.as_slice().len(), sending);
             Ok(())
         }
     }
@@ -191,12 +195,12 @@ pub fn print_reply(into: &mut Vec<u8>, reply: &Reply, form: Form) -> Result<(), 
 
 /// What is to be written behind what `print_reply` appended: a paper's content as it is kept, or the text of a report, unless the
 /// answer is to HEAD, and nothing of any other reply. It is lent, so this takes no memory and no time.
-pub fn block(reply: &Reply, form: Form) -> &[u8]
-    ensures { result.now ≡ block_text form reply.now }
+pub fn block(reply: &Reply, sending: Sending) -> &[u8]
+    ensures { result.now ≡ block_text sending reply.now }
 {
     match reply {
-        Reply::Content(content) if !form.is_head => content.as_slice(),
-        Reply::Report(text) if !form.is_head => text.as_slice(),
+        Reply::Content(content) if !sending.is_head => content.as_slice(),
+        Reply::Report(text) if !sending.is_head => text.as_slice(),
         _ => &[],
     }
 }

@@ -98,11 +98,11 @@ seat-vacated loads written seat left =
     λ user within.
     sym (ap (λ (b : Bool). cond (not b && eqb seat.pair.user user) (with_form (written seat.value.ordinal) (with_kind seat.value.kind (load_at loads user))) (load_at loads user)) left)
 
-pub seat-counted : (loads : List Load) (written : ℕ → Bool) (seat : Tie Seat) (w : Bool) (place : ℕ) (load other : Load)
-    → seat.value.vacated ≡ false → place ≡ seat.pair.user → place < length loads → w ≡ written seat.value.ordinal
-    → load ≡ get_or loads place other
-    → Becomes loads (set loads place (with_form w (with_kind seat.value.kind load))) (λ user load. with_seat written user load seat)
-seat-counted loads written seat w place load other taken is within forms read =
+pub seat-counted : (loads : List Load) (written : ℕ → Bool) (seat : Tie Seat) (w : Bool) (index : ℕ) (load other : Load)
+    → seat.value.vacated ≡ false → index ≡ seat.pair.user → index < length loads → w ≡ written seat.value.ordinal
+    → load ≡ get_or loads index other
+    → Becomes loads (set loads index (with_form w (with_kind seat.value.kind load))) (λ user load. with_seat written user load seat)
+seat-counted loads written seat w index load other taken is within forms read =
     λ user low.
     split user (eqb seat.pair.user user) refl
     ∙ sym (ap (λ (b : Bool). made user (not b && eqb seat.pair.user user) (written seat.value.ordinal)) taken)
@@ -110,22 +110,22 @@ seat-counted loads written seat w place load other taken is within forms read =
     made : ℕ → Bool → Bool → Load
     made user b form = cond b (with_form form (with_kind seat.value.kind (load_at loads user))) (load_at loads user)
 
-    here : load ≡ load_at loads place
-    here = read ∙ get_or_default loads place other no_load within
+    here : load ≡ load_at loads index
+    here = read ∙ get_or_default loads index other no_load within
 
     new : List Load
-    new = set loads place (with_form w (with_kind seat.value.kind load))
+    new = set loads index (with_form w (with_kind seat.value.kind load))
 
     split : (user : ℕ) (b : Bool) → eqb seat.pair.user user ≡ b → load_at new user ≡ made user b (written seat.value.ordinal)
     split user true h =
-        let same : place ≡ user = is ∙ eqb-true seat.pair.user user h in
+        let same : index ≡ user = is ∙ eqb-true seat.pair.user user h in
         subst (λ (n : ℕ). load_at new n ≡ made n true (written seat.value.ordinal)) same
-        (get_or-set_same loads place (with_form w (with_kind seat.value.kind load)) no_load within
+        (get_or-set_same loads index (with_form w (with_kind seat.value.kind load)) no_load within
         ∙ ap (λ (l : Load). with_form w (with_kind seat.value.kind l)) here
-        ∙ ap (λ (b : Bool). with_form b (with_kind seat.value.kind (load_at loads place))) forms)
+        ∙ ap (λ (b : Bool). with_form b (with_kind seat.value.kind (load_at loads index))) forms)
     split user false h =
-        get_or-set_other loads place user (with_form w (with_kind seat.value.kind load)) no_load
-        (λ (e : user ≡ place). eqb-false seat.pair.user user h (sym (e ∙ is)))
+        get_or-set_other loads index user (with_form w (with_kind seat.value.kind load)) no_load
+        (λ (e : user ≡ index). eqb-false seat.pair.user user h (sym (e ∙ is)))
 
 -- ---- several
 

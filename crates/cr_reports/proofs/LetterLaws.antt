@@ -7,7 +7,7 @@ use Rattle.cr_base.specs.Labels.{by_labels, most_labels}
 use Rattle.cr_base.specs.Reports.{decision_named_line, decision_word, letter_form, letter_told, line_end, paper_named_line, title_by}
 use Rattle.cr_base.specs.Sources.{decision_by, facts_of_tables, shown_in_tables, standing_at}
 use Rattle.cr_base.specs.Tables.{Tables}
-use Rattle.cr_reports.specs.Told.{form_grades, form_heading, forms_under}
+use Rattle.cr_reports.specs.ReportLines.{form_grades, form_heading, forms_under}
 
 -- five pieces behind others
 five : {A : Type 0} (first a b c d e : List A) → first ++ (a ++ b ++ c ++ d ++ e) ≡ first ++ a ++ b ++ c ++ d ++ e

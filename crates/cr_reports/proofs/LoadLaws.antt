@@ -15,15 +15,15 @@ use Rattle.cr_base.specs.History.{SeatTold}
 use Rattle.cr_base.specs.Lists.{is_number, total}
 use Rattle.cr_base.specs.Pairs.{ties_of}
 use Rattle.cr_base.specs.Papers.{paper_numbers}
-use Rattle.cr_base.specs.Reports.{held, in_four, is_clear_of, is_of_kind, line_end, load_line, load_told, space, to_left}
+use Rattle.cr_base.specs.Reports.{held, in_four, is_clear_of, is_seat_of_kind, line_end, load_line, load_told, space, to_left}
 use Rattle.cr_base.specs.Reviews.{is_written_in}
-use Rattle.cr_base.specs.Seats.{reviewers_in, told_of}
+use Rattle.cr_base.specs.Seats.{reviewers_in, told_seat}
 use Rattle.cr_base.specs.Sources.{Facts, Shown, facts_of_tables, shown_in_tables}
 use Rattle.cr_base.specs.Tables.{Tables}
-use Rattle.cr_base.specs.Words.{is_member, seat_number}
+use Rattle.cr_base.specs.Words.{is_member, review_kind_number}
 use Rattle.cr_reports.specs.declared.counts.Load.{Load}
 use Rattle.cr_reports.specs.Loads.{line_of, load_at, member_line, no_load, with_form, with_kind, with_paper, with_papers, with_seats}
-use Rattle.cr_reports.specs.Told.{one}
+use Rattle.cr_reports.specs.ReportLines.{one}
 use Rattle.cr_reports.proofs.WalkLaws.{where_so, flat_map-filter}
 
 -- ---- one count of a load
@@ -155,19 +155,19 @@ module _ (t : Tables) (caller user : ℕ) (part : Load → ℕ) (test : Bool →
       by false h = h load
 
   module _ (told : ℕ → SeatTold → Bool)
-      (same : (p : ℕ) (seat : Tie Seat) → test (is_written_in t.reviews p seat.value.ordinal) seat.value.kind ≡ told p (told_of seat)) where
+      (same : (p : ℕ) (seat : Tie Seat) → test (is_written_in t.reviews p seat.value.ordinal) seat.value.kind ≡ told p (told_seat seat)) where
     lengths : (p : ℕ) (seats : List (Tie Seat))
-        → length (filter (passes p) seats) ≡ length (filter (λ (seat : SeatTold). is_number seat.user user && told p seat) (map told_of seats))
+        → length (filter (passes p) seats) ≡ length (filter (λ (seat : SeatTold). is_number seat.user user && told p seat) (map told_seat seats))
     lengths p [] = refl
     lengths p (seat ∷ seats) =
         ap (λ (b : Bool). length (cond (eqb seat.pair.user user && b) (seat ∷ filter (passes p) seats) (filter (passes p) seats))) (same p seat)
-        ∙ by (eqb seat.pair.user user && told p (told_of seat)) (lengths p seats)
+        ∙ by (eqb seat.pair.user user && told p (told_seat seat)) (lengths p seats)
       where
         others : List SeatTold
-        others = filter (λ (s : SeatTold). is_number s.user user && told p s) (map told_of seats)
+        others = filter (λ (s : SeatTold). is_number s.user user && told p s) (map told_seat seats)
 
         by : (b : Bool) → length (filter (passes p) seats) ≡ length others
-            → length (cond b (seat ∷ filter (passes p) seats) (filter (passes p) seats)) ≡ length (cond b (told_of seat ∷ others) others)
+            → length (cond b (seat ∷ filter (passes p) seats) (filter (passes p) seats)) ≡ length (cond b (told_seat seat ∷ others) others)
         by true h = ap suc h
         by false h = h
 
@@ -189,17 +189,17 @@ module _ (t : Tables) (caller user : ℕ) (part : Load → ℕ) (test : Bool →
 
 -- ---- a line
 
-same-primary : (w : Bool) (kind : Kind) → is_primary w kind ≡ eqb (seat_number kind) (seat_number Primary)
+same-primary : (w : Bool) (kind : Kind) → is_primary w kind ≡ eqb (review_kind_number kind) (review_kind_number Primary)
 same-primary w Primary = refl
 same-primary w Secondary = refl
 same-primary w Pc = refl
 
-same-secondary : (w : Bool) (kind : Kind) → is_secondary w kind ≡ eqb (seat_number kind) (seat_number Secondary)
+same-secondary : (w : Bool) (kind : Kind) → is_secondary w kind ≡ eqb (review_kind_number kind) (review_kind_number Secondary)
 same-secondary w Primary = refl
 same-secondary w Secondary = refl
 same-secondary w Pc = refl
 
-same-pc : (w : Bool) (kind : Kind) → is_pc w kind ≡ eqb (seat_number kind) (seat_number Pc)
+same-pc : (w : Bool) (kind : Kind) → is_pc w kind ≡ eqb (review_kind_number kind) (review_kind_number Pc)
 same-pc w Primary = refl
 same-pc w Secondary = refl
 same-pc w Pc = refl
@@ -221,16 +221,16 @@ module _ (t : Tables) (caller : ℕ) (a : AccountLine) where
   pub line-is : line_of a load ≡ load_line facts shown a
   line-is =
       ap (λ (n : ℕ). columns n load.secondary load.pc load.written)
-      (held-is t caller a.user (λ l. l.primary) is_primary counts-primary (λ p seat. is_of_kind Primary seat)
+      (held-is t caller a.user (λ l. l.primary) is_primary counts-primary (λ p seat. is_seat_of_kind Primary seat)
       (λ p seat. same-primary (is_written_in t.reviews p seat.value.ordinal) seat.value.kind) refl)
-      ∙ ap (λ (n : ℕ). columns (held facts shown a.user (λ p seat. is_of_kind Primary seat)) n load.pc load.written)
-      (held-is t caller a.user (λ l. l.secondary) is_secondary counts-secondary (λ p seat. is_of_kind Secondary seat)
+      ∙ ap (λ (n : ℕ). columns (held facts shown a.user (λ p seat. is_seat_of_kind Primary seat)) n load.pc load.written)
+      (held-is t caller a.user (λ l. l.secondary) is_secondary counts-secondary (λ p seat. is_seat_of_kind Secondary seat)
       (λ p seat. same-secondary (is_written_in t.reviews p seat.value.ordinal) seat.value.kind) refl)
-      ∙ ap (λ (n : ℕ). columns (held facts shown a.user (λ p seat. is_of_kind Primary seat)) (held facts shown a.user (λ p seat. is_of_kind Secondary seat)) n load.written)
-      (held-is t caller a.user (λ l. l.pc) is_pc counts-pc (λ p seat. is_of_kind Pc seat)
+      ∙ ap (λ (n : ℕ). columns (held facts shown a.user (λ p seat. is_seat_of_kind Primary seat)) (held facts shown a.user (λ p seat. is_seat_of_kind Secondary seat)) n load.written)
+      (held-is t caller a.user (λ l. l.pc) is_pc counts-pc (λ p seat. is_seat_of_kind Pc seat)
       (λ p seat. same-pc (is_written_in t.reviews p seat.value.ordinal) seat.value.kind) refl)
-      ∙ ap (λ (n : ℕ). columns (held facts shown a.user (λ p seat. is_of_kind Primary seat)) (held facts shown a.user (λ p seat. is_of_kind Secondary seat))
-      (held facts shown a.user (λ p seat. is_of_kind Pc seat)) n)
+      ∙ ap (λ (n : ℕ). columns (held facts shown a.user (λ p seat. is_seat_of_kind Primary seat)) (held facts shown a.user (λ p seat. is_seat_of_kind Secondary seat))
+      (held facts shown a.user (λ p seat. is_seat_of_kind Pc seat)) n)
       (held-is t caller a.user (λ l. l.written) is_written counts-written (λ p seat. is_written_in t.reviews p seat.ordinal)
       (λ p seat. refl) refl)
 

@@ -11,7 +11,7 @@ use Rattle.cr_base.specs.Tables.{Tables}
 use Rattle.cr_base.proofs.FiledLaws.{filter-filter}
 use Rattle.cr_view.specs.Reports.{score_sum}
 use Rattle.cr_view.specs.declared.reports.ScoreSum.{ScoreSum}
-use Rattle.cr_reports.specs.Told.{decided, decision_line_at, is_open_to, one, scored_line}
+use Rattle.cr_reports.specs.ReportLines.{decided, decision_line_at, is_open_to, one, scored_line}
 use Rattle.cr_reports.proofs.WalkLaws.{first, first-all, where_so, flat_map-filter}
 
 module _ (t : Tables) (user : ℕ) where

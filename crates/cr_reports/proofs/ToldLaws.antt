@@ -15,7 +15,7 @@ use Rattle.cr_view.specs.declared.queries.AnswerError.TheVariants as errors
 use Rattle.cr_view.specs.Replies.{AnswersAsDue, ShowsAsDue}
 use Rattle.cr_view.proofs.AnswerLaws.{as_reply, shown-answered}
 use Rattle.cr_view.proofs.JudgeLaws.{passed, refused}
-use Rattle.cr_reports.specs.Told.{MayHave, report_due}
+use Rattle.cr_reports.specs.ReportLines.{MayHave, report_due}
 
 module _ (t : Tables) (user : ℕ) (report : Report) where
   abbrev checks : List Check

@@ -2,7 +2,7 @@
 ghost use Rattle.std.specs.Prelude.{◌≡◌, ◌++◌, ◌+◌, ◌<◌, ◌^◌, OnOk, Some, if◌then◌else◌, []};
 ghost use Rattle.cr_base.specs.Reports.{decision_word, decisions_end, decisions_told, is_accepting, is_undecided, is_rejecting};
 ghost use Rattle.cr_base.specs.Sources.{facts_of_tables, shown_in_tables};
-ghost use Rattle.cr_reports.specs.Told.{counted, decided, decision_line_at, is_open_to};
+ghost use Rattle.cr_reports.specs.ReportLines.{counted, decided, decision_line_at, is_open_to};
 
 use crate::columns::{append_in_four, append_left};
 use crate::listed::is_open_to;

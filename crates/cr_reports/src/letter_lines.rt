@@ -4,7 +4,7 @@ ghost use Rattle.cr_base.specs.Labels.{by_labels, most_labels};
 ghost use Rattle.cr_base.specs.Reports.{decision_named_line, letter_form, letter_told, paper_named_line, writer_named};
 ghost use Rattle.cr_base.specs.Reviews.{written_told};
 ghost use Rattle.cr_base.specs.Sources.{facts_of_tables, shown_in_tables};
-ghost use Rattle.cr_reports.specs.Told.{form_grades, form_heading, forms_under};
+ghost use Rattle.cr_reports.specs.ReportLines.{form_grades, form_heading, forms_under};
 
 use crate::decision_lines::decision_word;
 use crate::put::{append, append_number, end_line};
@@ -26,7 +26,7 @@ fn append_writer(into: &mut Vec<u8>, writer: &Option<Short>) -> Result<(), Alloc
 }
 
 /// Appends an empty line, and a form's label with its writer, where she is told.
-#[tactic(auto, unfolding(crate::specs::Told::form_heading))]
+#[tactic(auto, unfolding(crate::specs::ReportLines::form_heading))]
 fn append_heading(
     into: &mut Vec<u8>,
     label: Ordinal,
@@ -42,7 +42,7 @@ fn append_heading(
 }
 
 /// Appends a form's grades.
-#[tactic(auto, unfolding(crate::specs::Told::form_grades))]
+#[tactic(auto, unfolding(crate::specs::ReportLines::form_grades))]
 fn append_grades(into: &mut Vec<u8>, written: &WrittenForm) -> Result<(), AllocError>
     ensures { OnOk result (into.new.items ≡ into.old.items ++ form_grades (written_told written.now)) }
 {

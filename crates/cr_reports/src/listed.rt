@@ -1,6 +1,6 @@
 //! Which papers are told to a member of the committee line by line.
 ghost use Rattle.std.specs.Prelude.{◌≡◌};
-ghost use Rattle.cr_reports.specs.Told.{is_open_to};
+ghost use Rattle.cr_reports.specs.ReportLines.{is_open_to};
 
 use cr_base::{PaperNo, UserNo};
 use cr_view::Live;

@@ -38,11 +38,11 @@ fn append_member(into: &mut Vec<u8>, loads: &[Load], line: &AccountLine) -> Resu
     ensures text { OnOk result (into.new.items ≡ into.old.items ++ member_line loads.now line.now) }
     ensures within { line.now.user < 10000 }
 {
-    let place = line.user.number() as usize;
+    let index = line.user.number() as usize;
     if !line.role.is_member() {
         return Ok(());
     }
-    append_line(into, line, &loads[place])
+    append_line(into, line, &loads[index])
 }
 
 /// Appends the line of each member, by user number; takes memory for the accounts and the loads besides.

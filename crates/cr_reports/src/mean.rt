@@ -1,6 +1,6 @@
 //! The mean of scores.
 ghost use Rattle.std.specs.Prelude.{◌≡◌, ◌≤◌, ◌++◌, ◌*◌, OnOk};
-ghost use Rattle.cr_base.specs.Reports.{hundredths, two_places};
+ghost use Rattle.cr_base.specs.Reports.{hundredths, two_decimals};
 
 use crate::put::{append, append_number};
 use std::alloc::AllocError;
@@ -15,10 +15,10 @@ pub(crate) fn hundredths(sum: u64, count: u64) -> u64
     (200 * sum + count) / (2 * count)
 }
 
-/// Appends hundredths as a number with two places; an error only for lack of memory.
-#[tactic(auto, unfolding(cr_base::specs::Reports::two_places))]
-pub(crate) fn append_two_places(into: &mut Vec<u8>, hundredths: u64) -> Result<(), AllocError>
-    ensures { OnOk result (into.new.items ≡ into.old.items ++ two_places hundredths) }
+/// Appends hundredths as a number with two decimals; an error only for lack of memory.
+#[tactic(auto, unfolding(cr_base::specs::Reports::two_decimals))]
+pub(crate) fn append_two_decimals(into: &mut Vec<u8>, hundredths: u64) -> Result<(), AllocError>
+    ensures { OnOk result (into.new.items ≡ into.old.items ++ two_decimals hundredths) }
 {
     append_number(into, hundredths / 100)?;
     append(into, b".")?;

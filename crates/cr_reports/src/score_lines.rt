@@ -2,11 +2,11 @@
 ghost use Rattle.std.specs.Prelude.{◌≡◌, ◌≤◌, ◌*◌, ◌++◌, OnOk, Some, if◌then◌else◌, []};
 ghost use Rattle.cr_base.specs.Reports.{scores_told};
 ghost use Rattle.cr_base.specs.Sources.{facts_of_tables, shown_in_tables};
-ghost use Rattle.cr_reports.specs.Told.{is_open_to, scored_line, scores_line_at};
+ghost use Rattle.cr_reports.specs.ReportLines.{is_open_to, scored_line, scores_line_at};
 
 use crate::columns::{append_in_four, append_in_two};
 use crate::listed::is_open_to;
-use crate::mean::{append_two_places, hundredths};
+use crate::mean::{append_two_decimals, hundredths};
 use crate::put::{append, append_space, end_line};
 use cr_base::{PaperNo, UserNo};
 use cr_view::{Live, ScoreSum};
@@ -28,7 +28,7 @@ fn append_scored(
     append_space(into)?;
     append_in_two(into, scores.count)?;
     append_space(into)?;
-    append_two_places(into, hundredths(scores.sum, scores.count))?;
+    append_two_decimals(into, hundredths(scores.sum, scores.count))?;
     append_space(into)?;
     append(into, title)?;
     end_line(into)

@@ -1,7 +1,7 @@
 //! How many papers were decided which way.
 ghost use Rattle.std.specs.Prelude.{◌≡◌, ◌+◌, ◌<◌, ◌^◌};
 ghost use Rattle.cr_base.specs.Reports.{is_accepting, is_undecided, is_rejecting};
-ghost use Rattle.cr_reports.specs.Told.{one};
+ghost use Rattle.cr_reports.specs.ReportLines.{one};
 
 use cr_base::Decision;
 

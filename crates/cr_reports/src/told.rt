@@ -2,7 +2,7 @@
 ghost use Rattle.std.specs.Prelude.{◌≡◌, ◌++◌, IfOk, OnOk, Some};
 ghost use Rattle.cr_base.specs.Reports.{report_told};
 ghost use Rattle.cr_base.specs.Sources.{facts_of_tables, shown_in_tables};
-ghost use Rattle.cr_reports.specs.Told.{MayHave, report_due};
+ghost use Rattle.cr_reports.specs.ReportLines.{MayHave, report_due};
 ghost use Rattle.cr_view.specs.Replies.{ShowsAsDue};
 
 use crate::decision_lines::append_decisions;

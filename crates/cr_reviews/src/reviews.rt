@@ -122,7 +122,7 @@ impl Reviews {
         let Some(paper) = paper else {
             return Err(Rule::NoPaper);
         };
-        match by.may_handle() {
+        match by.check_eligible() {
             Ok(()) => {}
             Err(rule) => return Err(rule),
         }

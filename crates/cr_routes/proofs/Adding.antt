@@ -5,13 +5,13 @@ use Rattle.matchit.specs.Route.{Scan, parse_route}
 use Rattle.matchit.specs.Router.{InsertsRead, nearest, Refused}
 use Rattle.matchit.specs.declared.error.InsertError.{InsertError}
 use Rattle.matchit.specs.declared.error.InsertError.TheVariants.{Conflict, InvalidParam, InvalidParamSegment, InvalidCatchAll, OutOfMemory}
-use Rattle.cr_routes.specs.declared.place.Place.{Place}
+use Rattle.cr_routes.specs.declared.resource.Resource.{Resource}
 use Rattle.cr_routes.specs.Rows.{Rows, added, fits, is_free, with_path, line}
 
 -- a path went in
-pub inserted : (read : Result Scan InsertError) (place : Place) (old new : Rows) → InsertsRead read place old new (Ok tt) → new ≡ with_path read place old
-inserted (Ok s) place old new h = h.1
-inserted (Err e) place old new h = elim h.1 [ inl bad ↦ cc | inr bad ↦ cc ]
+pub inserted : (read : Result Scan InsertError) (resource : Resource) (old new : Rows) → InsertsRead read resource old new (Ok tt) → new ≡ with_path read resource old
+inserted (Ok s) resource old new h = h.1
+inserted (Err e) resource old new h = elim h.1 [ inl bad ↦ cc | inr bad ↦ cc ]
 
 -- where nothing conflicts, only memory fails
 refused : (p : List ℕ) (old : Rows) (e : InsertError) → IsTrue (is_none (nearest p old)) → Refused p old e → e ≡ OutOfMemory
@@ -21,19 +21,19 @@ refused p old InvalidParamSegment free h = absurd h
 refused p old InvalidParam free h = absurd h
 refused p old InvalidCatchAll free h = absurd h
 
-pub only_memory : (read : Result Scan InsertError) (place : Place) (old new : Rows) (e : InsertError)
-    → IsTrue (is_free read old) → InsertsRead read place old new (Err e) → e ≡ OutOfMemory
-only_memory (Ok s) place old new e free h = refused s.pattern old e free h.1
-only_memory (Err f) place old new e free h = cc
+pub only_memory : (read : Result Scan InsertError) (resource : Resource) (old new : Rows) (e : InsertError)
+    → IsTrue (is_free read old) → InsertsRead read resource old new (Err e) → e ≡ OutOfMemory
+only_memory (Ok s) resource old new e free h = refused s.pattern old e free h.1
+only_memory (Err f) resource old new e free h = cc
 
 -- a line of the table, where the first of the rest is due
-pub more_added : (items : List (Bor (List ℕ) × Place)) (i : ℕ) (d : Bor (List ℕ) × Place) (old new all : Rows) → i < length items
+pub more_added : (items : List (Bor (List ℕ) × Resource)) (i : ℕ) (d : Bor (List ℕ) × Resource) (old new all : Rows) → i < length items
     → new ≡ with_path (parse_route (get_or items i d).0.now) (get_or items i d).1 old
     → added (map line (drop i items)) old ≡ all → added (map line (drop (i + 1) items)) new ≡ all
 unfolding added
 more_added items i d old new all h is so_far = rw is (rw (drop_more items i d h) at so_far)
 
-pub none_left : (items : List (Bor (List ℕ) × Place)) (i : ℕ) (now all : Rows) → length items ≤ i → added (map line (drop i items)) now ≡ all → now ≡ all
+pub none_left : (items : List (Bor (List ℕ) × Resource)) (i : ℕ) (now all : Rows) → length items ≤ i → added (map line (drop i items)) now ≡ all → now ≡ all
 unfolding added
 none_left items i now all h so_far = rw (drop_all i items h) at so_far
 
@@ -42,7 +42,7 @@ both true b h = (refl, h)
 both false b h = cc
 
 -- the next path fits, and so do those behind it
-pub fits_next : (items : List (Bor (List ℕ) × Place)) (i : ℕ) (d : Bor (List ℕ) × Place) (rows : Rows) → i < length items
+pub fits_next : (items : List (Bor (List ℕ) × Resource)) (i : ℕ) (d : Bor (List ℕ) × Resource) (rows : Rows) → i < length items
     → IsTrue (fits (map line (drop i items)) rows)
     → IsTrue (is_free (parse_route (get_or items i d).0.now) rows)
     × IsTrue (fits (map line (drop (i + 1) items)) (with_path (parse_route (get_or items i d).0.now) (get_or items i d).1 rows))

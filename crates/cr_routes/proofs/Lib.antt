@@ -4,4 +4,4 @@ pub mod Taking
 pub mod Spelling
 pub mod Walked
 pub mod Shares
-pub mod Places
+pub mod Resources

@@ -4,14 +4,14 @@ use Rattle.std.proofs.lemmas.Bool.{eqb-true, and_parts}
 use Rattle.matchit.specs.Rows.{param_token, catch_all_token}
 use Rattle.matchit.specs.Router.{RouteOf}
 use Rattle.matchit.specs.Seek.{step, segment, same_text, with_suffix}
-use Rattle.cr_routes.specs.declared.place.Place.{Place}
+use Rattle.cr_routes.specs.declared.resource.Resource.{Resource}
 use Rattle.cr_routes.specs.Rows.{Rows}
 
 abbrev pub none : Rows
 none = []
 
 abbrev pub Route : Type 0
-Route = RouteOf Place
+Route = RouteOf Resource
 
 -- behind a parameter: the end, or a slash
 abbrev pub is_next : List ℕ → Bool

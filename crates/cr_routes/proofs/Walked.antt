@@ -133,7 +133,7 @@ texts (x ∷ t) (b ∷ path) names h text fits =
 
 -- ---- the walk
 
--- what a list is cut at a place
+-- what a list is cut at an index
 cut : (list rest : List ℕ) (x i : ℕ) → drop i list ≡ x ∷ rest
     → (i < length list) × (get_or list i 0 ≡ x) × (drop (i + 1) list ≡ rest) × (length list ≡ i + suc (length rest))
 cut list rest x i e =
@@ -157,7 +157,7 @@ from_byte x len token at t small within = rw (small, within) refl
 is_less : (x m n : ℕ) → x < m → m ≤ n → ltb x n ≡ true
 is_less x m n a b = grind (arith, nat_tests)
 
--- over a byte the walk goes on one place behind
+-- over a byte the walk goes on one byte behind
 over_byte : (pattern text path t q : List ℕ) (names : Names) (x b token at : ℕ) → drop token pattern ≡ x ∷ t → drop at path ≡ b ∷ q → x < 128
     → walk pattern text path names token at ≡ walk pattern text path names (token + 1) (at + 1)
 over_byte pattern text path t q [] x b token at e f small = refl

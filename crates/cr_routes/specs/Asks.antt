@@ -2,15 +2,15 @@
 -- 10.2.1).
 use Rattle.std.specs.Prelude.{ℕ, List, [], ◌∷◌, ◌++◌, Option, Some, None, codes, is_some, filter, map}
 use Rattle.cr_routes.specs.Methods.{method_name, methods}
-use Rattle.cr_routes.specs.declared.place.Place.{Place}
-use Rattle.cr_routes.specs.declared.place.Place.TheVariants as at
+use Rattle.cr_routes.specs.declared.resource.Resource.{Resource}
+use Rattle.cr_routes.specs.declared.resource.Resource.TheVariants as at
 use Rattle.cr_routes.specs.declared.method.Method.{Method}
 use Rattle.cr_routes.specs.declared.method.Method.TheVariants.{Get, Head, Post, Put, Delete}
 use Rattle.cr_base.specs.declared.ask.Ask.{Ask}
 use Rattle.cr_base.specs.declared.ask.Ask.TheVariants as asks
 
 -- one line for each route, HEAD aside
-abbrev pub route_at : Place → Method → Option Ask
+abbrev pub route_at : Resource → Method → Option Ask
 route_at at.Register Post = Some asks.Register
 route_at at.Accepted Get = Some asks.AcceptedPapers
 route_at at.Accounts Get = Some asks.Accounts
@@ -52,8 +52,8 @@ as_get Head = Get
 as_get method = method
 
 -- what a method at a path asks for
-abbrev pub ask_at : Place → Method → Option Ask
-ask_at place method = route_at place (as_get method)
+abbrev pub ask_at : Resource → Method → Option Ask
+ask_at resource method = route_at resource (as_get method)
 
 -- texts with a comma and a space between them
 abbrev pub joined_by_commas : List (List ℕ) → List ℕ
@@ -62,5 +62,5 @@ joined_by_commas (t ∷ []) = t
 joined_by_commas (t ∷ u ∷ us) = t ++ codes ", " ++ joined_by_commas (u ∷ us)
 
 -- the names of the methods that ask for something at a path, in alphabetical order
-abbrev pub allow_text : Place → List ℕ
-allow_text place = joined_by_commas (map method_name (filter (λ m. is_some (ask_at place m)) methods))
+abbrev pub allow_text : Resource → List ℕ
+allow_text resource = joined_by_commas (map method_name (filter (λ m. is_some (ask_at resource m)) methods))

@@ -1,11 +1,11 @@
--- What a path is found to be: its place, and what its parameters take of it. A path is told by the parts between its
+-- What a path is found to be: its resource, and what its parameters take of it. A path is told by the parts between its
 -- slashes (RFC 3986, section 3.3), and no router comes into it.
 use Rattle.std.specs.Prelude.{ℕ, List, [], ◌∷◌, length, Bool, true, false, ◌==◌, nat_le, Option, Some, None, option_map, find, if◌then◌else◌}
 use Rattle.std.specs.List.{slice_split}
 use Rattle.std.specs.Str.{bytes_eq}
 use Rattle.std.specs.Cmp.Lexicographic.{pointwise}
 use Rattle.cr_routes.specs.declared.matched.Matched.{Matched}
-use Rattle.cr_routes.specs.declared.place.Place.{Place}
+use Rattle.cr_routes.specs.declared.resource.Resource.{Resource}
 use Rattle.cr_routes.specs.Paths.{paths}
 
 -- the parts between the slashes of a path; in front of its first slash stands an empty one
@@ -45,18 +45,18 @@ abbrev pub second_of : List (List ℕ) → Option (List ℕ)
 second_of [] = None
 second_of (part ∷ rest) = first_of rest
 
--- a path's place, and what its first and its second parameter took; none has a third
+-- a path's resource, and what its first and its second parameter took; none has a third
 pub record FoundPath : Type 0 where
-  pub place : Place
+  pub resource : Resource
   pub first : Option (List ℕ)
   pub second : Option (List ℕ)
 
--- a place with the parts that its parameters took
-abbrev pub found_with : Place → List (List ℕ) → FoundPath
-found_with place parts = record { place = place; first = first_of parts; second = second_of parts }
+-- a resource with the parts that its parameters took
+abbrev pub found_with : Resource → List (List ℕ) → FoundPath
+found_with resource parts = record { resource = resource; first = first_of parts; second = second_of parts }
 
 -- what a path is found to be that fits a listed path
-abbrev pub found_as : List ℕ → List ℕ × Place → FoundPath
+abbrev pub found_as : List ℕ → List ℕ × Resource → FoundPath
 found_as path line = found_with line.1 (taken (parts line.0) (parts path))
 
 -- what a path is found to be: the listed path that it fits
@@ -65,7 +65,8 @@ found_at path = option_map (found_as path) (find (λ line. fits_parts (parts lin
 
 -- the same of what the program has, which lends the parts
 abbrev pub seen : Matched → FoundPath
-seen f = record { place = f.place; first = option_map (λ t. t.now) f.first; second = option_map (λ t. t.now) f.second }
+seen f =
+    record { resource = f.resource; first = option_map (λ t. t.now) f.first; second = option_map (λ t. t.now) f.second }
 
 -- at most two parts of a listed path are parameters
 abbrev pub has_few_parameters : List ℕ → Bool

@@ -8,24 +8,24 @@ use Rattle.matchit.specs.Order.{placed}
 use Rattle.matchit.specs.Route.{Scan, parse_route}
 use Rattle.matchit.specs.Router.{RouteOf, route_from, nearest}
 use Rattle.matchit.specs.declared.error.InsertError.{InsertError}
-use Rattle.cr_routes.specs.declared.place.Place.{Place}
+use Rattle.cr_routes.specs.declared.resource.Resource.{Resource}
 use Rattle.cr_routes.specs.Paths.{paths}
 
 -- a line of the program's table
-abbrev pub line : Bor (List ℕ) × Place → List ℕ × Place
+abbrev pub line : Bor (List ℕ) × Resource → List ℕ × Resource
 line p = (p.0.now, p.1)
 
 -- what a router holds: its routes in its own order
 abbrev pub Rows : Type 0
-Rows = RowsOf (RouteOf Place)
+Rows = RowsOf (RouteOf Resource)
 
 -- the rows with one more path, as the router reads it
-abbrev pub with_path : Result Scan InsertError → Place → Rows → Rows
-with_path (Ok s) place rows = placed (s.pattern, route_from s place) rows
-with_path (Err e) place rows = rows
+abbrev pub with_path : Result Scan InsertError → Resource → Rows → Rows
+with_path (Ok s) resource rows = placed (s.pattern, route_from s resource) rows
+with_path (Err e) resource rows = rows
 
 -- the rows with these paths, added in their order
-unfoldable pub added : List (List ℕ × Place) → Rows → Rows
+unfoldable pub added : List (List ℕ × Resource) → Rows → Rows
 added [] rows = rows
 added (p ∷ ps) rows = added ps (with_path (parse_route p.0) p.1 rows)
 
@@ -35,7 +35,7 @@ is_free (Ok s) rows = is_none (nearest s.pattern rows)
 is_free (Err e) rows = false
 
 -- each of these paths reads well, and conflicts with none before it
-unfoldable pub fits : List (List ℕ × Place) → Rows → Bool
+unfoldable pub fits : List (List ℕ × Resource) → Rows → Bool
 fits [] rows = true
 fits (p ∷ ps) rows = is_free (parse_route p.0) rows && fits ps (with_path (parse_route p.0) p.1 rows)
 

@@ -8,11 +8,11 @@
 mod laws;
 mod matched;
 mod method;
-mod place;
+mod resource;
 mod routes;
 
 pub use laws::law_paths;
 pub use matched::Matched;
 pub use method::Method;
-pub use place::Place;
+pub use resource::Resource;
 pub use routes::Routes;

@@ -3,14 +3,14 @@ ghost use Rattle.std.specs.Prelude.{◌≡◌, option_map};
 ghost use Rattle.cr_routes.specs.Parts.{first_of, second_of};
 ghost use Rattle.cr_routes.specs.Rows.{AreTexts, walked};
 
-use crate::place::Place;
+use crate::resource::Resource;
 use matchit::Params;
 
-/// A path's place, with what its parameters took of the path, in their order. No path has more than two.
+/// A path's resource, with what its parameters took of the path, in their order. No path has more than two.
 #[derive(Clone, Copy, PartialEq, Eq, Debug)]
 pub struct Matched<'p> {
     /// Which of the server's paths it is.
-    pub place: Place,
+    pub resource: Resource,
     /// What its first parameter took: one part of the path, of at least one byte. None where it has no parameter.
     pub first: Option<&'p str>,
     /// What its second parameter took, in the same way.

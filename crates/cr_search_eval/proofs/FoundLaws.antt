@@ -5,7 +5,7 @@ use Rattle.std.specs.Option.{option_map}
 use Rattle.cr_base.specs.declared.found.FoundPaper.{FoundPaper}
 use Rattle.cr_base.specs.declared.search.Step.{Step}
 use Rattle.cr_base.specs.Lists.{given, listed}
-use Rattle.cr_base.specs.Searching.{Told, found_paper, is_found, search_holds, term_holds}
+use Rattle.cr_base.specs.Searching.{PaperTold, found_paper, is_found, search_holds, term_holds}
 use Rattle.cr_base.specs.Tables.{Tables}
 use Rattle.cr_search_eval.specs.declared.asked.Asked.{Asked}
 use Rattle.cr_search_eval.specs.Asked.{asked_of, title_found, told_at}
@@ -13,7 +13,7 @@ use Rattle.cr_search_eval.specs.Found.{told_to}
 
 -- ---- one paper
 
-pub found-given : (p : ℕ) (told : Told) (search : List Step)
+pub found-given : (p : ℕ) (told : PaperTold) (search : List Step)
     → ◌≡◌ {A = List FoundPaper} (listed (option_map (λ (title : List ℕ). record { paper = p; title = title }) (title_found told search)))
     (given (is_found told search) (found_paper p told))
 found-given p told search = by told.page.title (search_holds (term_holds told) search)
@@ -27,7 +27,7 @@ found-given p told search = by told.page.title (search_holds (term_holds told) s
     by (Some title) false = refl
 
 -- and how many papers that is
-pub found-length : (p : ℕ) (told : Told) (search : List Step)
+pub found-length : (p : ℕ) (told : PaperTold) (search : List Step)
     → length (listed (title_found told search)) ≡ length (given (is_found told search) (found_paper p told))
 found-length p told search = by told.page.title (search_holds (term_holds told) search)
   where

@@ -14,13 +14,13 @@ use Rattle.cr_base.specs.Lists.{listed}
 use Rattle.cr_base.specs.Page.{gets_reviewers, is_clear_member, shows_reviewer, where_told}
 use Rattle.cr_base.specs.Phases.{is_from}
 use Rattle.cr_base.specs.Searching.{contains, name_has, reviewer_has, text_has}
-use Rattle.cr_base.specs.Seats.{told_of}
+use Rattle.cr_base.specs.Seats.{told_seat}
 use Rattle.cr_base.specs.Sources.{name_in}
 use Rattle.cr_base.specs.Tables.{Tables}
 use Rattle.cr_base.specs.Ties.{BareTies}
 use Rattle.cr_base.specs.declared.words.Phase.TheVariants.{Discussion}
 use Rattle.cr_base.proofs.ListLaws.{name_in-lines_of}
-use Rattle.cr_view.specs.Replies.{names_of, seat_name, seated}
+use Rattle.cr_view.specs.Replies.{names_of, holder_name, seated}
 
 -- ---- ties
 
@@ -49,7 +49,7 @@ told-has value false names = refl
 
 module _ (t : Tables) (by : Standing) (written : ℕ → Bool) (value : List ℕ) where
   abbrev seat_has : Tie Seat → Bool
-  seat_has seat = text_has value (seat_name t by seat)
+  seat_has seat = text_has value (holder_name t by seat)
 
   abbrev has : Reviewer → Bool
   has reviewer = text_has value reviewer.user
@@ -67,7 +67,7 @@ module _ (t : Tables) (by : Standing) (written : ℕ → Bool) (value : List ℕ
 
       split : (left : Bool) → list_any seat_has seats ≡ list_any has (told seats)
           → (text_has value (where_told (not left && shows_reviewer by) (name_in (lines_of t.accounts) seat.pair.user)) || list_any seat_has seats)
-          ≡ list_any has (map (reviewer_told by (lines_of t.accounts) written) (map told_of (cond (not left) (seat ∷ kept) kept)))
+          ≡ list_any has (map (reviewer_told by (lines_of t.accounts) written) (map told_seat (cond (not left) (seat ∷ kept) kept)))
       split true h = h
       split false h =
           ap (λ (b : Bool). text_has value (where_told (shows_reviewer by) (name_in (lines_of t.accounts) seat.pair.user)) || b) h

@@ -2,7 +2,7 @@
 use Rattle.std.specs.Prelude.{ℕ, List, Option, Some, None, if◌then◌else◌}
 use Rattle.cr_base.specs.declared.search.Step.{Step}
 use Rattle.cr_base.specs.Answering.{page_by}
-use Rattle.cr_base.specs.Searching.{Told, search_holds, term_holds}
+use Rattle.cr_base.specs.Searching.{PaperTold, search_holds, term_holds}
 use Rattle.cr_base.specs.Sources.{Facts, is_accepted_in, shown_in_tables, standing_at}
 use Rattle.cr_base.specs.Tables.{Tables}
 use Rattle.cr_search_eval.specs.declared.asked.Asked.{Asked}
@@ -18,7 +18,7 @@ abbrev pub facts_for : Tables → Asked → Facts
 facts_for t asked = record (facts_at t (Some asked.user) asked.by) { accepted = λ (p : ℕ). asked.accepted }
 
 -- what she is told of it
-abbrev pub told_at : Tables → Asked → Told
+abbrev pub told_at : Tables → Asked → PaperTold
 told_at t asked = record {
   page = page_by (facts_for t asked) (shown_in_tables t) (Some asked.user) asked.paper;
   accepted = asked.accepted;
@@ -28,5 +28,5 @@ told_at t asked = record {
 }
 
 -- the title of a paper of which that is told, where the search holds of it
-abbrev pub title_found : Told → List Step → Option (List ℕ)
+abbrev pub title_found : PaperTold → List Step → Option (List ℕ)
 title_found told steps = if search_holds (term_holds told) steps then told.page.title else None

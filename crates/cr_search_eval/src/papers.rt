@@ -1,7 +1,7 @@
 //! The papers that a search finds.
 ghost use Rattle.std.specs.Prelude.{◌≡◌, ◌≤◌, ◌++◌, IfOk, OnOk, IsSome, Some, length};
 ghost use Rattle.std.specs.Option.{option_copied, option_map};
-ghost use Rattle.cr_base.specs.Answering.{found_by, search_told, told_of};
+ghost use Rattle.cr_base.specs.Answering.{found_by, search_told, told_of_paper};
 ghost use Rattle.cr_base.specs.Searching.{search_holds, term_holds};
 ghost use Rattle.cr_base.specs.Lists.{listed};
 ghost use Rattle.cr_base.specs.Sources.{facts_of_tables, shown_in_tables};
@@ -18,7 +18,7 @@ use std::alloc::{AllocError, Global};
 /// how she stands to the paper, and for each term that decides it what its field costs; takes no memory.
 pub fn matches(live: &Live, user: UserNo, search: &Search, paper: PaperNo) -> bool
     ensures { result ≡ search_holds
-        (term_holds (told_of (facts_of_tables live.now.tables (Some user)) (shown_in_tables live.now.tables) (Some user) paper)) search.now }
+        (term_holds (told_of_paper (facts_of_tables live.now.tables (Some user)) (shown_in_tables live.now.tables) (Some user) paper)) search.now }
 {
     let asked = Asked::new(live, user, paper);
     search_holds(live, &asked, search)

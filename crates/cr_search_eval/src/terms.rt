@@ -6,7 +6,7 @@ ghost use Rattle.cr_base.specs.Accounts.{account_at};
 ghost use Rattle.cr_base.specs.Searching.{has_decision, has_feature, name_has, number_decided, reviewer_has, stands_so, term_holds, text_has};
 ghost use Rattle.cr_base.specs.declared.search.Feature.TheVariants as features;
 ghost use Rattle.cr_search_eval.specs.Asked.{told_at};
-ghost use Rattle.cr_view.specs.Replies.{seat_name};
+ghost use Rattle.cr_view.specs.Replies.{holder_name};
 
 use crate::asked::Asked;
 use crate::text::contains;
@@ -104,14 +104,14 @@ fn some_tied_has(live: &Live, value: &Blob, ties: &[Tie<()>]) -> bool
 
 /// Whether the name of who has the seat has it, where it is told. A read by number.
 fn seated_has(live: &Live, by: &Standing, value: &Blob, seat: &Tie<Seat>) -> bool
-    ensures { result ≡ text_has value.now (seat_name live.now.tables by.now seat.now) }
+    ensures { result ≡ text_has value.now (holder_name live.now.tables by.now seat.now) }
 {
     name_has(value, &live.reviewer_name(by, seat))
 }
 
 /// Whether one of the names of those who have these seats has it, where it is told. A read by number for each.
 fn some_seated_has(live: &Live, by: &Standing, value: &Blob, seats: &[Tie<Seat>]) -> bool
-    ensures { result ≡ list_any (λ seat. text_has value.now (seat_name live.now.tables by.now seat)) seats.now }
+    ensures { result ≡ list_any (λ seat. text_has value.now (holder_name live.now.tables by.now seat)) seats.now }
 {
     seats.iter().any(|seat| seated_has(live, by, value, seat))
 }

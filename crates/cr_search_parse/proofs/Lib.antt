@@ -1,7 +1,7 @@
 pub mod Complete
 pub mod FollowLaws
 pub mod ParseLaws
-pub mod PlaceLaws
+pub mod OffsetLaws
 pub mod ReaderLaws
 pub mod ReadingLaws
 pub mod RunLaws

@@ -5,13 +5,13 @@ use Rattle.cr_base.specs.Search.{Tree, all_steps, tree_of, IsSpelled}
 use Rattle.cr_base.specs.declared.search.Step.{Step}
 use Rattle.cr_search_parse.specs.Grammar.{symbols_of, IsQuery}
 use Rattle.cr_search_parse.specs.Outcome.{Parses}
-use Rattle.cr_search_parse.specs.Places.{most_bytes, IsPlace, Spells, IsBad}
+use Rattle.cr_search_parse.specs.Offsets.{most_bytes, IsOffset, Spells, IsBad}
 use Rattle.cr_search_parse.specs.Reading.{start, runs_read, text_read}
 use Rattle.cr_search_parse.specs.Runs.{Run, runs_of}
 use Rattle.cr_search_parse.specs.Stopping.{Gives, StopsAt, Reads, IsFound}
 use Rattle.cr_search_parse.specs.declared.parsing.ParseError.{ParseError}
 use Rattle.cr_search_parse.specs.declared.parsing.ParseError.TheVariants as told
-use Rattle.cr_search_parse.proofs.PlaceLaws.{stuck, short, one}
+use Rattle.cr_search_parse.proofs.OffsetLaws.{stuck, short, one}
 use Rattle.cr_search_parse.proofs.Sound.{found}
 use Rattle.cr_search_parse.proofs.StopLaws.{gives-read, stops-read}
 use Rattle.cr_search_parse.proofs.TreeLaws.{tree_of-all_steps}
@@ -46,30 +46,30 @@ pub gives-only : (runs : List Run) (steps : List Step) (t : Option Tree) → Giv
 gives-only runs steps t given is =
     let query = gives-found runs steps given in query.spelled ∙ ap all_steps (one (symbols_of runs) query.tree t query.query is)
 
-pub stops-no_query : (runs : List Run) (place : ℕ) → StopsAt runs place → (t : Option Tree) → IsQuery (symbols_of runs) t → ⊥
-stops-no_query runs place (inl stop) = (stuck runs stop.before stop.state stop.more stop.leads stop.stuck).1
-stops-no_query runs place (inr stop) = (short runs stop.state stop.leads stop.short).1
+pub stops-no_query : (runs : List Run) (offset : ℕ) → StopsAt runs offset → (t : Option Tree) → IsQuery (symbols_of runs) t → ⊥
+stops-no_query runs offset (inl stop) = (stuck runs stop.before stop.state stop.more stop.leads stop.stuck).1
+stops-no_query runs offset (inr stop) = (short runs stop.state stop.leads stop.short).1
 
-pub stops-bad : (text : List ℕ) (place : ℕ) → length text ≤ most_bytes → StopsAt (runs_of text) place → IsBad text place
-stops-bad text place few stop = inr (few, stops-no_query (runs_of text) place stop, at stop)
+pub stops-bad : (text : List ℕ) (offset : ℕ) → length text ≤ most_bytes → StopsAt (runs_of text) offset → IsBad text offset
+stops-bad text offset few stop = inr (few, stops-no_query (runs_of text) offset stop, at stop)
   where
-    at : StopsAt (runs_of text) place → IsPlace (runs_of text) place
+    at : StopsAt (runs_of text) offset → IsOffset (runs_of text) offset
     at (inl stop) =
-        subst (IsPlace (runs_of text)) (sym stop.there) (stuck (runs_of text) stop.before stop.state stop.more stop.leads stop.stuck).0
-    at (inr stop) = subst (IsPlace (runs_of text)) (sym stop.there) (short (runs_of text) stop.state stop.leads stop.short).0
+        subst (IsOffset (runs_of text)) (sym stop.there) (stuck (runs_of text) stop.before stop.state stop.more stop.leads stop.stuck).0
+    at (inr stop) = subst (IsOffset (runs_of text)) (sym stop.there) (short (runs_of text) stop.state stop.leads stop.short).0
 
 -- ---- refusals
 
 pub not-found : (text : List ℕ) (error : ParseError) (t : Option Tree) → Reads (Err error) text
     → IsQuery (symbols_of (runs_of text)) t → IsFound (Err error) (all_steps t)
-not-found text (told.BadQuery place) t stop query = stops-no_query (runs_of text) place stop t query
+not-found text (told.BadQuery offset) t stop query = stops-no_query (runs_of text) offset stop t query
 not-found text told.OutOfMemory t stop query = tt
 
-pub told-bad : (text : List ℕ) (error : ParseError) (place : ℕ) → length text ≤ most_bytes → Reads (Err error) text
-    → error ≡ told.BadQuery place → IsBad text place
-told-bad text (told.BadQuery there) place few stop is =
-    let same : there ≡ place = cc in subst (IsBad text) same (stops-bad text there few stop)
-told-bad text told.OutOfMemory place few stop is = absurd cc
+pub told-bad : (text : List ℕ) (error : ParseError) (offset : ℕ) → length text ≤ most_bytes → Reads (Err error) text
+    → error ≡ told.BadQuery offset → IsBad text offset
+told-bad text (told.BadQuery there) offset few stop is =
+    let same : there ≡ offset = cc in subst (IsBad text) same (stops-bad text there few stop)
+told-bad text told.OutOfMemory offset few stop is = absurd cc
 
 -- ---- as a function of the text
 
@@ -81,5 +81,5 @@ pub gives-exact : (text : List ℕ) (steps : List Step) → length text ≤ most
 gives-exact text steps few given = few-read text few ∙ gives-read (runs_of text) steps given
 
 pub stops-exact : (text : List ℕ) (error : ParseError) → length text ≤ most_bytes → Reads (Err error) text → Parses (Err error) (text_read text)
-stops-exact text (told.BadQuery place) few stop = few-read text few ∙ stops-read (runs_of text) place stop
+stops-exact text (told.BadQuery offset) few stop = few-read text few ∙ stops-read (runs_of text) offset stop
 stops-exact text told.OutOfMemory few stop = tt

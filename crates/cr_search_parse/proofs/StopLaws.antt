@@ -14,15 +14,15 @@ use Rattle.cr_search_parse.specs.declared.reader.Stop.{Stop}
 use Rattle.cr_search_parse.specs.declared.reader.Stop.TheVariants as stop
 use Rattle.cr_search_parse.proofs.ReaderLaws.{after_symbols-append, after_row}
 
--- a text is read up to a place: these runs were, and lead to a state
+-- a text is read up to an offset: these runs were, and lead to a state
 pub record ReadTo (text : List ℕ) (at : ℕ) (s : State) : Type 0 where
   pub runs : List Run
   pub falls : runs_of text ≡ runs ++ runs_of (drop at text)
-  pub place : at ≡ runs_length runs
+  pub offset : at ≡ runs_length runs
   pub leads : LeadTo runs s
 
 pub read_nothing : (text : List ℕ) → ReadTo text 0 start
-read_nothing text = record { runs = []; falls = refl; place = refl; leads = refl }
+read_nothing text = record { runs = []; falls = refl; offset = refl; leads = refl }
 
 lengths-more : (runs : List Run) (run : Run) → runs_length (runs ++ (run ∷ [])) ≡ runs_length runs + run_length run
 lengths-more [] run = omega arith
@@ -39,25 +39,25 @@ leads-more runs run s leads = rw (symbols-more runs run) (after_row start s (sym
 pub read-more : (text : List ℕ) (at : ℕ) (s t : State) (run : Run) (after : ℕ) → ReadTo text at s
     → runs_of (drop at text) ≡ run ∷ runs_of (drop after text) → after ≡ at + run_length run
     → after_symbols s (run_symbols run) ≡ Some t → ReadTo text after t
-read-more text at s t run after so falls place leads = record {
+read-more text at s t run after so falls offset leads = record {
   runs = so.runs ++ (run ∷ []);
   falls = so.falls ∙ ap (λ (runs : List Run). so.runs ++ runs) falls ∙ sym (append_assoc so.runs (run ∷ []) (runs_of (drop after text)));
-  place = omega (arith, lengths-more so.runs run, so.place);
+  offset = omega (arith, lengths-more so.runs run, so.offset);
   leads = leads-more so.runs run s so.leads ∙ leads;
 }
 
 -- ---- the same as a function
 
 -- behind runs that are read
-read-front : (front rest : List Run) (place : ℕ) (s t : State) → after_symbols s (symbols_of front) ≡ Some t → runs_read (front ++ rest) place s ≡ runs_read rest (place + runs_length front) t
-read-front [] rest place s t leads =
-    ap (λ (o : Option State). option_map_or (runs_read rest place) o (Err place)) leads ∙ ap (λ (n : ℕ). runs_read rest n t) (omega arith)
-read-front (run ∷ front) rest place s t leads =
-    behind (after_symbols s (run_symbols run)) (sym (after_symbols-append s (run_symbols run) (symbols_of front)) ∙ leads) (λ u. read-front front rest (place + run_length run) u t)
+read-front : (front rest : List Run) (offset : ℕ) (s t : State) → after_symbols s (symbols_of front) ≡ Some t → runs_read (front ++ rest) offset s ≡ runs_read rest (offset + runs_length front) t
+read-front [] rest offset s t leads =
+    ap (λ (o : Option State). option_map_or (runs_read rest offset) o (Err offset)) leads ∙ ap (λ (n : ℕ). runs_read rest n t) (omega arith)
+read-front (run ∷ front) rest offset s t leads =
+    behind (after_symbols s (run_symbols run)) (sym (after_symbols-append s (run_symbols run) (symbols_of front)) ∙ leads) (λ u. read-front front rest (offset + run_length run) u t)
   where
     behind : (o : Option State) → option_and_then (λ (u : State). after_symbols u (symbols_of front)) o ≡ Some t
-        → ((u : State) → after_symbols u (symbols_of front) ≡ Some t → runs_read (front ++ rest) (place + run_length run) u ≡ runs_read rest (place + run_length run + runs_length front) t)
-        → option_map_or (runs_read (front ++ rest) (place + run_length run)) o (Err place) ≡ runs_read rest (place + (run_length run + runs_length front)) t
+        → ((u : State) → after_symbols u (symbols_of front) ≡ Some t → runs_read (front ++ rest) (offset + run_length run) u ≡ runs_read rest (offset + run_length run + runs_length front) t)
+        → option_map_or (runs_read (front ++ rest) (offset + run_length run)) o (Err offset) ≡ runs_read rest (offset + (run_length run + runs_length front)) t
     behind None led more = absurd (none-some t led)
     behind (Some u) led more = more u led ∙ ap (λ (n : ℕ). runs_read rest n t) (omega arith)
 
@@ -69,9 +69,9 @@ read-all runs s leads =
 pub gives-read : (runs : List Run) (steps : List Step) → Gives runs steps → runs_read runs 0 start ≡ Ok steps
 gives-read runs steps given = read-all runs given.0 given.1 ∙ ap (ended_at (runs_length runs)) given.2
 
-pub stops-read : (runs : List Run) (place : ℕ) → StopsAt runs place → runs_read runs 0 start ≡ Err place
-stops-read runs place (inl stop) = stop.read
-stops-read runs place (inr stop) = read-all runs stop.state stop.leads ∙ ap (ended_at (runs_length runs)) stop.short ∙ ap (λ (n : ℕ). Err n) (sym stop.there)
+pub stops-read : (runs : List Run) (offset : ℕ) → StopsAt runs offset → runs_read runs 0 start ≡ Err offset
+stops-read runs offset (inl stop) = stop.read
+stops-read runs offset (inr stop) = read-all runs stop.state stop.leads ∙ ap (ended_at (runs_length runs)) stop.short ∙ ap (λ (n : ℕ). Err n) (sym stop.there)
 
 -- ---- stops
 
@@ -102,7 +102,7 @@ pub stops-before : (text : List ℕ) (at : ℕ) (s : State) (run : Run) (rest : 
 stops-before text at s run rest so falls stuck =
     let all = so.falls ∙ ap (λ (runs : List Run). so.runs ++ runs) falls in
     subst (λ (runs : List Run). StopsAt runs at) (sym all)
-    (subst (StopsAt (so.runs ++ (run ∷ rest))) (sym so.place) (stuck-behind so.runs rest run s so.leads stuck))
+    (subst (StopsAt (so.runs ++ (run ∷ rest))) (sym so.offset) (stuck-behind so.runs rest run s so.leads stuck))
 
 -- the whole text is read
 all-runs : (text : List ℕ) (at : ℕ) (s : State) (so : ReadTo text at s) → drop at text ≡ [] → runs_of text ≡ so.runs
@@ -113,7 +113,7 @@ pub stops-short : (text : List ℕ) (at : ℕ) (s : State) → ReadTo text at s 
 stops-short text at s so none short =
     let all = all-runs text at s so none in
     inr (record {
-      there = so.place ∙ ap runs_length (sym all);
+      there = so.offset ∙ ap runs_length (sym all);
       state = s;
       leads = ap (λ (runs : List Run). after_symbols start (symbols_of runs)) all ∙ so.leads;
       short = short;
@@ -142,7 +142,7 @@ stop-reads text at s run rest stop.OutOfMemory so falls stuck = tt
 
 -- reading them gives steps, or stops
 abbrev pub Ends : List Run → Type 0
-Ends runs = ((steps : List Step) × Gives runs steps) ⊎ ((place : ℕ) × StopsAt runs place)
+Ends runs = ((steps : List Step) × Gives runs steps) ⊎ ((offset : ℕ) × StopsAt runs offset)
 
 all-read : (runs : List Run) (s : State) → LeadTo runs s → (read : Option (List Step)) → steps_read s ≡ read → Ends runs
 all-read runs s leads (Some steps) is = inl (steps, (s, leads, is))

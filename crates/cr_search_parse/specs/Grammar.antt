@@ -20,7 +20,7 @@ use Rattle.cr_search_parse.specs.Terms.{term_of}
 -- ---- symbols
 
 -- What a run is to the grammar. A chunk is the dashes that it begins with, each a negation, and the word behind them. A sample is no
--- text's: it is an item that is added to one, see Places.
+-- text's: it is an item that is added to one, see Offsets.
 pub data Symbol : Type 0 where
   gap opens closes dash sample : Symbol
   word : List ℕ → Symbol
@@ -45,7 +45,7 @@ mutual
   pub data Item : Type 0 where
     -- a term, by its word
     term : (text : List ℕ) (t : Term) → term_of text ≡ Some t → Item
-    -- an item that is added, see Places
+    -- an item that is added, see Offsets
     added : Item
     -- a dash, right before an item
     dashed : Item → Item

@@ -2,7 +2,7 @@ pub mod Cutting
 pub mod Grammar
 pub mod Laws
 pub mod Outcome
-pub mod Places
+pub mod Offsets
 pub mod Reading
 pub mod Runs
 pub mod Standing

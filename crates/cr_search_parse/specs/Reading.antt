@@ -1,5 +1,5 @@
 -- The reader's states: a text is read symbol by symbol, and the steps of its search are written as its operands end
--- (Dijkstra's shunting-yard algorithm). What a text is the grammar says (Grammar, Places); but it is a relation,
+-- (Dijkstra's shunting-yard algorithm). What a text is the grammar says (Grammar, Offsets); but it is a relation,
 -- and whoever needs a function of the text, as a wish does, takes `text_read`. What that gives is what the grammar
 -- says of the text, and the grammar says nothing else of it: `law_reading`.
 use Rattle.std.specs.Prelude.{ℕ, ◌+◌, nat_lt, List, [], ◌∷◌, ◌++◌, length, Option, Some, None, Result, Ok, Err, replicate, if◌then◌else◌}
@@ -9,7 +9,7 @@ use Rattle.cr_base.specs.declared.search.Step.TheVariants as step
 use Rattle.cr_base.specs.declared.search.Term.{Term}
 use Rattle.cr_base.specs.declared.search.Term.TheVariants as terms
 use Rattle.cr_search_parse.specs.Grammar.{Symbol, gap, opens, closes, dash, sample, word, run_symbols}
-use Rattle.cr_search_parse.specs.Places.{most_bytes}
+use Rattle.cr_search_parse.specs.Offsets.{most_bytes}
 use Rattle.cr_search_parse.specs.Runs.{Run, runs_of, run_length}
 use Rattle.cr_search_parse.specs.Terms.{term_of, is_and, is_or, is_not}
 
@@ -140,17 +140,17 @@ steps_read s = at_end s.next s.around s.level
 
 -- ---- whole texts
 
--- the steps of what was read, or the place at which it ends too early
+-- the steps of what was read, or the offset at which it ends too early
 abbrev pub ended_at : ℕ → Option (List Step) → Result (List Step) ℕ
-ended_at place None = Err place
-ended_at place (Some steps) = Ok steps
+ended_at offset None = Err offset
+ended_at offset (Some steps) = Ok steps
 
--- what these runs come to, which begin at this place in their text: the steps of a search, or the place of the first run that can't come
+-- what these runs come to, which begin at this offset in their text: the steps of a search, or the offset of the first run that can't come
 -- there
 abbrev pub runs_read : List Run → ℕ → State → Result (List Step) ℕ
-runs_read [] place s = ended_at place (steps_read s)
-runs_read (run ∷ runs) place s = option_map_or (runs_read runs (place + run_length run)) (after_symbols s (run_symbols run)) (Err place)
+runs_read [] offset s = ended_at offset (steps_read s)
+runs_read (run ∷ runs) offset s = option_map_or (runs_read runs (offset + run_length run)) (after_symbols s (run_symbols run)) (Err offset)
 
--- what a text is: the steps of the one search that it spells, or the place of a bad one
+-- what a text is: the steps of the one search that it spells, or the offset of a bad one
 abbrev pub text_read : List ℕ → Result (List Step) ℕ
 text_read text = if nat_lt most_bytes (length text) then Err most_bytes else runs_read (runs_of text) 0 start

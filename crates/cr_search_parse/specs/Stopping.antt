@@ -15,40 +15,40 @@ abbrev pub LeadTo : List Run → State → Type 0
 LeadTo runs s = after_symbols start (symbols_of runs) ≡ Some s
 
 -- reading stops before the end: at the run that leads to no state
-pub record StopsBefore (runs : List Run) (place : ℕ) : Type 0 where
+pub record StopsBefore (runs : List Run) (offset : ℕ) : Type 0 where
   pub before : ℕ
   pub more : before < length runs
-  pub there : place ≡ runs_length (take before runs)
+  pub there : offset ≡ runs_length (take before runs)
   pub state : State
   pub leads : LeadTo (take before runs) state
   pub stuck : after_symbols start (symbols_of (take (before + 1) runs)) ≡ None
-  pub read : runs_read runs 0 start ≡ Err place
+  pub read : runs_read runs 0 start ≡ Err offset
 
 -- it stops at the end: there the state may not end
-pub record StopsShort (runs : List Run) (place : ℕ) : Type 0 where
-  pub there : place ≡ runs_length runs
+pub record StopsShort (runs : List Run) (offset : ℕ) : Type 0 where
+  pub there : offset ≡ runs_length runs
   pub state : State
   pub leads : LeadTo runs state
   pub short : steps_read state ≡ None
 
 abbrev pub StopsAt : List Run → ℕ → Type 0
-StopsAt runs place = StopsBefore runs place ⊎ StopsShort runs place
+StopsAt runs offset = StopsBefore runs offset ⊎ StopsShort runs offset
 
 -- runs give these steps
 abbrev pub Gives : List Run → List Step → Type 0
 Gives runs steps = (s : State) × LeadTo runs s × (steps_read s ≡ Some steps)
 
 abbrev pub stopped_at : Stop → ℕ → ParseError
-stopped_at stop.Misplaced place = told.BadQuery place
-stopped_at stop.OutOfMemory place = told.OutOfMemory
+stopped_at stop.Misplaced offset = told.BadQuery offset
+stopped_at stop.OutOfMemory offset = told.OutOfMemory
 
 abbrev pub Reads : Result (Vec Step Global) ParseError → List ℕ → Type 0
 Reads (Ok steps) text = Gives (runs_of text) steps.items
-Reads (Err (told.BadQuery place)) text = StopsAt (runs_of text) place
+Reads (Err (told.BadQuery offset)) text = StopsAt (runs_of text) offset
 Reads (Err told.OutOfMemory) text = Unit {0}
 
 -- these steps were found, unless memory ran out
 abbrev pub IsFound : Result (List Step) ParseError → List Step → Type 0
 IsFound (Ok found) steps = found ≡ steps
-IsFound (Err (told.BadQuery place)) steps = ⊥
+IsFound (Err (told.BadQuery offset)) steps = ⊥
 IsFound (Err told.OutOfMemory) steps = Unit {0}

@@ -49,8 +49,8 @@ abbrev pub quoted : List ℕ → Option (List ℕ)
 quoted text = if begins_with 34 text then before_closing (behind_first text) else None
 
 -- a value: a quoted text, or a word
-abbrev pub value_of : List ℕ → Option (List ℕ)
-value_of text = if begins_with 34 text then quoted text else (if is_word text then Some text else None)
+abbrev pub term_value : List ℕ → Option (List ℕ)
+term_value text = if begins_with 34 text then quoted text else (if is_word text then Some text else None)
 
 -- ---- terms
 
@@ -79,10 +79,10 @@ feature_asked word =
 -- the term of a key and what stands behind its colon
 abbrev pub keyed : List ℕ → List ℕ → Option Term
 keyed key value =
-    if bytes_eq key (codes "ti") then option_map terms.Title (value_of value)
-    else (if bytes_eq key (codes "ab") then option_map terms.Abstract (value_of value)
-    else (if bytes_eq key (codes "au") then option_map terms.Author (value_of value)
-    else (if bytes_eq key (codes "re") then option_map terms.Reviewer (value_of value)
+    if bytes_eq key (codes "ti") then option_map terms.Title (term_value value)
+    else (if bytes_eq key (codes "ab") then option_map terms.Abstract (term_value value)
+    else (if bytes_eq key (codes "au") then option_map terms.Author (term_value value)
+    else (if bytes_eq key (codes "re") then option_map terms.Reviewer (term_value value)
     else (if bytes_eq key (codes "dec") then option_map terms.Decision (decision_asked value)
     else (if bytes_eq key (codes "status") then option_map terms.Status (status_asked value)
     else (if bytes_eq key (codes "has") then option_map terms.Has (feature_asked value)

@@ -3,7 +3,7 @@ ghost use Rattle.std.specs.Prelude.{◌≡◌, ℕ, List, Option, Result};
 ghost use Rattle.cr_base.specs.Search.{Tree};
 ghost use Rattle.cr_base.specs.declared.search.Step.{Step};
 ghost use Rattle.cr_search_parse.specs.Laws.{GrammarSays};
-ghost use Rattle.cr_search_parse.specs.Places.{Spells};
+ghost use Rattle.cr_search_parse.specs.Offsets.{Spells};
 ghost use Rattle.cr_search_parse.specs.Reading.{text_read};
 
 /// A text spells one search at most.
@@ -12,7 +12,7 @@ pub fn law_one_tree()
 {}
 
 /// What `text_read` gives of a text, by the states of a reader, is what the grammar says of it, and the grammar says nothing else: the steps of a
-/// tree exactly where the text spells it, within the limits on bytes, levels and terms, and else the one place at which the text is bad.
+/// tree exactly where the text spells it, within the limits on bytes, levels and terms, and else the one offset at which the text is bad.
 pub fn law_reading()
     ensures said { (text : List ℕ) → GrammarSays text (text_read text) }
     ensures only { (text : List ℕ) (read : Result (List Step) ℕ) → GrammarSays text read → text_read text ≡ read }

@@ -2,7 +2,7 @@
 ghost use Rattle.std.specs.Prelude.{◌≡◌, ◌≤◌, ℕ, length, Option, Err, IfOk};
 ghost use Rattle.cr_base.specs.Search.{Tree, all_steps, tree_of};
 ghost use Rattle.cr_search_parse.specs.Outcome.{Parses};
-ghost use Rattle.cr_search_parse.specs.Places.{most_bytes, Spells, IsBad};
+ghost use Rattle.cr_search_parse.specs.Offsets.{most_bytes, Spells, IsBad};
 ghost use Rattle.cr_search_parse.specs.Reading.{text_read};
 ghost use Rattle.cr_search_parse.specs.Stopping.{IsFound, Reads, stopped_at};
 ghost use Rattle.cr_search_parse.specs.declared.parsing.ParseError.TheVariants.{BadQuery};
@@ -22,18 +22,18 @@ pub enum ParseError {
     BadQuery {
         /// Up to here it could still have become one, in bytes from its start: one of its ends, or where a parenthesis or a chunk, which is
         /// what stands between those and spaces, begins or ends. At most its length; of a text of more than 1,024 bytes always 1,024.
-        place: usize,
+        offset: usize,
     },
     /// Memory ran out.
     OutOfMemory,
 }
 
-/// The error of a reader that stops at a place.
-fn error_at(stop: Stop, place: usize) -> ParseError
-    ensures { result ≡ stopped_at stop place }
+/// The error of a reader that stops at an offset.
+fn error_at(stop: Stop, offset: usize) -> ParseError
+    ensures { result ≡ stopped_at stop offset }
 {
     match stop {
-        Stop::Misplaced => ParseError::BadQuery { place },
+        Stop::Misplaced => ParseError::BadQuery { offset },
         Stop::OutOfMemory => ParseError::OutOfMemory,
     }
 }
@@ -65,12 +65,12 @@ fn read_steps(alloc: Global, text: &[u8]) -> Result<Vec<Step>, ParseError>
 pub fn parse(alloc: Global, text: &[u8]) -> Result<Search, ParseError>
     ensures found { IfOk result (λ search. Spells text.now (tree_of search)) }
     ensures only { (tree : Option Tree) → Spells text.now tree → IsFound result (all_steps tree) }
-    ensures bad { (place : ℕ) → result ≡ Err (BadQuery place) → IsBad text.now place }
+    ensures bad { (offset : ℕ) → result ≡ Err (BadQuery offset) → IsBad text.now offset }
     // The same as a function of the text.
     ensures exact { Parses result (text_read text.now) }
 {
     if text.len() > MOST_BYTES {
-        return Err(ParseError::BadQuery { place: MOST_BYTES });
+        return Err(ParseError::BadQuery { offset: MOST_BYTES });
     }
     match read_steps(alloc, text) {
         Ok(steps) => Ok(Search::from_steps(steps)),

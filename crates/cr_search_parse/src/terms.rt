@@ -5,7 +5,7 @@ ghost use Rattle.std.specs.List.{list_all};
 ghost use Rattle.cr_base.specs.Lists.{until, since};
 ghost use Rattle.cr_search_parse.specs.Terms.{is_quoted_byte, is_word_byte, is_word as is_word_text, begins_with as begins};
 ghost use Rattle.cr_search_parse.specs.Terms.{behind_first as behind, before_closing as closed, quoted as quoted_text};
-ghost use Rattle.cr_search_parse.specs.Terms.{value_of as value_text, decision_asked as decision, status_asked as status};
+ghost use Rattle.cr_search_parse.specs.Terms.{term_value as value_text, decision_asked as decision, status_asked as status};
 ghost use Rattle.cr_search_parse.specs.Terms.{feature_asked as feature, keyed as keyed_term, is_and as and_word};
 ghost use Rattle.cr_search_parse.specs.Terms.{is_or as or_word, is_not as not_word, is_plain as plain_word};
 ghost use Rattle.cr_search_parse.specs.Terms.{is_colon, has_colon, term_of};
@@ -103,7 +103,7 @@ fn quoted(text: &[u8]) -> Option<&[u8]>
 }
 
 /// A value: a quoted text, or a word.
-fn value_of(text: &[u8]) -> Option<&[u8]>
+fn term_value(text: &[u8]) -> Option<&[u8]>
     ensures { option_copied result ≡ value_text text.now }
 {
     if begins_with(b'"', text) {
@@ -187,16 +187,16 @@ fn keyed(alloc: Global, key: &[u8], value: &[u8]) -> Result<Option<Term>, AllocE
     ensures { IfOk result (λ term. term ≡ keyed_term key.now value.now) }
 {
     if key == b"ti".as_slice() {
-        return Ok(kept(alloc, value_of(value))?.map(Term::Title));
+        return Ok(kept(alloc, term_value(value))?.map(Term::Title));
     }
     if key == b"ab".as_slice() {
-        return Ok(kept(alloc, value_of(value))?.map(Term::Abstract));
+        return Ok(kept(alloc, term_value(value))?.map(Term::Abstract));
     }
     if key == b"au".as_slice() {
-        return Ok(kept(alloc, value_of(value))?.map(Term::Author));
+        return Ok(kept(alloc, term_value(value))?.map(Term::Author));
     }
     if key == b"re".as_slice() {
-        return Ok(kept(alloc, value_of(value))?.map(Term::Reviewer));
+        return Ok(kept(alloc, term_value(value))?.map(Term::Reviewer));
     }
     if key == b"dec".as_slice() {
         return Ok(decision_asked(value).map(Term::Decision));

@@ -8,7 +8,7 @@ use Rattle.cr_session.specs.declared.turn.TurnResult.{TurnResult}
 use Rattle.cr_session.specs.declared.turn.TurnResult.TheVariants as turns
 use Rattle.cr_session.specs.declared.serve.RequestOutcome.{RequestOutcome}
 use Rattle.cr_session.specs.declared.serve.RequestOutcome.TheVariants as served
-use Rattle.cr_session.specs.Told.{form_of, told, unkept, after_wish}
+use Rattle.cr_session.specs.Told.{sending_of, told, unkept, after_wish}
 use Rattle.cr_session.specs.Replay.{JudgedWish, Ledger, Turned, answer_to, history_after}
 use Rattle.cr_session.specs.Passing.{KnownPass}
 use Rattle.cr_wire.specs.Wishes.{closes}
@@ -25,7 +25,7 @@ history_after-kept : (w : Wish) (old : History) → history_after (record { wish
 unfolding history_after
 history_after-kept w old = refl
 
-answer_to-lost : (n : ℕ) (w : Wish) (old : History) → answer_to n (record { wish = w; seen = old; lost = true }) ≡ turn_text turns.Lost (form_of w (closes n w))
+answer_to-lost : (n : ℕ) (w : Wish) (old : History) → answer_to n (record { wish = w; seen = old; lost = true }) ≡ turn_text turns.Lost (sending_of w (closes n w))
 unfolding answer_to unkept
 answer_to-lost n w old = refl
 
@@ -38,7 +38,7 @@ module _ (w : Wish) (b b' : Ledger) (p p' : KnownPass) (saw : IsPrefix p.seen b.
   -- it came to this, and the request was judged with that answer
   record WasJudged (turn : TurnResult) (n : ℕ) : Type 0 where
     judges : JudgesInTurn w p p'
-    text : turn_text turn (form_of w (closes n w)) ≡ answer_to n judges.judged
+    text : turn_text turn (sending_of w (closes n w)) ≡ answer_to n judges.judged
 
   -- the turn's history, however it is told
   turned : (H : History) → b'.history ≡ H → p' ≡ after_turn p b.history H b.faults b'.faults
@@ -83,14 +83,14 @@ module _ (w : Wish) (b b' : Ledger) (p p' : KnownPass) (saw : IsPrefix p.seen b.
 
   -- the answer was sent
   pub serves_sent : (turn : TurnResult) (sent : RequestOutcome) (n : ℕ) (close : Bool) (reply : List ℕ) (s s' : Outlet) → (turn ≡ turns.OutOfMemory → ⊥)
-      → Turns turn w b b' → close ≡ closes n w → reply ≡ turn_text turn (form_of w close) → Sends sent close reply s s' → ServesRequest sent n w p p' s s'
+      → Turns turn w b b' → close ≡ closes n w → reply ≡ turn_text turn (sending_of w close) → Sends sent close reply s s' → ServesRequest sent n w p p' s s'
   serves_sent turn sent n close reply s s' memory t closing text_is sends = by sent sends
     where
       j : WasJudged turn n
       j = was_judged turn n memory t
 
       text : reply ≡ answer_to n j.judges.judged
-      text = text_is ∙ ap (λ (c : Bool). turn_text turn (form_of w c)) closing ∙ j.text
+      text = text_is ∙ ap (λ (c : Bool). turn_text turn (sending_of w c)) closing ∙ j.text
 
       by : (x : RequestOutcome) → Sends x close reply s s' → ServesRequest x n w p p' s s'
       by served.Goes x = (j.judges, sym closing ∙ x.0, subst (λ (r : List ℕ). Writes r s s') text x.1)

@@ -1,15 +1,15 @@
 -- An answer is written in two parts.
 use Rattle.std.proofs.Common.{◌≡◌, ◌∙◌, List, ℕ, [], ◌∷◌, ◌++◌, refl, ap, append_assoc, append-nil}
 use Rattle.cr_ports.specs.Writing.{Outlet, BreaksOff}
-use Rattle.cr_print.specs.declared.form.Form.{Form}
+use Rattle.cr_print.specs.declared.sending.Sending.{Sending}
 use Rattle.cr_session.specs.declared.turn.TurnResult.{TurnResult}
 use Rattle.cr_session.specs.declared.turn.TurnResult.TheVariants as turns
 use Rattle.cr_session.specs.Turning.{turn_block, turn_front, turn_text}
 
 -- what is printed, and what is written behind it
-pub turn_parts : (turn : TurnResult) (form : Form) → turn_front turn form ++ turn_block turn form ≡ turn_text turn form
-turn_parts (turns.Answered reply) form = refl
-turn_parts turn form = append-nil (turn_text turn form)
+pub turn_parts : (turn : TurnResult) (sending : Sending) → turn_front turn sending ++ turn_block turn sending ≡ turn_text turn sending
+turn_parts (turns.Answered reply) sending = refl
+turn_parts turn sending = append-nil (turn_text turn sending)
 
 none_before : (a b : List ℕ) → a ++ b ≡ [] → a ≡ []
 none_before [] b e = refl

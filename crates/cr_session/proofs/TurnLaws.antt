@@ -4,7 +4,7 @@ use mathlib.Core.List.{IsPrefix}
 use Rattle.std.proofs.lemmas.Bool.{true≢false}
 use Rattle.cr_base.specs.declared.command.Command.TheVariants.{Register, Tag}
 use Rattle.cr_base.specs.declared.ask.Ask.{Ask}
-use Rattle.cr_routes.specs.declared.place.Place.{Place}
+use Rattle.cr_routes.specs.declared.resource.Resource.{Resource}
 use Rattle.cr_policy.specs.Legal.{IsCaller, IsUser, MayAsk}
 use Rattle.cr_base.specs.declared.bulk.Broken.{Broken}
 use Rattle.cr_base.specs.declared.bulk.Broken.TheVariants as broken
@@ -21,7 +21,7 @@ use Rattle.cr_policy.specs.Judge.{judge, judge_bulk, answer, needs_login}
 use Rattle.cr_policy.specs.View.{view}
 use Rattle.cr_policy.proofs.LegalLaws.{Legal-caller_registered}
 use Rattle.cr_bodies.specs.declared.credentials.Credentials.{Credentials}
-use Rattle.cr_print.specs.declared.form.Form.{Form}
+use Rattle.cr_print.specs.declared.sending.Sending.{Sending}
 use Rattle.cr_print.specs.declared.refused.Refused.{Refused}
 use Rattle.cr_print.specs.declared.refused.Refused.TheVariants as refused
 use Rattle.cr_print.specs.Answers.{refusal_text, receipt_text, reply_text}
@@ -31,7 +31,7 @@ use Rattle.cr_wire.specs.declared.what.Wish.{Wish}
 use Rattle.cr_wire.specs.Caller.{caller, reads_credentials, user_told}
 use Rattle.cr_session.specs.declared.turn.TurnResult.{TurnResult}
 use Rattle.cr_session.specs.declared.turn.TurnResult.TheVariants as turns
-use Rattle.cr_session.specs.Told.{form_of, told, told_to, served_to, as_bulk, is_unauthorized, refusal_of, reply_of, drawn, drawn_for, drawn_of, accepted, and_drawn}
+use Rattle.cr_session.specs.Told.{sending_of, told, told_to, served_to, as_bulk, is_unauthorized, refusal_of, reply_of, drawn, drawn_for, drawn_of, accepted, and_drawn}
 use Rattle.cr_session.specs.Replay.{Ledger}
 use Rattle.cr_session.specs.Turning.{Turns, AnswersWish, IsBulkCaller, JudgesChange, refused_for, AnswersQuery, WantsRoom, MayWantFor, MayWantMemory}
 use Rattle.cr_print.specs.Answers.{IsBrief}
@@ -52,12 +52,12 @@ may-wish H w u what test is by tested passed =
 
 -- what a wish is told, by what it is and who gives it
 told-by : (H : History) (w : Wish) (u : Option ℕ) (what : What) (close : Bool) → MayWish H w u what
-    → told H w close ≡ served_to u (view u H) (form_of w close) what
+    → told H w close ≡ served_to u (view u H) (sending_of w close) what
 unfolding told
 told-by H w u what close wishes =
-    ap (told_to (caller H w) (view (caller H w) H) (form_of w close)) wishes.is
-    ∙ ap (λ v. told_to v (view v H) (form_of w close) what) (sym wishes.by)
-    ∙ ap (λ b. cond b (refusal_text refused.Unauthorized (form_of w close)) (served_to u (view u H) (form_of w close) what)) wishes.may
+    ap (told_to (caller H w) (view (caller H w) H) (sending_of w close)) wishes.is
+    ∙ ap (λ v. told_to v (view v H) (sending_of w close) what) (sym wishes.by)
+    ∙ ap (λ b. cond b (refusal_text refused.Unauthorized (sending_of w close)) (served_to u (view u H) (sending_of w close) what)) wishes.may
 
 drawn-by : (H : History) (w : Wish) (u : Option ℕ) (what : What) → MayWish H w u what → drawn H w ≡ drawn_of u (view u H) what
 unfolding drawn
@@ -81,8 +81,8 @@ unauthorized w b u by is =
     let old : History = b.history in
     let now : is_unauthorized (caller old w) (view (caller old w) old) w.what ≡ true = ap (λ v. is_unauthorized v (view v old) w.what) (sym by) ∙ is in
     record {
-      told_is = λ close. sym (ap (λ t. cond t (refusal_text refused.Unauthorized (form_of w close))
-          (served_to (caller old w) (view (caller old w) old) (form_of w close) w.what)) now);
+      told_is = λ close. sym (ap (λ t. cond t (refusal_text refused.Unauthorized (sending_of w close))
+          (served_to (caller old w) (view (caller old w) old) (sending_of w close) w.what)) now);
       stepped = sym (ap (λ t. and_drawn old (cond t None (drawn_of (caller old w) (view (caller old w) old) w.what))) now);
       steady = refl;
     }
@@ -91,7 +91,7 @@ unauthorized w b u by is =
 
 -- a wish that is told a refusal, and adds nothing
 refused-turn : (r : Refused) (w : Wish) (u : Option ℕ) (what : What) (b : Ledger) → MayWish b.history w u what
-    → ((close : Bool) → refusal_text r (form_of w close) ≡ served_to u (view u b.history) (form_of w close) what) → drawn_of u (view u b.history) what ≡ None
+    → ((close : Bool) → refusal_text r (sending_of w close) ≡ served_to u (view u b.history) (sending_of w close) what) → drawn_of u (view u b.history) what ≡ None
     → AnswersWish (turns.Refused r) w b b
 refused-turn r w u what b wishes text none = record {
   told_is = λ close. text close ∙ sym (told-by b.history w u what close wishes);
@@ -102,17 +102,17 @@ refused-turn r w u what b wishes text none = record {
 pub no_route : (w : Wish) (u : Option ℕ) (b : Ledger) → MayWish b.history w u whats.NoRoute → AnswersWish (turns.Refused refused.NoRoute) w b b
 no_route w u b wishes = refused-turn refused.NoRoute w u whats.NoRoute b wishes (λ close. refl) refl
 
-pub wrong_method : (w : Wish) (u : Option ℕ) (b : Ledger) (place : Place) → MayWish b.history w u (whats.WrongMethod place)
-    → AnswersWish (turns.Refused (refused.WrongMethod place)) w b b
-wrong_method w u b place wishes = refused-turn (refused.WrongMethod place) w u (whats.WrongMethod place) b wishes (λ close. refl) refl
+pub wrong_method : (w : Wish) (u : Option ℕ) (b : Ledger) (resource : Resource) → MayWish b.history w u (whats.WrongMethod resource)
+    → AnswersWish (turns.Refused (refused.WrongMethod resource)) w b b
+wrong_method w u b resource wishes = refused-turn (refused.WrongMethod resource) w u (whats.WrongMethod resource) b wishes (λ close. refl) refl
 
 pub bad_body : (w : Wish) (u : Option ℕ) (b : Ledger) (ask : Ask) → MayWish b.history w u (whats.BadBody ask)
     → AnswersWish (turns.Refused refused.BadBody) w b b
 bad_body w u b ask wishes = refused-turn refused.BadBody w u (whats.BadBody ask) b wishes (λ close. refl) refl
 
-pub bad_query : (w : Wish) (u : Option ℕ) (b : Ledger) (place : ℕ) → MayWish b.history w u (whats.BadQuery place)
-    → AnswersWish (turns.Refused (refused.BadQuery place)) w b b
-bad_query w u b place wishes = refused-turn (refused.BadQuery place) w u (whats.BadQuery place) b wishes (λ close. refl) refl
+pub bad_query : (w : Wish) (u : Option ℕ) (b : Ledger) (offset : ℕ) → MayWish b.history w u (whats.BadQuery offset)
+    → AnswersWish (turns.Refused (refused.BadQuery offset)) w b b
+bad_query w u b offset wishes = refused-turn (refused.BadQuery offset) w u (whats.BadQuery offset) b wishes (λ close. refl) refl
 
 -- ---- commands and bulks
 
@@ -121,21 +121,21 @@ is_ok-accepted (Ok d) h = refl
 is_ok-accepted (Err refusal) h = h
 
 -- a refusal's bytes are those of its reply
-refusal-told : (refusal : Broken) (form : Form) → refusal_text (refused_for refusal) form ≡ reply_text (refusal_of refusal) form
-refusal-told (broken.Rule rule) form = sym (append-nil (refusal_text (refused.Rule rule) form))
-refusal-told (broken.Row row rule) form = sym (append-nil (refusal_text (refused.Row row rule) form))
+refusal-told : (refusal : Broken) (sending : Sending) → refusal_text (refused_for refusal) sending ≡ reply_text (refusal_of refusal) sending
+refusal-told (broken.Rule rule) sending = sym (append-nil (refusal_text (refused.Rule rule) sending))
+refusal-told (broken.Row row rule) sending = sym (append-nil (refusal_text (refused.Row row rule) sending))
 
 -- a wish of which Judge gives this, where that is what she who wishes it is served, and what it draws
 pub change-turn : (turn : TurnResult) (w : Wish) (u : Option ℕ) (what : What) (judged : Result Drawn Broken) (b b' : Ledger)
     → MayWish b.history w u what
-    → ((form : Form) → served_to u (view u b.history) form what ≡ reply_text (reply_of judged) form)
+    → ((sending : Sending) → served_to u (view u b.history) sending what ≡ reply_text (reply_of judged) sending)
     → drawn_of u (view u b.history) what ≡ accepted judged
     → (IsOk judged → WantsRoom u (view u b.history) what)
     → JudgesChange turn judged b b' → Turns turn w b b'
 change-turn (turns.Refused r) w u what judged b b' wishes served draws wants j = record {
   told_is = λ close.
-      let form : Form = form_of w close in
-      ap (λ x. refusal_text x form) j.refused_is ∙ refusal-told j.refusal form ∙ ap (λ x. reply_text (reply_of x) form) (sym j.judged_is) ∙ sym (served form)
+      let sending : Sending = sending_of w close in
+      ap (λ x. refusal_text x sending) j.refused_is ∙ refusal-told j.refusal sending ∙ ap (λ x. reply_text (reply_of x) sending) (sym j.judged_is) ∙ sym (served sending)
       ∙ sym (told-by b.history w u what close wishes);
   stepped = ap (λ (x : Ledger). x.history) j.same
       ∙ sym (ap (and_drawn b.history) (drawn-by b.history w u what wishes ∙ draws ∙ ap accepted j.judged_is));
@@ -143,9 +143,9 @@ change-turn (turns.Refused r) w u what judged b b' wishes served draws wants j =
 }
 change-turn (turns.Accepted receipt) w u what judged b b' wishes served draws wants j = record {
   told_is = λ close.
-      let form : Form = form_of w close in
-      ap (λ x. receipt_text x form) j.receipt_is ∙ sym (append-nil (receipt_text j.drawn.receipt form)) ∙ ap (λ x. reply_text (reply_of x) form) (sym j.judged_is)
-      ∙ sym (served form) ∙ sym (told-by b.history w u what close wishes);
+      let sending : Sending = sending_of w close in
+      ap (λ x. receipt_text x sending) j.receipt_is ∙ sym (append-nil (receipt_text j.drawn.receipt sending)) ∙ ap (λ x. reply_text (reply_of x) sending) (sym j.judged_is)
+      ∙ sym (served sending) ∙ sym (told-by b.history w u what close wishes);
   stepped = j.added ∙ sym (ap (and_drawn b.history) (drawn-by b.history w u what wishes ∙ draws ∙ ap accepted j.judged_is));
   steady = j.steady;
 }
@@ -160,12 +160,12 @@ change-turn turns.OutOfMemory w u what judged b b' wishes served draws wants j =
 pub command-turn : (turn : TurnResult) (w : Wish) (u : Option ℕ) (command : Command) (b b' : Ledger) → MayWish b.history w u (whats.Command command)
     → JudgesChange turn (as_bulk (judge u (view u b.history) command)) b b' → Turns turn w b b'
 command-turn turn w u command b b' wishes j =
-    change-turn turn w u (whats.Command command) (as_bulk (judge u (view u b.history) command)) b b' wishes (λ form. refl) refl (λ ok. ok) j
+    change-turn turn w u (whats.Command command) (as_bulk (judge u (view u b.history) command)) b b' wishes (λ sending. refl) refl (λ ok. ok) j
 
 pub bulk-turn : (turn : TurnResult) (w : Wish) (u : Option ℕ) (rows : List BulkRow) (b b' : Ledger) → MayWish b.history w u (whats.Bulk rows)
     → JudgesChange turn (judge_bulk (maker_of u) (view u b.history) rows) b b' → Turns turn w b b'
 bulk-turn turn w u rows b b' wishes j =
-    change-turn turn w u (whats.Bulk rows) (judge_bulk (maker_of u) (view u b.history) rows) b b' wishes (λ form. refl) refl (λ ok. ok) j
+    change-turn turn w u (whats.Bulk rows) (judge_bulk (maker_of u) (view u b.history) rows) b b' wishes (λ sending. refl) refl (λ ok. ok) j
 
 -- ---- queries
 
@@ -179,7 +179,7 @@ query-turn (turns.Refused r) w u query b wishes j = absurd j
 query-turn (turns.Accepted receipt) w u query b wishes j = absurd j
 query-turn (turns.Answered reply) w u query b wishes j = (
   record {
-    told_is = λ close. ap (λ x. reply_text x (form_of w close)) j ∙ sym (told-by b.history w u (whats.Query query) close wishes);
+    told_is = λ close. ap (λ x. reply_text x (sending_of w close)) j ∙ sym (told-by b.history w u (whats.Query query) close wishes);
     stepped = sym (ap (and_drawn b.history) (drawn-by b.history w u (whats.Query query) wishes));
     steady = refl;
   },

@@ -8,12 +8,12 @@ use Rattle.cr_base.specs.Lists.{given}
 use Rattle.cr_policy.specs.View.{view}
 use Rattle.cr_wire.specs.declared.what.Wish.{Wish}
 use Rattle.cr_wire.specs.Caller.{caller}
-use Rattle.cr_session.specs.Told.{form_of, told, told_to, after_wish}
+use Rattle.cr_session.specs.Told.{sending_of, told, told_to, after_wish}
 use Rattle.cr_session.specs.TwoRuns.{WishInTurn, Run, Moment, is_same, is_hers, meets, hears, MeetsAlike, HearsAlike}
 
 -- what she is answered at such a moment
 answer_at : Option ℕ → Moment → List ℕ
-answer_at u m = told_to u m.seen (form_of m.wish m.closes) m.wish.what
+answer_at u m = told_to u m.seen (sending_of m.wish m.closes) m.wish.what
 
 equal_numbers : (m n : ℕ) → m == n ≡ true → m ≡ n
 equal_numbers m n e = grind (arith, nat_tests)
@@ -25,9 +25,9 @@ same_user (Some m) None e = cc
 same_user (Some m) (Some n) e = ap Some (sym (equal_numbers m n e))
 
 told-at : (u v : Option ℕ) (H : History) (w : Wish) (closes : Bool) → v ≡ u
-    → told_to v (view v H) (form_of w closes) w.what ≡ answer_at u (record { seen = view u H; wish = w; closes = closes })
+    → told_to v (view v H) (sending_of w closes) w.what ≡ answer_at u (record { seen = view u H; wish = w; closes = closes })
 unfolding answer_at
-told-at u v H w closes e = ap (λ x. told_to x (view x H) (form_of w closes) w.what) e
+told-at u v H w closes e = ap (λ x. told_to x (view x H) (sending_of w closes) w.what) e
 
 -- one wish, where it is hers
 answered : (u : Option ℕ) (H : History) (w : Wish) (closes : Bool) (b : Bool) → is_hers u H w ≡ b

@@ -11,7 +11,7 @@ use Rattle.cr_base.specs.Drawn.{Drawn}
 use Rattle.cr_base.specs.Sources.{maker_of}
 use Rattle.cr_policy.specs.Judge.{judge, judge_bulk, answer, needs_login}
 use Rattle.cr_policy.specs.View.{View, view}
-use Rattle.cr_print.specs.declared.form.Form.{Form}
+use Rattle.cr_print.specs.declared.sending.Sending.{Sending}
 use Rattle.cr_print.specs.declared.refused.Refused.TheVariants as refused
 use Rattle.cr_print.specs.Answers.{refusal_text, reply_text}
 use Rattle.cr_wire.specs.declared.what.What.{What}
@@ -43,31 +43,31 @@ is_unauthorized None V what = wants_login what
 is_unauthorized (Some user) V what = false
 
 -- how the answer to a wish is sent, where the connection closes behind it or not
-abbrev pub form_of : Wish → Bool → Form
-form_of w close = record { is_head = w.is_head; closes = close }
+abbrev pub sending_of : Wish → Bool → Sending
+sending_of w close = record { is_head = w.is_head; closes = close }
 
 -- the answer's bytes to what a caller wishes who may, on her view
-abbrev pub served_to : Option ℕ → View → Form → What → List ℕ
-served_to u V form NoRoute = refusal_text refused.NoRoute form
-served_to u V form (WrongMethod place) = refusal_text (refused.WrongMethod place) form
-served_to u V form (BadBody ask) = refusal_text refused.BadBody form
-served_to u V form (BadQuery place) = refusal_text (refused.BadQuery place) form
-served_to u V form (Command command) = reply_text (reply_of (as_bulk (judge u V command))) form
-served_to u V form (Bulk rows) = reply_text (reply_of (judge_bulk (maker_of u) V rows)) form
-served_to u V form (Query query) = reply_text (answer u V query) form
+abbrev pub served_to : Option ℕ → View → Sending → What → List ℕ
+served_to u V sending NoRoute = refusal_text refused.NoRoute sending
+served_to u V sending (WrongMethod resource) = refusal_text (refused.WrongMethod resource) sending
+served_to u V sending (BadBody ask) = refusal_text refused.BadBody sending
+served_to u V sending (BadQuery offset) = refusal_text (refused.BadQuery offset) sending
+served_to u V sending (Command command) = reply_text (reply_of (as_bulk (judge u V command))) sending
+served_to u V sending (Bulk rows) = reply_text (reply_of (judge_bulk (maker_of u) V rows)) sending
+served_to u V sending (Query query) = reply_text (answer u V query) sending
 
 -- the answer's bytes to what a caller wishes: whoever can't be told from nobody is answered one and the same, where a
 -- login is wanted
-abbrev pub told_to : Option ℕ → View → Form → What → List ℕ
-told_to u V form what = if is_unauthorized u V what then refusal_text refused.Unauthorized form else served_to u V form what
+abbrev pub told_to : Option ℕ → View → Sending → What → List ℕ
+told_to u V sending what = if is_unauthorized u V what then refusal_text refused.Unauthorized sending else served_to u V sending what
 
 -- the answer's bytes to a wish, computed from its caller's view
 unfoldable pub told : History → Wish → Bool → List ℕ
-told H w close = told_to (caller H w) (view (caller H w) H) (form_of w close) w.what
+told H w close = told_to (caller H w) (view (caller H w) H) (sending_of w close) w.what
 
 -- the answer's bytes where what the wish adds was not kept
 unfoldable pub unkept : Wish → Bool → List ℕ
-unkept w close = refusal_text refused.KeeperFault (form_of w close)
+unkept w close = refusal_text refused.KeeperFault (sending_of w close)
 
 -- ---- what is added
 
@@ -79,9 +79,9 @@ accepted (Err refusal) = None
 -- what the wish of a caller who may adds, where it is a command or a bulk that Judge accepts
 abbrev pub drawn_of : Option ℕ → View → What → Option Drawn
 drawn_of u V NoRoute = None
-drawn_of u V (WrongMethod place) = None
+drawn_of u V (WrongMethod resource) = None
 drawn_of u V (BadBody ask) = None
-drawn_of u V (BadQuery place) = None
+drawn_of u V (BadQuery offset) = None
 drawn_of u V (Command command) = accepted (as_bulk (judge u V command))
 drawn_of u V (Bulk rows) = accepted (judge_bulk (maker_of u) V rows)
 drawn_of u V (Query query) = None

@@ -15,7 +15,7 @@ use Rattle.cr_policy.specs.Legal.{IsBulkAllowed}
 use Rattle.cr_policy.specs.View.{View, view}
 use Rattle.cr_base.specs.History.{History}
 use Rattle.cr_book.specs.Seen.{SeenBook}
-use Rattle.cr_print.specs.declared.form.Form.{Form}
+use Rattle.cr_print.specs.declared.sending.Sending.{Sending}
 use Rattle.cr_print.specs.declared.refused.Refused.{Refused}
 use Rattle.cr_print.specs.declared.refused.Refused.TheVariants as refused
 use Rattle.cr_print.specs.Answers.{IsBrief, refusal_text, receipt_text, reply_text, front_text, block_text}
@@ -27,7 +27,7 @@ use Rattle.cr_session.specs.declared.turn.TurnResult.{TurnResult}
 use Rattle.cr_session.specs.declared.turn.TurnResult.TheVariants as turns
 use Rattle.cr_session.specs.declared.serve.RequestOutcome.{RequestOutcome}
 use Rattle.cr_session.specs.declared.serve.RequestOutcome.TheVariants as served
-use Rattle.cr_session.specs.Told.{form_of, told, as_bulk, is_unauthorized, drawn, after_wish}
+use Rattle.cr_session.specs.Told.{sending_of, told, as_bulk, is_unauthorized, drawn, after_wish}
 use Rattle.cr_lock.specs.Passes.{after_turn}
 use Rattle.cr_session.specs.Replay.{JudgedWish, Ledger, CountsLoss, answer_to, ledger_of}
 use Rattle.cr_session.specs.Passing.{KnownPass, TakesTurn}
@@ -37,30 +37,30 @@ use Rattle.cr_wire.specs.Wishes.{closes}
 -- ---- one turn
 
 -- the answer's bytes by what the turn came to
-abbrev pub turn_text : TurnResult → Form → List ℕ
-turn_text (turns.Refused refused) form = refusal_text refused form
-turn_text (turns.Accepted receipt) form = receipt_text receipt form
-turn_text (turns.Answered reply) form = reply_text reply form
-turn_text turns.Lost form = refusal_text refused.KeeperFault form
-turn_text turns.OutOfMemory form = []
+abbrev pub turn_text : TurnResult → Sending → List ℕ
+turn_text (turns.Refused refused) sending = refusal_text refused sending
+turn_text (turns.Accepted receipt) sending = receipt_text receipt sending
+turn_text (turns.Answered reply) sending = reply_text reply sending
+turn_text turns.Lost sending = refusal_text refused.KeeperFault sending
+turn_text turns.OutOfMemory sending = []
 
 -- what is printed of it: of an answer all but what is written as it is kept
-abbrev pub turn_front : TurnResult → Form → List ℕ
-turn_front (turns.Answered reply) form = front_text form reply
-turn_front turn form = turn_text turn form
+abbrev pub turn_front : TurnResult → Sending → List ℕ
+turn_front (turns.Answered reply) sending = front_text sending reply
+turn_front turn sending = turn_text turn sending
 
 -- what is written behind that, as it is kept
-abbrev pub turn_block : TurnResult → Form → List ℕ
-turn_block (turns.Answered reply) form = block_text form reply
-turn_block turn form = []
+abbrev pub turn_block : TurnResult → Sending → List ℕ
+turn_block (turns.Answered reply) sending = block_text sending reply
+turn_block turn sending = []
 
 -- memory may run out in the turn of what a caller wishes on her view: for a command or a bulk that Judge accepts, and for a query
 -- that Answer doesn't refuse
 abbrev pub WantsRoom : Option ℕ → View → What → Type 0
 WantsRoom u V whats.NoRoute = ⊥
-WantsRoom u V (whats.WrongMethod place) = ⊥
+WantsRoom u V (whats.WrongMethod resource) = ⊥
 WantsRoom u V (whats.BadBody ask) = ⊥
-WantsRoom u V (whats.BadQuery place) = ⊥
+WantsRoom u V (whats.BadQuery offset) = ⊥
 WantsRoom u V (whats.Command command) = IsOk (as_bulk (judge u V command))
 WantsRoom u V (whats.Bulk rows) = IsOk (judge_bulk (maker_of u) V rows)
 WantsRoom u V (whats.Query query) = (rule : Rule) → answer u V query ≢ replies.Refused rule
@@ -74,7 +74,7 @@ MayWantMemory H w = MayWantFor (caller H w) (view (caller H w) H) w.what
 
 -- a wish was judged or answered: its answer is Told's, the history is stepped on, and the keeper's count stands
 pub record AnswersWish (turn : TurnResult) (w : Wish) (b b' : Ledger) : Type 0 where
-  pub told_is : (close : Bool) → turn_text turn (form_of w close) ≡ told b.history w close
+  pub told_is : (close : Bool) → turn_text turn (sending_of w close) ≡ told b.history w close
   pub stepped : b'.history ≡ after_wish b.history w
   pub steady : b'.faults ≡ b.faults
 

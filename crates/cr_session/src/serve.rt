@@ -14,7 +14,7 @@ use cr_book::Book;
 use cr_http::Refusal;
 use cr_lock::{HistoryLock, Pass};
 use cr_ports::{Keeper, Sink, Source, write_all};
-use cr_print::{ANSWER_ROOM, Form, Refused, no_memory_text, print_refusal};
+use cr_print::{ANSWER_ROOM, Refused, Sending, no_memory_text, print_refusal};
 use cr_wire::Wish;
 use std::alloc::Global;
 use std::sync::Wait;
@@ -87,7 +87,7 @@ fn serve_request<R: Wait, K: Keeper, O: Sink>(
     ensures room { 512 ≤ vec_capacity reply.new }
 {
     let close = closes(&wish, number);
-    let form = Form {
+    let sending = Sending {
         is_head: wish.is_head,
         closes: close,
     };
@@ -96,8 +96,8 @@ fn serve_request<R: Wait, K: Keeper, O: Sink>(
     if let TurnResult::OutOfMemory = turn {
         return RequestOutcome::OutOfMemory;
     }
-    match print_turn(reply, &turn, form) {
-        Ok(()) => send(sink, reply, block_of(&turn, form), close),
+    match print_turn(reply, &turn, sending) {
+        Ok(()) => send(sink, reply, block_of(&turn, sending), close),
         Err(_) => RequestOutcome::OutOfMemory,
     }
 }
@@ -125,11 +125,11 @@ fn refuse<O: Sink>(sink: &mut O, reply: &mut Vec<u8>, why: Refusal, is_head: boo
     ensures room { 512 ≤ vec_capacity reply.new }
 {
     reply.clear();
-    let form = Form {
+    let sending = Sending {
         is_head: is_head,
         closes: true,
     };
-    print_refusal(reply, Refused::Closing(why), form);
+    print_refusal(reply, Refused::Closing(why), sending);
     sink.begin_answer();
     match write_all(sink, reply) {
         Ok(()) => Ending::Closed(Why::Refused(why)),
@@ -148,7 +148,7 @@ pub fn note_no_memory<O: Sink>(sink: &mut O, is_head: bool) -> Ending
 }
 
 /// Reads request number `number` and serves it; an ending where it is the last.
-fn serve_next<R: Wait, K: Keeper, S: Source, O: Sink>(
+fn serve_next_request<R: Wait, K: Keeper, S: Source, O: Sink>(
     rt: &R,
     alloc: Global,
     lock: &HistoryLock<Book<K>>,
@@ -233,7 +233,7 @@ pub fn serve_connection<R: Wait, K: Keeper, S: Source, O: Sink>(
     };
     let mut number = 0;
     'serving: loop {
-        if let Some(ending) = serve_next(
+        if let Some(ending) = serve_next_request(
             rt, alloc, lock, pass, source, sink, &mut inbox, &mut reply, number,
         ) {
             return ending;

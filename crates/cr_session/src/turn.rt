@@ -17,7 +17,7 @@ use cr_base::{Broken, BulkRows, Command, Query, Receipt, Reply, UserNo};
 use cr_book::{AnswerError, Book, BookError};
 use cr_lock::{HistoryLock, Pass};
 use cr_ports::Keeper;
-use cr_print::{Form, Refused, block, print_receipt, print_refusal, print_reply};
+use cr_print::{Refused, Sending, block, print_receipt, print_refusal, print_reply};
 use cr_wire::{What, Wish};
 use std::alloc::AllocError;
 use std::sync::Wait;
@@ -70,9 +70,9 @@ pub(crate) fn take_turn<K: Keeper>(book: &mut Book<K>, wish: Wish) -> TurnResult
     let what = wish.what;
     match what {
         What::NoRoute => TurnResult::Refused(Refused::NoRoute),
-        What::WrongMethod(place) => TurnResult::Refused(Refused::WrongMethod(place)),
+        What::WrongMethod(resource) => TurnResult::Refused(Refused::WrongMethod(resource)),
         What::BadBody(_) => TurnResult::Refused(Refused::BadBody),
-        What::BadQuery { place } => TurnResult::Refused(Refused::BadQuery { place }),
+        What::BadQuery { offset } => TurnResult::Refused(Refused::BadQuery { offset }),
         What::Command(command) => judge(book, &caller, command),
         What::Bulk(rows) => judge_bulk(book, &caller, rows),
         What::Query(query) => answer(book, &caller, &query),
@@ -165,30 +165,30 @@ fn answer<K: Keeper>(book: &Book<K>, caller: &Option<UserNo>, query: &Query) -> 
 pub(crate) fn print_turn(
     reply: &mut Vec<u8>,
     turn: &TurnResult,
-    form: Form,
+    sending: Sending,
 ) -> Result<(), AllocError>
     requires empty { reply.old.items ≡ [] }
     requires room { HasRoom reply.old 512 }
-    ensures ok { OnOk result (reply.new.items ≡ turn_front turn.now form) }
+    ensures ok { OnOk result (reply.new.items ≡ turn_front turn.now sending) }
     ensures err { OnErr result (MayWantToPrint turn.now) }
     ensures kept { vec_capacity reply.old ≤ vec_capacity reply.new }
 {
     match turn {
-        TurnResult::Refused(refused) => print_refusal(reply, *refused, form),
-        TurnResult::Accepted(receipt) => print_receipt(reply, receipt, form),
-        TurnResult::Answered(answer) => return print_reply(reply, answer, form),
-        TurnResult::Lost => print_refusal(reply, Refused::KeeperFault, form),
+        TurnResult::Refused(refused) => print_refusal(reply, *refused, sending),
+        TurnResult::Accepted(receipt) => print_receipt(reply, receipt, sending),
+        TurnResult::Answered(answer) => return print_reply(reply, answer, sending),
+        TurnResult::Lost => print_refusal(reply, Refused::KeeperFault, sending),
         TurnResult::OutOfMemory => {}
     }
     Ok(())
 }
 
 /// What is written behind that, lent from where it is kept: a paper's content.
-pub(crate) fn block_of(turn: &TurnResult, form: Form) -> &[u8]
-    ensures { result.now ≡ turn_block turn.now form }
+pub(crate) fn block_of(turn: &TurnResult, sending: Sending) -> &[u8]
+    ensures { result.now ≡ turn_block turn.now sending }
 {
     match turn {
-        TurnResult::Answered(reply) => block(reply, form),
+        TurnResult::Answered(reply) => block(reply, sending),
         _ => &[],
     }
 }

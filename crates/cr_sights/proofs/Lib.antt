@@ -1,5 +1,5 @@
 pub mod Around
-pub mod MatterLaws
+pub mod SeriesLaws
 pub mod MemberLaws
 pub mod PlaceLaws
 pub mod PositionLaws

@@ -1,4 +1,4 @@
--- At which place of some entries the last of a matter stands.
+-- At which place of some entries the last of a series stands.
 use Rattle.std.proofs.Common.{◌≡◌, ◌∙◌, ℕ, ◌+◌, ◌<◌, ◌≤◌, Bool, true, false, cond, List, [], ◌∷◌, ◌++◌, length, take, get_or, eqb, refl, sym, ap, subst, arith}
 use Rattle.std.specs.Prelude.{not, ◌||◌, slice_index, Option, Some, None}
 use Rattle.std.proofs.lemmas.Bool.{ne_eqb}
@@ -7,13 +7,13 @@ use Rattle.std.proofs.lemmas.List.{length-take-le}
 use Rattle.cr_base.specs.declared.entry.Stamped.{Stamped}
 use Rattle.cr_base.specs.Lists.{is_number}
 use Rattle.cr_base.specs.History.{History}
-use Rattle.cr_sights.specs.Matters.{is_of, some_of, none_of, last_place, AreLast, is_last_at}
+use Rattle.cr_sights.specs.Series.{is_of, some_of, none_of, last_place, AreLast, is_last_at}
 use Rattle.cr_sights.proofs.Around.{one_more}
 
 pub eqb-same : (n : ℕ) → eqb n n ≡ true
 eqb-same n = grind (arith, nat_tests)
 
--- ---- the last of a matter
+-- ---- the last of a series
 
 module _ (k : ℕ) where
   -- behind some entries come more
@@ -24,7 +24,7 @@ module _ (k : ℕ) where
       ∙ ap (λ (m : ℕ). last_place k (last_place k (cond (is_of k e.entry) n d) (n + 1) xs) m ys)
       (let s : n + 1 + length xs ≡ n + length (e ∷ xs) = omega arith in s)
 
-  -- one more entry is the last where it is of the matter
+  -- one more entry is the last where it is of the series
   last_place-push : (H : History) (e : Stamped) → last_place k 0 1 (H ++ e ∷ []) ≡ cond (is_of k e.entry) (length H + 1) (last_place k 0 1 H)
   last_place-push H e =
       last_place-append 0 1 H (e ∷ [])
@@ -35,7 +35,7 @@ module _ (k : ℕ) where
   kept-step d n H true rest none = cc
   kept-step d n H false rest none = rest none
 
-  -- entries of other matters leave the place
+  -- entries of other series leave the place
   kept : (d n : ℕ) (H : History) → some_of k H ≡ false → last_place k d n H ≡ d
   kept d n [] none = refl
   kept d n (e ∷ H) none = kept-step d n H (is_of k e.entry) (kept d (n + 1) H) none
@@ -49,12 +49,12 @@ module _ (k : ℕ) where
     moved-step d true some = from_here (some_of k H) refl
     moved-step d false some = let h = further d some in omega (arith, h)
 
-  -- entries of the matter move it on
+  -- entries of the series move it on
   moved : (d n : ℕ) (H : History) → some_of k H ≡ true → n ≤ last_place k d n H
   moved d n [] some = cc
   moved d n (e ∷ H) some = moved-step n H (λ d' s. moved d' (n + 1) H s) d (is_of k e.entry) some
 
-  -- a place that stands before the entries is the last one still where none of them is of the matter
+  -- a place that stands before the entries is the last one still where none of them is of the series
   still-last : (d n : ℕ) (H : History) → d < n → eqb (last_place k d n H) d ≡ not (some_of k H)
   still-last d n H below = by (some_of k H) refl
     where
@@ -62,7 +62,7 @@ module _ (k : ℕ) where
       by false none = ap (λ (m : ℕ). eqb m d) (kept d n H none) ∙ eqb-same d ∙ sym (ap not none)
       by true some = ne_eqb (last_place k d n H) d (let h = moved d n H some in λ e. omega (arith, e, h)) ∙ sym (ap not some)
 
-  -- the place of an entry of the matter is the last one where none behind it is
+  -- the place of an entry of the series is the last one where none behind it is
   last-here : (before : History) (e : Stamped) (after : History) → is_of k e.entry ≡ true
       → eqb (last_place k 0 1 (before ++ e ∷ after)) (length before + 1) ≡ not (some_of k after)
   last-here before e after of =
@@ -81,24 +81,24 @@ module _ (k : ℕ) where
 pub none-noted : AreLast [] []
 none-noted k = refl
 
--- by the places of a matter, none of these entries is of it; so where there is no matter
-pub none-passed : (places : List ℕ) (H : History) (matter : Option ℕ) → AreLast places H → none_of matter H ≡ is_last_at places matter 0
+-- by the places of a series, none of these entries is of it; so where there is no series
+pub none-passed : (places : List ℕ) (H : History) (series : Option ℕ) → AreLast places H → none_of series H ≡ is_last_at places series 0
 none-passed places H None last = refl
 none-passed places H (Some k) last = sym (ap (λ (n : ℕ). eqb n 0) (last k) ∙ still-last k 0 1 H (omega arith))
 
--- none behind an entry is of its matter
-pub none-behind : (places : List ℕ) (before : History) (e : Stamped) (after : History) (matter : Option ℕ) → ((k : ℕ) → is_of k e.entry ≡ is_number matter k)
-    → AreLast places (before ++ e ∷ after) → none_of matter after ≡ is_last_at places matter (length before + 1)
+-- none behind an entry is of its series
+pub none-behind : (places : List ℕ) (before : History) (e : Stamped) (after : History) (series : Option ℕ) → ((k : ℕ) → is_of k e.entry ≡ is_number series k)
+    → AreLast places (before ++ e ∷ after) → none_of series after ≡ is_last_at places series (length before + 1)
 none-behind places before e after None of last = refl
 none-behind places before e after (Some k) of last =
     sym (ap (λ (n : ℕ). eqb n (length before + 1)) (last k) ∙ last-here k before e after (of k ∙ eqb-same k))
 
 -- one more entry is noted
-pub noted : (old new : List ℕ) (H : History) (e : Stamped) (matter : Option ℕ) → ((k : ℕ) → is_of k e.entry ≡ is_number matter k)
-    → ((k : ℕ) → slice_index new k ≡ cond (is_number matter k) (length H + 1) (slice_index old k)) → AreLast old H → AreLast new (H ++ e ∷ [])
-noted old new H e matter of now was k =
+pub noted : (old new : List ℕ) (H : History) (e : Stamped) (series : Option ℕ) → ((k : ℕ) → is_of k e.entry ≡ is_number series k)
+    → ((k : ℕ) → slice_index new k ≡ cond (is_number series k) (length H + 1) (slice_index old k)) → AreLast old H → AreLast new (H ++ e ∷ [])
+noted old new H e series of now was k =
     now k
-    ∙ ap (cond (is_number matter k) (length H + 1)) (was k)
+    ∙ ap (cond (is_number series k) (length H + 1)) (was k)
     ∙ ap (λ b. cond b (length H + 1) (last_place k 0 1 H)) (sym (of k))
     ∙ sym (last_place-push k H e)
 
@@ -109,9 +109,9 @@ module _ (log : History) (at : ℕ) (d : Stamped) (within : at < length log) whe
   at-length = length-take-le at log (omega (arith, within))
 
   -- it is noted behind those before it
-  pub noted-here : (old new : List ℕ) (matter : Option ℕ) → ((k : ℕ) → is_of k (get_or log at d).entry ≡ is_number matter k)
-      → ((k : ℕ) → slice_index new k ≡ cond (is_number matter k) (at + 1) (slice_index old k)) → AreLast old (take at log) → AreLast new (take (at + 1) log)
-  noted-here old new matter of now was =
+  pub noted-here : (old new : List ℕ) (series : Option ℕ) → ((k : ℕ) → is_of k (get_or log at d).entry ≡ is_number series k)
+      → ((k : ℕ) → slice_index new k ≡ cond (is_number series k) (at + 1) (slice_index old k)) → AreLast old (take at log) → AreLast new (take (at + 1) log)
+  noted-here old new series of now was =
       subst (AreLast new) (sym (one_more log at d within))
-      (noted old new (take at log) (get_or log at d) matter of
-      (λ k. now k ∙ ap (λ (n : ℕ). cond (is_number matter k) (n + 1) (slice_index old k)) (sym at-length)) was)
+      (noted old new (take at log) (get_or log at d) series of
+      (λ k. now k ∙ ap (λ (n : ℕ). cond (is_number series k) (n + 1) (slice_index old k)) (sym at-length)) was)

@@ -1,4 +1,4 @@
--- Where an entry stands among those of its matter, by the places that are noted.
+-- Where an entry stands among those of its series, by the places that are noted.
 use Rattle.std.proofs.Common.{◌≡◌, ◌∙◌, ℕ, ◌+◌, ◌<◌, ◌≤◌, Bool, true, false, List, [], ◌∷◌, ◌++◌, length, take, drop, get_or, refl, sym, ap, subst, arith, zero, suc}
 use Rattle.std.specs.Prelude.{not, ◌&&◌, ◌||◌, Option, Some, None, IfSome, nat_lt, if◌then◌else◌}
 use Rattle.std.specs.List.{list_any}
@@ -12,7 +12,7 @@ use Rattle.cr_base.specs.declared.words.Phase.TheVariants.{Discussion}
 use Rattle.cr_base.specs.Lists.{is_number, until}
 use Rattle.cr_base.specs.History.{History, opens, opens_discussion}
 use Rattle.cr_policy.specs.Triggers.{Around, Position, none_alike, position_of}
-use Rattle.cr_sights.specs.Matters.{AreLast, is_last_at, is_of, none_of}
+use Rattle.cr_sights.specs.Series.{AreLast, is_last_at, is_of, none_of}
 use Rattle.cr_sights.specs.Positions.{IsPositionIn}
 use Rattle.cr_sights.proofs.Around.{split_here}
 use Rattle.cr_sights.proofs.PlaceLaws.{eqb-same, none-behind, none-passed}
@@ -53,7 +53,7 @@ module _ {A : Type 0} (test : A → Bool) where
       by true none rest = cc
       by false none rest = ap (λ (ys : List A). y ∷ ys) (rest none not_here)
 
--- an entry of a matter opens no discussion
+-- an entry of a series opens no discussion
 opens-none : (k : ℕ) (e : Entry) → is_of k e ≡ true → opens Discussion e ≡ false
 opens-none k (PhaseSet phase) of = cc
 opens-none k _ of = refl
@@ -68,8 +68,8 @@ module _ (log : History) (at : ℕ) (d : Stamped) (within : at < length log) whe
   at-length = length-take-le at log (omega (arith, within))
 
   -- none behind it before the discussion
-  early-behind : (early : List ℕ) (matter : Option ℕ) → ((k : ℕ) → is_of k here.entry ≡ is_number matter k) → list_any opens_discussion (take at log) ≡ false
-      → AreLast early (until opens_discussion log) → none_of matter (until opens_discussion (drop (at + 1) log)) ≡ is_last_at early matter (at + 1)
+  early-behind : (early : List ℕ) (series : Option ℕ) → ((k : ℕ) → is_of k here.entry ≡ is_number series k) → list_any opens_discussion (take at log) ≡ false
+      → AreLast early (until opens_discussion log) → none_of series (until opens_discussion (drop (at + 1) log)) ≡ is_last_at early series (at + 1)
   early-behind early None of none last = refl
   early-behind early (Some k) of none last =
       none-behind early (take at log) here (until opens_discussion (drop (at + 1) log)) (Some k) of
@@ -78,26 +78,26 @@ module _ (log : History) (at : ℕ) (d : Stamped) (within : at < length log) whe
       ∙ until-behind opens_discussion (take at log) here (drop (at + 1) log) none (opens-none k here.entry (of k ∙ eqb-same k))) last)
       ∙ ap (λ (n : ℕ). is_last_at early (Some k) (n + 1)) at-length
 
-  module _ (matter : Option ℕ)
-      (of : (k : ℕ) → is_of k here.entry ≡ is_number matter k) (alike : (H : History) → none_alike here.entry H ≡ none_of matter H) where
-    first-here : (passed : List ℕ) → AreLast passed (take at log) → none_alike here.entry (take at log) ≡ is_last_at passed matter 0
-    first-here passed last = alike (take at log) ∙ none-passed passed (take at log) matter last
+  module _ (series : Option ℕ)
+      (of : (k : ℕ) → is_of k here.entry ≡ is_number series k) (alike : (H : History) → none_alike here.entry H ≡ none_of series H) where
+    first-here : (passed : List ℕ) → AreLast passed (take at log) → none_alike here.entry (take at log) ≡ is_last_at passed series 0
+    first-here passed last = alike (take at log) ∙ none-passed passed (take at log) series last
 
-    last-here : (all : List ℕ) → AreLast all log → none_alike here.entry (drop (at + 1) log) ≡ is_last_at all matter (at + 1)
+    last-here : (all : List ℕ) → AreLast all log → none_alike here.entry (drop (at + 1) log) ≡ is_last_at all series (at + 1)
     last-here all last =
         alike (drop (at + 1) log)
-        ∙ none-behind all (take at log) here (drop (at + 1) log) matter of (subst (AreLast all) (split_here log at d within) last)
-        ∙ ap (λ (n : ℕ). is_last_at all matter (n + 1)) at-length
+        ∙ none-behind all (take at log) here (drop (at + 1) log) series of (subst (AreLast all) (split_here log at d within) last)
+        ∙ ap (λ (n : ℕ). is_last_at all series (n + 1)) at-length
 
     early-here : (early : List ℕ) (opened : Bool) → list_any opens_discussion (take at log) ≡ opened → AreLast early (until opens_discussion log)
-        → (not opened && none_alike here.entry (until opens_discussion (drop (at + 1) log))) ≡ (not opened && is_last_at early matter (at + 1))
+        → (not opened && none_alike here.entry (until opens_discussion (drop (at + 1) log))) ≡ (not opened && is_last_at early series (at + 1))
     early-here early true some last = refl
-    early-here early false none last = alike (until opens_discussion (drop (at + 1) log)) ∙ early-behind early matter of none last
+    early-here early false none last = alike (until opens_discussion (drop (at + 1) log)) ∙ early-behind early series of none last
 
     pub stands_so : (passed all early : List ℕ) (n : ℕ)
         → AreLast passed (take at log) → AreLast all log → AreLast early (until opens_discussion log) → n ≡ length (until opens_discussion log)
-        → (position : Position) → position.first ≡ is_last_at passed matter 0 → position.last ≡ is_last_at all matter (at + 1)
-        → position.last_before_discussion ≡ (not position.from_discussion && is_last_at early matter (at + 1)) → position.from_discussion ≡ nat_lt n at
+        → (position : Position) → position.first ≡ is_last_at passed series 0 → position.last ≡ is_last_at all series (at + 1)
+        → position.last_before_discussion ≡ (not position.from_discussion && is_last_at early series (at + 1)) → position.from_discussion ≡ nat_lt n at
         → IsPositionIn log at position
     stands_so passed all early n passes ends ends_early is position first last last_early from =
         subst (λ (o : Option Stamped). IfSome o (λ e. position_of place e.entry ≡ position)) (sym (slice_get-get_or log at d within)) same

@@ -2,6 +2,6 @@ pub mod Readers
 pub mod SeatRows
 pub mod FormRows
 pub mod Lines
-pub mod Matters
+pub mod Series
 pub mod Positions
 pub mod Walks

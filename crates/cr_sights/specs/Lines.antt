@@ -14,7 +14,7 @@ use Rattle.cr_base.specs.Rows.{kind_name}
 use Rattle.cr_base.specs.Words.{mode_name, phase_name, role_name}
 use Rattle.cr_policy.specs.Sighting.{Sighting}
 use Rattle.cr_policy.specs.View.{View}
-use Rattle.cr_json.specs.Json.{Member, bid_text, decision_text, member_of, object_text, seat_text, truth_text}
+use Rattle.cr_json.specs.Json.{Member, bid_text, decision_text, member_of, object_text, review_kind_text, truth_text}
 
 -- ---- the values of members, where names and texts are strings and numbers decimal
 
@@ -88,7 +88,7 @@ unfoldable pub fourth_members : Sighting → List Member
 fourth_members s =
     member_of (codes "role") (option_map role_text s.role)
     ++ member_of (codes "score") (option_map decimal s.score)
-    ++ member_of (codes "seat") (option_map seat_text s.seat)
+    ++ member_of (codes "seat") (option_map review_kind_text s.review_kind)
     ++ member_of (codes "tag") (option_map quoted s.tag)
     ++ member_of (codes "text") (option_map quoted s.text)
     ++ member_of (codes "title") (option_map quoted s.title)

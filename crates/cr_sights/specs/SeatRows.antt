@@ -12,5 +12,5 @@ rows_with r maker paper user = seat_rows r paper user ++ user_named r maker see 
 -- they show these parts, and no others beside the paper
 pub record AreShown (rows : List TriggerRow) (parts : SeatParts) : Type 0 where
   pub user : shows rows part.user ≡ parts.user
-  pub seat : shows rows part.seat ≡ parts.kind
+  pub review_kind : shows rows part.review_kind ≡ parts.kind
   pub ordinal : shows rows part.ordinal ≡ parts.ordinal

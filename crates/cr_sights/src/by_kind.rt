@@ -19,7 +19,7 @@ use cr_base::{Entry, Stamped, UserNo};
 use cr_view::Live;
 
 /// What an entry shows a user by the tables of the whole history, and none where it shows her nothing. `position`
-/// tells where it stands among the entries of its matter. A few look-ups; takes no memory.
+/// tells where it stands among the entries of its series. A few look-ups; takes no memory.
 pub fn sight<'a>(
     live: &Live,
     reader: UserNo,

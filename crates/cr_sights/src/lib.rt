@@ -1,6 +1,6 @@
 //! What a user sees of a history, entry by entry, found in the tables: no view is made in memory.
 //!
-//! `sight` gives what one entry shows, by the tables and by where it stands among those of its matter; `write_view` writes
+//! `sight` gives what one entry shows, by the tables and by where it stands among those of its series; `write_view` writes
 //! it line by line, `view_len` counts the lines.
 #![tactic(auto)]
 
@@ -8,7 +8,6 @@ mod asked;
 mod by_kind;
 mod decisions;
 mod line;
-mod matter;
 mod members;
 mod papers;
 mod places;
@@ -17,6 +16,7 @@ mod positions;
 mod public;
 mod reviews;
 mod seats;
+mod series;
 mod sighting;
 mod tags;
 mod talk;

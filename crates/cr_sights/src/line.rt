@@ -96,7 +96,7 @@ fn add_fourth(
 {
     add(object, into, "role", sighting.role.as_ref())?;
     add(object, into, "score", sighting.score.as_ref())?;
-    add(object, into, "seat", sighting.seat.as_ref())?;
+    add(object, into, "seat", sighting.review_kind.as_ref())?;
     add(object, into, "tag", sighting.tag)?;
     add(object, into, "text", sighting.text)?;
     add(object, into, "title", sighting.title)?;

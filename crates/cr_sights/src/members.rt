@@ -3,7 +3,7 @@ ghost use Rattle.std.specs.Prelude.{◌≡◌, List, ℕ, Some, decimal, option_
 ghost use Rattle.std.specs.Option.{option_copied};
 ghost use Rattle.hex.specs.Hex.{encode_lower};
 ghost use Rattle.json.specs.Print.{quoted};
-ghost use Rattle.cr_json.specs.Json.{AddsMembers, bid_text, decision_text, member_of, seat_text};
+ghost use Rattle.cr_json.specs.Json.{AddsMembers, bid_text, decision_text, member_of, review_kind_text};
 ghost use Rattle.cr_sights.specs.Lines.{content_text, digest_text, mode_text, phase_text, role_text};
 
 use cr_base::{
@@ -166,7 +166,7 @@ impl Part for Role {
 
 /// A kind of assignment by its word.
 impl Part for Kind {
-    ghost text = { seat_text };
+    ghost text = { review_kind_text };
 
     fn write(&self, object: &mut Object, into: &mut Vec<u8>, key: &str) -> Result<(), AllocError> {
         object.string(into, key, self.name().as_bytes())

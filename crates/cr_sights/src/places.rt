@@ -1,13 +1,13 @@
-//! At which place the last entry of each matter stands.
+//! At which place the last entry of each series stands.
 ghost use Rattle.std.specs.Prelude.{◌≡◌, ℕ, ◌<◌, [], length, if◌then◌else◌, slice_index, IfOk, OnOk};
 ghost use Rattle.cr_base.specs.Lists.{is_number};
-ghost use Rattle.cr_sights.specs.Matters.{AreLast, is_last_at};
+ghost use Rattle.cr_sights.specs.Series.{AreLast, is_last_at};
 
-use crate::matter::matter;
+use crate::series::series;
 use cr_base::Stamped;
 use std::alloc::{AllocError, Global};
 
-/// At which place the last entry of each matter stands among some entries, counted from 1, by the number of the matter;
+/// At which place the last entry of each series stands among some entries, counted from 1, by the number of the series;
 /// 0 where no entry is of it, as past the end. It takes 232 bytes for each number of a paper up to the greatest one, so
 /// 2.3 MB for 9,999 papers, and up to twice that as it grows.
 #[derive(Drop)]
@@ -32,42 +32,42 @@ impl Places {
         let mut places = Places::new(alloc);
         let mut at = 0;
         'places: while at < log.len() {
-            places.note(&matter(&log[at].entry), at + 1)?;
+            places.note(&series(&log[at].entry), at + 1)?;
             at += 1;
         }
         Ok(places)
     }
 
-    /// Notes the place of an entry of a matter, where it is of one; an error only for lack of memory.
-    pub(crate) fn note(&mut self, matter: &Option<u32>, place: usize) -> Result<(), AllocError>
+    /// Notes the place of an entry of a series, where it is of one; an error only for lack of memory.
+    pub(crate) fn note(&mut self, series: &Option<u32>, place: usize) -> Result<(), AllocError>
         ensures { OnOk result ((k : ℕ) → slice_index self.new.places.items k
-            ≡ (if is_number matter.now k then place else slice_index self.old.places.items k)) }
+            ≡ (if is_number series.now k then place else slice_index self.old.places.items k)) }
     {
-        let Some(matter) = matter else {
+        let Some(series) = series else {
             return Ok(());
         };
-        let number = *matter as usize;
+        let number = *series as usize;
         fill(&mut self.places, number)?;
         self.places[number] = place;
         Ok(())
     }
 
-    /// Whether the last entry of a matter stands at this place, or for 0 whether there is none; true where the matter is
+    /// Whether the last entry of a series stands at this place, or for 0 whether there is none; true where the series is
     /// none.
-    pub(crate) fn is_last_at(&self, matter: &Option<u32>, place: usize) -> bool
-        ensures { result ≡ is_last_at self.now.places.items matter.now place }
+    pub(crate) fn is_last_at(&self, series: &Option<u32>, place: usize) -> bool
+        ensures { result ≡ is_last_at self.now.places.items series.now place }
     {
-        match matter {
-            Some(matter) => self.last_of(*matter) == place,
+        match series {
+            Some(series) => self.last_of(*series) == place,
             None => true,
         }
     }
 
-    /// The place of the last entry of a matter, 0 where there is none.
-    fn last_of(&self, matter: u32) -> usize
-        ensures { result ≡ slice_index self.now.places.items matter }
+    /// The place of the last entry of a series, 0 where there is none.
+    fn last_of(&self, series: u32) -> usize
+        ensures { result ≡ slice_index self.now.places.items series }
     {
-        match self.places.get(matter as usize) {
+        match self.places.get(series as usize) {
             Some(place) => *place,
             None => 0,
         }

@@ -1,18 +1,18 @@
-//! Where an entry stands among those of its matter.
+//! Where an entry stands among those of its series.
 use std::marker::Model;
 
-/// Where an entry stands among those of its matter: a paper's texts, its content, the forms under one of its labels, or the
+/// Where an entry stands among those of its series: a paper's texts, its content, the forms under one of its labels, or the
 /// decisions on it.
 /// An entry of any other kind is the first and the last of its own.
 ///
 /// Contracts see it as the trigger table asks for it.
 #[derive(Clone, Copy, Debug)]
 pub struct Position {
-    /// Whether no earlier entry is of its matter.
+    /// Whether no earlier entry is of its series.
     pub first: bool,
     /// Whether no later one is.
     pub last: bool,
-    /// Whether the discussion wasn't opened before it, and no later entry of its matter was made before that.
+    /// Whether the discussion wasn't opened before it, and no later entry of its series was made before that.
     pub last_before_discussion: bool,
     /// Whether the discussion was opened before it.
     pub from_discussion: bool,

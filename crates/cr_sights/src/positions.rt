@@ -1,17 +1,17 @@
-//! Where each entry of a history stands among those of its matter, entry by entry.
+//! Where each entry of a history stands among those of its series, entry by entry.
 ghost use Rattle.std.specs.Prelude.{◌≡◌, ◌+◌, ◌<◌, ◌≤◌, ◌&&◌, length, not, IfOk, OnOk};
 ghost use Rattle.cr_base.specs.declared.words.Phase.TheVariants as phases;
 ghost use Rattle.cr_base.specs.History.{opens, opens_discussion};
 ghost use Rattle.cr_base.specs.Lists.{until};
 ghost use Rattle.cr_sights.specs.Positions.{AreNoted, IsPositionIn};
 
-use crate::matter::matter;
 use crate::places::Places;
 use crate::position::Position;
+use crate::series::series;
 use cr_base::{Entry, Phase, Stamped};
 use std::alloc::{AllocError, Global};
 
-/// What tells of each entry of a history where it stands, as a walk comes to it: the last places of matters among the
+/// What tells of each entry of a history where it stands, as a walk comes to it: the last places of series among the
 /// entries that were passed, in the whole history, and among those that stand before the discussion was opened.
 #[derive(Drop)]
 pub(crate) struct Positions {
@@ -45,21 +45,21 @@ impl Positions {
         ensures position { IfOk result (IsPositionIn log.now at) }
         ensures noted { OnOk result (AreNoted self.new log.now (at + 1)) }
     {
-        let matter = matter(&log[at].entry);
+        let series = series(&log[at].entry);
         let from_discussion = self.opened < at;
-        let last_early = self.early.is_last_at(&matter, at + 1);
+        let last_early = self.early.is_last_at(&series, at + 1);
         let position = Position {
-            first: self.passed.is_last_at(&matter, 0),
-            last: self.all.is_last_at(&matter, at + 1),
+            first: self.passed.is_last_at(&series, 0),
+            last: self.all.is_last_at(&series, at + 1),
             last_before_discussion: is_last_before(from_discussion, last_early),
             from_discussion,
         };
-        self.passed.note(&matter, at + 1)?;
+        self.passed.note(&series, at + 1)?;
         Ok(position)
     }
 }
 
-/// Whether an entry stands before the discussion, as the last of its matter there.
+/// Whether an entry stands before the discussion, as the last of its series there.
 fn is_last_before(from_discussion: bool, last_early: bool) -> bool
     ensures { result ≡ (not from_discussion && last_early) }
 {

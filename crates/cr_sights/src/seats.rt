@@ -42,8 +42,8 @@ fn shows_user(by: &Standing, named: bool, made: bool) -> bool
         || ((is_clear_member by.now && (not (is_anonymous by.now.mode) && is_from phases.Discussion by.now.phase))
         || ((by.now.author && (is_overt by.now.mode && is_from phases.Notification by.now.phase)) || made)))) }
 {
-    let handles = by.is_clear_chair() || discusses(by) && !by.mode.is_anonymous();
-    named || handles || sees_reviewers(by) || made
+    let knows = by.is_clear_chair() || discusses(by) && !by.mode.is_anonymous();
+    named || knows || sees_reviewers(by) || made
 }
 
 /// Whether she is shown what a seat is: who is named or made the entry, clear chairs, and clear members from the discussion.
@@ -110,7 +110,7 @@ pub(crate) fn assignment<'a>(
     let mut sighting = blank(EntryKind::Assigned, reader == stamped.maker);
     sighting.paper = Some(*paper);
     sighting.user = parts.user.then_some(*user);
-    sighting.seat = parts.kind.then_some(*kind);
+    sighting.review_kind = parts.kind.then_some(*kind);
     sighting.ordinal = parts.ordinal.then_some(ordinal.number());
     Some(sighting)
 }

@@ -47,7 +47,7 @@ pub struct Sighting<'a> {
     /// How much a member wants to review the paper.
     pub value: Option<Bid>,
     /// What the user who was assigned is to the paper.
-    pub seat: Option<Kind>,
+    pub review_kind: Option<Kind>,
     /// The ordinal of the label under which she reviews it, or did; that of a form's label; and of a comment that of its
     /// writer's, 0 where she didn't review the paper.
     pub ordinal: Option<u64>,
@@ -98,7 +98,7 @@ impl<'a> Model for Sighting<'a> {
       content = option_map (λ t. t.now) s.content;
       on = s.on;
       value = s.value;
-      seat = s.seat;
+      review_kind = s.review_kind;
       ordinal = s.ordinal;
       score = s.score;
       confidence = s.confidence;
@@ -135,7 +135,7 @@ pub(crate) fn blank<'a>(kind: EntryKind, mine: bool) -> Sighting<'a>
         content: None,
         on: None,
         value: None,
-        seat: None,
+        review_kind: None,
         ordinal: None,
         score: None,
         confidence: None,

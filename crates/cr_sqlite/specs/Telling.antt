@@ -5,6 +5,6 @@ use Rattle.cr_sqlite.specs.declared.reason.StoreError.{StoreError}
 use Rattle.cr_sqlite.specs.declared.reason.StoreError.TheVariants.{Failed, OutOfMemory}
 
 -- the same, without its reason
-abbrev pub told_of : StoreError → KeeperError
-told_of (Failed reason) = errors.Failed
-told_of OutOfMemory = errors.OutOfMemory
+abbrev pub without_reason : StoreError → KeeperError
+without_reason (Failed reason) = errors.Failed
+without_reason OutOfMemory = errors.OutOfMemory

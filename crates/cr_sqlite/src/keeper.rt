@@ -1,9 +1,9 @@
 //! A keeper over a connection.
 ghost use Rattle.std.specs.Prelude.{◌≡◌, ℕ, None, false, IfOk, IfErr};
 ghost use Rattle.cr_ports.specs.Keeping.{HasCause};
-ghost use Rattle.cr_sqlite.specs.Telling.{told_of};
+ghost use Rattle.cr_sqlite.specs.Telling.{without_reason};
 
-use crate::lanes::Lanes;
+use crate::cursors::Cursors;
 use crate::notices::Notices;
 use crate::reason::{Reason, StoreError};
 use crate::record::insert;
@@ -20,10 +20,10 @@ use std::marker::Model;
 /// Contracts see the count of faults.
 pub struct SqliteKeeper<S: Alter> {
     conn: Connection<S>,
-    lanes: Lanes,
+    cursors: Cursors,
     /// How many rows are kept.
     len: u64,
-    /// The row at which the lanes stand, if they do at one.
+    /// The row at which the cursors stand, if they do at one.
     next: Option<u64>,
     faults: u64,
     reason: Option<Reason>,
@@ -35,7 +35,7 @@ impl<S: Alter + Drop> Drop for SqliteKeeper<S> {
     fn drop(self) {
         let SqliteKeeper {
             conn: _,
-            lanes: _,
+            cursors: _,
             len: _,
             next: _,
             faults: _,
@@ -53,13 +53,16 @@ impl<S: Alter> Model for SqliteKeeper<S> {
     ghost view = { λ k. k.faults };
 }
 
-/// Makes the store's tables where the database has none, and else looks at them. The lanes, and
+/// Makes the store's tables where the database has none, and else looks at them. The cursors, and
 /// how many rows there are.
-fn prepare<S: Alter>(alloc: Global, conn: &mut Connection<S>) -> Result<(Lanes, u64), StoreError> {
+fn prepare<S: Alter>(
+    alloc: Global,
+    conn: &mut Connection<S>,
+) -> Result<(Cursors, u64), StoreError> {
     make_or_check(conn)?;
     let len = count_all(conn)?;
-    let lanes = Lanes::new(alloc, conn)?;
-    Ok((lanes, len))
+    let cursors = Cursors::new(alloc, conn)?;
+    Ok((cursors, len))
 }
 
 /// How many rows there are.
@@ -88,14 +91,14 @@ fn is_over<S: Alter>(conn: &mut Connection<S>) -> bool {
 /// Adds all rows from a place on, in one transaction, or none of them.
 fn insert_all<S: Alter>(
     conn: &mut Connection<S>,
-    lanes: &Lanes,
+    cursors: &Cursors,
     first: u64,
     added: &[Row],
 ) -> Result<(), StoreError>
     requires { conn.old.in_transaction ≡ false }
 {
     let mut transaction = conn.transaction();
-    insert_each(&mut transaction, lanes, first, added)?;
+    insert_each(&mut transaction, cursors, first, added)?;
     transaction.commit()?;
     Ok(())
 }
@@ -103,13 +106,13 @@ fn insert_all<S: Alter>(
 /// Adds all rows from a place on.
 fn insert_each<S: Alter>(
     transaction: &mut Transaction<'_, S>,
-    lanes: &Lanes,
+    cursors: &Cursors,
     first: u64,
     added: &[Row],
 ) -> Result<(), StoreError> {
     let mut place = first;
     for row in added {
-        insert_one(transaction, lanes, place, row)?;
+        insert_one(transaction, cursors, place, row)?;
         place = place.saturating_add(1);
     }
     Ok(())
@@ -117,11 +120,11 @@ fn insert_each<S: Alter>(
 
 fn insert_one<S: Alter>(
     transaction: &mut Transaction<'_, S>,
-    lanes: &Lanes,
+    cursors: &Cursors,
     place: u64,
     row: &Row,
 ) -> Result<(), StoreError> {
-    match lanes.insert_for(row.kind) {
+    match cursors.insert_for(row.kind) {
         Some(statement) => insert(transaction, statement, place, row),
         None => Err(StoreError::Failed(Reason::UnknownRow(place))),
     }
@@ -142,12 +145,12 @@ impl<S: Alter> SqliteKeeper<S> {
         faults: &mut u64,
     ) -> Result<Self, (StoreError, Connection<S>)>
         ensures kept { IfOk result (λ keeper. (keeper ≡ 0) × (faults.new ≡ faults.old)) }
-        ensures cause { IfErr result (λ e. HasCause {T = ℕ} faults.old faults.new (Err (told_of e.0))) }
+        ensures cause { IfErr result (λ e. HasCause {T = ℕ} faults.old faults.new (Err (without_reason e.0))) }
     {
         match prepare(alloc, &mut conn) {
-            Ok((lanes, len)) => Ok(SqliteKeeper {
+            Ok((cursors, len)) => Ok(SqliteKeeper {
                 conn,
-                lanes,
+                cursors,
                 len,
                 next: None,
                 faults: 0,
@@ -166,7 +169,7 @@ impl<S: Alter> SqliteKeeper<S> {
     pub fn release(self) -> Connection<S> {
         let SqliteKeeper {
             conn,
-            lanes: _,
+            cursors: _,
             len: _,
             next: _,
             faults: _,
@@ -182,7 +185,7 @@ impl<S: Alter> SqliteKeeper<S> {
     {
         let SqliteKeeper {
             conn,
-            lanes: _,
+            cursors: _,
             len: _,
             next: _,
             faults,
@@ -235,7 +238,7 @@ impl<S: Alter> SqliteKeeper<S> {
         if !self.conn.is_autocommit() {
             return Err(StoreError::Failed(Reason::InTransaction));
         }
-        insert_all(&mut self.conn, &self.lanes, self.len, added)?;
+        insert_all(&mut self.conn, &self.cursors, self.len, added)?;
         self.len = self.len.saturating_add(added.len() as u64);
         self.next = None;
         Ok(())
@@ -249,7 +252,7 @@ impl<S: Alter> SqliteKeeper<S> {
             self.seek(at);
         }
         self.next = None;
-        let row = self.lanes.take(&mut self.conn, at)?;
+        let row = self.cursors.take(&mut self.conn, at)?;
         self.next = at.checked_add(1);
         Ok(row)
     }
@@ -257,7 +260,7 @@ impl<S: Alter> SqliteKeeper<S> {
     fn seek(&mut self, at: u64)
         ensures { self.new ≡ self.old }
     {
-        self.lanes.seek(i64::try_from(at).unwrap_or(i64::MAX));
+        self.cursors.seek(i64::try_from(at).unwrap_or(i64::MAX));
     }
 }
 
@@ -270,7 +273,7 @@ impl<S: Alter + Drop> SqliteKeeper<S> {
         faults: &mut u64,
     ) -> Result<Self, StoreError>
         ensures kept { IfOk result (λ keeper. (keeper ≡ 0) × (faults.new ≡ faults.old)) }
-        ensures cause { IfErr result (λ e. HasCause {T = ℕ} faults.old faults.new (Err (told_of e))) }
+        ensures cause { IfErr result (λ e. HasCause {T = ℕ} faults.old faults.new (Err (without_reason e))) }
     {
         match SqliteKeeper::adopt(rt.alloc(), conn, faults) {
             Ok(mut keeper) => {

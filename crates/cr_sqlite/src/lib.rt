@@ -6,8 +6,8 @@
 #![tactic(auto)]
 
 mod access;
+mod cursors;
 mod keeper;
-mod lanes;
 mod notices;
 mod reason;
 mod record;

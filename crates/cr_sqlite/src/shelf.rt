@@ -2,7 +2,7 @@
 ghost use Rattle.std.specs.Prelude.{◌≡◌, ℕ, None, ⊤, IfOk};
 ghost use Rattle.cr_ports.specs.Count.{Gains};
 ghost use Rattle.cr_ports.specs.Keeping.{HasCause};
-ghost use Rattle.cr_sqlite.specs.Telling.{told_of};
+ghost use Rattle.cr_sqlite.specs.Telling.{without_reason};
 
 use crate::access::{make_private, tell_open_ones};
 use crate::keeper::SqliteKeeper;
@@ -139,7 +139,7 @@ impl SqliteShelf {
 
     /// The same as a shelf tells it, whose reason is kept here. It was counted before.
     fn told(&mut self, error: StoreError) -> KeeperError
-        ensures told { result ≡ told_of error }
+        ensures told { result ≡ without_reason error }
         ensures same { self.new ≡ self.old }
     {
         match error {

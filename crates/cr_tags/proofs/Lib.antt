@@ -1,2 +1,2 @@
 pub mod ForLaws
-pub mod PlaceLaws
+pub mod BinarySearchLaws

@@ -6,7 +6,7 @@ ghost use Rattle.cr_base.specs.Checks.{judged, tag_checks};
 ghost use Rattle.cr_base.specs.Filed.{filed};
 ghost use Rattle.cr_base.specs.TagTexts.{is_for_chairs};
 ghost use Rattle.cr_base.specs.Tags.{no_tags, tag_owner, is_tag_for, tags_for, tag_switched, tags_after, tags_in};
-ghost use Rattle.cr_tags.specs.Places.{IsAt, IsGapFor};
+ghost use Rattle.cr_tags.specs.BinarySearch.{IsAt, IsGapFor};
 
 use crate::order::compare;
 use cr_base::{
@@ -178,7 +178,7 @@ impl Tags {
     }
 
     /// Where the tag stands, or else where it would stand.
-    fn place_of(&self, tag: &Filed<SetTag>) -> Result<usize, usize>
+    fn index_of(&self, tag: &Filed<SetTag>) -> Result<usize, usize>
         ensures { MatchResult result (IsAt tag.now self.now.tags) (IsGapFor tag.now self.now.tags) }
     {
         self.tags.binary_search_by(|other| compare(other, tag))
@@ -204,9 +204,9 @@ impl Tags {
         ensures room { self.old.room ≤ self.new.room + 1 }
     {
         let filed = set_at(paper, tag, owner);
-        match self.place_of(&filed) {
-            Ok(place) => self.tags[place] = filed,
-            Err(place) => match self.tags.insert(place, filed) {
+        match self.index_of(&filed) {
+            Ok(index) => self.tags[index] = filed,
+            Err(index) => match self.tags.insert(index, filed) {
                 Ok(()) => {}
                 Err(_) => unreachable!(),
             },
@@ -218,13 +218,13 @@ impl Tags {
         ensures tags { self.new.tags ≡ tag_switched false (filed paper (record { tag = tag; owner = owner })) self.old.tags }
         ensures room { self.old.room ≤ self.new.room }
     {
-        if let Ok(place) = self.place_of(&set_at(paper, tag, owner)) {
-            self.tags.remove(place);
+        if let Ok(index) = self.index_of(&set_at(paper, tag, owner)) {
+            self.tags.remove(index);
         }
     }
 
     /// One more entry, for which there is room; takes no memory. One that turns a tag on or off costs a binary
-    /// search, and a move of the tags behind its place, of 64 bytes each.
+    /// search, and a move of the tags behind its index, of 64 bytes each.
     pub fn apply(&mut self, stamped: &Stamped)
         requires { 0 < self.old.room }
         ensures after { self.new.tags ≡ tags_after self.old.tags stamped.now.maker stamped.now.entry }

@@ -82,7 +82,7 @@ impl Talk {
         let Some(paper) = paper else {
             return Err(Rule::NoPaper);
         };
-        match by.may_handle() {
+        match by.check_eligible() {
             Ok(()) => {}
             Err(rule) => return Err(rule),
         }

@@ -10,7 +10,7 @@ use Rattle.cr_base.specs.declared.entry.Entry.{Entry}
 use Rattle.cr_base.specs.declared.entry.Stamped.{Stamped}
 use Rattle.cr_base.specs.Lists.{given, is_nothing, last, last_from, last_or}
 use Rattle.cr_base.specs.History.{History}
-use Rattle.cr_history.proofs.LineTies.{stamp}
+use Rattle.cr_history.proofs.LineAgreement.{stamp}
 use Rattle.cr_policy.specs.Sighting.{Sighting}
 use Rattle.cr_policy.specs.ShownTo.{is_told, each_told, where_known}
 use Rattle.cr_policy.specs.View.{View, view}

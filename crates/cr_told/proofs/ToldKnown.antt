@@ -13,7 +13,7 @@ use Rattle.cr_base.specs.HistoryFacts.{role_of}
 use Rattle.cr_base.specs.TagTexts.{is_for_chairs}
 use Rattle.cr_base.specs.Words.{is_chair}
 use Rattle.cr_history.specs.Invariants.{Invariants, IsInOrder, InTurn, IsByRight, IsHeld}
-use Rattle.cr_history.proofs.LineTies.{stamp}
+use Rattle.cr_history.proofs.LineAgreement.{stamp}
 use Rattle.cr_policy.specs.Legal.{Legal}
 use Rattle.cr_policy.specs.Part.{Part}
 use Rattle.cr_policy.specs.ShownTo.{is_told}

@@ -33,8 +33,8 @@ use Rattle.cr_base.specs.Words.{is_member, is_chair, is_anonymous}
 use Rattle.cr_base.proofs.LastLaws.{last_from-map}
 use Rattle.cr_history.specs.Invariants.{IsSubmitted, IsInOrder, InTurn}
 use Rattle.cr_policy.specs.Judge.{answer}
-use Rattle.cr_policy.specs.ShownTo.{is_on_committee, leads_committee, is_past_submission, is_past_reviewing, is_past_discussion, hides_reviewers, names_reviewers, knows_writers}
-use Rattle.cr_policy.specs.ShownTo.{handles, oversees, leads, discusses, is_answered, appears, where_known}
+use Rattle.cr_policy.specs.ShownTo.{is_on_committee, chairs_committee, is_past_submission, is_past_reviewing, is_past_discussion, hides_reviewers, names_reviewers, knows_writers}
+use Rattle.cr_policy.specs.ShownTo.{is_eligible, oversees, administers, discusses, is_answered, appears, where_known}
 use Rattle.cr_policy.specs.Sighting.{Sighting}
 use Rattle.cr_policy.specs.View.{View, view}
 use Rattle.cr_policy.specs.ViewFacts.{only, is_user, is_kind, label_shown, upload_shown, accounts_in_view, papers_in_view, tags_in_view, standing_in_view, facts_in_view, shown_in_view}
@@ -46,7 +46,7 @@ use Rattle.cr_policy.proofs.DecisionTells.{accepted-seen}
 use Rattle.cr_policy.proofs.LegalLaws.{legal_invariants}
 use Rattle.cr_policy.proofs.StandingLaws.{papers-seen, standing_from_view}
 use Rattle.cr_policy.proofs.Walk.{only-true, only-false, map-flat_map, filter-flat_map}
-use Rattle.cr_told.specs.Told.{page_told, shown_by, names_shown, is_clear}
+use Rattle.cr_told.specs.ToldPages.{page_told, shown_by, names_shown, is_clear}
 use Rattle.cr_told.specs.ToldLists.{name_shown, bids_listed, is_shown_done, knows_reviewers, reviewer_shown, is_left, reviewers_listed, SeatsTold, PageListsTold}
 use Rattle.cr_told.specs.ToldLists.{content_answered, contents_of, first_of, ContentTold, ContentsTold, comments_answered, comment_shown_by, comments_listed, CommentsTold}
 use Rattle.cr_told.specs.ToldLists.{AcceptedTold, own_shown, MeTold}
@@ -146,7 +146,7 @@ accepted_told u H = λ i. Some
     (filter (λ (p : ℕ). reads.accepted u p H i) (papers_in_view (view u H))))
 
 -- a chair is on the committee
-pub leads-serves : (role : Role) → (is_on_committee role && leads_committee role) ≡ leads_committee role
+pub leads-serves : (role : Role) → (is_on_committee role && chairs_committee role) ≡ chairs_committee role
 leads-serves Account = refl
 leads-serves Member = refl
 leads-serves Chair = refl
@@ -199,7 +199,7 @@ module _ (u : Option ℕ) (p : ℕ) (H : History) (there : IsSubmitted H p) (ord
   abbrev committee : is_member (role_of u H) ≡ is_on_committee (role_of u H)
   committee = member-committee (role_of u H)
 
-  abbrev chairs : is_chair (role_of u H) ≡ leads_committee (role_of u H)
+  abbrev chairs : is_chair (role_of u H) ≡ chairs_committee (role_of u H)
   chairs = chair-leads (role_of u H)
 
   pub knows : shows_reviewer stands ≡ knows_reviewers u p H
@@ -207,14 +207,14 @@ module _ (u : Option ℕ) (p : ℕ) (H : History) (there : IsSubmitted H p) (ord
       (λ i. ((chairs i && not (is_conflicted u p H)) && (phase-words (phase_of H)).bidding i)
       || ((committee i && not (is_conflicted u p H)) && not ((mode-words (mode_of H)).reviewers i) && (phase-words (phase_of H)).discussion i)
       || (is_author u p H && (mode-words (mode_of H)).named i && (phase-words (phase_of H)).notification i))
-      ∙ to (is_on_committee (role_of u H)) (leads_committee (role_of u H)) (is_past_submission (phase_of H)) (is_past_reviewing (phase_of H)) (hides_reviewers (mode_of H))
+      ∙ to (is_on_committee (role_of u H)) (chairs_committee (role_of u H)) (is_past_submission (phase_of H)) (is_past_reviewing (phase_of H)) (hides_reviewers (mode_of H))
       (is_conflicted u p H) (is_answered u p H) (leads-serves (role_of u H)) (phase-words (phase_of H)).discussion_later
     where
       to : (m k b d h c a : Bool) → (m && k) ≡ k → (b && d) ≡ d
           → (((k && not c) && b) || ((m && not c) && not h && d) || a) ≡ ((((m && b) && not c) && k) || ((((m && b) && not c) && d) && not h) || a)
       to m k b d h c a hk hd = grind (arith, hk, hd)
 
-  leading : is_clear_chair stands ≡ leads u p H
+  leading : is_clear_chair stands ≡ administers u p H
   leading = ap (λ b. b && not (is_conflicted u p H)) chairs
 
   clear : is_clear_member stands ≡ is_clear u p H
@@ -224,7 +224,7 @@ module _ (u : Option ℕ) (p : ℕ) (H : History) (there : IsSubmitted H p) (ord
       ≡ (oversees u p H || discusses u p H || is_answered u p H)
   reviewed-to =
       ap (λ b. (is_member (role_of u H) || is_author u p H || is_accepted p H) && (b || ((is_clear_member stands) && is_from Discussion (phase_of H)))) knows
-      ∙ to (is_member (role_of u H)) _ (is_past_submission (phase_of H)) (is_from Discussion (phase_of H)) _ (leads_committee (role_of u H)) (hides_reviewers (mode_of H))
+      ∙ to (is_member (role_of u H)) _ (is_past_submission (phase_of H)) (is_from Discussion (phase_of H)) _ (chairs_committee (role_of u H)) (hides_reviewers (mode_of H))
       (is_author u p H) (is_conflicted u p H) (is_accepted p H) (names_reviewers (mode_of H)) (is_past_discussion (phase_of H))
       committee (phase-words (phase_of H)).discussion (phase-words (phase_of H)).discussion_later
     where
@@ -255,7 +255,7 @@ module _ (u : Option ℕ) (p : ℕ) (H : History) (there : IsSubmitted H p) (ord
   -- a reviewer as she is told, by who she is, what she is and her label
   abbrev line : Option ℕ → Option Kind → ℕ → Reviewer
   line user seat o = record {
-    done = where_known (leads u p H) (is_shown_done p o V);
+    done = where_known (administers u p H) (is_shown_done p o V);
     kind = if is_clear u p H then seat else None;
     label = o;
     user = if knows_reviewers u p H then name_shown user V else None;
@@ -299,9 +299,9 @@ module _ (u : Option ℕ) (p : ℕ) (H : History) (there : IsSubmitted H p) (ord
           → map told (filter left (assigned_seen p (shown_to u H before later maker e)))
           ≡ (let s : Sighting = shown_to u H before later maker e in
           only (is_kind kinds.Assigned s && is_number s.paper p) (map (reviewer_shown u p H s) (filter (is_left p V) (listed s.ordinal))))
-      one before later maker (Assigned paper user seat ordinal) =
-          let s : Sighting = shown_to u H before later maker (Assigned paper user seat ordinal) in
-          where-same (eqb paper p) (record { ordinal = ordinal; kind = s.seat; user = s.user })
+      one before later maker (Assigned paper user review_kind ordinal) =
+          let s : Sighting = shown_to u H before later maker (Assigned paper user review_kind ordinal) in
+          where-same (eqb paper p) (record { ordinal = ordinal; kind = s.review_kind; user = s.user })
       one before later maker (Unassigned paper user ordinal) = sym (only-false _)
       one before later maker (Reviewed paper ordinal version form) = sym (only-false _)
       one before later maker (Commented paper n ordinal text) = sym (only-false _)
@@ -318,12 +318,12 @@ module _ (u : Option ℕ) (p : ℕ) (H : History) (there : IsSubmitted H p) (ord
 
   -- ---- tags
 
-  tags-told : page_told (λ page. page.tags) u p H ≡ where_known (handles u p H) (tags_in_view u (leads_committee (role_of u H)) p V)
+  tags-told : page_told (λ page. page.tags) u p H ≡ where_known (is_eligible u p H) (tags_in_view u (chairs_committee (role_of u H)) p V)
   tags-told =
-      told-key u p H there order (λ page. page.tags) (λ by accepted. gets_tags by) (handles u p H)
+      told-key u p H there order (λ page. page.tags) (λ by accepted. gets_tags by) (is_eligible u p H)
       (Some (tags_in_view u (is_chair (standing_in_view u (Some p) V).role) p V)) refl (handled u p H there order)
-      ∙ ap (λ (by : Standing). where_known (handles u p H) (tags_in_view u (is_chair by.role) p V)) (standing_from_view u (Some p) H)
-      ∙ ap (λ chair. where_known (handles u p H) (tags_in_view u chair p V)) chairs
+      ∙ ap (λ (by : Standing). where_known (is_eligible u p H) (tags_in_view u (is_chair by.role) p V)) (standing_from_view u (Some p) H)
+      ∙ ap (λ chair. where_known (is_eligible u p H) (tags_in_view u chair p V)) chairs
 
   -- ---- comments
 
@@ -430,7 +430,7 @@ module _ (u : Option ℕ) (p : ℕ) (H : History) (there : IsSubmitted H p) (ord
   reads-it : ((((is_author u p H || is_published (phase_of H) (is_accepted p H)) || is_member (role_of u H))
       && not (not (is_author u p H || is_published (phase_of H) (is_accepted p H)) && is_conflicted u p H))
       && ((is_author u p H || is_published (phase_of H) (is_accepted p H)) || is_from Bidding (phase_of H)))
-      ≡ (is_author u p H || (handles u p H || appears p H))
+      ≡ (is_author u p H || (is_eligible u p H || appears p H))
   reads-it =
       to (is_member (role_of u H)) _ (is_from Bidding (phase_of H)) _ (is_author u p H) (is_conflicted u p H) (is_published (phase_of H) (is_accepted p H)) _
       committee (phase-words (phase_of H)).bidding (public u p H there order)
@@ -441,7 +441,7 @@ module _ (u : Option ℕ) (p : ℕ) (H : History) (there : IsSubmitted H p) (ord
 
   content-told : (version : Option ℕ) (shown : Option (List ℕ))
       → option_map (λ (upload : Upload). upload.content) (upload_of version (uploads_in_view p V)) ≡ shown
-      → ((is_author u p H || (handles u p H || appears p H)) ≡ false → shown ≡ None)
+      → ((is_author u p H || (is_eligible u p H || appears p H)) ≡ false → shown ≡ None)
       → content_answered (reply_or_rule (judged (content_asked (facts_in_view u V) (shown_in_view u V) (Some p) version)
       (replies.Content (unwrap_or (content_by (facts_in_view u V) (shown_in_view u V) (Some p) version) []))))
       ≡ shown
@@ -456,7 +456,7 @@ module _ (u : Option ℕ) (p : ℕ) (H : History) (there : IsSubmitted H p) (ord
       ∙ content-gate (has_paper (facts_in_view u V) (Some p)) (reads_freely stands (is_accepted p H) || is_member (role_of u H))
       (not (reads_freely stands (is_accepted p H)) && is_conflicted u p H) (reads_freely stands (is_accepted p H) || is_from Bidding (phase_of H)) shown is-there
       ∙ ap (λ b. where_told b shown) reads-it
-      ∙ free (is_author u p H || (handles u p H || appears p H)) shown none
+      ∙ free (is_author u p H || (is_eligible u p H || appears p H)) shown none
     where
       found : content_by (facts_in_view u V) (shown_in_view u V) (Some p) version ≡ shown
       found = ap (λ (uploads : List Upload). option_map (λ (upload : Upload). upload.content) (upload_of version uploads)) (every-upload u p H there order) ∙ is
@@ -513,8 +513,8 @@ module _ (u : Option ℕ) (p : ℕ) (H : History) (there : IsSubmitted H p) (ord
       one before later maker (Uploaded paper version content) = both (eqb paper p) _ version content
       one before later maker e = refl
 
-  hidden-uploads : (is_author u p H || (handles u p H || appears p H)) ≡ false → uploads_in_view p V ≡ []
-  hidden-uploads h = uploads-none u p H order (or_parts (is_author u p H) (handles u p H || appears p H) h).0 (or_parts (is_author u p H) (handles u p H || appears p H) h).1
+  hidden-uploads : (is_author u p H || (is_eligible u p H || appears p H)) ≡ false → uploads_in_view p V ≡ []
+  hidden-uploads h = uploads-none u p H order (or_parts (is_author u p H) (is_eligible u p H || appears p H) h).0 (or_parts (is_author u p H) (is_eligible u p H || appears p H) h).1
 
   pub contents-told : ContentTold u p H
   contents-told = record {

@@ -21,7 +21,7 @@ use Rattle.cr_policy.specs.ViewFacts.{accounts_in_view, role_in_view, role_seen}
 use Rattle.cr_policy.proofs.StandingLaws.{accounts-seen}
 use Rattle.cr_policy.proofs.Tells.{role_tells}
 use Rattle.cr_policy.proofs.Walk.{sights-all}
-use Rattle.cr_told.specs.Told.{some_names}
+use Rattle.cr_told.specs.ToldPages.{some_names}
 use Rattle.cr_told.specs.ToldParts.{agree, lists, accounts_given, is_name_of}
 
 pub same-bytes : (xs : List ℕ) → bytes_eq xs xs ≡ true

@@ -20,7 +20,7 @@ use Rattle.cr_base.specs.Answering.{page_by, reply_or_rule, uploads_told}
 use Rattle.cr_base.specs.Checks.{judged, ◌breaks◌}
 use Rattle.cr_base.specs.Decisions.{is_published}
 use Rattle.cr_base.specs.History.{History, Upload, all_told, paper_told, author_told, abstract_told}
-use Rattle.cr_base.specs.HistoryFacts.{standing_of, phase_of, mode_of, role_of, is_author, is_conflicted, is_accepted, is_reviewer, seat_of, papers_of, declared_by_authors, decision_of, is_withdrawn}
+use Rattle.cr_base.specs.HistoryFacts.{standing_of, phase_of, mode_of, role_of, is_author, is_conflicted, is_accepted, is_reviewer, ordinal_of, papers_of, declared_by_authors, decision_of, is_withdrawn}
 use Rattle.cr_base.specs.Lists.{given, is_nothing, last, last_from, listed, is_number}
 use Rattle.cr_base.specs.Page.{where_told, gets_title, gets_abstract, shows_author, gets_conflict, gets_conflicts, gets_declared, gets_versions, gets_withdrawn}
 use Rattle.cr_base.specs.Page.{gets_bid, gets_label, gets_decision}
@@ -28,14 +28,14 @@ use Rattle.cr_base.specs.Phases.{is_from}
 use Rattle.cr_base.specs.Sources.{has_paper}
 use Rattle.cr_base.specs.Words.{is_member, is_chair, is_anonymous}
 use Rattle.cr_history.specs.Invariants.{IsSubmitted, IsInOrder, InTurn}
-use Rattle.cr_history.proofs.LineTies.{stamp}
+use Rattle.cr_history.proofs.LineAgreement.{stamp}
 use Rattle.cr_policy.specs.Legal.{Legal}
 use Rattle.cr_policy.specs.ShownTo.{is_on_committee, is_past_submission, hides_authors}
-use Rattle.cr_policy.specs.ShownTo.{is_told, serves, handles, oversees, discusses, is_notified, is_in_programme, appears, where_known}
+use Rattle.cr_policy.specs.ShownTo.{is_told, serves, is_eligible, oversees, discusses, is_notified, is_in_programme, appears, where_known}
 use Rattle.cr_policy.specs.Sighting.{Sighting}
 use Rattle.cr_policy.specs.View.{View, view}
 use Rattle.cr_policy.specs.ViewFacts.{facts_in_view, shown_in_view, standing_in_view, is_accepted_in_view, title_in_view, abstract_in_view, authors_in_view, is_withdrawn_in_view}
-use Rattle.cr_policy.specs.ViewFacts.{uploads_in_view, is_author_in_view, declared_in_view, own_bid_in_view, seat_in_view, is_conflict_on_in_view, decision_in_view, only, upload_seen, upload_shown}
+use Rattle.cr_policy.specs.ViewFacts.{uploads_in_view, is_author_in_view, declared_in_view, own_bid_in_view, ordinal_in_view, is_conflict_on_in_view, decision_in_view, only, upload_seen, upload_shown}
 use Rattle.cr_policy.specs.ViewBounds.{part_shown}
 use Rattle.cr_policy.proofs.BoundsParts.{phase-words, mode-words}
 use Rattle.cr_policy.proofs.DecisionTells.{accepted-seen}
@@ -46,8 +46,8 @@ use Rattle.cr_policy.proofs.PageTells.{abstract-seen, authors-seen}
 use Rattle.cr_policy.proofs.ReviewerTells.{same_key}
 use Rattle.cr_policy.proofs.StandingLaws.{papers-seen, standing_from_view, seat-seen}
 use Rattle.cr_policy.proofs.Walk.{is_nothing-append, map-flat_map}
-use Rattle.cr_told.specs.Told.{PagesTold, PageTold, page_told, key_in, page_answered, shown_on, shown_by, is_shown, writers_shown, is_shown_in_conflict, label_shown_of}
-use Rattle.cr_told.specs.Told.{own_bids_shown, is_shown_accepted, names_shown, users_shown, is_clear, some_names}
+use Rattle.cr_told.specs.ToldPages.{PagesTold, PageTold, page_told, key_in, page_answered, shown_on, shown_by, is_shown, writers_shown, is_shown_in_conflict, label_shown_of}
+use Rattle.cr_told.specs.ToldPages.{own_bids_shown, is_shown_accepted, names_shown, users_shown, is_clear, some_names}
 use Rattle.cr_told.proofs.ToldWords.{member-committee, chair-leads, chair-committee, accept-takes}
 use Rattle.cr_told.proofs.ToldMakers.{IsByAuthor, by-authors, not-own}
 use Rattle.cr_told.proofs.ToldShown as reads
@@ -131,7 +131,7 @@ module _ (u : Option ℕ) (p : ℕ) (H : History) (there : IsSubmitted H p) (ord
       to : (m m' b b' a o : Bool) → m ≡ m' → b ≡ b' → ((m || a || o) && (a || (m && b) || o)) ≡ (a || ((m' && b') || o))
       to m m' b b' a o hm hb = grind (arith, hm, hb)
 
-  abstracted : (may stands accepted && gets_abstract stands accepted) ≡ (author || (handles u p H || is_published (phase_of H) accepted))
+  abstracted : (may stands accepted && gets_abstract stands accepted) ≡ (author || (is_eligible u p H || is_published (phase_of H) accepted))
   abstracted =
       to (is_member (role_of u H)) _ (is_from Bidding (phase_of H)) _ author (is_conflicted u p H) accepted (is_from Closed (phase_of H))
       (member-committee (role_of u H)) (phase-words (phase_of H)).bidding
@@ -141,7 +141,7 @@ module _ (u : Option ℕ) (p : ℕ) (H : History) (there : IsSubmitted H p) (ord
       to m m' b b' a c o e hm hb = grind (arith, hm, hb)
 
   authored : (may stands accepted && shows_author stands accepted)
-      ≡ (author || oversees u p H || (handles u p H && not (hides_authors (mode_of H))) || accepted)
+      ≡ (author || oversees u p H || (is_eligible u p H && not (hides_authors (mode_of H))) || accepted)
   authored =
       to (is_member (role_of u H)) _ (is_chair (role_of u H)) _ (is_from Bidding (phase_of H)) _ (is_anonymous (mode_of H)) _ author (is_conflicted u p H) accepted
       (member-committee (role_of u H)) (chair-leads (role_of u H)) (chair-committee (role_of u H)) (phase-words (phase_of H)).bidding (mode-words (mode_of H)).authors
@@ -188,7 +188,7 @@ module _ (u : Option ℕ) (p : ℕ) (H : History) (there : IsSubmitted H p) (ord
       to : (m a o : Bool) → ((m || a || o) && a) ≡ a
       to m a o = grind arith
 
-  pub handled : (may stands accepted && gets_bid stands) ≡ handles u p H
+  pub handled : (may stands accepted && gets_bid stands) ≡ is_eligible u p H
   handled =
       to (is_member (role_of u H)) _ (is_from Bidding (phase_of H)) _ author (is_conflicted u p H) accepted (member-committee (role_of u H)) (phase-words (phase_of H)).bidding
     where
@@ -234,15 +234,15 @@ module _ (u : Option ℕ) (p : ℕ) (H : History) (there : IsSubmitted H p) (ord
       (Some (names_shown (users_shown (λ v. is_conflict_on_in_view (Some v) p V) V) V)) refl overseen
       ∙ (λ i. where_known (oversees u p H) (names_shown (users_shown (λ v. reads.in_conflict u p H (Some v) i) V) V))
 
-  bid-told : page_told (λ page. page.bid) u p H ≡ where_known (handles u p H) (unwrap_or (last (own_bids_shown p V)) 20)
+  bid-told : page_told (λ page. page.bid) u p H ≡ where_known (is_eligible u p H) (unwrap_or (last (own_bids_shown p V)) 20)
   bid-told =
-      told-key (λ page. page.bid) (λ by accepted. gets_bid by) (handles u p H) (Some (unwrap_or (own_bid_in_view p V) 20)) refl handled
-      ∙ (λ i. where_known (handles u p H) (unwrap_or (last (reads.own_bids u p H i)) 20))
+      told-key (λ page. page.bid) (λ by accepted. gets_bid by) (is_eligible u p H) (Some (unwrap_or (own_bid_in_view p V) 20)) refl handled
+      ∙ (λ i. where_known (is_eligible u p H) (unwrap_or (last (reads.own_bids u p H i)) 20))
 
   label-told : page_told (λ page. page.label) u p H ≡ (if is_clear u p H then label_shown_of u p V else None)
   label-told =
-      told-key (λ page. page.label) (λ by accepted. gets_label by) (is_clear u p H && is_reviewer u p H) (seat_in_view u p V) refl labelled
-      ∙ where-any (is_clear u p H) (seat_of u p H) (seat_in_view u p V) (seat-seen u p H)
+      told-key (λ page. page.label) (λ by accepted. gets_label by) (is_clear u p H && is_reviewer u p H) (ordinal_in_view u p V) refl labelled
+      ∙ where-any (is_clear u p H) (ordinal_of u p H) (ordinal_in_view u p V) (seat-seen u p H)
       ∙ ap (λ (label : Option ℕ). if is_clear u p H then label else None) (reads.labels u p H u)
     where
       where-any : (c : Bool) (seat label : Option ℕ) → label ≡ seat → where_told (c && is_some seat) label ≡ (if c then label else None)
@@ -289,15 +289,15 @@ module _ (u : Option ℕ) (p : ℕ) (H : History) (there : IsSubmitted H p) (ord
 
   -- who is told of the abstract
   abbrev pub reads_it : Bool
-  reads_it = author || (handles u p H || is_published (phase_of H) accepted)
+  reads_it = author || (is_eligible u p H || is_published (phase_of H) accepted)
 
   pub public : is_published (phase_of H) accepted ≡ appears p H
   public = λ i. programme i && (phase-words (phase_of H)).closed i
 
   no-abstract : reads_it ≡ false → abstract_in_view p V ≡ None
   no-abstract h =
-      let parts = or_parts author (handles u p H || is_published (phase_of H) accepted) h in
-      ap last (reads.abstracts u p H ∙ abstracts-none u p H order parts.0 (ap (λ b. handles u p H || b) (sym public) ∙ parts.1))
+      let parts = or_parts author (is_eligible u p H || is_published (phase_of H) accepted) h in
+      ap last (reads.abstracts u p H ∙ abstracts-none u p H order parts.0 (ap (λ b. is_eligible u p H || b) (sym public) ∙ parts.1))
 
   abstract-told : page_told (λ page. page.abstract_) u p H ≡ last (shown_on p (λ (s : Sighting). s.abstract) V)
   abstract-told =
@@ -323,13 +323,13 @@ module _ (u : Option ℕ) (p : ℕ) (H : History) (there : IsSubmitted H p) (ord
       ∙ named said (writers_shown p V)
       (λ is. ap is_nothing (sym (reads.writers u p H) ∙ authors-seen u p H (and_parts (may stands accepted) (shows_author stands accepted) (authored ∙ is)).1)
       ∙ submitted (λ (e : Stamped). author_told p e.maker e.entry) (λ maker more title abstract. ap (λ b. is_nothing (given b maker)) (eq-eqb p p refl)))
-      (λ isnt. writers-none u p H order (stranger isnt) (ap (λ b. author || oversees u p H || (handles u p H && not (hides_authors (mode_of H))) || b) (sym programme) ∙ isnt))
+      (λ isnt. writers-none u p H order (stranger isnt) (ap (λ b. author || oversees u p H || (is_eligible u p H && not (hides_authors (mode_of H))) || b) (sym programme) ∙ isnt))
     where
       said : Bool
-      said = author || oversees u p H || (handles u p H && not (hides_authors (mode_of H))) || accepted
+      said = author || oversees u p H || (is_eligible u p H && not (hides_authors (mode_of H))) || accepted
 
       stranger : said ≡ false → author ≡ false
-      stranger = by author (oversees u p H) (handles u p H && not (hides_authors (mode_of H))) accepted
+      stranger = by author (oversees u p H) (is_eligible u p H && not (hides_authors (mode_of H))) accepted
         where
           by : (a o h x : Bool) → (a || o || h || x) ≡ false → a ≡ false
           by true o h x is = is

@@ -14,12 +14,12 @@ use Rattle.cr_history.specs.Invariants.{IsRegistered, IsSubmitted}
 use Rattle.cr_policy.specs.Legal.{Legal}
 use Rattle.cr_policy.specs.Part as part
 use Rattle.cr_policy.specs.Part.{Part}
-use Rattle.cr_policy.specs.ShownTo.{is_told, handles, oversees, where_known}
+use Rattle.cr_policy.specs.ShownTo.{is_told, is_eligible, oversees, where_known}
 use Rattle.cr_policy.specs.Sighting.{Sighting}
 use Rattle.cr_policy.specs.View.{View, view}
 use Rattle.cr_policy.specs.ViewFacts.{only, is_user, accounts_in_view}
 use Rattle.cr_policy.proofs.BoundsWalk.{shown_to}
-use Rattle.cr_told.specs.Told.{page_told, bids_shown_of, own_bids_shown, names_shown}
+use Rattle.cr_told.specs.ToldPages.{page_told, bids_shown_of, own_bids_shown, names_shown}
 use Rattle.cr_told.specs.ToldLists.{bids_listed}
 use Rattle.cr_told.specs.ToldParts.{has, agree, lists, is_name_of, is_told as is_part_told, is_left_untold}
 use Rattle.cr_told.proofs.ToldEach.{last-here, last-there, last-or-told, known}
@@ -154,7 +154,7 @@ module _ (u : Option ℕ) (H : History) (legal : Legal H) (before after : View) 
                 or_right listed-bid later-bid
                 (ap (λ by. not (is_nothing (bids_shown_of (unwrap_or by 0) paper after))) (ap (λ b. where_known b maker) over) ∙ ap not some)
 
-            own-bid : is_number u maker ≡ true → handles u paper H ≡ true → (key-same || later-own) ≡ true
+            own-bid : is_number u maker ≡ true → is_eligible u paper H ≡ true → (key-same || later-own) ≡ true
             own-bid own handling =
                 ap (λ key. agree nat_eq (Some value) key || later-own)
                 ((pages_told u paper H legal there).bid ∙ ap (λ b. where_known b (unwrap_or (last (own_bids_shown paper V)) 20)) handling)
@@ -163,19 +163,19 @@ module _ (u : Option ℕ) (H : History) (legal : Legal H) (before after : View) 
                 (ap (λ (W : View). unwrap_or (last (own_bids_shown paper W)) 20) is)
 
             by : (o : Bool) → oversees u paper H ≡ o
-                → ((listed-bid || (is_number u maker && key-same)) || (later-bid || (is_number u maker && later-own) || (is_number u maker && not (handles u paper H)))) ≡ true
+                → ((listed-bid || (is_number u maker && key-same)) || (later-bid || (is_number u maker && later-own) || (is_number u maker && not (is_eligible u paper H)))) ≡ true
             by true over =
-                first listed-bid (is_number u maker) key-same later-bid later-own (is_number u maker && not (handles u paper H))
+                first listed-bid (is_number u maker) key-same later-bid later-own (is_number u maker && not (is_eligible u paper H))
                 (overseen-bid over (is_nothing (bids_shown_of maker paper after)) refl)
-            by false none = hers (handles u paper H) refl
+            by false none = hers (is_eligible u paper H) refl
               where
-                hers : (h : Bool) → handles u paper H ≡ h
-                    → ((listed-bid || (is_number u maker && key-same)) || (later-bid || (is_number u maker && later-own) || (is_number u maker && not (handles u paper H)))) ≡ true
+                hers : (h : Bool) → is_eligible u paper H ≡ h
+                    → ((listed-bid || (is_number u maker && key-same)) || (later-bid || (is_number u maker && later-own) || (is_number u maker && not (is_eligible u paper H)))) ≡ true
                 hers true handling =
-                    second listed-bid (is_number u maker) key-same later-bid later-own (is_number u maker && not (handles u paper H)) (mine none)
+                    second listed-bid (is_number u maker) key-same later-bid later-own (is_number u maker && not (is_eligible u paper H)) (mine none)
                     (own-bid (mine none) handling)
                 hers false not-hers =
-                    third listed-bid (is_number u maker) key-same later-bid later-own (is_number u maker && not (handles u paper H))
+                    third listed-bid (is_number u maker) key-same later-bid later-own (is_number u maker && not (is_eligible u paper H))
                     (λ i. mine none i && not (not-hers i))
         bid _ shown = absurd (true≢false (sym shown))
 

@@ -14,18 +14,18 @@ use Rattle.cr_base.specs.Lists.{given, is_nothing, is_number, listed}
 use Rattle.cr_base.specs.History.{History, declared_told}
 use Rattle.cr_base.specs.HistoryFacts.{phase_of, role_of, is_author, is_conflict_on, declared_by_authors}
 use Rattle.cr_history.specs.Invariants.{IsRegistered, IsSubmitted}
-use Rattle.cr_history.proofs.LineTies.{stamp}
+use Rattle.cr_history.proofs.LineAgreement.{stamp}
 use Rattle.cr_policy.specs.Legal.{Legal}
 use Rattle.cr_policy.specs.Part as part
 use Rattle.cr_policy.specs.Part.{Part}
-use Rattle.cr_policy.specs.ShownTo.{is_told, leads_committee, is_past_submission, handles, oversees, serves, where_known}
+use Rattle.cr_policy.specs.ShownTo.{is_told, chairs_committee, is_past_submission, is_eligible, oversees, serves, where_known}
 use Rattle.cr_policy.specs.Sighting.{Sighting}
 use Rattle.cr_policy.specs.View.{View, view}
 use Rattle.cr_policy.specs.ViewFacts.{only, is_user, accounts_in_view, papers_in_view}
 use Rattle.cr_policy.proofs.BoundsParts.{phase-words}
 use Rattle.cr_policy.proofs.BoundsWalk.{shown_to}
 use Rattle.cr_policy.proofs.StandingLaws.{papers-seen, standing_from_view}
-use Rattle.cr_told.specs.Told.{page_told, is_shown_in_conflict, writers_shown, names_shown, users_shown}
+use Rattle.cr_told.specs.ToldPages.{page_told, is_shown_in_conflict, writers_shown, names_shown, users_shown}
 use Rattle.cr_told.specs.ToldParts.{has, lists, conflicts_given, is_name_of, is_told as is_part_told, is_left_untold}
 use Rattle.cr_told.proofs.ToldEach.{last-here, listed-here}
 use Rattle.cr_told.proofs.ToldKnown.{AllOf, Each, all-of}
@@ -57,7 +57,7 @@ module _ (u : Option ℕ) (H : History) (legal : Legal H) (before after : View) 
   V = view u H
 
   abbrev lead : Bool
-  lead = leads_committee (role_of u H)
+  lead = chairs_committee (role_of u H)
 
   abbrev begun : Bool
   begun = is_past_submission (phase_of H)
@@ -137,7 +137,7 @@ module _ (u : Option ℕ) (H : History) (legal : Legal H) (before after : View) 
 
       conflict : IsTrue (is_part_told u H s kinds.Conflict part.user || is_left_untold u H s after kinds.Conflict part.user)
       conflict =
-          final n m a w lead begun (handles u paper H) (lists (conflicts_given u H) (eqb paper)) (lists (page_told (λ page. page.conflicts) u paper H) (is_name_of (Some user) u H))
+          final n m a w lead begun (is_eligible u paper H) (lists (conflicts_given u H) (eqb paper)) (lists (page_told (λ page. page.conflicts) u paper H) (is_name_of (Some user) u H))
           (lists (page_told (λ page. page.declared) u paper H) (is_name_of (Some user) u H)) on none told own
           (implies (on && none && n && not a) (lists (conflicts_given u H) (eqb paper))
           (λ h. let first = and_parts (on && none && n) (not a) h in
@@ -179,7 +179,7 @@ conflict-all = all-of kinds.Conflict each
     each : Each kinds.Conflict
     each u H legal before after what earlier later maker more (Conflict paper user on) whole known told is kind shown =
         conflict-all' u H legal before after earlier later maker more paper user on known.there.0 known.there.1
-        (own-so (λ v. (is_number v user || is_author v paper H) || (leads_committee (role_of v H) && is_past_submission (phase_of H))) u maker
+        (own-so (λ v. (is_number v user || is_author v paper H) || (chairs_committee (role_of v H) && is_past_submission (phase_of H))) u maker
         ((λ i. (swap user maker i || is_author (Some maker) paper H) || (sym (chair-leads (role_of (Some maker) H)) i && sym (phase-words (phase_of H)).bidding i))
         ∙ known.settled.1)) whole told is what shown
     each u H legal before after what earlier later maker more e whole known told is kind shown = absurd (true≢false (sym kind))

@@ -14,19 +14,19 @@ use Rattle.cr_base.specs.Lists.{given, is_nothing, is_number, listed}
 use Rattle.cr_base.specs.History.{History, upload_told}
 use Rattle.cr_base.specs.HistoryFacts.{is_author, uploads_of}
 use Rattle.cr_history.specs.Invariants.{IsSubmitted, IsInOrder, InTurn, HasNextNumber}
-use Rattle.cr_history.proofs.LineTies.{stamp}
+use Rattle.cr_history.proofs.LineAgreement.{stamp}
 use Rattle.cr_policy.specs.Judge.{answer}
 use Rattle.cr_policy.specs.Legal.{Legal}
 use Rattle.cr_policy.specs.Part as part
 use Rattle.cr_policy.specs.Part.{Part}
-use Rattle.cr_policy.specs.ShownTo.{where_known, handles, appears, owns, is_superseded, is_told, each_told}
+use Rattle.cr_policy.specs.ShownTo.{where_known, is_eligible, appears, owns, is_superseded, is_told, each_told}
 use Rattle.cr_policy.specs.Sighting.{Sighting}
 use Rattle.cr_policy.specs.View.{View, view}
 use Rattle.cr_policy.specs.ViewFacts.{only, is_kind}
 use Rattle.cr_policy.proofs.BoundsWalk.{shown_to, view-told}
 use Rattle.cr_policy.proofs.LegalLaws.{legal_invariants}
 use Rattle.cr_policy.proofs.Walk.{only-false}
-use Rattle.cr_told.specs.Told.{page_told, shown_by}
+use Rattle.cr_told.specs.ToldPages.{page_told, shown_by}
 use Rattle.cr_told.specs.ToldLists.{contents_of, content_answered, first_of}
 use Rattle.cr_told.specs.ToldParts.{has, agree, lists, is_told as is_part_told, is_left_untold}
 use Rattle.cr_told.proofs.ToldEach.{listed-here, known}
@@ -45,7 +45,7 @@ module _ (u : Option ℕ) (p : ℕ) (H : History) where
   next-number : (before : History) (maker : ℕ) (more : Bool) (e : Entry) (later : History) (k : ℕ) → HasNextNumber before e → k ≤ length (uploads_of p before)
       → content_at k (shown_to u H before later maker e) ≡ []
   next-number before maker more (Uploaded paper version content) later k next few =
-      by (eqb paper p) refl (eqb version k) refl (owns u H maker paper || (not (is_superseded paper later) && (handles u paper H || appears paper H)))
+      by (eqb paper p) refl (eqb version k) refl (owns u H maker paper || (not (is_superseded paper later) && (is_eligible u paper H || appears paper H)))
     where
       by : (same : Bool) → eqb paper p ≡ same → (this : Bool) → eqb version k ≡ this → (shown : Bool)
           → only (same && is_number (where_known shown version) k) (listed (where_known shown content)) ≡ []
@@ -82,7 +82,7 @@ module _ (u : Option ℕ) (p : ℕ) (H : History) where
   number-told : (before : History) (maker : ℕ) (more : Bool) (e : Entry) (later : History) (k : ℕ) → HasNextNumber before e
       → is_nothing (content_at k (shown_to u H before later maker e)) ≡ false → k ≤ length (uploads_of p (before ++ stamp maker more e ∷ []))
   number-told before maker more (Uploaded paper version content) later k next some =
-      by (eqb paper p) refl (eqb version k) refl (owns u H maker paper || (not (is_superseded paper later) && (handles u paper H || appears paper H))) some
+      by (eqb paper p) refl (eqb version k) refl (owns u H maker paper || (not (is_superseded paper later) && (is_eligible u paper H || appears paper H))) some
     where
       grown : uploads_of p (before ++ stamp maker more (Uploaded paper version content) ∷ [])
           ≡ uploads_of p before ++ (given (eqb paper p) (record { version = version; content = content }) ++ [])
@@ -180,13 +180,13 @@ module _ (u : Option ℕ) (H : History) (legal : Legal H) (before after : View) 
 
       -- who is told of an upload is shown all of it
       abbrev sees : Bool
-      sees = owns u H maker paper || (not (is_superseded paper later) && (handles u paper H || appears paper H))
+      sees = owns u H maker paper || (not (is_superseded paper later) && (is_eligible u paper H || appears paper H))
 
       -- and reads the paper
       reads : reads_it u paper H there (legal_invariants H legal).in_order ≡ true
       reads =
-          ap (λ b. is_author u paper H || (handles u paper H || b)) (public u paper H there (legal_invariants H legal).in_order)
-          ∙ by (is_number u maker) (is_author u paper H) (not (is_superseded paper later)) (handles u paper H || appears paper H) told
+          ap (λ b. is_author u paper H || (is_eligible u paper H || b)) (public u paper H there (legal_invariants H legal).in_order)
+          ∙ by (is_number u maker) (is_author u paper H) (not (is_superseded paper later)) (is_eligible u paper H || appears paper H) told
           (own-so (λ v. is_author v paper H) u maker wrote)
         where
           by : (m a x r : Bool) → ((m || a) || (x && r)) ≡ true → (not m || a) ≡ true → (a || r) ≡ true

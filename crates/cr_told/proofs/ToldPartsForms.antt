@@ -18,12 +18,12 @@ use Rattle.cr_base.specs.Lists.{given, last_from}
 use Rattle.cr_base.specs.History.{form_told, whole_form}
 use Rattle.cr_base.specs.HistoryFacts.{role_of, standing_of, is_written}
 use Rattle.cr_base.specs.Page.{is_clear_chair}
-use Rattle.cr_policy.specs.ShownTo.{leads, leads_committee, oversees, is_on_committee, is_past_submission, has_conflict, counts_form}
+use Rattle.cr_policy.specs.ShownTo.{administers, chairs_committee, oversees, is_on_committee, is_past_submission, has_conflict, counts_form}
 use Rattle.cr_policy.specs.ViewFacts.{is_user}
 use Rattle.cr_policy.proofs.BoundsParts.{phase-words}
 use Rattle.cr_policy.proofs.ReviewerTells.{seat-seen_by_chair}
 use Rattle.cr_policy.proofs.ReviewTells.{written-seen}
-use Rattle.cr_told.specs.Told.{shown_of, seat_by}
+use Rattle.cr_told.specs.ToldPages.{shown_of, ordinal_by}
 use Rattle.cr_told.specs.ToldLists.{is_left, is_shown_done, reviewer_shown, reviewers_listed}
 use Rattle.cr_told.specs.ToldParts.{has_mark, is_taken_off, is_form_left}
 use Rattle.cr_told.proofs.ToldKnown.{AllOf, Each, all-of}
@@ -37,7 +37,7 @@ use Rattle.cr_base.specs.declared.review.ReviewLine.{ReviewLine}
 use Rattle.cr_base.specs.Labels.{by_labels, most_labels}
 use Rattle.cr_base.specs.Lists.{is_nothing, is_number, last, listed, until, since}
 use Rattle.cr_base.specs.History.{History}
-use Rattle.cr_base.specs.HistoryFacts.{phase_of, is_author, is_conflict_on, is_reviewer, seat_of, assigned_under}
+use Rattle.cr_base.specs.HistoryFacts.{phase_of, is_author, is_conflict_on, is_reviewer, ordinal_of, assigned_under}
 use Rattle.cr_base.specs.Phases.{is_from}
 use Rattle.cr_base.specs.declared.words.Phase.TheVariants.{Reviewing}
 use Rattle.cr_history.specs.Invariants.{IsSubmitted}
@@ -45,16 +45,16 @@ use Rattle.cr_policy.specs.Legal.{Legal}
 use Rattle.cr_policy.specs.Part as part
 use Rattle.cr_policy.specs.Part.{Part}
 use Rattle.cr_policy.proofs.BoundsWalk.{shown_to}
-use Rattle.cr_policy.specs.ShownTo.{is_told, where_known, handles, serves, discusses, is_notified, is_past_reviewing, reads_review, reads_form, learns_form, is_discussed, is_reviewed, is_past_discussion}
+use Rattle.cr_policy.specs.ShownTo.{is_told, where_known, is_eligible, serves, discusses, is_notified, is_past_reviewing, reads_review, reads_form, learns_form, is_discussed, is_reviewed, is_past_discussion}
 use Rattle.cr_policy.specs.Sighting.{Sighting}
 use Rattle.cr_policy.specs.View.{View, view}
 use Rattle.cr_policy.specs.ViewFacts.{only, is_kind, discussion_seen, seats_in_view}
-use Rattle.cr_history.proofs.LineTies.{stamp}
-use Rattle.cr_history.proofs.SeatTies.{seat-drawn, seat_of-tables}
+use Rattle.cr_history.proofs.LineAgreement.{stamp}
+use Rattle.cr_history.proofs.SeatAgreement.{seat-drawn, ordinal_of-tables}
 use Rattle.cr_policy.proofs.LegalLaws.{legal_invariants}
 use Rattle.cr_policy.proofs.StandingLaws.{seat-seen}
 use Rattle.cr_policy.proofs.Walk.{is_nothing-append}
-use Rattle.cr_told.specs.Told.{label_shown_of}
+use Rattle.cr_told.specs.ToldPages.{label_shown_of}
 use Rattle.cr_told.specs.ToldLists.{name_shown, knows_reviewers}
 use Rattle.cr_told.specs.ToldParts.{has, agree, lists, has_line, is_followed, scores_at, is_told as is_part_told, is_left_untold}
 use Rattle.cr_told.specs.ToldReviews.{review_shown, forms_listed, own_forms_listed, reviews_listed, reviews_now, is_reviewing_now}
@@ -158,14 +158,14 @@ any-over f g q test each (x ∷ xs) h =
     by false e h rest = or_right (list_any test (g x)) _ (rest (ap (λ b. b || list_any q (flat_map f xs)) (sym e) ∙ h))
 
 -- a reviewer of the paper who is assigned under the label, and isn't taken off, is listed with the mark that she has written
-module _ (u : Option ℕ) (H : History) (paper o maker : ℕ) (leading : leads u paper H ≡ true) (stays : is_left paper (view u H) o ≡ true)
+module _ (u : Option ℕ) (H : History) (paper o maker : ℕ) (leading : administers u paper H ≡ true) (stays : is_left paper (view u H) o ≡ true)
     (done : is_shown_done paper o (view u H) ≡ true)
   where
     abbrev marked : Reviewer → Bool
     marked r = eqb o r.label && unwrap_or r.done false
 
     marked-line : (t : Sighting) (b1 b2 : Bool) (kind : EntryKind) (ordinal : Option ℕ)
-        → list_any (λ x. agree nat_eq x (Some o)) (only (b1 && b2) (listed (seat_by kind ordinal))) ≡ true
+        → list_any (λ x. agree nat_eq x (Some o)) (only (b1 && b2) (listed (ordinal_by kind ordinal))) ≡ true
         → list_any marked
         (only (eqb (kind_number kind) (kind_number kinds.Assigned) && b1) (map (reviewer_shown u paper H t) (filter (is_left paper (view u H)) (listed ordinal)))) ≡ true
     marked-line t true true kinds.Assigned (Some k) h = by (eqb-true k o (sym (or-false (eqb k o)) ∙ h))
@@ -186,12 +186,12 @@ module _ (u : Option ℕ) (H : History) (paper o maker : ℕ) (leading : leads u
 
     marked-listed : label_shown_of (Some maker) paper (view u H) ≡ Some o → list_any marked (reviewers_listed u paper H) ≡ true
     marked-listed label =
-        any-over (λ (t : Sighting). only (is_number t.paper paper && is_user (Some maker) t.user) (listed (seat_by t.kind t.ordinal)))
+        any-over (λ (t : Sighting). only (is_number t.paper paper && is_user (Some maker) t.user) (listed (ordinal_by t.kind t.ordinal)))
         (λ (t : Sighting). only (is_kind kinds.Assigned t && is_number t.paper paper)
         (map (reviewer_shown u paper H t) (filter (is_left paper (view u H)) (listed t.ordinal))))
         (λ x. agree nat_eq x (Some o)) marked
         (λ t. marked-line t (is_number t.paper paper) (is_user (Some maker) t.user) t.kind t.ordinal) (view u H)
-        (last-in (λ x. agree nat_eq x (Some o)) None None (shown_of (Some maker) paper (λ (t : Sighting). seat_by t.kind t.ordinal) (view u H))
+        (last-in (λ x. agree nat_eq x (Some o)) None None (shown_of (Some maker) paper (λ (t : Sighting). ordinal_by t.kind t.ordinal) (view u H))
         (ap (λ x. agree nat_eq x (Some o)) label ∙ eq-eqb o o refl))
 
 module _ (u : Option ℕ) (H : History) (legal : Legal H) (before after : View) where
@@ -200,7 +200,7 @@ module _ (u : Option ℕ) (H : History) (legal : Legal H) (before after : View) 
 
   module _ (earlier later : History) (maker : ℕ) (more : Bool) (paper o version : ℕ) (form : Form) (there : IsSubmitted H paper) (low : 1 ≤ o) (high : o ≤ 26)
       (begun : is_from Reviewing (phase_of H) ≡ true) (reviews : (not (is_number u maker) || is_reviewer u paper H) ≡ true)
-      (held : seat_of (Some maker) paper H ≡ Some o) (whole : earlier ++ stamp maker more (Reviewed paper o version form) ∷ later ≡ H)
+      (held : ordinal_of (Some maker) paper H ≡ Some o) (whole : earlier ++ stamp maker more (Reviewed paper o version form) ∷ later ≡ H)
       (told : is_told u H earlier later maker (Reviewed paper o version form) ≡ true)
       (is : view u H ≡ before ++ shown_to u H earlier later maker (Reviewed paper o version form) ∷ after)
     where
@@ -252,9 +252,9 @@ module _ (u : Option ℕ) (H : History) (legal : Legal H) (before after : View) 
             answered h = ap (λ lines. lists lines test) (reviews_told u paper H legal there ∙ ap (λ b. where_known b (reviews_listed u paper H)) h)
 
             abbrev Goal : Type 0
-            Goal = IsTrue (has_line u H s T || (is_followed u H s after || (is_number u maker && not (handles u paper H))))
+            Goal = IsTrue (has_line u H s T || (is_followed u H s after || (is_number u maker && not (is_eligible u paper H))))
 
-            behind : is_number u maker ≡ true → handles u paper H ≡ false → Goal
+            behind : is_number u maker ≡ true → is_eligible u paper H ≡ false → Goal
             behind m h = or_right (has_line u H s T) _ (or_right (is_followed u H s after) _ (λ i. m i && not (h i)))
 
             -- of the label the last that is shown among these
@@ -338,11 +338,11 @@ module _ (u : Option ℕ) (H : History) (legal : Legal H) (before after : View) 
                     (or_left (is_followed u H s after) _ ((λ i. not (is_nothing (scores_at paper o (if a i then after else until discussion_seen after)))) ∙ ap not f))
 
             -- her own, before the discussion
-            of-herself : is_author u paper H ≡ false → is_past_reviewing (phase_of H) ≡ false → handles u paper H ≡ true → is_number u maker ≡ true → Goal
+            of-herself : is_author u paper H ≡ false → is_past_reviewing (phase_of H) ≡ false → is_eligible u paper H ≡ true → is_number u maker ≡ true → Goal
             of-herself a past h m =
                 or_left (has_line u H s T) _
                 (answered
-                (third (is_notified u paper H) (discusses u paper H) (handles u paper H) (is_reviewer u paper H) (is_reviewing_now (phase_of H)) (is_number u maker)
+                (third (is_notified u paper H) (discusses u paper H) (is_eligible u paper H) (is_reviewer u paper H) (is_reviewing_now (phase_of H)) (is_number u maker)
                 (is_past_reviewing (phase_of H)) h reviews m (reviewing-on (phase_of H) begun) past)
                 ∙ (λ i. list_any test
                 (if a i then by_labels (λ (k : ℕ). listed (last (forms_listed (knows_reviewers u paper H) false paper V k V))) most_labels
@@ -361,11 +361,11 @@ module _ (u : Option ℕ) (H : History) (legal : Legal H) (before after : View) 
                 third x y h r w m p hh hr hm hw hp = grind (arith, hh, hr, hm, hw, hp)
 
                 label-is : label_shown_of u paper V ≡ Some o
-                label-is = sym (reads.labels u paper H u) ∙ seat-seen u paper H ∙ ap (λ w. seat_of w paper H) (number-is u maker m) ∙ held
+                label-is = sym (reads.labels u paper H u) ∙ seat-seen u paper H ∙ ap (λ w. ordinal_of w paper H) (number-is u maker m) ∙ held
 
             form-told : Goal
             form-told =
-                by (is_author u paper H) refl (is_past_reviewing (phase_of H)) refl (handles u paper H) refl (is_number u maker) refl
+                by (is_author u paper H) refl (is_past_reviewing (phase_of H)) refl (is_eligible u paper H) refl (is_number u maker) refl
               where
                 hidden : (s c : Bool) → (s && not (true || c)) ≡ false
                 hidden s c = grind arith
@@ -376,23 +376,23 @@ module _ (u : Option ℕ) (H : History) (legal : Legal H) (before after : View) 
                 mine : (m h p x a n y : Bool) → ((m || ((h && p) && x)) || ((a && n) && y)) ≡ true → a ≡ false → (h && p) ≡ false → m ≡ true
                 mine m h p x a n y r ha hh = grind (arith, r, ha, hh)
 
-                by : (a : Bool) → is_author u paper H ≡ a → (past : Bool) → is_past_reviewing (phase_of H) ≡ past → (h : Bool) → handles u paper H ≡ h → (m : Bool)
+                by : (a : Bool) → is_author u paper H ≡ a → (past : Bool) → is_past_reviewing (phase_of H) ≡ past → (h : Bool) → is_eligible u paper H ≡ h → (m : Bool)
                     → is_number u maker ≡ m → Goal
                 by true a past p true h m e =
                     absurd (true≢false (sym h ∙ (λ i. serves u H && not (a i || is_conflict_on u paper H)) ∙ hidden (serves u H) (is_conflict_on u paper H)))
                 by true a past p false h true e = behind e h
                 by true a past p false h false e =
                     of-authors a e
-                    (notified (is_number u maker) (handles u paper H) (is_past_reviewing (phase_of H)) (is_discussed paper o earlier later) (is_notified u paper H)
+                    (notified (is_number u maker) (is_eligible u paper H) (is_past_reviewing (phase_of H)) (is_discussed paper o earlier later) (is_notified u paper H)
                     (not (is_reviewed paper o later)) read e h)
                 by false a true p true h m e = of-members a p (λ i. h i && p i)
                 by false a past p false h m e =
                     behind
-                    (mine (is_number u maker) (handles u paper H) (is_past_reviewing (phase_of H)) (is_discussed paper o earlier later) (is_author u paper H)
+                    (mine (is_number u maker) (is_eligible u paper H) (is_past_reviewing (phase_of H)) (is_discussed paper o earlier later) (is_author u paper H)
                     (is_past_discussion (phase_of H)) (not (is_reviewed paper o later)) read a (λ i. h i && is_past_reviewing (phase_of H))) h
                 by false a false p true h m e =
                     of-herself a p h
-                    (mine (is_number u maker) (handles u paper H) (is_past_reviewing (phase_of H)) (is_discussed paper o earlier later) (is_author u paper H)
+                    (mine (is_number u maker) (is_eligible u paper H) (is_past_reviewing (phase_of H)) (is_discussed paper o earlier later) (is_author u paper H)
                     (is_past_discussion (phase_of H)) (not (is_reviewed paper o later)) read a (λ i. h i && p i))
 
       -- who wrote the paper reads no more of a form than is for authors, but of her own
@@ -405,11 +405,11 @@ module _ (u : Option ℕ) (H : History) (legal : Legal H) (before after : View) 
           none : (s c : Bool) → (s && not (true || c)) ≡ false
           none s c = grind arith
 
-          hidden : handles u paper H ≡ false
+          hidden : is_eligible u paper H ≡ false
           hidden = (λ i. serves u H && not (a i || is_conflict_on u paper H)) ∙ none (serves u H) (is_conflict_on u paper H)
 
       -- the mark that there is one, where it is shown, stands with the reviewer
-      mark : leads u paper H ≡ true → (has_mark u H s || is_taken_off u H s) ≡ true
+      mark : administers u paper H ≡ true → (has_mark u H s || is_taken_off u H s) ≡ true
       mark leading = by (is_left paper V o) refl
         where
           served : (o b c l : Bool) → (l && not c) ≡ true → b ≡ true → (o && l) ≡ l → (((o && b) && not c) && l) ≡ true
@@ -417,7 +417,7 @@ module _ (u : Option ℕ) (H : History) (legal : Legal H) (before after : View) 
 
           over : oversees u paper H ≡ true
           over =
-              served (is_on_committee (role_of u H)) (is_past_submission (phase_of H)) (has_conflict u paper H) (leads_committee (role_of u H)) leading
+              served (is_on_committee (role_of u H)) (is_past_submission (phase_of H)) (has_conflict u paper H) (chairs_committee (role_of u H)) leading
               (reviewing-begun (phase_of H) begun) (leads-serves (role_of u H))
 
           chair : is_clear_chair (standing_of u (Some paper) H) ≡ true
@@ -490,7 +490,7 @@ module _ (u : Option ℕ) (H : History) (legal : Legal H) (before after : View) 
           same : agree nat_eq s.version s.version ≡ true
           same = (λ i. agree nat_eq (where_known (read i) version) (where_known (read i) version)) ∙ eq-eqb version version refl
       reviewed part.done shown =
-          mark (and_parts (leads u paper H) (not (is_reviewed paper o earlier)) (sym (known-some (counts_form u H earlier paper o) true) ∙ shown)).0
+          mark (and_parts (administers u paper H) (not (is_reviewed paper o earlier)) (sym (known-some (counts_form u H earlier paper o) true) ∙ shown)).0
       reviewed part.ordinal shown = by (reads_review u H earlier later maker paper o) refl
         where
           first : (a m f t : Bool) → (a || f) ≡ true → ((a || m) || (f || t)) ≡ true
@@ -509,15 +509,15 @@ module _ (u : Option ℕ) (H : History) (legal : Legal H) (before after : View) 
           by false none =
               second (has_line u H s (λ l. true)) (has_mark u H s) (is_form_left u H s after) (is_taken_off u H s)
               (mark
-              (counted (reads_form u H earlier later maker paper o) (leads u paper H) (not (is_reviewed paper o earlier)) (learns_form u H later paper o) told none))
+              (counted (reads_form u H earlier later maker paper o) (administers u paper H) (not (is_reviewed paper o earlier)) (learns_form u H later paper o) told none))
       reviewed _ shown = absurd (true≢false (sym shown))
 
 pub reviewed-all : AllOf kinds.Reviewed
 reviewed-all = all-of kinds.Reviewed each
   where
-    drawn : (H : History) → Legal H → (maker paper o : ℕ) → seat_of (Some maker) paper H ≡ Some o → (1 ≤ o) × (o ≤ 26)
+    drawn : (H : History) → Legal H → (maker paper o : ℕ) → ordinal_of (Some maker) paper H ≡ Some o → (1 ≤ o) × (o ≤ 26)
     drawn H legal maker paper o held =
-        seat-drawn H (legal_invariants H legal).fits maker paper o (sym (seat_of-tables (Some maker) paper H (legal_invariants H legal).fits) ∙ held)
+        seat-drawn H (legal_invariants H legal).fits maker paper o (sym (ordinal_of-tables (Some maker) paper H (legal_invariants H legal).fits) ∙ held)
 
     each : Each kinds.Reviewed
     each u H legal before after what earlier later maker more (Reviewed paper o version form) whole known told is kind shown =

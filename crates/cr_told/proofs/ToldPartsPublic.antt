@@ -16,7 +16,7 @@ use Rattle.cr_base.specs.declared.words.Role.TheVariants.{Account}
 use Rattle.cr_base.specs.Lists.{is_nothing, is_number, last, last_or, listed}
 use Rattle.cr_base.specs.History.{History}
 use Rattle.cr_base.specs.HistoryFacts.{role_of}
-use Rattle.cr_base.specs.Phases.{phase_place, is_phase}
+use Rattle.cr_base.specs.Phases.{phase_rank, is_phase}
 use Rattle.cr_base.specs.Words.{mode_number, role_number}
 use Rattle.cr_history.specs.Invariants.{IsRegistered, IsSubmitted}
 use Rattle.cr_policy.specs.Legal.{Legal}
@@ -27,7 +27,7 @@ use Rattle.cr_policy.specs.Sighting.{Sighting}
 use Rattle.cr_policy.specs.View.{View, view}
 use Rattle.cr_policy.specs.ViewFacts.{only, is_user, phase_in_view, mode_in_view}
 use Rattle.cr_policy.proofs.BoundsWalk.{shown_to}
-use Rattle.cr_told.specs.Told.{shown_on, writers_shown, writer_by, page_told}
+use Rattle.cr_told.specs.ToldPages.{shown_on, writers_shown, writer_by, page_told}
 use Rattle.cr_told.specs.ToldParts.{is_name_of, has, accounts_answered, accounts_given, agree, lists, same_mode, same_role, is_told as is_part_told, is_left_untold}
 use Rattle.cr_told.specs.ToldPublic.{account_shown, all_shown}
 use Rattle.cr_told.proofs.ToldEach.{last-told, last-or-told, listed-here, known}
@@ -88,7 +88,7 @@ module _ (u : Option ℕ) (H : History) (legal : Legal H) (before after : View) 
     phase-set : (phase : Phase) (what : Part) → Whole what (shown_to u H earlier later maker (PhaseSet phase))
     phase-set phase part.phase is shown =
         last-or-told is_phase (λ (s : Sighting). listed s.phase) before after
-        (shown_to u H earlier later maker (PhaseSet phase)) phase Setup (eq-eqb (phase_place phase) (phase_place phase) refl) refl (phase_in_view V)
+        (shown_to u H earlier later maker (PhaseSet phase)) phase Setup (eq-eqb (phase_rank phase) (phase_rank phase) refl) refl (phase_in_view V)
         (ap (last_or Setup) (conference.phases u H) ∙ ap (λ (W : View). last_or Setup (all_shown (λ (s : Sighting). s.phase) W)) is)
     phase-set phase _ is shown = absurd (true≢false (sym shown))
 

@@ -14,13 +14,13 @@ use Rattle.cr_base.specs.declared.words.Kind.{Kind}
 use Rattle.cr_base.specs.Lists.{is_nothing, is_number, listed}
 use Rattle.cr_base.specs.History.{History}
 use Rattle.cr_base.specs.HistoryFacts.{phase_of, mode_of, role_of}
-use Rattle.cr_base.specs.Words.{seat_number}
+use Rattle.cr_base.specs.Words.{review_kind_number}
 use Rattle.cr_history.specs.Invariants.{IsRegistered, IsSubmitted}
 use Rattle.cr_policy.specs.Legal.{Legal}
 use Rattle.cr_policy.specs.Part as part
 use Rattle.cr_policy.specs.Part.{Part}
-use Rattle.cr_policy.specs.ShownTo.{is_told, is_on_committee, leads_committee, is_past_submission, is_past_reviewing, has_conflict, hides_reviewers, where_known}
-use Rattle.cr_policy.specs.ShownTo.{handles, oversees, leads, discusses, is_party, is_answered}
+use Rattle.cr_policy.specs.ShownTo.{is_told, is_on_committee, chairs_committee, is_past_submission, is_past_reviewing, has_conflict, hides_reviewers, where_known}
+use Rattle.cr_policy.specs.ShownTo.{is_eligible, oversees, administers, discusses, is_party, is_answered}
 use Rattle.cr_policy.specs.Sighting.{Sighting}
 use Rattle.cr_policy.specs.View.{View, view}
 use Rattle.cr_policy.specs.ViewFacts.{only, is_kind, is_user, papers_in_view}
@@ -28,7 +28,7 @@ use Rattle.cr_policy.proofs.BoundsParts.{phase-words}
 use Rattle.cr_policy.proofs.BoundsWalk.{shown_to}
 use Rattle.cr_policy.proofs.StandingLaws.{papers-seen}
 use Rattle.cr_policy.proofs.Walk.{only-true, only-false}
-use Rattle.cr_told.specs.Told.{page_told, label_shown_of, shown_of, shown_by, seat_by}
+use Rattle.cr_told.specs.ToldPages.{page_told, label_shown_of, shown_of, shown_by, ordinal_by}
 use Rattle.cr_told.specs.ToldLists.{is_left, knows_reviewers, reviewer_shown, reviewers_listed, name_shown}
 use Rattle.cr_told.specs.ToldParts.{has, agree, lists, same_kind, assigned_given, is_taken_off, is_told as is_part_told, is_left_untold}
 use Rattle.cr_told.proofs.ToldEach.{last-here, last-or-told, listed-here, known}
@@ -71,7 +71,7 @@ module _ (u : Option ℕ) (H : History) (legal : Legal H) (before after : View) 
   onc = is_on_committee (role_of u H)
 
   abbrev lead : Bool
-  lead = leads_committee (role_of u H)
+  lead = chairs_committee (role_of u H)
 
   abbrev begun : Bool
   begun = is_past_submission (phase_of H)
@@ -87,12 +87,12 @@ module _ (u : Option ℕ) (H : History) (legal : Legal H) (before after : View) 
     key-is : reviewers-answered ≡ true → page_told (λ page. page.reviewers) u paper H ≡ Some (reviewers_listed u paper H)
     key-is h = (page_lists_told u paper H legal there).reviewers ∙ ap (λ b. where_known b (reviewers_listed u paper H)) h
 
-  module _ (earlier later : History) (maker : ℕ) (more : Bool) (paper user : ℕ) (seat : Kind) (o : ℕ) (there : IsSubmitted H paper) (registered : IsRegistered H user)
-      (hs : begun ≡ true) (own : (not (is_number u maker) || lead) ≡ true) (told : is_told u H earlier later maker (Assigned paper user seat o) ≡ true)
-      (is : view u H ≡ before ++ shown_to u H earlier later maker (Assigned paper user seat o) ∷ after)
+  module _ (earlier later : History) (maker : ℕ) (more : Bool) (paper user : ℕ) (review_kind : Kind) (o : ℕ) (there : IsSubmitted H paper) (registered : IsRegistered H user)
+      (hs : begun ≡ true) (own : (not (is_number u maker) || lead) ≡ true) (told : is_told u H earlier later maker (Assigned paper user review_kind o) ≡ true)
+      (is : view u H ≡ before ++ shown_to u H earlier later maker (Assigned paper user review_kind o) ∷ after)
     where
       abbrev s : Sighting
-      s = shown_to u H earlier later maker (Assigned paper user seat o)
+      s = shown_to u H earlier later maker (Assigned paper user review_kind o)
 
       abbrev m : Bool
       m = is_number u maker
@@ -130,14 +130,14 @@ module _ (u : Option ℕ) (H : History) (legal : Legal H) (before after : View) 
 
       -- what the reader's own seat is by
       abbrev seats : Sighting → List (Option ℕ)
-      seats t = only (is_number t.paper paper && is_user u t.user) (listed (seat_by t.kind t.ordinal))
+      seats t = only (is_number t.paper paper && is_user u t.user) (listed (ordinal_by t.kind t.ordinal))
 
       seat-shown : n ≡ true → seats s ≡ Some o ∷ []
       seat-shown mine =
           (λ i. only (eq-eqb paper paper refl i && (user-known u names user ∙ (λ j. party j && mine j)) i) (Some o ∷ []))
         where
           party : names ≡ true
-          party = by n m (leads u paper H) (discusses u paper H && not hides) a mine
+          party = by n m (administers u paper H) (discusses u paper H && not hides) a mine
             where
               by : (n m l d a : Bool) → n ≡ true → ((n || m || l) || d || a) ≡ true
               by n m l d a h = grind (arith, h)
@@ -146,13 +146,13 @@ module _ (u : Option ℕ) (H : History) (legal : Legal H) (before after : View) 
       hers = user-known u names user
 
       n-names : n ≡ true → is_user u s.user ≡ true
-      n-names mine = hers ∙ by n m (leads u paper H) (discusses u paper H && not hides) a mine
+      n-names mine = hers ∙ by n m (administers u paper H) (discusses u paper H && not hides) a mine
         where
           by : (n m l d a : Bool) → n ≡ true → (((n || m || l) || d || a) && n) ≡ true
           by n m l d a h = grind (arith, h)
 
       abbrev again : Bool
-      again = not (is_nothing (shown_of u paper (λ (t : Sighting). seat_by t.kind t.ordinal) after))
+      again = not (is_nothing (shown_of u paper (λ (t : Sighting). ordinal_by t.kind t.ordinal) after))
 
       assigned : (what : Part) → IsTrue (has what s) → IsTrue (is_part_told u H s kinds.Assigned what || is_left_untold u H s after kinds.Assigned what)
       assigned part.ordinal shown = by (reviewers-answered paper there) refl (is_left paper V o) refl
@@ -162,7 +162,7 @@ module _ (u : Option ℕ) (H : History) (legal : Legal H) (before after : View) 
           by true answered true stays =
               or_left _ _ (or_left _ _ (reviewer-line (λ r. eqb o r.label) answered stays (eq-eqb o o refl)))
           by r e false gone = or_right _ _ (or_left _ _ (or_left _ _ (ap not gone)))
-          by false none true stays = handled (handles u paper H) refl
+          by false none true stays = handled (is_eligible u paper H) refl
             where
               label-same : Bool
               label-same = agree nat_eq (Some o) (page_told (λ page. page.label) u paper H)
@@ -182,25 +182,25 @@ module _ (u : Option ℕ) (H : History) (legal : Legal H) (before after : View) 
               pick : (x u a t g c : Bool) → u ≡ true → (a || g) ≡ true → ((x || (u && a)) || ((t || (u && g)) || c)) ≡ true
               pick x u a t g c hu h = grind (arith, hu, h)
 
-              handled : (h : Bool) → handles u paper H ≡ h
+              handled : (h : Bool) → is_eligible u paper H ≡ h
                   → IsTrue (is_part_told u H s kinds.Assigned part.ordinal || is_left_untold u H s after kinds.Assigned part.ordinal)
               handled false e =
                   ap (λ b. (lists (page_told (λ page. page.reviewers) u paper H) (λ r. eqb o r.label) || (is_user u s.user && label-same))
-                  || ((is_taken_off u H s || (is_user u s.user && again)) || ((m || b) && not (handles u paper H)))) hers
+                  || ((is_taken_off u H s || (is_user u s.user && again)) || ((m || b) && not (is_eligible u paper H)))) hers
                   ∙ behind (lists (page_told (λ page. page.reviewers) u paper H) (λ r. eqb o r.label)) (is_user u s.user && label-same) (is_taken_off u H s) (is_user u s.user && again)
                   m n onc begun c lead past a (discusses u paper H && not hides) told none e hs hl
               handled true e =
                   pick (lists (page_told (λ page. page.reviewers) u paper H) (λ r. eqb o r.label)) (is_user u s.user) label-same (is_taken_off u H s) again
-                  ((m || is_user u s.user) && not (handles u paper H))
+                  ((m || is_user u s.user) && not (is_eligible u paper H))
                   (n-names (mine m n onc begun c lead past a told none e own))
                   (last-or-told (agree nat_eq) seats before after s (Some o) None (eq-eqb o o refl) (seat-shown (mine m n onc begun c lead past a told none e own))
                   (page_told (λ page. page.label) u paper H)
                   ((pages_told u paper H legal there).label ∙ ap (λ b. if b then label_shown_of u paper V else None) (clear onc begun c e)
                   ∙ ap (λ (W : View). label_shown_of u paper W) is))
-      assigned part.seat shown = by (is_left paper V o) refl ((oversees u paper H || discusses u paper H)) refl
+      assigned part.review_kind shown = by (is_left paper V o) refl ((oversees u paper H || discusses u paper H)) refl
         where
-          shown-to : ((((n || m) || leads u paper H)) || discusses u paper H) ≡ true
-          shown-to = sym (known-some (is_party u H maker paper user || discusses u paper H) seat) ∙ shown
+          shown-to : ((((n || m) || administers u paper H)) || discusses u paper H) ≡ true
+          shown-to = sym (known-some (is_party u H maker paper user || discusses u paper H) review_kind) ∙ shown
 
           clear : (o s c l p : Bool) → ((((o && s) && not c) && l) || (((o && s) && not c) && p)) ≡ true → (o && not c) ≡ true
           clear o s c l p h = grind (arith, h)
@@ -211,18 +211,18 @@ module _ (u : Option ℕ) (H : History) (legal : Legal H) (before after : View) 
           other x t m n o s c l p a d told none hs hl own = grind (arith, told, none, hs, hl, own)
 
           by : (stays : Bool) → is_left paper V o ≡ stays → (r : Bool) → (oversees u paper H || discusses u paper H) ≡ r
-              → IsTrue (is_part_told u H s kinds.Assigned part.seat || is_left_untold u H s after kinds.Assigned part.seat)
+              → IsTrue (is_part_told u H s kinds.Assigned part.review_kind || is_left_untold u H s after kinds.Assigned part.review_kind)
           by false gone r e = or_right _ _ (or_left _ _ (or_left _ _ (ap not gone)))
           by true stays true e =
               or_left _ _
-              (reviewer-line (λ r. eqb o r.label && agree same_kind s.seat r.kind) (or_left (oversees u paper H || discusses u paper H) a e) stays
-              (ap (λ b. eqb o o && agree same_kind s.seat (if b then s.seat else None)) (clear onc begun c lead past e)
-              ∙ ap (λ seat. eqb o o && agree same_kind seat seat) (known _ seat shown)
-              ∙ (λ i. eq-eqb o o refl i && eq-eqb (seat_number seat) (seat_number seat) refl i)))
+              (reviewer-line (λ r. eqb o r.label && agree same_kind s.review_kind r.kind) (or_left (oversees u paper H || discusses u paper H) a e) stays
+              (ap (λ b. eqb o o && agree same_kind s.review_kind (if b then s.review_kind else None)) (clear onc begun c lead past e)
+              ∙ ap (λ review_kind. eqb o o && agree same_kind review_kind review_kind) (known _ review_kind shown)
+              ∙ (λ i. eq-eqb o o refl i && eq-eqb (review_kind_number review_kind) (review_kind_number review_kind) refl i)))
           by true stays false e =
-              ap (λ b. lists (page_told (λ page. page.reviewers) u paper H) (λ r. eqb o r.label && agree same_kind s.seat r.kind)
-              || ((is_taken_off u H s || ((m || b) && not (handles u paper H))) || (b && not past))) hers
-              ∙ other (lists (page_told (λ page. page.reviewers) u paper H) (λ r. eqb o r.label && agree same_kind s.seat r.kind)) (is_taken_off u H s)
+              ap (λ b. lists (page_told (λ page. page.reviewers) u paper H) (λ r. eqb o r.label && agree same_kind s.review_kind r.kind)
+              || ((is_taken_off u H s || ((m || b) && not (is_eligible u paper H))) || (b && not past))) hers
+              ∙ other (lists (page_told (λ page. page.reviewers) u paper H) (λ r. eqb o r.label && agree same_kind s.review_kind r.kind)) (is_taken_off u H s)
               m n onc begun c lead past a (discusses u paper H && not hides) shown-to e hs hl own
       assigned part.user shown = by (is_left paper V o) refl (knows_reviewers u paper H) refl n refl
         where
@@ -258,12 +258,12 @@ module _ (u : Option ℕ) (H : History) (legal : Legal H) (before after : View) 
           by false gone k e r f = or_right _ _ (or_left _ _ (or_left _ _ (ap not gone)))
           by true stays true e r f =
               or_left _ _ (or_left _ _
-              (reviewer-line (λ r. eqb o r.label && agree bytes_eq (name_shown s.user V) r.user) (answered (handles u paper H) lead past hides a e) stays
+              (reviewer-line (λ r. eqb o r.label && agree bytes_eq (name_shown s.user V) r.user) (answered (is_eligible u paper H) lead past hides a e) stays
               (ap (λ b. eqb o o && agree bytes_eq (name_shown s.user V) (if b then name_shown s.user V else None)) e
               ∙ ap (λ user. eqb o o && agree bytes_eq (name_shown user V) (name_shown user V)) (known _ user shown)
               ∙ (λ i. eq-eqb o o refl i && name-is u H user registered i))))
           by true stays false e true f =
-              pick lined (is_user u s.user) (lists (assigned_given u H) (eqb paper)) (is_taken_off u H s) again ((m || is_user u s.user) && not (handles u paper H))
+              pick lined (is_user u s.user) (lists (assigned_given u H) (eqb paper)) (is_taken_off u H s) again ((m || is_user u s.user) && not (is_eligible u paper H))
               (n-names f) (in-me f (is_nothing (flat_map seats after)) refl)
           by true stays false e false f =
               other lined (is_user u s.user && lists (assigned_given u H) (eqb paper)) (is_taken_off u H s) (is_user u s.user && again) (is_user u s.user)
@@ -316,7 +316,7 @@ module _ (u : Option ℕ) (H : History) (legal : Legal H) (before after : View) 
               ∙ ap not (none-any (λ (r : Reviewer). eqb o r.label) (line paper there) no-line V))
           by false none =
               ap (λ b. (is_some (page_told (λ page. page.reviewers) u paper H) && not (lists (page_told (λ page. page.reviewers) u paper H) (λ r. eqb o r.label)))
-              || (b || (is_number u maker && not (handles u paper H))))
+              || (b || (is_number u maker && not (is_eligible u paper H))))
               (user-known u (is_party u H maker paper user || (discusses u paper H && not (hides_reviewers (mode_of H))) || is_answered u paper H) user)
               ∙ other (is_some (page_told (λ page. page.reviewers) u paper H) && not (lists (page_told (λ page. page.reviewers) u paper H) (λ r. eqb o r.label)))
               (is_number u maker) (is_number u user) onc begun (has_conflict u paper H) lead (is_past_reviewing (phase_of H)) (is_answered u paper H)
@@ -327,10 +327,10 @@ pub assigned-all : AllOf kinds.Assigned
 assigned-all = all-of kinds.Assigned each
   where
     each : Each kinds.Assigned
-    each u H legal before after what earlier later maker more (Assigned paper user seat o) whole known told is kind shown =
-        assigned u H legal before after earlier later maker more paper user seat o known.there.0 known.there.1
+    each u H legal before after what earlier later maker more (Assigned paper user review_kind o) whole known told is kind shown =
+        assigned u H legal before after earlier later maker more paper user review_kind o known.there.0 known.there.1
         (sym (phase-words (phase_of H)).bidding ∙ known.settled.1)
-        (own-so (λ v. leads_committee (role_of v H)) u maker (sym (chair-leads (role_of (Some maker) H)) ∙ known.settled.2)) told is what shown
+        (own-so (λ v. chairs_committee (role_of v H)) u maker (sym (chair-leads (role_of (Some maker) H)) ∙ known.settled.2)) told is what shown
     each u H legal before after what earlier later maker more e whole known told is kind shown = absurd (true≢false (sym kind))
 
 pub unassigned-all : AllOf kinds.Unassigned
@@ -339,5 +339,5 @@ unassigned-all = all-of kinds.Unassigned each
     each : Each kinds.Unassigned
     each u H legal before after what earlier later maker more (Unassigned paper user o) whole known told is kind shown =
         unassigned u H legal before after earlier later maker more paper user o known.there.0 (sym (phase-words (phase_of H)).bidding ∙ known.settled.1)
-        (own-so (λ v. leads_committee (role_of v H)) u maker (sym (chair-leads (role_of (Some maker) H)) ∙ known.settled.2)) told is what shown
+        (own-so (λ v. chairs_committee (role_of v H)) u maker (sym (chair-leads (role_of (Some maker) H)) ∙ known.settled.2)) told is what shown
     each u H legal before after what earlier later maker more e whole known told is kind shown = absurd (true≢false (sym kind))

@@ -20,12 +20,12 @@ use Rattle.cr_history.specs.Invariants.{IsSubmitted}
 use Rattle.cr_policy.specs.Legal.{Legal}
 use Rattle.cr_policy.specs.Part as part
 use Rattle.cr_policy.specs.Part.{Part}
-use Rattle.cr_policy.specs.ShownTo.{is_told, leads_committee, handles, is_committees, is_chairs, where_known}
+use Rattle.cr_policy.specs.ShownTo.{is_told, chairs_committee, is_eligible, is_committees, is_chairs, where_known}
 use Rattle.cr_policy.specs.Sighting.{Sighting}
 use Rattle.cr_policy.specs.View.{View, view}
 use Rattle.cr_policy.specs.ViewFacts.{only, is_kind, tag_shown, tag_seen, tags_in_view}
 use Rattle.cr_policy.proofs.BoundsWalk.{shown_to}
-use Rattle.cr_told.specs.Told.{page_told}
+use Rattle.cr_told.specs.ToldPages.{page_told}
 use Rattle.cr_told.specs.ToldParts.{has, agree, lists, is_told as is_part_told, is_left_untold}
 use Rattle.cr_told.proofs.ToldKnown.{AllOf, Each, all-of}
 use Rattle.cr_told.proofs.ToldLists.{page_lists_told}
@@ -203,7 +203,7 @@ module _ (u : Option ℕ) (H : History) (legal : Legal H) (before after : View) 
   V = view u H
 
   abbrev lead : Bool
-  lead = leads_committee (role_of u H)
+  lead = chairs_committee (role_of u H)
 
   module _ (earlier later : History) (maker : ℕ) (more : Bool) (paper : ℕ) (tag : List ℕ) (on : Bool) (there : IsSubmitted H paper)
       (own : (not (is_number u maker) || (not (is_for_chairs tag) || lead)) ≡ true)
@@ -221,7 +221,7 @@ module _ (u : Option ℕ) (H : History) (legal : Legal H) (before after : View) 
 
       -- it is left on, whoever owns it
       left-on : (owner : Option ℕ) → tag_seen u paper s ≡ record { tag = record { tag = tag; owner = owner }; on = true } ∷ []
-          → is_tag_for u lead (record { tag = tag; owner = owner }) ≡ true → again ≡ false → handles u paper H ≡ true → standing-tags ≡ true
+          → is_tag_for u lead (record { tag = tag; owner = owner }) ≡ true → again ≡ false → is_eligible u paper H ≡ true → standing-tags ≡ true
       left-on owner seen hers none handling =
           ap (λ tags. lists tags (bytes_eq tag))
           ((page_lists_told u paper H legal there).tags ∙ ap (λ b. where_known b (tags_in_view u lead paper V)) handling)
@@ -237,7 +237,7 @@ module _ (u : Option ℕ) (H : History) (legal : Legal H) (before after : View) 
           x : TagTold
           x = record { tag = record { tag = tag; owner = owner }; on = true }
 
-      stands-on : on ≡ true → again ≡ false → handles u paper H ≡ true → standing-tags ≡ true
+      stands-on : on ≡ true → again ≡ false → is_eligible u paper H ≡ true → standing-tags ≡ true
       stands-on turned none handling = by (is_private tag) refl (is_for_chairs tag) refl
         where
           mine : (m t k c h l : Bool) → (m || ((t && h) || (k && (h && l)))) ≡ true → ((t || k) || c) ≡ false → m ≡ true
@@ -263,14 +263,14 @@ module _ (u : Option ℕ) (H : History) (legal : Legal H) (before after : View) 
               not-chairs = (or_parts (is_committees tag || is_chairs tag) (is_for_chairs tag) words).1
 
               own-tag : is_number u maker ≡ true
-              own-tag = mine (is_number u maker) (is_committees tag) (is_chairs tag) (is_for_chairs tag) (handles u paper H) lead told words
+              own-tag = mine (is_number u maker) (is_committees tag) (is_chairs tag) (is_for_chairs tag) (is_eligible u paper H) lead told words
           by false p true c =
               left-on None
               (λ i. only (eq-eqb paper paper refl i)
               (if p i then only (is_number u maker) (record { tag = record { tag = tag; owner = u }; on = turned i } ∷ [])
               else record { tag = record { tag = tag; owner = None }; on = turned i } ∷ []))
               ((λ i. if c i then lead else (if p i then is_owner u None else true))
-              ∙ leading (is_number u maker) (is_committees tag) (is_chairs tag) (is_for_chairs tag) (handles u paper H) lead told own (chairs-words tag c) c)
+              ∙ leading (is_number u maker) (is_committees tag) (is_chairs tag) (is_for_chairs tag) (is_eligible u paper H) lead told own (chairs-words tag c) c)
               none handling
           by false p false c =
               left-on None
@@ -282,9 +282,9 @@ module _ (u : Option ℕ) (H : History) (legal : Legal H) (before after : View) 
 
       tagged : IsTrue (is_part_told u H s kinds.Tagged part.tag || is_left_untold u H s after kinds.Tagged part.tag)
       tagged =
-          final on standing-tags again (is_number u maker) (handles u paper H) (is_committees tag) (is_chairs tag) lead told
-          (implies (on && not again && handles u paper H) standing-tags
-          (λ h. let first = and_parts (on && not again) (handles u paper H) h in
+          final on standing-tags again (is_number u maker) (is_eligible u paper H) (is_committees tag) (is_chairs tag) lead told
+          (implies (on && not again && is_eligible u paper H) standing-tags
+          (λ h. let first = and_parts (on && not again) (is_eligible u paper H) h in
           let second = and_parts on (not again) first.0 in
           stands-on second.0 (is-false again second.1) first.1))
         where
@@ -311,6 +311,6 @@ tagged-all = all-of kinds.Tagged each
     each : Each kinds.Tagged
     each u H legal before after what earlier later maker more (Tagged paper tag on) whole known told is kind shown =
         tagged-all' u H legal before after earlier later maker more paper tag on known.there
-        (own-so (λ v. not (is_for_chairs tag) || leads_committee (role_of v H)) u maker
+        (own-so (λ v. not (is_for_chairs tag) || chairs_committee (role_of v H)) u maker
         ((λ i. not (is_for_chairs tag) || sym (chair-leads (role_of (Some maker) H)) i) ∙ known.chairs)) told is what shown
     each u H legal before after what earlier later maker more e whole known told is kind shown = absurd (true≢false (sym kind))

@@ -20,11 +20,11 @@ use Rattle.cr_base.specs.HistoryFacts.{phase_of, decision_of, is_withdrawn}
 use Rattle.cr_base.specs.Phases.{is_from}
 use Rattle.cr_base.specs.Words.{decision_number}
 use Rattle.cr_history.specs.Invariants.{IsRegistered, IsSubmitted, IsInOrder, InTurn}
-use Rattle.cr_history.proofs.LineTies.{stamp}
+use Rattle.cr_history.proofs.LineAgreement.{stamp}
 use Rattle.cr_policy.specs.Legal.{Legal}
 use Rattle.cr_policy.specs.Part as part
 use Rattle.cr_policy.specs.Part.{Part}
-use Rattle.cr_policy.specs.ShownTo.{is_notified, is_in_programme, is_decided_again, decides, is_past_discussion, learns_outcome, is_announced, reads_decision, takes, is_told, handles, discusses, is_past_reviewing, where_known, knows_writers}
+use Rattle.cr_policy.specs.ShownTo.{is_notified, is_in_programme, is_decided_again, decides, is_past_discussion, learns_outcome, is_announced, reads_decision, takes, is_told, is_eligible, discusses, is_past_reviewing, where_known, knows_writers}
 use Rattle.cr_policy.specs.Sighting.{Sighting}
 use Rattle.cr_policy.specs.View.{View, view}
 use Rattle.cr_policy.specs.ViewFacts.{only, is_kind, label_shown, is_accepted_in_view, papers_in_view, facts_in_view, shown_in_view}
@@ -33,7 +33,7 @@ use Rattle.cr_policy.proofs.BoundsWalk.{shown_to}
 use Rattle.cr_policy.proofs.DecisionTells.{accepted-seen}
 use Rattle.cr_policy.proofs.LegalLaws.{legal_invariants}
 use Rattle.cr_policy.proofs.StandingLaws.{papers-seen}
-use Rattle.cr_told.specs.Told.{shown_on, is_shown_accepted, page_told}
+use Rattle.cr_told.specs.ToldPages.{shown_on, is_shown_accepted, page_told}
 use Rattle.cr_told.specs.ToldLists.{comment_shown_by, comments_listed, name_shown}
 use Rattle.cr_told.specs.ToldPlaces.{has_key}
 use Rattle.cr_told.specs.ToldParts.{has, agree, lists, same_decision, comments_given, is_told as is_part_told, is_left_untold}
@@ -100,17 +100,17 @@ module _ (u : Option ℕ) (H : History) (legal : Legal H) (before after : View) 
 
         -- or else it is left behind
         line-or-behind : (test : CommentLine → Bool) → (discusses u paper H ≡ true → list_any test (comment_shown_by s V) ≡ true)
-            → (lists (comments_given u H s) test || (is_number u maker && not (handles u paper H))) ≡ true
+            → (lists (comments_given u H s) test || (is_number u maker && not (is_eligible u paper H))) ≡ true
         line-or-behind test passes = by (discusses u paper H) refl
           where
             behind : (m h d : Bool) → (m || (h && d)) ≡ true → d ≡ true → (h && d) ≡ false → (m && not h) ≡ true
             behind m h d told hd not' = grind (arith, told, hd, not')
 
-            by : (b : Bool) → discusses u paper H ≡ b → (lists (comments_given u H s) test || (is_number u maker && not (handles u paper H))) ≡ true
-            by true e = or_left _ (is_number u maker && not (handles u paper H)) (line-here test e (passes e))
+            by : (b : Bool) → discusses u paper H ≡ b → (lists (comments_given u H s) test || (is_number u maker && not (is_eligible u paper H))) ≡ true
+            by true e = or_left _ (is_number u maker && not (is_eligible u paper H)) (line-here test e (passes e))
             by false e =
-                or_right (lists (comments_given u H s) test) (is_number u maker && not (handles u paper H))
-                (behind (is_number u maker) (handles u paper H) (is_past_reviewing (phase_of H)) told (sym (phase-words (phase_of H)).discussion ∙ begun) e)
+                or_right (lists (comments_given u H s) test) (is_number u maker && not (is_eligible u paper H))
+                (behind (is_number u maker) (is_eligible u paper H) (is_past_reviewing (phase_of H)) told (sym (phase-words (phase_of H)).discussion ∙ begun) e)
 
         commented : (what : Part) → IsTrue (has what s) → IsTrue (is_part_told u H s kinds.Commented what || is_left_untold u H s after kinds.Commented what)
         commented part.n shown = line-or-behind (λ line. eqb n line.n) (λ e. ap (λ b. b || false) (eq-eqb n n refl))
@@ -141,7 +141,7 @@ module _ (u : Option ℕ) (H : History) (legal : Legal H) (before after : View) 
                 ap label_shown (known _ o shown) ∙ ap (λ b. if b then None else Some o) (sym (ap (λ x. is_number x 0) (known _ o shown)) ∙ label)
 
             unnamed : is_some s.by ≡ false → is_number s.ordinal 0 ≡ false
-                → (lists (comments_given u H s) (λ line. eqb n line.n && agree nat_eq s.ordinal line.label) || (is_number u maker && not (handles u paper H))) ≡ true
+                → (lists (comments_given u H s) (λ line. eqb n line.n && agree nat_eq s.ordinal line.label) || (is_number u maker && not (is_eligible u paper H))) ≡ true
             unnamed none label =
                 line-or-behind (λ line. eqb n line.n && agree nat_eq s.ordinal line.label)
                 (λ e.
@@ -190,7 +190,7 @@ module _ (u : Option ℕ) (H : History) (legal : Legal H) (before after : View) 
             other = is_shown_accepted paper V && not (is_some (where_known (is_announced H later paper) true))
 
             left : Bool
-            left = is_number u maker && not (handles u paper H)
+            left = is_number u maker && not (is_eligible u paper H)
 
             behind : (m h p x n g : Bool) → (m || (h && p) || (x && n)) ≡ true → p ≡ true → ((h && p) || n || g) ≡ false → (m && not h) ≡ true
             behind m h p x n g told hp none = grind (arith, told, hp, none)
@@ -246,7 +246,7 @@ module _ (u : Option ℕ) (H : History) (legal : Legal H) (before after : View) 
                 → (agree same_decision d.decision (option_and_then (λ decision. decision) (page_told (λ page. page.decision) u paper H)) || (again || other || left)) ≡ true
             by false h acc e =
                 third _ again other left
-                (behind (is_number u maker) (handles u paper H) (is_past_reviewing (phase_of H)) (not (is_decided_again paper later)) (is_notified u paper H) (is_in_programme paper H)
+                (behind (is_number u maker) (is_eligible u paper H) (is_past_reviewing (phase_of H)) (not (is_decided_again paper later)) (is_notified u paper H) (is_in_programme paper H)
                 told-so (sym (phase-words (phase_of H)).discussion ∙ begun) h)
             by true h false e =
                 first _ again other left

@@ -1,4 +1,4 @@
--- Each sighting on a paper has its place in an answer, or is the reader's own on a paper that she doesn't handle.
+-- Each sighting on a paper has its place in an answer, or is the reader's own on a paper that she isn't eligible for.
 use Rattle.std.proofs.Common.{◌≡◌, ◌<◌, ℕ, Bool, true, false, [], ◌∷◌, ◌++◌, refl, sym, ap, ◌∙◌, ◌||◌, ◌&&◌, Option, Some, None, append_assoc, append-nil, eqb, arith}
 use Rattle.std.specs.Prelude.{not, nat_le, ◌==◌, ◌+◌, is_some, IsTrue, if◌then◌else◌}
 use Rattle.std.specs.List.{AllByRecursion, list_any}
@@ -18,13 +18,13 @@ use Rattle.cr_base.specs.Checks.{is_in_committee}
 use Rattle.cr_base.specs.Lists.{given, is_number, last_or}
 use Rattle.cr_base.specs.History.{History, all_told, phase_told, role_told, paper_told}
 use Rattle.cr_base.specs.HistoryFacts.{phase_of, mode_of, role_of, papers_of, is_author, is_conflicted, is_reviewer}
-use Rattle.cr_base.specs.Phases.{phase_place, is_from, is_phase}
+use Rattle.cr_base.specs.Phases.{phase_rank, is_from, is_phase}
 use Rattle.cr_base.specs.Words.{is_chair, role_number}
 use Rattle.cr_history.proofs.Folds.{last_or-append}
-use Rattle.cr_history.proofs.LineTies.{stamp}
+use Rattle.cr_history.proofs.LineAgreement.{stamp}
 use Rattle.cr_history.specs.Invariants.{Invariants, IsInOrder, InTurn, IsInPhase, RaisesRole, IsSubmitted, IsHeld, may_turn}
 use Rattle.cr_policy.specs.Legal.{Legal}
-use Rattle.cr_policy.specs.ShownTo.{is_on_committee, leads_committee, is_past_submission, is_past_reviewing, has_conflict, serves, handles, oversees, leads, discusses}
+use Rattle.cr_policy.specs.ShownTo.{is_on_committee, chairs_committee, is_past_submission, is_past_reviewing, has_conflict, serves, is_eligible, oversees, administers, discusses}
 use Rattle.cr_policy.specs.ShownTo.{is_party, is_answered, is_notified, is_in_programme, is_told, where_known, is_committees, is_chairs, hides_reviewers, is_discussed, is_reviewed, is_decided_again}
 use Rattle.cr_policy.specs.Sighting.{Sighting}
 use Rattle.cr_policy.specs.View.{view}
@@ -33,7 +33,7 @@ use Rattle.cr_policy.proofs.BoundsParts.{phase-words}
 use Rattle.cr_policy.proofs.BoundsWalk.{shown_to, all-view}
 use Rattle.cr_policy.proofs.DecisionTells.{accepted-seen}
 use Rattle.cr_policy.proofs.LegalLaws.{legal_invariants}
-use Rattle.cr_told.specs.Told.{is_shown_accepted}
+use Rattle.cr_told.specs.ToldPages.{is_shown_accepted}
 use Rattle.cr_told.specs.ToldPlaces.{has_key, has_reviews, has_comments, is_placed, PlacesTold}
 use Rattle.cr_told.specs.ToldReviews.{is_reviewing_now, reviews_now}
 use Rattle.cr_told.proofs.ToldWords.{chair-leads}
@@ -58,7 +58,7 @@ phase-later : (first : Phase) (H : History) (maker : ℕ) (more : Bool) (e : Ent
     → is_from first (phase_of (H ++ stamp maker more e ∷ [])) ≡ true
 phase-later first H maker more (PhaseSet to) next from =
     ap (is_from first) (phase-after H maker more (PhaseSet to))
-    ∙ goes-on (phase_place first) (phase_place (phase_of H)) (phase_place to) (eqb-true (phase_place to) (phase_place (phase_of H) + 1) next) from
+    ∙ goes-on (phase_rank first) (phase_rank (phase_of H)) (phase_rank to) (eqb-true (phase_rank to) (phase_rank (phase_of H) + 1) next) from
 phase-later first H maker more e next from = ap (is_from first) (phase-after H maker more e) ∙ from
 
 pub phase-rises : (first : Phase) (before after H : History) → before ++ after ≡ H → InTurn IsInOrder before after → is_from first (phase_of before) ≡ true
@@ -145,7 +145,7 @@ IsSettled H maker (Withdrawn paper) = IsSubmitted H paper × (is_author (Some ma
 IsSettled H maker (Conflict paper user on) =
     IsSubmitted H paper × ((eqb user maker || is_author (Some maker) paper H || (is_chair (role_of (Some maker) H) && is_from Bidding (phase_of H))) ≡ true)
 IsSettled H maker (Bid paper value) = IsSubmitted H paper
-IsSettled H maker (Assigned paper user seat ordinal) =
+IsSettled H maker (Assigned paper user review_kind ordinal) =
     IsSubmitted H paper × (is_from Bidding (phase_of H) ≡ true) × (is_chair (role_of (Some maker) H) ≡ true)
 IsSettled H maker (Unassigned paper user ordinal) =
     IsSubmitted H paper × (is_from Bidding (phase_of H) ≡ true) × (is_chair (role_of (Some maker) H) ≡ true)
@@ -202,7 +202,7 @@ module _ (H : History) where
     settled-one maker more (Withdrawn paper) is held = (there paper is.about, writes (Some maker) paper is.right)
     settled-one maker more (Conflict paper user on) is held = (there paper is.about.0, turned maker paper user on is.right)
     settled-one maker more (Bid paper value) is held = there paper is.about
-    settled-one maker more (Assigned paper user seat ordinal) is held =
+    settled-one maker more (Assigned paper user review_kind ordinal) is held =
         (there paper is.about.0, from Bidding (committee-begun (phase_of before) is.phase), chairs (Some maker) is.chair)
     settled-one maker more (Unassigned paper user ordinal) is held =
         (there paper is.about.0, from Bidding (committee-begun (phase_of before) is.phase), chairs (Some maker) is.chair)
@@ -272,7 +272,7 @@ module _ (u : Option ℕ) (H : History) (legal : Legal H) where
   onc = is_on_committee (role_of u H)
 
   abbrev lead : Bool
-  lead = leads_committee (role_of u H)
+  lead = chairs_committee (role_of u H)
 
   module _ (q : ℕ) (is : IsSubmitted H q) where
     pub withdrawn-key : has_key (λ page. page.withdrawn) u q H ≡ (is_author u q H || serves u H)
@@ -291,8 +291,8 @@ module _ (u : Option ℕ) (H : History) (legal : Legal H) where
     pub conflicts-key : has_key (λ page. page.conflicts) u q H ≡ oversees u q H
     conflicts-key = ap is_some (pages_told u q H legal is).conflicts ∙ known-some (oversees u q H) _
 
-    pub bid-key : has_key (λ page. page.bid) u q H ≡ handles u q H
-    bid-key = ap is_some (pages_told u q H legal is).bid ∙ known-some (handles u q H) _
+    pub bid-key : has_key (λ page. page.bid) u q H ≡ is_eligible u q H
+    bid-key = ap is_some (pages_told u q H legal is).bid ∙ known-some (is_eligible u q H) _
 
     pub bids-key : has_key (λ page. page.bids) u q H ≡ oversees u q H
     bids-key = ap is_some (page_lists_told u q H legal is).bids ∙ known-some (oversees u q H) _
@@ -300,8 +300,8 @@ module _ (u : Option ℕ) (H : History) (legal : Legal H) where
     pub reviewers-key : has_key (λ page. page.reviewers) u q H ≡ (oversees u q H || discusses u q H || is_answered u q H)
     reviewers-key = ap is_some (page_lists_told u q H legal is).reviewers ∙ known-some (oversees u q H || discusses u q H || is_answered u q H) _
 
-    pub tags-key : has_key (λ page. page.tags) u q H ≡ handles u q H
-    tags-key = ap is_some (page_lists_told u q H legal is).tags ∙ known-some (handles u q H) _
+    pub tags-key : has_key (λ page. page.tags) u q H ≡ is_eligible u q H
+    tags-key = ap is_some (page_lists_told u q H legal is).tags ∙ known-some (is_eligible u q H) _
 
     pub reviews-key : has_reviews u q H ≡ (is_notified u q H || discusses u q H || reviews_now u q H)
     reviews-key = ap is_some (reviews_told u q H legal is) ∙ known-some (is_notified u q H || discusses u q H || reviews_now u q H) _
@@ -333,9 +333,9 @@ module _ (u : Option ℕ) (H : History) (legal : Legal H) where
       by m a s h own = grind (arith, h, own)
   each p before later maker more (Conflict paper user on) is told same =
       at paper p
-      (λ n. is_number u user || has_key (λ page. page.declared) u n H || has_key (λ page. page.conflicts) u n H || (is_number u maker && not (handles u n H))) same
-      ((λ i. is_number u user || declared-key paper is.0 i || conflicts-key paper is.0 i || (is_number u maker && not (handles u paper H)))
-      ∙ by (is_number u maker) (is_number u user) (is_author u paper H) (is_author (Some maker) paper H) (handles u paper H) lead (is_past_submission (phase_of H)) told own)
+      (λ n. is_number u user || has_key (λ page. page.declared) u n H || has_key (λ page. page.conflicts) u n H || (is_number u maker && not (is_eligible u n H))) same
+      ((λ i. is_number u user || declared-key paper is.0 i || conflicts-key paper is.0 i || (is_number u maker && not (is_eligible u paper H)))
+      ∙ by (is_number u maker) (is_number u user) (is_author u paper H) (is_author (Some maker) paper H) (is_eligible u paper H) lead (is_past_submission (phase_of H)) told own)
     where
       by : (m n a w h l s : Bool) → (((n || m) || (a && w)) || (h && l)) ≡ true → (not m || ((n || a) || (l && s))) ≡ true
           → (((n || a) || (h && l)) || (m && not h)) ≡ true
@@ -343,7 +343,7 @@ module _ (u : Option ℕ) (H : History) (legal : Legal H) where
 
       own : (not (is_number u maker) || ((is_number u user || is_author u paper H) || (lead && is_past_submission (phase_of H)))) ≡ true
       own =
-          own-so (λ v. (is_number v user || is_author v paper H) || (leads_committee (role_of v H) && is_past_submission (phase_of H))) u maker
+          own-so (λ v. (is_number v user || is_author v paper H) || (chairs_committee (role_of v H) && is_past_submission (phase_of H))) u maker
           ((λ i. (swap user maker i || is_author (Some maker) paper H) || (sym (chair-leads (role_of (Some maker) H)) i && sym (phase-words (phase_of H)).bidding i))
           ∙ is.1)
         where
@@ -351,36 +351,36 @@ module _ (u : Option ℕ) (H : History) (legal : Legal H) where
           swap x y = grind (arith, nat_tests)
   each p before later maker more (Bid paper value) is told same =
       at paper p
-      (λ n. has_key (λ page. page.bids) u n H || (is_number u maker && has_key (λ page. page.bid) u n H) || (is_number u maker && not (handles u n H))) same
-      ((λ i. bids-key paper is i || (is_number u maker && bid-key paper is i) || (is_number u maker && not (handles u paper H)))
-      ∙ by (is_number u maker) (handles u paper H) (oversees u paper H) told)
+      (λ n. has_key (λ page. page.bids) u n H || (is_number u maker && has_key (λ page. page.bid) u n H) || (is_number u maker && not (is_eligible u n H))) same
+      ((λ i. bids-key paper is i || (is_number u maker && bid-key paper is i) || (is_number u maker && not (is_eligible u paper H)))
+      ∙ by (is_number u maker) (is_eligible u paper H) (oversees u paper H) told)
     where
       by : (m h o : Bool) → (m || o) ≡ true → ((o || (m && h)) || (m && not h)) ≡ true
       by m h o told = grind (arith, told)
-  each p before later maker more (Assigned paper user seat ordinal) is told same =
+  each p before later maker more (Assigned paper user review_kind ordinal) is told same =
       at paper p
-      (λ n. is_user u s.user || has_key (λ page. page.reviewers) u n H || (is_number u maker && not (handles u n H))) same
-      ((λ i. user-known u (names maker paper user) user i || reviewers-key paper is.0 i || (is_number u maker && not (handles u paper H)))
+      (λ n. is_user u s.user || has_key (λ page. page.reviewers) u n H || (is_number u maker && not (is_eligible u n H))) same
+      ((λ i. user-known u (names maker paper user) user i || reviewers-key paper is.0 i || (is_number u maker && not (is_eligible u paper H)))
       ∙ seat-placed (is_number u maker) (is_number u user) lead onc (is_past_submission (phase_of H)) (has_conflict u paper H) (discusses u paper H)
       (hides_reviewers (mode_of H)) (is_answered u paper H) (names maker paper user) refl told (sym (phase-words (phase_of H)).bidding ∙ is.1)
-      (own-so (λ v. leads_committee (role_of v H)) u maker (sym (chair-leads (role_of (Some maker) H)) ∙ is.2)) (leads-serves (role_of u H)))
+      (own-so (λ v. chairs_committee (role_of v H)) u maker (sym (chair-leads (role_of (Some maker) H)) ∙ is.2)) (leads-serves (role_of u H)))
     where
       s : Sighting
-      s = shown_to u H before later maker (Assigned paper user seat ordinal)
+      s = shown_to u H before later maker (Assigned paper user review_kind ordinal)
   each p before later maker more (Unassigned paper user ordinal) is told same =
       at paper p
-      (λ n. is_user u s.user || has_key (λ page. page.reviewers) u n H || (is_number u maker && not (handles u n H))) same
-      ((λ i. user-known u (names maker paper user) user i || reviewers-key paper is.0 i || (is_number u maker && not (handles u paper H)))
+      (λ n. is_user u s.user || has_key (λ page. page.reviewers) u n H || (is_number u maker && not (is_eligible u n H))) same
+      ((λ i. user-known u (names maker paper user) user i || reviewers-key paper is.0 i || (is_number u maker && not (is_eligible u paper H)))
       ∙ seat-placed (is_number u maker) (is_number u user) lead onc (is_past_submission (phase_of H)) (has_conflict u paper H) (discusses u paper H)
       (hides_reviewers (mode_of H)) (is_answered u paper H) (names maker paper user) refl told (sym (phase-words (phase_of H)).bidding ∙ is.1)
-      (own-so (λ v. leads_committee (role_of v H)) u maker (sym (chair-leads (role_of (Some maker) H)) ∙ is.2)) (leads-serves (role_of u H)))
+      (own-so (λ v. chairs_committee (role_of v H)) u maker (sym (chair-leads (role_of (Some maker) H)) ∙ is.2)) (leads-serves (role_of u H)))
     where
       s : Sighting
       s = shown_to u H before later maker (Unassigned paper user ordinal)
   each p before later maker more (Reviewed paper ordinal version form) is told same =
       at paper p
-      (λ n. has_reviews u n H || has_key (λ page. page.reviewers) u n H || (is_number u maker && not (handles u n H))) same
-      ((λ i. reviews-key paper is.0 i || reviewers-key paper is.0 i || (is_number u maker && not (handles u paper H)))
+      (λ n. has_reviews u n H || has_key (λ page. page.reviewers) u n H || (is_number u maker && not (is_eligible u n H))) same
+      ((λ i. reviews-key paper is.0 i || reviewers-key paper is.0 i || (is_number u maker && not (is_eligible u paper H)))
       ∙ by (is_number u maker) onc (is_past_submission (phase_of H)) (has_conflict u paper H) lead (is_past_reviewing (phase_of H)) (is_reviewing_now (phase_of H))
       (is_reviewer u paper H) (is_discussed paper ordinal before later) (not (is_reviewed paper ordinal before)) (is_notified u paper H)
       (not (is_reviewed paper ordinal later)) (is_answered u paper H) told (reviewing-begun (phase_of H) is.1) (reviewing-on (phase_of H) is.1)
@@ -393,23 +393,23 @@ module _ (u : Option ℕ) (H : History) (legal : Legal H) where
           || (m && not ((o && s) && not c))) ≡ true
       by m o s c l d w r x y n z a told hs hd own hl = grind (arith, told, hs, hd, own, hl)
   each p before later maker more (Commented paper n ordinal text) is told same =
-      at paper p (λ n. has_comments u n H || (is_number u maker && not (handles u n H))) same
-      ((λ i. comments-key paper is.0 i || (is_number u maker && not (handles u paper H)))
-      ∙ by (is_number u maker) (handles u paper H) (is_past_reviewing (phase_of H)) told (sym (phase-words (phase_of H)).discussion ∙ is.1))
+      at paper p (λ n. has_comments u n H || (is_number u maker && not (is_eligible u n H))) same
+      ((λ i. comments-key paper is.0 i || (is_number u maker && not (is_eligible u paper H)))
+      ∙ by (is_number u maker) (is_eligible u paper H) (is_past_reviewing (phase_of H)) told (sym (phase-words (phase_of H)).discussion ∙ is.1))
     where
       by : (m h d : Bool) → (m || (h && d)) ≡ true → d ≡ true → ((h && d) || (m && not h)) ≡ true
       by m h d told hd = grind (arith, told, hd)
   each p before later maker more (Tagged paper tag on) is told same =
-      at paper p (λ n. has_key (λ page. page.tags) u n H || (is_number u maker && not (handles u n H))) same
-      ((λ i. tags-key paper is i || (is_number u maker && not (handles u paper H)))
-      ∙ by (is_number u maker) (is_committees tag) (is_chairs tag) (handles u paper H) lead told)
+      at paper p (λ n. has_key (λ page. page.tags) u n H || (is_number u maker && not (is_eligible u n H))) same
+      ((λ i. tags-key paper is i || (is_number u maker && not (is_eligible u paper H)))
+      ∙ by (is_number u maker) (is_committees tag) (is_chairs tag) (is_eligible u paper H) lead told)
     where
       by : (m t k h l : Bool) → (m || ((t && h) || (k && (h && l)))) ≡ true → (h || (m && not h)) ≡ true
       by m t k h l told = grind (arith, told)
   each p before later maker more (Decided paper decision) is told same =
-      at paper p (λ n. has_key (λ page. page.decision) u n H || (is_number u maker && not (handles u n H))) same
-      ((λ i. decision-key paper is.0 i || (is_number u maker && not (handles u paper H)))
-      ∙ by (is_number u maker) (handles u paper H) (is_past_reviewing (phase_of H)) (not (is_decided_again paper later)) (is_notified u paper H) (is_in_programme paper H)
+      at paper p (λ n. has_key (λ page. page.decision) u n H || (is_number u maker && not (is_eligible u n H))) same
+      ((λ i. decision-key paper is.0 i || (is_number u maker && not (is_eligible u paper H)))
+      ∙ by (is_number u maker) (is_eligible u paper H) (is_past_reviewing (phase_of H)) (not (is_decided_again paper later)) (is_notified u paper H) (is_in_programme paper H)
       told (sym (phase-words (phase_of H)).discussion ∙ is.1))
     where
       by : (m h d x n g : Bool) → (((m || (h && d)) || (x && n)) || (x && g)) ≡ true → d ≡ true → ((((h && d) || n) || g) || (m && not h)) ≡ true

@@ -22,7 +22,7 @@ use Rattle.cr_base.specs.Labels.{by_labels, most_labels}
 use Rattle.cr_base.specs.Lists.{listed, last, last_or, is_number, total, until, since}
 use Rattle.cr_base.specs.Page.{shows_reviewer}
 use Rattle.cr_base.specs.Phases.{is_from}
-use Rattle.cr_base.specs.Reports.{in_four, space, line_end, to_left, paper_mark, papers_end, scores_line, is_of_kind, decision_word, decisions_end}
+use Rattle.cr_base.specs.Reports.{in_four, space, line_end, to_left, paper_mark, papers_end, scores_line, is_seat_of_kind, decision_word, decisions_end}
 use Rattle.cr_base.specs.Reports.{is_accepting, is_rejecting, is_undecided, paper_named_line, decision_named_line, letter_form, letter_told}
 use Rattle.cr_base.specs.Reports.{members_report, chairs_report, letter_checks, papers_told, scores_told, load_told, decisions_told}
 use Rattle.cr_base.specs.Sources.{Facts, Shown, has_paper}
@@ -147,9 +147,9 @@ module _ (u : Option ℕ) (H : History) where
       flat_map
       (λ (a : AccountLine).
       to_left 32 a.name
-      ++ space ++ in_four (total (map (λ (p : ℕ). length (filter (λ (seat : SeatTold). is_number seat.user a.user && is_of_kind Primary seat) (reviewers_in_view p V))) (clear i)))
-      ++ space ++ in_four (total (map (λ (p : ℕ). length (filter (λ (seat : SeatTold). is_number seat.user a.user && is_of_kind Secondary seat) (reviewers_in_view p V))) (clear i)))
-      ++ space ++ in_four (total (map (λ (p : ℕ). length (filter (λ (seat : SeatTold). is_number seat.user a.user && is_of_kind Pc seat) (reviewers_in_view p V))) (clear i)))
+      ++ space ++ in_four (total (map (λ (p : ℕ). length (filter (λ (seat : SeatTold). is_number seat.user a.user && is_seat_of_kind Primary seat) (reviewers_in_view p V))) (clear i)))
+      ++ space ++ in_four (total (map (λ (p : ℕ). length (filter (λ (seat : SeatTold). is_number seat.user a.user && is_seat_of_kind Secondary seat) (reviewers_in_view p V))) (clear i)))
+      ++ space ++ in_four (total (map (λ (p : ℕ). length (filter (λ (seat : SeatTold). is_number seat.user a.user && is_seat_of_kind Pc seat) (reviewers_in_view p V))) (clear i)))
       ++ space ++ in_four (total (map (λ (p : ℕ). length (filter (λ (seat : SeatTold). is_number seat.user a.user && written p seat.ordinal i) (reviewers_in_view p V))) (clear i)))
       ++ line_end)
       (filter (λ (a : AccountLine). member-committee a.role i) (accounts_in_view V))

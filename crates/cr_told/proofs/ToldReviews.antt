@@ -32,13 +32,13 @@ use Rattle.cr_policy.specs.ShownTo.{is_past_submission, is_past_reviewing, discu
 use Rattle.cr_policy.specs.Sighting.{Sighting}
 use Rattle.cr_policy.specs.View.{View, view}
 use Rattle.cr_policy.specs.ViewFacts.{only, is_kind, form_shown, form_seen, own_form_seen, discussion_seen, forms_in_view, own_forms_in_view, seats_in_view}
-use Rattle.cr_policy.specs.ViewFacts.{facts_in_view, seat_in_view}
+use Rattle.cr_policy.specs.ViewFacts.{facts_in_view, ordinal_in_view}
 use Rattle.cr_policy.proofs.BoundsParts.{phase-words}
 use Rattle.cr_policy.proofs.BoundsWalk.{shown_to, each-view}
 use Rattle.cr_policy.proofs.LegalLaws.{legal_invariants}
 use Rattle.cr_policy.proofs.StandingLaws.{standing_from_view}
 use Rattle.cr_policy.proofs.Walk.{map-flat_map}
-use Rattle.cr_told.specs.Told.{label_shown_of}
+use Rattle.cr_told.specs.ToldPages.{label_shown_of}
 use Rattle.cr_told.specs.ToldLists.{name_shown, knows_reviewers}
 use Rattle.cr_told.specs.ToldReviews.{reviews_answered, review_shown, forms_listed, reviews_listed, is_reviewing_now, reviews_now, ReviewsTold}
 use Rattle.cr_told.proofs.ToldWords.{member-committee}
@@ -237,15 +237,15 @@ module _ (u : Option ℕ) (p : ℕ) (H : History) where
         ∷ (not by.author && by.conflicted) breaks rules.Conflict
         ∷ not (by.author || is_from Discussion by.phase || (by.reviewer && is_phase by.phase Reviewing)) breaks rules.WrongPhase
         ∷ [])
-        (replies.Reviews (lines_by by.author (is_from Discussion by.phase) (shows_reviewer by) (not by.author) (seat_in_view u p V))))))
+        (replies.Reviews (lines_by by.author (is_from Discussion by.phase) (shows_reviewer by) (not by.author) (ordinal_in_view u p V))))))
         (standing_from_view u (Some p) H)
         ∙ gate (has_paper (facts_in_view u V) (Some p)) (is_author u p H) (is_from Notification (phase_of H)) (is_member (role_of u H)) (is_conflicted u p H)
         (is_author u p H || is_from Discussion (phase_of H) || (is_reviewer u p H && is_phase (phase_of H) Reviewing))
-        (lines_by (is_author u p H) (is_from Discussion (phase_of H)) (shows_reviewer stands) (not (is_author u p H)) (seat_in_view u p V)) (is-there u p H there order)
+        (lines_by (is_author u p H) (is_from Discussion (phase_of H)) (shows_reviewer stands) (not (is_author u p H)) (ordinal_in_view u p V)) (is-there u p H there order)
         ∙ (λ i. where_known (answered-to i)
-        (lines_by (is_author u p H) ((phase-words (phase_of H)).discussion i) (knows u p H there order i) (not (is_author u p H)) (seat_in_view u p V)))
+        (lines_by (is_author u p H) ((phase-words (phase_of H)).discussion i) (knows u p H there order i) (not (is_author u p H)) (ordinal_in_view u p V)))
         ∙ ap (where_known (is_notified u p H || discusses u p H || reviews_now u p H))
-        (lines-same (is_author u p H) (is_past_reviewing (phase_of H)) (knows_reviewers u p H) (seat_in_view u p V) (label_shown_of u p V) (reads.labels u p H u))
+        (lines-same (is_author u p H) (is_past_reviewing (phase_of H)) (knows_reviewers u p H) (ordinal_in_view u p V) (label_shown_of u p V) (reads.labels u p H u))
 
 pub reviews_told : ReviewsTold
 reviews_told u p H legal there = reviews-told u p H there (legal_invariants H legal).in_order

@@ -15,18 +15,18 @@ use Rattle.cr_base.specs.declared.words.Mode.{Mode}
 use Rattle.cr_base.specs.declared.words.Phase.{Phase}
 use Rattle.cr_base.specs.declared.words.Role.{Role}
 use Rattle.cr_base.specs.declared.words.Role.TheVariants.{Account, Member, Chair}
-use Rattle.cr_base.specs.Answering.{bidder_told, reviewer_told, uploads_told, page_by, reply_or_rule, told_of, reviews_answered as reviews_read, comments_answered as comments_read}
+use Rattle.cr_base.specs.Answering.{bidder_told, reviewer_told, uploads_told, page_by, reply_or_rule, told_of_paper, reviews_answered as reviews_read, comments_answered as comments_read}
 use Rattle.cr_base.specs.Checks.{judged, ◌breaks◌}
 use Rattle.cr_base.specs.History.{History, BidTold, Upload}
 use Rattle.cr_base.specs.Lists.{listed}
 use Rattle.cr_base.specs.Page.{page_of, PaperTexts}
-use Rattle.cr_base.specs.Searching.{Told, is_found, found_paper}
+use Rattle.cr_base.specs.Searching.{PaperTold, is_found, found_paper}
 use Rattle.cr_base.specs.Sources.{Facts, Shown, has_paper, names_in, decision_by}
 use Rattle.cr_base.specs.Words.{is_member, is_chair}
 use Rattle.cr_policy.specs.Judge.{answer}
 use Rattle.cr_policy.specs.View.{View, view}
 use Rattle.cr_policy.specs.ViewFacts.{facts_in_view, shown_in_view, papers_in_view, standing_in_view, is_accepted_in_view}
-use Rattle.cr_told.specs.Told.{page_answered}
+use Rattle.cr_told.specs.ToldPages.{page_answered}
 use Rattle.cr_told.specs.ToldLists.{comments_answered}
 use Rattle.cr_told.specs.ToldReviews.{reviews_answered}
 use Rattle.cr_told.specs.ToldSearches.{no_page, told_in_answers, papers_found, SearchesTold}
@@ -64,7 +64,7 @@ comments-read reply = refl
 -- ---- the papers
 
 -- what is found is the same, where the same is told of each paper that is there
-same-found : (f g : ℕ → Told) (search : List Step) (ps : List ℕ) → ((p : ℕ) → list_any (λ q. q == p) ps ≡ true → f p ≡ g p)
+same-found : (f g : ℕ → PaperTold) (search : List Step) (ps : List ℕ) → ((p : ℕ) → list_any (λ q. q == p) ps ≡ true → f p ≡ g p)
     → map (λ (p : ℕ). found_paper p (f p)) (filter (λ (p : ℕ). is_found (f p) search) ps)
     ≡ map (λ (p : ℕ). found_paper p (g p)) (filter (λ (p : ℕ). is_found (g p) search) ps)
 same-found f g search [] same = refl
@@ -94,7 +94,7 @@ module _ (u : Option ℕ) (H : History) where
   abbrev S : Shown
   S = shown_in_view u V
 
-  told-same : (p : ℕ) → list_any (λ q. q == p) (papers_in_view V) ≡ true → told_of F S u p ≡ told_in_answers u H p
+  told-same : (p : ℕ) → list_any (λ q. q == p) (papers_in_view V) ≡ true → told_of_paper F S u p ≡ told_in_answers u H p
   told-same p there = λ i. record {
     page = page-same i;
     accepted = reads.accepted u p H i;
@@ -116,7 +116,7 @@ module _ (u : Option ℕ) (H : History) where
         conflicts = names_in F.accounts (S.conflicts p);
         decision = decision_by F S p;
         declared = names_in F.accounts (S.declared p);
-        label = F.own_seat p;
+        label = F.own_ordinal p;
         reviewers = map (reviewer_told (F.standing (Some p)) F.accounts (S.written p)) (S.reviewers p);
         tags = S.tags u (is_chair (F.standing (Some p)).role) p;
         versions = map (λ (upload : Upload). upload.version) (uploads_told (F.standing (Some p)).author (S.uploads p));
@@ -129,8 +129,8 @@ module _ (u : Option ℕ) (H : History) where
           (hidden by.phase by.mode by.role by.author by.conflicted by.reviewer (is_accepted_in_view p V) p texts)
 
   found-same : (search : List Step)
-      → map (λ (p : ℕ). found_paper p (told_of F S u p)) (filter (λ (p : ℕ). is_found (told_of F S u p) search) (papers_in_view V)) ≡ papers_found u H search
-  found-same search = same-found (λ p. told_of F S u p) (told_in_answers u H) search (papers_in_view V) told-same
+      → map (λ (p : ℕ). found_paper p (told_of_paper F S u p)) (filter (λ (p : ℕ). is_found (told_of_paper F S u p) search) (papers_in_view V)) ≡ papers_found u H search
+  found-same search = same-found (λ p. told_of_paper F S u p) (told_in_answers u H) search (papers_in_view V) told-same
 
 pub searches_told : SearchesTold
 searches_told u H search = record {

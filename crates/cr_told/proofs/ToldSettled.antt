@@ -12,7 +12,7 @@ use Rattle.cr_base.specs.declared.entry.Stamped.{Stamped}
 use Rattle.cr_base.specs.History.{History, all_told, paper_told, registration_told}
 use Rattle.cr_base.specs.HistoryFacts.{papers_of}
 use Rattle.cr_history.specs.Invariants.{IsInOrder, InTurn, IsSubmitted, IsRegistered}
-use Rattle.cr_history.proofs.LineTies.{stamp}
+use Rattle.cr_history.proofs.LineAgreement.{stamp}
 use Rattle.cr_history.proofs.SubmissionLaws.{registered-append}
 
 -- who made it, or the user whom it names, has registered, and its paper is there
@@ -28,7 +28,7 @@ IsThere H maker (Uploaded paper version content) = IsSubmitted H paper
 IsThere H maker (Withdrawn paper) = IsSubmitted H paper
 IsThere H maker (Conflict paper user on) = IsSubmitted H paper × IsRegistered H user
 IsThere H maker (Bid paper value) = IsSubmitted H paper × IsRegistered H maker
-IsThere H maker (Assigned paper user seat ordinal) = IsSubmitted H paper × IsRegistered H user
+IsThere H maker (Assigned paper user review_kind ordinal) = IsSubmitted H paper × IsRegistered H user
 IsThere H maker (Unassigned paper user ordinal) = IsSubmitted H paper × IsRegistered H user
 IsThere H maker (Reviewed paper ordinal version form) = IsSubmitted H paper × IsRegistered H maker
 IsThere H maker (Commented paper n ordinal text) = IsSubmitted H paper × IsRegistered H maker
@@ -72,7 +72,7 @@ module _ (H : History) where
   there-one before maker more (Withdrawn p) after whole is = paper before _ after whole p is.about
   there-one before maker more (Conflict p v on) after whole is = (paper before _ after whole p is.about.0, user before _ after whole v is.about.1)
   there-one before maker more (Bid p value) after whole is = (paper before _ after whole p is.about, user before _ after whole maker is.maker)
-  there-one before maker more (Assigned p v seat ordinal) after whole is = (paper before _ after whole p is.about.0, user before _ after whole v is.about.1)
+  there-one before maker more (Assigned p v review_kind ordinal) after whole is = (paper before _ after whole p is.about.0, user before _ after whole v is.about.1)
   there-one before maker more (Unassigned p v ordinal) after whole is = (paper before _ after whole p is.about.0, user before _ after whole v is.about.1)
   there-one before maker more (Reviewed p ordinal version form) after whole is = (paper before _ after whole p is.about, user before _ after whole maker is.maker)
   there-one before maker more (Commented p n ordinal text) after whole is = (paper before _ after whole p is.about, user before _ after whole maker is.maker)

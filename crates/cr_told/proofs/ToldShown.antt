@@ -12,13 +12,13 @@ use Rattle.cr_base.specs.History.{History, Upload}
 use Rattle.cr_policy.specs.Sighting.{Sighting}
 use Rattle.cr_policy.specs.View.{View, view}
 use Rattle.cr_policy.specs.ShownTo.{where_known}
-use Rattle.cr_policy.specs.ViewFacts.{only, is_user, is_kind, title_seen, abstract_seen, author_seen, conflict_seen, seat_seen, own_bid_seen, bid_seen, accepted_seen, decision_seen}
-use Rattle.cr_policy.specs.ViewFacts.{upload_seen, withdrawal_seen, authors_in_view, is_conflict_on_in_view, seat_in_view}
+use Rattle.cr_policy.specs.ViewFacts.{only, is_user, is_kind, title_seen, abstract_seen, author_seen, conflict_seen, ordinal_seen, own_bid_seen, bid_seen, accepted_seen, decision_seen}
+use Rattle.cr_policy.specs.ViewFacts.{upload_seen, withdrawal_seen, authors_in_view, is_conflict_on_in_view, ordinal_in_view}
 use Rattle.cr_policy.specs.ViewFacts.{is_accepted_in_view, uploads_in_view, is_withdrawn_in_view, upload_shown}
 use Rattle.cr_policy.proofs.BoundsWalk.{shown_to, each-view}
 use Rattle.cr_policy.proofs.Walk.{only-false, map-flat_map, last_from-append}
-use Rattle.cr_told.specs.Told.{shown_on, shown_by, is_shown, writers_shown, is_shown_in_conflict, label_shown_of, own_bids_shown, bids_shown_of, is_shown_accepted}
-use Rattle.cr_told.specs.Told.{writer_by, seat_by}
+use Rattle.cr_told.specs.ToldPages.{shown_on, shown_by, is_shown, writers_shown, is_shown_in_conflict, label_shown_of, own_bids_shown, bids_shown_of, is_shown_accepted}
+use Rattle.cr_told.specs.ToldPages.{writer_by, ordinal_by}
 
 -- what two readings make of each sighting is the same, so it is of the view
 pub flat_map-same : {X A : Type 0} (f g : X → List A) (xs : List X) → All (λ (x : X). f x ≡ g x) xs → flat_map f xs ≡ flat_map g xs
@@ -79,13 +79,13 @@ module _ (u : Option ℕ) (p : ℕ) (H : History) where
       one before later maker (Tagged paper tag on) = sym (only-neither (eqb paper p) on)
       one before later maker e = refl
 
-  pub labels : (v : Option ℕ) → seat_in_view v p (view u H) ≡ label_shown_of v p (view u H)
-  labels v = ap (last_or None) (readings (seat_seen v p) (λ (s : Sighting). only (is_number s.paper p && is_user v s.user) (listed (seat_by s.kind s.ordinal))) one)
+  pub labels : (v : Option ℕ) → ordinal_in_view v p (view u H) ≡ label_shown_of v p (view u H)
+  labels v = ap (last_or None) (readings (ordinal_seen v p) (λ (s : Sighting). only (is_number s.paper p && is_user v s.user) (listed (ordinal_by s.kind s.ordinal))) one)
     where
       one : (before later : History) (maker : ℕ) (e : Entry)
-          → seat_seen v p (shown_to u H before later maker e)
-          ≡ (let s : Sighting = shown_to u H before later maker e in only (is_number s.paper p && is_user v s.user) (listed (seat_by s.kind s.ordinal)))
-      one before later maker (Assigned paper user seat ordinal) = refl
+          → ordinal_seen v p (shown_to u H before later maker e)
+          ≡ (let s : Sighting = shown_to u H before later maker e in only (is_number s.paper p && is_user v s.user) (listed (ordinal_by s.kind s.ordinal)))
+      one before later maker (Assigned paper user review_kind ordinal) = refl
       one before later maker (Unassigned paper user ordinal) = refl
       one before later maker e = refl
 

@@ -5,14 +5,14 @@ use Rattle.cr_base.specs.declared.words.Decision.TheVariants.{Accept, Reject}
 use Rattle.cr_base.specs.declared.words.Role.{Role}
 use Rattle.cr_base.specs.declared.words.Role.TheVariants.{Account, Member, Chair}
 use Rattle.cr_base.specs.Words.{is_member, is_chair, is_accept}
-use Rattle.cr_policy.specs.ShownTo.{is_on_committee, leads_committee, takes}
+use Rattle.cr_policy.specs.ShownTo.{is_on_committee, chairs_committee, takes}
 
 pub member-committee : (role : Role) → is_member role ≡ is_on_committee role
 member-committee Account = refl
 member-committee Member = refl
 member-committee Chair = refl
 
-pub chair-leads : (role : Role) → is_chair role ≡ leads_committee role
+pub chair-leads : (role : Role) → is_chair role ≡ chairs_committee role
 chair-leads Account = refl
 chair-leads Member = refl
 chair-leads Chair = refl

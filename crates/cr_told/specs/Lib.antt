@@ -1,4 +1,4 @@
-pub mod Told
+pub mod ToldPages
 pub mod ToldLists
 pub mod ToldParts
 pub mod ToldPlaces

@@ -23,14 +23,14 @@ use Rattle.cr_base.specs.Sources.{name_in}
 use Rattle.cr_history.specs.Invariants.{IsSubmitted}
 use Rattle.cr_policy.specs.Judge.{answer}
 use Rattle.cr_policy.specs.Legal.{Legal}
-use Rattle.cr_policy.specs.ShownTo.{leads_committee, hides_reviewers, handles, oversees}
-use Rattle.cr_policy.specs.ShownTo.{leads, discusses, is_answered, where_known}
+use Rattle.cr_policy.specs.ShownTo.{chairs_committee, hides_reviewers, is_eligible, oversees}
+use Rattle.cr_policy.specs.ShownTo.{administers, discusses, is_answered, where_known}
 use Rattle.cr_policy.specs.Sighting.{Sighting}
 use Rattle.cr_policy.specs.View.{View, view}
 use Rattle.cr_policy.specs.ViewFacts.{only, is_user, is_kind, label_shown}
 use Rattle.cr_policy.specs.ViewFacts.{accounts_in_view, papers_in_view, tags_in_view}
-use Rattle.cr_told.specs.Told.{shown_on, shown_by, writers_shown, is_shown_in_conflict, label_shown_of}
-use Rattle.cr_told.specs.Told.{bids_shown_of, is_shown_accepted, names_shown, is_clear, page_told}
+use Rattle.cr_told.specs.ToldPages.{shown_on, shown_by, writers_shown, is_shown_in_conflict, label_shown_of}
+use Rattle.cr_told.specs.ToldPages.{bids_shown_of, is_shown_accepted, names_shown, is_clear, page_told}
 
 -- the name of a user that may be shown, as the accounts shown have it
 abbrev pub name_shown : Option ℕ → View → Option (List ℕ)
@@ -63,8 +63,8 @@ knows_reviewers u p H = oversees u p H || (discusses u p H && not (hides_reviewe
 -- know it
 abbrev pub reviewer_shown : Option ℕ → ℕ → History → Sighting → ℕ → Reviewer
 reviewer_shown u p H s o = record {
-  done = where_known (leads u p H) (is_shown_done p o (view u H));
-  kind = if is_clear u p H then s.seat else None;
+  done = where_known (administers u p H) (is_shown_done p o (view u H));
+  kind = if is_clear u p H then s.review_kind else None;
   label = o;
   user = if knows_reviewers u p H then name_shown s.user (view u H) else None;
 }
@@ -83,14 +83,14 @@ reviewers_listed u p H =
 
 -- each of these keys of the page of a paper that is there. Bids: to those who oversee it; of each user the last that is
 -- shown. Reviewers: to those who oversee it, to those who discuss it, and to authors who are answered; those who are
--- shown and not taken off. Tags: to those who handle it; those that are on by the last sighting of each, her own
--- private ones among them, and those for chairs where she is one.
+-- shown and not taken off. Tags: to those who are eligible for it; those that are on by the last sighting of each, her
+-- own private ones among them, and those for chairs where she is one.
 pub record SeatsTold (u : Option ℕ) (p : ℕ) (H : History) : Type 0 where
   pub bids : page_told (λ page. page.bids) u p H ≡ where_known (oversees u p H) (bids_listed p (view u H))
   pub reviewers : page_told (λ page. page.reviewers) u p H
       ≡ where_known (oversees u p H || discusses u p H || is_answered u p H) (reviewers_listed u p H)
   pub tags : page_told (λ page. page.tags) u p H
-      ≡ where_known (handles u p H) (tags_in_view u (leads_committee (role_of u H)) p (view u H))
+      ≡ where_known (is_eligible u p H) (tags_in_view u (chairs_committee (role_of u H)) p (view u H))
 
 abbrev pub PageListsTold : Type 0
 PageListsTold = (u : Option ℕ) (p : ℕ) (H : History) → Legal H → IsSubmitted H p → SeatsTold u p H

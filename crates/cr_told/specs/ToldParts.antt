@@ -25,16 +25,17 @@ use Rattle.cr_base.specs.Lists.{listed, is_nothing, is_number, until}
 use Rattle.cr_base.specs.History.{History}
 use Rattle.cr_base.specs.HistoryFacts.{phase_of, is_author}
 use Rattle.cr_base.specs.Phases.{is_phase}
-use Rattle.cr_base.specs.Words.{decision_number, mode_number, role_number, seat_number}
+use Rattle.cr_base.specs.Words.{decision_number, mode_number, role_number, review_kind_number}
 use Rattle.cr_policy.specs.Judge.{answer}
 use Rattle.cr_policy.specs.Legal.{Legal}
 use Rattle.cr_policy.specs.Part as part
 use Rattle.cr_policy.specs.Part.{Part}
-use Rattle.cr_policy.specs.ShownTo.{is_past_reviewing, handles}
+use Rattle.cr_policy.specs.ShownTo.{is_past_reviewing, is_eligible}
 use Rattle.cr_policy.specs.Sighting.{Sighting}
 use Rattle.cr_policy.specs.View.{View, view}
 use Rattle.cr_policy.specs.ViewFacts.{only, is_user, is_kind, discussion_seen}
-use Rattle.cr_told.specs.Told.{shown_on, page_told, shown_of, bids_shown_of, own_bids_shown, seat_by, is_shown_accepted}
+use Rattle.cr_told.specs.ToldPages.{shown_on, page_told, shown_of}
+use Rattle.cr_told.specs.ToldPages.{bids_shown_of, own_bids_shown, ordinal_by, is_shown_accepted}
 use Rattle.cr_told.specs.ToldLists.{name_shown, is_left, comments_answered}
 use Rattle.cr_told.specs.ToldLists.{content_answered, accepted_answered, me_answered}
 use Rattle.cr_told.specs.ToldPlaces.{is_left_behind}
@@ -56,7 +57,7 @@ has part.version s = is_some s.version
 has part.content s = is_some s.content
 has part.on s = is_some s.on
 has part.value s = is_some s.value
-has part.seat s = is_some s.seat
+has part.review_kind s = is_some s.review_kind
 has part.ordinal s = is_some s.ordinal
 has part.score s = is_some s.score
 has part.confidence s = is_some s.confidence
@@ -107,7 +108,7 @@ abbrev pub same_decision : Decision → Decision → Bool
 same_decision d e = decision_number d == decision_number e
 
 abbrev pub same_kind : Kind → Kind → Bool
-same_kind k l = seat_number k == seat_number l
+same_kind k l = review_kind_number k == review_kind_number l
 
 -- the paper of a sighting
 abbrev pub paper_of : Sighting → ℕ
@@ -198,9 +199,9 @@ is_told u H s kinds.Assigned part.user =
     lists (key (λ page. page.reviewers) u H s)
     (λ reviewer. is_number s.ordinal reviewer.label && agree bytes_eq (name_shown s.user (view u H)) reviewer.user)
     || (is_user u s.user && lists (assigned_given u H) (is_number s.paper))
-is_told u H s kinds.Assigned part.seat =
+is_told u H s kinds.Assigned part.review_kind =
     lists (key (λ page. page.reviewers) u H s)
-    (λ reviewer. is_number s.ordinal reviewer.label && agree same_kind s.seat reviewer.kind)
+    (λ reviewer. is_number s.ordinal reviewer.label && agree same_kind s.review_kind reviewer.kind)
 is_told u H s kinds.Assigned part.ordinal =
     lists (key (λ page. page.reviewers) u H s) (λ reviewer. is_number s.ordinal reviewer.label)
     || (is_user u s.user && agree nat_eq s.ordinal (key (λ page. page.label) u H s))
@@ -254,11 +255,12 @@ is_taken_off u H s = not (is_left (paper_of s) (view u H) (unwrap_or s.ordinal 0
 -- the reader is the one assigned, and is shown later to be taken off, or assigned again
 abbrev pub is_seated_again : Option ℕ → Sighting → View → Bool
 is_seated_again u s after = is_user u s.user
-    && not (is_nothing (shown_of u (paper_of s) (λ (t : Sighting). seat_by t.kind t.ordinal) after))
+    && not (is_nothing (shown_of u (paper_of s) (λ (t : Sighting). ordinal_by t.kind t.ordinal) after))
 
--- the reader assigned her, or is the one assigned, and doesn't handle the paper, since she came into conflict with it
+-- the reader assigned her, or is the one assigned, and isn't eligible for the paper, since she came into conflict with
+-- it
 abbrev pub is_conflicted_since : Option ℕ → History → Sighting → Bool
-is_conflicted_since u H s = (s.mine || is_user u s.user) && not (handles u (paper_of s) H)
+is_conflicted_since u H s = (s.mine || is_user u s.user) && not (is_eligible u (paper_of s) H)
 
 -- the scores that sightings show under the label of this ordinal
 abbrev pub scores_at : ℕ → ℕ → View → List ℕ
@@ -289,8 +291,8 @@ is_tag_left u H s after =
 -- tag that are turned off; a reviewer who is taken off, and who it was; the reader's own seat, where she is seated
 -- anew, and what she is to the paper, before the discussion; her conflict with a paper of her own; the label with a
 -- comment whose writer is named, and that she has none; a decision before the one by which the paper was accepted; and
--- the reader's own entries on a paper that she doesn't handle, and being assigned to it, since she came into conflict
--- with it
+-- the reader's own entries on a paper that she isn't eligible for, and being assigned to it, since she came into
+-- conflict with it
 abbrev pub is_left_untold : Option ℕ → History → Sighting → View → EntryKind → Part → Bool
 is_left_untold u H s after kinds.Registered part.digest = true
 is_left_untold u H s after kinds.Named part.role = not (is_nothing (roles_shown s.user after))
@@ -308,7 +310,7 @@ is_left_untold u H s after kinds.Bid part.value =
     || is_left_behind u (paper_of s) H s
 is_left_untold u H s after kinds.Assigned part.user =
     is_taken_off u H s || is_seated_again u s after || is_conflicted_since u H s
-is_left_untold u H s after kinds.Assigned part.seat =
+is_left_untold u H s after kinds.Assigned part.review_kind =
     is_taken_off u H s || is_conflicted_since u H s || (is_user u s.user && not (is_past_reviewing (phase_of H)))
 is_left_untold u H s after kinds.Assigned part.ordinal =
     is_taken_off u H s || is_seated_again u s after || is_conflicted_since u H s

@@ -1,5 +1,5 @@
 -- Told of all: each sighting on a paper has its place, a key of the paper's page or a list that is answered, or else it
--- is the reader's own on a paper that she doesn't handle.
+-- is the reader's own on a paper that she isn't eligible for.
 use Rattle.std.specs.Prelude.{ℕ, Bool, true, not, ◌&&◌, ◌||◌, Option, Some, is_some, All, IsTrue}
 use Rattle.cr_base.specs.declared.command.Query.TheVariants as queries
 use Rattle.cr_base.specs.declared.entry.EntryKind.{EntryKind}
@@ -9,11 +9,11 @@ use Rattle.cr_base.specs.Lists.{is_number}
 use Rattle.cr_base.specs.History.{History}
 use Rattle.cr_policy.specs.Judge.{answer}
 use Rattle.cr_policy.specs.Legal.{Legal}
-use Rattle.cr_policy.specs.ShownTo.{handles}
+use Rattle.cr_policy.specs.ShownTo.{is_eligible}
 use Rattle.cr_policy.specs.Sighting.{Sighting}
 use Rattle.cr_policy.specs.View.{view}
 use Rattle.cr_policy.specs.ViewFacts.{is_user}
-use Rattle.cr_told.specs.Told.{page_told}
+use Rattle.cr_told.specs.ToldPages.{page_told}
 use Rattle.cr_told.specs.ToldLists.{comments_answered}
 use Rattle.cr_told.specs.ToldReviews.{reviews_answered}
 
@@ -27,9 +27,9 @@ has_reviews u p H = is_some (reviews_answered (answer u (view u H) (queries.Revi
 abbrev pub has_comments : Option ℕ → ℕ → History → Bool
 has_comments u p H = is_some (comments_answered (answer u (view u H) (queries.Comments (Some p))))
 
--- the sighting is the reader's own, on a paper that she doesn't handle: she came into conflict with it since
+-- the sighting is the reader's own, on a paper that she isn't eligible for: she came into conflict with it since
 abbrev pub is_left_behind : Option ℕ → ℕ → History → Sighting → Bool
-is_left_behind u p H s = s.mine && not (handles u p H)
+is_left_behind u p H s = s.mine && not (is_eligible u p H)
 
 -- a sighting of this kind on the paper has its place. A submission, a co-author, a revision and an upload have theirs
 -- by the title, the abstract, the authors and the versions, which are on the page exactly where the view shows them

@@ -19,19 +19,19 @@ use Rattle.cr_base.specs.Lists.{listed, last, is_number, total, until, since}
 use Rattle.cr_base.specs.History.{History, SeatTold}
 use Rattle.cr_base.specs.HistoryFacts.{phase_of, role_of, assigned_under}
 use Rattle.cr_base.specs.Reports.{in_four, space, line_end, to_left, paper_mark, papers_end}
-use Rattle.cr_base.specs.Reports.{scores_line, is_of_kind, decision_word, decisions_end}
+use Rattle.cr_base.specs.Reports.{scores_line, is_seat_of_kind, decision_word, decisions_end}
 use Rattle.cr_base.specs.Reports.{is_accepting, is_rejecting, is_undecided}
 use Rattle.cr_base.specs.Reports.{paper_named_line, decision_named_line, letter_form}
 use Rattle.cr_history.specs.Invariants.{IsSubmitted}
 use Rattle.cr_policy.specs.Judge.{answer}
 use Rattle.cr_policy.specs.Legal.{Legal}
-use Rattle.cr_policy.specs.ShownTo.{is_on_committee, leads_committee, is_past_submission}
+use Rattle.cr_policy.specs.ShownTo.{is_on_committee, chairs_committee, is_past_submission}
 use Rattle.cr_policy.specs.ShownTo.{is_past_reviewing, serves, is_notified, where_known}
 use Rattle.cr_policy.specs.Sighting.{Sighting}
 use Rattle.cr_policy.specs.View.{View, view}
 use Rattle.cr_policy.specs.ViewFacts.{accounts_in_view, papers_in_view, discussion_seen}
 use Rattle.cr_policy.specs.ViewFacts.{reviewers_in_view, last_form_in_view, seats_in_view}
-use Rattle.cr_told.specs.Told.{shown_on, is_shown, writers_shown, is_shown_in_conflict, is_shown_accepted}
+use Rattle.cr_told.specs.ToldPages.{shown_on, is_shown, writers_shown, is_shown_in_conflict, is_shown_accepted}
 use Rattle.cr_told.specs.ToldLists.{name_shown, is_shown_done, knows_reviewers}
 use Rattle.cr_told.specs.ToldReviews.{forms_listed}
 
@@ -100,9 +100,9 @@ load_text u V =
     flat_map
     (λ (a : AccountLine).
     to_left 32 a.name
-    ++ space ++ in_four (held_shown u a.user (λ p seat. is_of_kind Primary seat) V)
-    ++ space ++ in_four (held_shown u a.user (λ p seat. is_of_kind Secondary seat) V)
-    ++ space ++ in_four (held_shown u a.user (λ p seat. is_of_kind Pc seat) V)
+    ++ space ++ in_four (held_shown u a.user (λ p seat. is_seat_of_kind Primary seat) V)
+    ++ space ++ in_four (held_shown u a.user (λ p seat. is_seat_of_kind Secondary seat) V)
+    ++ space ++ in_four (held_shown u a.user (λ p seat. is_seat_of_kind Pc seat) V)
     ++ space ++ in_four (held_shown u a.user (λ p seat. is_shown_done p seat.ordinal V) V)
     ++ line_end)
     (filter (λ (a : AccountLine). is_on_committee a.role) (accounts_in_view V))
@@ -139,7 +139,7 @@ pub record ReportsToldTo (u : Option ℕ) (H : History) : Type 0 where
   pub scores : report_answered (answer u (view u H) (queries.Report reports.Scores))
       ≡ where_known (is_on_committee (role_of u H) && is_past_reviewing (phase_of H)) (scores_text u (view u H))
   pub load : report_answered (answer u (view u H) (queries.Report reports.Load))
-      ≡ where_known (leads_committee (role_of u H) && is_past_submission (phase_of H)) (load_text u (view u H))
+      ≡ where_known (chairs_committee (role_of u H) && is_past_submission (phase_of H)) (load_text u (view u H))
   pub decisions : report_answered (answer u (view u H) (queries.Report reports.Decisions))
       ≡ where_known (is_on_committee (role_of u H) && is_past_reviewing (phase_of H)) (decisions_text u (view u H))
 

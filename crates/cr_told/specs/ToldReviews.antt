@@ -16,11 +16,11 @@ use Rattle.cr_base.specs.HistoryFacts.{phase_of, is_author, is_reviewer, assigne
 use Rattle.cr_history.specs.Invariants.{IsSubmitted}
 use Rattle.cr_policy.specs.Judge.{answer}
 use Rattle.cr_policy.specs.Legal.{Legal}
-use Rattle.cr_policy.specs.ShownTo.{is_past_reviewing, handles, discusses, is_notified, where_known}
+use Rattle.cr_policy.specs.ShownTo.{is_past_reviewing, is_eligible, discusses, is_notified, where_known}
 use Rattle.cr_policy.specs.Sighting.{Sighting}
 use Rattle.cr_policy.specs.View.{View, view}
 use Rattle.cr_policy.specs.ViewFacts.{only, is_kind, discussion_seen, seats_in_view}
-use Rattle.cr_told.specs.Told.{label_shown_of}
+use Rattle.cr_told.specs.ToldPages.{label_shown_of}
 use Rattle.cr_told.specs.ToldLists.{name_shown, knows_reviewers}
 
 abbrev pub reviews_answered : Reply → Option (List ReviewLine)
@@ -76,9 +76,9 @@ abbrev pub is_reviewing_now : Phase → Bool
 is_reviewing_now Reviewing = true
 is_reviewing_now _ = false
 
--- she reviews the paper, which she handles, in the reviewing
+-- she reviews the paper, for which she is eligible, in the reviewing
 abbrev pub reviews_now : Option ℕ → ℕ → History → Bool
-reviews_now u p H = handles u p H && is_reviewer u p H && is_reviewing_now (phase_of H)
+reviews_now u p H = is_eligible u p H && is_reviewer u p H && is_reviewing_now (phase_of H)
 
 -- the reviews of a paper are answered to authors who are notified, to those who discuss it, and in the reviewing to its
 -- reviewers

@@ -1,5 +1,5 @@
--- Told of searches: a paper is found exactly where it has a title for the reader and the terms hold of what the answers
--- tell her of it.
+-- PaperTold of searches: a paper is found exactly where it has a title for the reader and the terms hold of what the
+-- answers tell her of it.
 use Rattle.std.specs.Prelude.{ℕ, true, false, ◌≡◌, List, [], length, map, filter, Option, Some, None, unwrap_or}
 use Rattle.cr_base.specs.declared.command.Query.TheVariants as queries
 use Rattle.cr_base.specs.declared.found.FoundPaper.{FoundPaper}
@@ -7,11 +7,11 @@ use Rattle.cr_base.specs.declared.page.Page.{Page}
 use Rattle.cr_base.specs.declared.reply.Reply.TheVariants as replies
 use Rattle.cr_base.specs.declared.search.Step.{Step}
 use Rattle.cr_base.specs.History.{History}
-use Rattle.cr_base.specs.Searching.{Told, is_found, found_paper}
+use Rattle.cr_base.specs.Searching.{PaperTold, is_found, found_paper}
 use Rattle.cr_policy.specs.Judge.{answer}
 use Rattle.cr_policy.specs.View.{view}
 use Rattle.cr_policy.specs.ViewFacts.{papers_in_view}
-use Rattle.cr_told.specs.Told.{page_answered, is_shown_accepted}
+use Rattle.cr_told.specs.ToldPages.{page_answered, is_shown_accepted}
 use Rattle.cr_told.specs.ToldLists.{comments_answered}
 use Rattle.cr_told.specs.ToldReports.{is_hers_or_in_conflict}
 use Rattle.cr_told.specs.ToldReviews.{reviews_answered}
@@ -38,7 +38,7 @@ no_page p = record {
 
 -- what the answers tell of a paper: its page, its reviews and its comments, where they are answered; and whether the
 -- view shows that it is accepted, and that she is in conflict with it
-abbrev pub told_in_answers : Option ℕ → History → ℕ → Told
+abbrev pub told_in_answers : Option ℕ → History → ℕ → PaperTold
 told_in_answers u H p = record {
   page = unwrap_or (page_answered (answer u (view u H) (queries.Page (Some p)))) (no_page p);
   accepted = is_shown_accepted p (view u H);

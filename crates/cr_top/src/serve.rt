@@ -69,7 +69,7 @@ fn open_gates<G: Gates>(
 
 /// Serves the connections of new doors, from the history of a book on that was opened at the path, and shuts gates and store.
 #[tactic(none)]
-fn serve_doors<R: Threads + Wait + Sync, S: Shelf, G: Gates, O: Sink>(
+fn serve_open_book<R: Threads + Wait + Sync, S: Shelf, G: Gates, O: Sink>(
     rt: &R,
     alloc: Global,
     book: Book<S::Keeper>,
@@ -131,7 +131,7 @@ pub fn serve_store<R: Threads + Wait + Sync, S: Shelf, G: Gates, O: Sink>(
         Err(exit) => return exit,
     };
     match open_gates(alloc, address, gates) {
-        Ok(doors) => serve_doors(rt, alloc, book, doors, path, out, shelf, gates),
+        Ok(doors) => serve_open_book(rt, alloc, book, doors, path, out, shelf, gates),
         Err(exit) => {
             shelf.shut(path, book.close());
             exit

@@ -21,7 +21,7 @@ use Rattle.cr_base.specs.Lists.{at_some, is_number}
 use Rattle.cr_base.specs.Pairs.{users_tied_to}
 use Rattle.cr_base.specs.Phases.{is_from}
 use Rattle.cr_base.specs.Reviews.{is_written_in}
-use Rattle.cr_base.specs.Seats.{labels_in, seat_in}
+use Rattle.cr_base.specs.Seats.{labels_in, ordinal_in}
 use Rattle.cr_base.specs.Sources.{standing_at, facts_of_tables, has_paper}
 use Rattle.cr_base.specs.Tables.{Tables}
 use Rattle.cr_base.specs.Ties.{is_author_in, is_conflicted_in}
@@ -48,7 +48,7 @@ module _ (t : Tables) (maker : ℕ) where
     herself = is_number user maker;
     author = at_some (is_author_in t.ties user) paper;
     conflicted = at_some (is_conflicted_in t.ties user) paper;
-    reviewer = at_some (λ p. is_some (seat_in t.seats user p)) paper;
+    reviewer = at_some (λ p. is_some (ordinal_in t.seats user p)) paper;
   }
 
   -- the facts of the tables ask the same of her
@@ -61,7 +61,7 @@ module _ (t : Tables) (maker : ℕ) where
         herself = is_number (Some v) maker;
         author = is_author_in t.ties (Some v) p;
         conflicted = is_author_in t.ties (Some v) p || declared;
-        reviewer = is_some (seat_in t.seats (Some v) p);
+        reviewer = is_some (ordinal_in t.seats (Some v) p);
       } in
       let declared : Bool = list_any (is_number (Some v)) (users_tied_to p t.ties.conflicts) in
       ap (λ (now : Option Role). option_map (asked declared) now) (role_among-lines_of t.accounts (Some v))
@@ -128,7 +128,7 @@ module _ (t : Tables) (maker : ℕ) where
       pub unassignment-refused : ◌≡◌ {A = Result Drawn Rule} (Err rule) (unassignment_at t maker paper user)
       unassignment-refused =
           let p : ℕ = unwrap_or paper 0 in
-          let seat : Option ℕ = seat_in t.seats user p in
+          let seat : Option ℕ = ordinal_in t.seats user p in
           refused (drop 2 (unassign_checks (standing_at t (Some maker) paper) (asked_of t paper) asked (at_some (is_written_in t.reviews p) seat)))
           (unassignment_drawn maker p (unwrap_or user 0) (unwrap_or seat 0))
 
@@ -224,7 +224,7 @@ module _ (t : Tables) (maker : ℕ) where
               ≡ judged (conflict_checks here (asked_of t paper) (Some (asked_for (Some p) (Some pair.user) pair.role)) on) x
           unread x =
               ap (λ (checks : List Check). judged (not (asked_of t paper).there breaks rules.NoPaper ∷ false breaks rules.NoUser ∷ checks) x)
-              (alike (is_some (seat_in t.seats (Some pair.user) p)) on (is_from Bidding here.phase) (is_from Notification here.phase))
+              (alike (is_some (ordinal_in t.seats (Some pair.user) p)) on (is_from Bidding here.phase) (is_from Notification here.phase))
 
       -- what the seats of these tables are asked, of an assignment and of its end
       abbrev asked_seats : Tables → Bool → Result ℕ Rule
@@ -255,11 +255,11 @@ module _ (t : Tables) (maker : ℕ) where
 
       -- and its end: nor whether she is in conflict with the paper
       pub unassignment-drawn : (written : Bool) (r : Result ℕ Rule)
-          → written ≡ at_some (is_written_in t.reviews p) (seat_in t.seats (Some pair.user) p)
+          → written ≡ at_some (is_written_in t.reviews p) (ordinal_in t.seats (Some pair.user) p)
           → r ≡ asked_seat seen written
           → made_of (unassignment_drawn maker p pair.user) r ≡ unassignment_at t maker paper user
       unassignment-drawn written r is judges =
-          let seat : Option ℕ → Option ℕ → Option ℕ = λ at v. seat_in t.seats v (unwrap_or at 0) in
+          let seat : Option ℕ → Option ℕ → Option ℕ = λ at v. ordinal_in t.seats v (unwrap_or at 0) in
           let has_form : Option ℕ → Option ℕ → Bool = λ at v. at_some (is_written_in t.reviews (unwrap_or at 0)) (seat at v) in
           let draw : Option ℕ → Option ℕ → Drawn = λ at v. unassignment_drawn maker (unwrap_or at 0) (unwrap_or v 0) (unwrap_or (seat at v) 0) in
           let asked : Option Target = seats.target_of t.seats false (Some p) target in

@@ -21,7 +21,7 @@ use Rattle.cr_base.specs.Lists.{is_nothing, last, last_from, listed}
 use Rattle.cr_base.specs.Page.{shows_reviewer}
 use Rattle.cr_base.specs.Phases.{is_from}
 use Rattle.cr_base.specs.Reviews.{forms_discussed_in, forms_in, is_written_in, last_form_in, written_told}
-use Rattle.cr_base.specs.Seats.{seat_in, seats_in}
+use Rattle.cr_base.specs.Seats.{ordinal_in, seats_in}
 use Rattle.cr_base.specs.Tables.{Tables}
 use Rattle.cr_view.specs.Fields.{some_label}
 use Rattle.cr_view.specs.Reviews.{reviews_at}
@@ -166,7 +166,7 @@ module _ (t : Tables) (user : Option ℕ) (by : Standing) (p : ℕ) where
   abbrev told : Bool → Bool → List ReviewLine
   told author late =
       cond author (by_labels (under (λ (o : ℕ). listed (option_map written_told (last_form_in t.reviews p o)))) most_labels)
-      (cond late (by_labels (under (forms_discussed_in t.reviews p)) most_labels) (own (seat_in t.seats user p)))
+      (cond late (by_labels (under (forms_discussed_in t.reviews p)) most_labels) (own (ordinal_in t.seats user p)))
 
   some-under : (forms : ℕ → List FormTold) → ((o : ℕ) → not (is_nothing (forms o)) ≡ written o) → some_label written 26 ≡ not (is_nothing (by_labels (under forms) most_labels))
   unfolding most_labels

@@ -19,7 +19,7 @@ use Rattle.cr_base.specs.declared.pairs.Tie.{Tie}
 use Rattle.cr_base.specs.Lists.{IsRising, given, is_number}
 use Rattle.cr_base.specs.Pairs.{has_pair, ties_of, papers_tied_to}
 use Rattle.cr_base.specs.Papers.{paper_count, paper_numbers, own_bytes}
-use Rattle.cr_base.specs.Seats.{SeatsState, seat_in}
+use Rattle.cr_base.specs.Seats.{SeatsState, ordinal_in}
 use Rattle.cr_base.specs.Tables.{Tables}
 use Rattle.cr_base.specs.Talk.{own_comments_in}
 use Rattle.cr_base.specs.Ties.{BareTies, pair_of, bare_tie, is_author_in, is_conflict_on_in, is_conflicted_in, are_within, AreWithin}
@@ -35,7 +35,7 @@ only_declared true false = refl
 only_declared false declared = refl
 
 -- a paper on which a user has a seat is one of those that have seats
-seat-within : (n p : ℕ) (u : Option ℕ) (ts : SeatsState) → are_within n ts ≡ true → is_some (seat_in ts u p) ≡ true → (1 ≤ p) × (p ≤ n)
+seat-within : (n p : ℕ) (u : Option ℕ) (ts : SeatsState) → are_within n ts ≡ true → is_some (ordinal_in ts u p) ≡ true → (1 ≤ p) × (p ≤ n)
 seat-within n p u [] all there = absurd (true≢false (sym there))
 seat-within n p u (s ∷ ts) all there = by (eqb p s.pair.paper) refl there (seat-within n p u ts parts.1)
   where
@@ -53,7 +53,7 @@ seat-within n p u (s ∷ ts) all there = by (eqb p s.pair.paper) refl there (sea
 
     by : (b : Bool) → eqb p s.pair.paper ≡ b
         → is_some (option_map (λ (x : Tie Seat). x.value.ordinal) (hers (cond b (s ∷ ties_of ByPaper p ts) (ties_of ByPaper p ts)))) ≡ true
-        → (is_some (seat_in ts u p) ≡ true → (1 ≤ p) × (p ≤ n)) → (1 ≤ p) × (p ≤ n)
+        → (is_some (ordinal_in ts u p) ≡ true → (1 ≤ p) × (p ≤ n)) → (1 ≤ p) × (p ≤ n)
     by true same h rest =
         let e : s.pair.paper ≡ p = sym (eqb-true p s.pair.paper same) in
         subst (λ (m : ℕ). (1 ≤ m) × (m ≤ n)) e (low s.pair.paper n parts.0, high s.pair.paper n parts.0)
@@ -72,14 +72,14 @@ papers-tied user (p ∷ papers) =
 
 -- the papers that she reviews
 pub own-seats : (t : Tables) (user : ℕ) (papers : List ℕ) → are_within (paper_count t.papers) t.seats ≡ true → IsRising papers
-    → ((p : ℕ) → has_number p papers ≡ is_some (seat_in t.seats (Some user) p))
-    → papers ≡ filter (λ p. is_some (seat_in t.seats (Some user) p)) (paper_numbers t.papers)
+    → ((p : ℕ) → has_number p papers ≡ is_some (ordinal_in t.seats (Some user) p))
+    → papers ≡ filter (λ p. is_some (ordinal_in t.seats (Some user) p)) (paper_numbers t.papers)
 own-seats t user papers within rising same =
     let ties : BareTies = tied user papers in
-    let found : (p : ℕ) → is_some (seat_in t.seats (Some user) p) ≡ has_pair (pair_of p user) ties = λ p.
+    let found : (p : ℕ) → is_some (ordinal_in t.seats (Some user) p) ≡ has_pair (pair_of p user) ties = λ p.
     sym (same p) ∙ ap (has_number p) (sym (papers-tied user papers)) ∙ list_any-others_of ByUser user p ties in
     sym
-    (numbers-others_of (λ p. is_some (seat_in t.seats (Some user) p)) ByUser user t.papers.papers ties (subst IsRising (sym (papers-tied user papers)) rising)
+    (numbers-others_of (λ p. is_some (ordinal_in t.seats (Some user) p)) ByUser user t.papers.papers ties (subst IsRising (sym (papers-tied user papers)) rising)
     (λ p there. seat-within (paper_count t.papers) p (Some user) t.seats within (found p ∙ there)) found
     ∙ papers-tied user papers)
 
@@ -108,7 +108,7 @@ module _ (t : Tables) (user : ℕ) (within : AreWithin (paper_count t.papers) t.
 
 -- what is read piece by piece is what she is told
 pub me-told : (t : Tables) (user bytes comments : ℕ) (assigned papers conflicts name : List ℕ) (role : Role)
-    → assigned ≡ filter (λ p. is_some (seat_in t.seats (Some user) p)) (paper_numbers t.papers)
+    → assigned ≡ filter (λ p. is_some (ordinal_in t.seats (Some user) p)) (paper_numbers t.papers)
     → bytes ≡ own_bytes t.papers (Some user) → comments ≡ own_comments_in t.talk (Some user)
     → papers ≡ filter (λ p. is_author_in t.ties (Some user) p) (paper_numbers t.papers)
     → conflicts ≡ filter (λ p. is_conflicted_in t.ties (Some user) p && not (is_author_in t.ties (Some user) p)) (paper_numbers t.papers)

@@ -26,7 +26,7 @@ use Rattle.cr_base.specs.Reviews.{forms_in, last_form_in, last_form_before, form
 use Rattle.cr_base.specs.Filed.{filed_of}
 use Rattle.cr_base.specs.Page.{where_told}
 use Rattle.cr_base.specs.Pairs.{ties_of}
-use Rattle.cr_base.specs.Seats.{told_of, seat_in, seats_in}
+use Rattle.cr_base.specs.Seats.{told_seat, ordinal_in, seats_in}
 use Rattle.cr_base.specs.Sources.{name_in}
 use Rattle.cr_base.specs.Tables.{Tables}
 use Rattle.cr_base.proofs.ListLaws.{name_in-lines_of}
@@ -36,13 +36,13 @@ use Rattle.cr_view.specs.Reviews.{review_line, forms_under, heading_at, forms_sh
 -- ---- who has a label
 
 found-told : (o : ℕ) (seats : List (Tie Seat))
-    → find (λ (s : SeatTold). s.ordinal == o) (map told_of seats) ≡ option_map told_of (find (λ (t : Tie Seat). t.value.ordinal == o) seats)
+    → find (λ (s : SeatTold). s.ordinal == o) (map told_seat seats) ≡ option_map told_seat (find (λ (t : Tie Seat). t.value.ordinal == o) seats)
 found-told o [] = refl
 found-told o (t ∷ seats) = by (t.value.ordinal == o) (found-told o seats)
   where
-    by : (b : Bool) → find (λ (s : SeatTold). s.ordinal == o) (map told_of seats) ≡ option_map told_of (find (λ (s : Tie Seat). s.value.ordinal == o) seats)
-        → cond b (Some (told_of t)) (find (λ (s : SeatTold). s.ordinal == o) (map told_of seats))
-        ≡ option_map told_of (cond b (Some t) (find (λ (s : Tie Seat). s.value.ordinal == o) seats))
+    by : (b : Bool) → find (λ (s : SeatTold). s.ordinal == o) (map told_seat seats) ≡ option_map told_seat (find (λ (s : Tie Seat). s.value.ordinal == o) seats)
+        → cond b (Some (told_seat t)) (find (λ (s : SeatTold). s.ordinal == o) (map told_seat seats))
+        ≡ option_map told_seat (cond b (Some t) (find (λ (s : Tie Seat). s.value.ordinal == o) seats))
     by true h = refl
     by false h = h
 
@@ -56,11 +56,11 @@ label-name-is t named p o seats user name are shows is told =
     ∙ ap (λ (f : ℕ → Option (List ℕ)). option_and_then f user) (λ i u. sym (name_in-lines_of t.accounts u) i)
     ∙ ap (option_and_then (name_in (lines_of t.accounts)))
     (is ∙ user-of (under seats) ∙ sym (ap (option_and_then (λ (s : SeatTold). s.user)) (found-told o seats))
-    ∙ ap (λ (ss : List (Tie Seat)). assigned_under o (map told_of ss)) are)
+    ∙ ap (λ (ss : List (Tie Seat)). assigned_under o (map told_seat ss)) are)
     ∙ sym (ap (λ (b : Bool). where_told b (option_and_then (name_in (lines_of t.accounts)) (assigned_under o (seats_in t.seats p)))) shows)
   where
     user-of : (found : Option (Tie Seat))
-        → option_map (λ (s : Tie Seat). s.pair.user) found ≡ option_and_then (λ (s : SeatTold). s.user) (option_map told_of found)
+        → option_map (λ (s : Tie Seat). s.pair.user) found ≡ option_and_then (λ (s : SeatTold). s.user) (option_map told_seat found)
     user-of None = refl
     user-of (Some s) = refl
 
@@ -141,7 +141,7 @@ module _ (t : Tables) (user : Option ℕ) (by : Standing) (p : ℕ) where
       map (review_line (record { to_author = by.author; label = unwrap_or seat 0; user = None }))
       (flat_map (λ (o : ℕ). map written_told (forms_in t.reviews p o)) (listed seat))
 
-  pub own-told : (label : ℕ) (forms : List (Filed WrittenForm)) → Some label ≡ seat_in t.seats user p
+  pub own-told : (label : ℕ) (forms : List (Filed WrittenForm)) → Some label ≡ ordinal_in t.seats user p
       → map (λ (x : Filed WrittenForm). x.value) forms ≡ filed_of p t.reviews.forms
       → lines (record { to_author = by.author; label = label; user = None }) (forms_under label Setup forms) ≡ own_reviews t user by p
   own-told label forms is filed =

@@ -13,11 +13,11 @@ use Rattle.cr_base.specs.Answering.{bidder_told, reviewer_told}
 use Rattle.cr_base.specs.History.{SeatTold}
 use Rattle.cr_base.specs.Lists.{listed}
 use Rattle.cr_base.specs.Page.{is_clear_chair, is_clear_member, shows_reviewer, where_told}
-use Rattle.cr_base.specs.Seats.{told_of}
+use Rattle.cr_base.specs.Seats.{told_seat}
 use Rattle.cr_base.specs.Sources.{name_in}
 use Rattle.cr_base.specs.Tables.{Tables}
 use Rattle.cr_base.proofs.ListLaws.{name_in-lines_of}
-use Rattle.cr_view.specs.Replies.{bid_of, bidders_of, seated, reviewers_of, seat_name, reviewer_of}
+use Rattle.cr_view.specs.Replies.{bid_of, bidders_of, seated, reviewers_of, holder_name, reviewer_of}
 use Rattle.cr_view.proofs.AnswerLaws.{name-told, walk-step}
 
 -- ---- bids
@@ -43,14 +43,14 @@ bidders-step t ties i other before after wanted within pushed told =
 
 -- the name that is found, where it is asked for
 pub seat-name-is : (t : Tables) (by : Standing) (seat : Tie Seat) (found : Option (List ℕ)) → seat.value.vacated ≡ false → shows_reviewer by ≡ true
-    → found ≡ option_map (λ (a : Account). a.name) (account_at t.accounts seat.pair.user) → found ≡ seat_name t by seat
+    → found ≡ option_map (λ (a : Account). a.name) (account_at t.accounts seat.pair.user) → found ≡ holder_name t by seat
 seat-name-is t by seat found stays shows is =
     name-told t.accounts seat.pair.user (not seat.value.vacated && shows_reviewer by) found
     (ap (λ (b : Bool). not b && shows_reviewer by) stays ∙ shows) is
 
 -- who has the first of these seats comes first, unless she has left it
 reviewer-first : (t : Tables) (by : Standing) (written : ℕ → Bool) (seat : Tie Seat) (rest : List (Tie Seat)) → reviewers_of t by written (seated (seat ∷ rest))
-    ≡ listed (reviewer_of by seat (written seat.value.ordinal) (seat_name t by seat)) ++ reviewers_of t by written (seated rest)
+    ≡ listed (reviewer_of by seat (written seat.value.ordinal) (holder_name t by seat)) ++ reviewers_of t by written (seated rest)
 reviewer-first t by written seat rest = split seat.value.vacated
   where
     kept : List (Tie Seat)
@@ -64,20 +64,20 @@ reviewer-first t by written seat rest = split seat.value.vacated
       user = where_told (not left && shows_reviewer by) (name_in (lines_of t.accounts) seat.pair.user);
     }
 
-    split : (left : Bool) → map (reviewer_told by (lines_of t.accounts) written) (map told_of (cond (not left) (seat ∷ kept) kept))
-        ≡ listed (cond left None (Some (told left))) ++ map (reviewer_told by (lines_of t.accounts) written) (map told_of kept)
+    split : (left : Bool) → map (reviewer_told by (lines_of t.accounts) written) (map told_seat (cond (not left) (seat ∷ kept) kept))
+        ≡ listed (cond left None (Some (told left))) ++ map (reviewer_told by (lines_of t.accounts) written) (map told_seat kept)
     split true = refl
     split false = refl
 
 -- one more reviewer
 pub reviewers-step : (t : Tables) (by : Standing) (written : ℕ → Bool) (seats : List (Tie Seat)) (i : ℕ) (other : Tie Seat)
     (before after wanted : List Reviewer) → i < length seats
-    → after ≡ before ++ listed (reviewer_of by (get_or seats i other) (written (get_or seats i other).value.ordinal) (seat_name t by (get_or seats i other)))
+    → after ≡ before ++ listed (reviewer_of by (get_or seats i other) (written (get_or seats i other).value.ordinal) (holder_name t by (get_or seats i other)))
     → before ++ reviewers_of t by written (seated (drop i seats)) ≡ wanted
     → after ++ reviewers_of t by written (seated (drop (i + 1) seats)) ≡ wanted
 reviewers-step t by written seats i other before after wanted within pushed told =
     let seat : Tie Seat = get_or seats i other in
-    let first : Option Reviewer = reviewer_of by seat (written seat.value.ordinal) (seat_name t by seat) in
+    let first : Option Reviewer = reviewer_of by seat (written seat.value.ordinal) (holder_name t by seat) in
     walk-step (λ (ts : List (Tie Seat)). reviewers_of t by written (seated ts)) (listed first) seats i other before after wanted within
     (reviewer-first t by written seat) pushed told
 

@@ -18,7 +18,7 @@ use Rattle.cr_base.specs.Judging.{judge_by_role}
 use Rattle.cr_base.specs.Lists.{at_some, is_number}
 use Rattle.cr_base.specs.Papers.{paper_count}
 use Rattle.cr_base.specs.Reviews.{is_written_in}
-use Rattle.cr_base.specs.Seats.{labels_in, seat_in}
+use Rattle.cr_base.specs.Seats.{labels_in, ordinal_in}
 use Rattle.cr_base.specs.Sources.{Facts, facts_of_tables, shown_in_tables, standing_at, user_among, paper_named, target_named}
 use Rattle.cr_base.specs.Tables.{Tables, tables_after, tables_from, Fits, FitInTurn}
 use Rattle.cr_base.specs.TagTexts.{is_for_chairs}
@@ -70,7 +70,7 @@ row-drawn t user (Unassign paper name) is drawn entry accepted told =
     let facts : Facts = facts_of_tables t (Some user) in
     let target = user_among facts.accounts name in
     let p : ℕ = unwrap_or paper 0 in
-    let seat = seat_in t.seats target p in
+    let seat = ordinal_in t.seats target p in
     one-drawn user
     (unassign_checks (standing_at t (Some user) paper) (paper_named facts (shown_in_tables t) paper) (target_named facts (shown_in_tables t) (Some user) paper target)
     (at_some (is_written_in t.reviews p) seat))

@@ -20,7 +20,7 @@ use Rattle.cr_base.specs.Lists.{at_some, is_number}
 use Rattle.cr_base.specs.Pairs.{users_tied_to}
 use Rattle.cr_base.specs.Papers.{paper_count, paper_numbers, is_withdrawn_at}
 use Rattle.cr_base.specs.Reviews.{is_written_in}
-use Rattle.cr_base.specs.Seats.{seat_in, seats_after, seats_from, SeatsFitInTurn}
+use Rattle.cr_base.specs.Seats.{ordinal_in, seats_after, seats_from, SeatsFitInTurn}
 use Rattle.cr_base.specs.Sources.{standing_at}
 use Rattle.cr_base.specs.Tables.{Tables, tables_after, tables_from, FitInTurn}
 use Rattle.cr_base.specs.Tags.{TagsState, tags_after}
@@ -117,7 +117,7 @@ module _ (t : Tables) (earlier : History) (are : AreRowEntries earlier) where
     pub standing-behind : (user paper : ℕ) (phase : Phase) (mode : Mode) (role : Role) (author conflicted reviewer : Bool)
         → phase ≡ seen.stage.phase → mode ≡ seen.stage.mode → role ≡ role_in seen.accounts (Some user) → author ≡ is_author_in seen.ties (Some user) paper
         → conflicted ≡ is_conflicted_in (ties_from seen.ties earlier) (Some user) paper
-        → reviewer ≡ is_some (seat_in (seats_from seen.seats earlier) (Some user) paper)
+        → reviewer ≡ is_some (ordinal_in (seats_from seen.seats earlier) (Some user) paper)
         → record { phase = phase; mode = mode; role = role; author = author; conflicted = conflicted; reviewer = reviewer }
         ≡ standing_at (tables_from t earlier) (Some user) (Some paper)
     standing-behind user paper phase mode role author conflicted reviewer p m r a c v =
@@ -137,12 +137,12 @@ module _ (t : Tables) (earlier : History) (are : AreRowEntries earlier) where
 
     -- whether a form is written under the label of the user
     pub written-behind : (user paper : ℕ) (ordinal : Option ℕ) (written : Bool)
-        → ordinal ≡ seat_in (seats_from seen.seats earlier) (Some user) paper → written ≡ at_some (is_written_in seen.reviews paper) ordinal
-        → written ≡ at_some (is_written_in (tables_from t earlier).reviews paper) (seat_in (tables_from t earlier).seats (Some user) paper)
+        → ordinal ≡ ordinal_in (seats_from seen.seats earlier) (Some user) paper → written ≡ at_some (is_written_in seen.reviews paper) ordinal
+        → written ≡ at_some (is_written_in (tables_from t earlier).reviews paper) (ordinal_in (tables_from t earlier).seats (Some user) paper)
     written-behind user paper ordinal written held is =
         is
         ∙ ap (at_some (is_written_in seen.reviews paper)) held
-        ∙ ap (λ (x : Tables). at_some (is_written_in x.reviews paper) (seat_in x.seats (Some user) paper)) seen-behind
+        ∙ ap (λ (x : Tables). at_some (is_written_in x.reviews paper) (ordinal_in x.seats (Some user) paper)) seen-behind
 
     -- the paper of this number, and whether it is there
     module _ (maker number : ℕ) (paper : Option ℕ) (has : Bool) (is : paper ≡ Some number)

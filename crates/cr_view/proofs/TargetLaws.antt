@@ -19,7 +19,7 @@ use Rattle.cr_base.specs.Judging.{name_judged, submission_judged, judge_by_role}
 use Rattle.cr_base.specs.Sources.{user_among, users_among, standing_at, facts_of_tables}
 use Rattle.cr_base.specs.Lists.{listed, at_some, is_number}
 use Rattle.cr_base.specs.Papers.{uploads_at, own_count, own_bytes}
-use Rattle.cr_base.specs.Seats.{SeatsState, seats_taken, seat_in}
+use Rattle.cr_base.specs.Seats.{SeatsState, seats_taken, ordinal_in}
 use Rattle.cr_base.specs.Tables.{Tables}
 use Rattle.cr_base.specs.Ties.{TiesState, authors_in, is_author_in, is_conflicted_in}
 use Rattle.cr_base.proofs.AccountLaws.{number_in-lines_of}
@@ -52,11 +52,11 @@ nobody-seated [] = refl
 nobody-seated (s ∷ ts) = nobody-seated ts
 
 -- nor does nobody review a paper
-pub nobody-seat : (seats : SeatsState) (user : Option ℕ) (p : ℕ) → user ≡ None → None ≡ seat_in seats user p
+pub nobody-seat : (seats : SeatsState) (user : Option ℕ) (p : ℕ) → user ≡ None → None ≡ ordinal_in seats user p
 nobody-seat seats user p is =
-    sym (ap (λ (u : Option ℕ). seat_in seats u p) is ∙ ap (option_map (λ (s : Tie Seat). s.value.ordinal)) (nobody-seated (seats_taken seats p)))
+    sym (ap (λ (u : Option ℕ). ordinal_in seats u p) is ∙ ap (option_map (λ (s : Tie Seat). s.value.ordinal)) (nobody-seated (seats_taken seats p)))
 
-pub nobody-reviewer : (seats : SeatsState) (user paper : Option ℕ) → user ≡ None → false ≡ at_some (λ p. is_some (seat_in seats user p)) paper
+pub nobody-reviewer : (seats : SeatsState) (user paper : Option ℕ) → user ≡ None → false ≡ at_some (λ p. is_some (ordinal_in seats user p)) paper
 nobody-reviewer seats user None is = refl
 nobody-reviewer seats user (Some p) is = ap is_some (nobody-seat seats user p is)
 

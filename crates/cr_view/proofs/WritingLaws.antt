@@ -9,7 +9,7 @@ use Rattle.cr_base.specs.Checks.{Check, NamedPaper, judged, review_checks, comme
 use Rattle.cr_base.specs.declared.standing.Standing.{Standing}
 use Rattle.cr_base.specs.Drawn.{review_drawn, comment_drawn}
 use Rattle.cr_base.specs.Judging.{judge_by_role}
-use Rattle.cr_base.specs.Seats.{seat_in}
+use Rattle.cr_base.specs.Seats.{ordinal_in}
 use Rattle.cr_base.specs.Sources.{own_forms_in, standing_at}
 use Rattle.cr_base.specs.Tables.{Tables}
 use Rattle.cr_base.specs.Talk.{comments_in, comment_as_told, own_comments_in}
@@ -27,12 +27,12 @@ judge-comment t maker paper text =
     ap
     (λ (n : ℕ). judged
     (comment_checks (standing_at t (Some maker) paper) (asked_of t paper) (own_comments_in t.talk (Some maker)))
-    (comment_drawn maker p (n + 1) (seat_in t.seats (Some maker) p) text))
+    (comment_drawn maker p (n + 1) (ordinal_in t.seats (Some maker) p) text))
     (length-map (comments_in t.talk p) comment_as_told)
 
 -- on a paper that is there, where these tables are asked and this is the ordinal under which the maker reviews it
 module _ (t : Tables) (maker : ℕ) (paper : Option ℕ) (named : Named) (given : ◌≡◌ {A = Result Named Rule} (Ok named) (named_at t maker paper))
-    (seen : Tables) (same : seen ≡ t) (ordinal : Option ℕ) (held : ordinal ≡ seat_in seen.seats (Some maker) named.paper) where
+    (seen : Tables) (same : seen ≡ t) (ordinal : Option ℕ) (held : ordinal ≡ ordinal_in seen.seats (Some maker) named.paper) where
   abbrev told : NamedPaper
   told = record { there = true; withdrawn = named.withdrawn }
 
@@ -40,8 +40,8 @@ module _ (t : Tables) (maker : ℕ) (paper : Option ℕ) (named : Named) (given 
       → r ≡ judged (review_checks named.by told) (length (forms_by seen.reviews named.paper ordinal) + 1)
       → made_of (λ (version : ℕ). review_drawn maker named.paper (unwrap_or ordinal 0) version form) r ≡ judge_by_role t (Some maker) (Review paper form)
   review-drawn form r judges =
-      let seat : ℕ → Option ℕ = λ p. seat_in t.seats (Some maker) p in
-      let is : ordinal ≡ seat named.paper = held ∙ ap (λ (x : Tables). seat_in x.seats (Some maker) named.paper) same in
+      let seat : ℕ → Option ℕ = λ p. ordinal_in t.seats (Some maker) p in
+      let is : ordinal ≡ seat named.paper = held ∙ ap (λ (x : Tables). ordinal_in x.seats (Some maker) named.paper) same in
       ap (λ (o : Option ℕ). made_of (λ (version : ℕ). review_drawn maker named.paper (unwrap_or o 0) version form) r) is
       ∙ numbered-drawn t maker paper named given review_checks (λ (p version : ℕ). review_drawn maker p (unwrap_or (seat p) 0) version form)
       (λ (p : ℕ). length (own_forms_in t (Some maker) p) + 1) r
@@ -53,8 +53,8 @@ module _ (t : Tables) (maker : ℕ) (paper : Option ℕ) (named : Named) (given 
       → r ≡ judged (comment_checks named.by told (own_comments_in seen.talk (Some maker))) (length (comments_in seen.talk named.paper) + 1)
       → made_of (λ (n : ℕ). comment_drawn maker named.paper n ordinal text) r ≡ comment_at t maker paper text
   comment-drawn text r judges =
-      let seat : ℕ → Option ℕ = λ p. seat_in t.seats (Some maker) p in
-      let is : ordinal ≡ seat named.paper = held ∙ ap (λ (x : Tables). seat_in x.seats (Some maker) named.paper) same in
+      let seat : ℕ → Option ℕ = λ p. ordinal_in t.seats (Some maker) p in
+      let is : ordinal ≡ seat named.paper = held ∙ ap (λ (x : Tables). ordinal_in x.seats (Some maker) named.paper) same in
       let checks : Tables → Standing → NamedPaper → List Check = λ x s p. comment_checks s p (own_comments_in x.talk (Some maker)) in
       ap (λ (o : Option ℕ). made_of (λ (n : ℕ). comment_drawn maker named.paper n o text) r) is
       ∙ numbered-drawn t maker paper named given (checks t) (λ (p n : ℕ). comment_drawn maker p n (seat p) text)

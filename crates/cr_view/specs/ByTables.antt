@@ -14,7 +14,7 @@ use Rattle.cr_base.specs.Drawn.{Drawn, registration_drawn, submission_drawn, nam
 use Rattle.cr_base.specs.Judging.{conflict_judged, assignment_judged, unassignment_judged}
 use Rattle.cr_base.specs.Lists.{listed, at_some}
 use Rattle.cr_base.specs.Papers.{paper_count, own_count, is_withdrawn_at}
-use Rattle.cr_base.specs.Seats.{seat_in}
+use Rattle.cr_base.specs.Seats.{ordinal_in}
 use Rattle.cr_base.specs.Sources.{standing_at, facts_of_tables, shown_in_tables, has_paper, paper_named, target_named, user_among}
 use Rattle.cr_base.specs.Tables.{Tables}
 use Rattle.cr_base.specs.Talk.{comments_in, own_comments_in}
@@ -92,4 +92,4 @@ comment_at t maker paper text =
     let p = unwrap_or paper 0 in
     judged
     (comment_checks (standing_at t (Some maker) paper) (asked_of t paper) (own_comments_in t.talk (Some maker)))
-    (comment_drawn maker p (length (comments_in t.talk p) + 1) (seat_in t.seats (Some maker) p) text)
+    (comment_drawn maker p (length (comments_in t.talk p) + 1) (ordinal_in t.seats (Some maker) p) text)

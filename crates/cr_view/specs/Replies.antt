@@ -22,7 +22,7 @@ use Rattle.cr_base.specs.History.{Upload, BidTold, SeatTold}
 use Rattle.cr_base.specs.Lists.{listed, at_some}
 use Rattle.cr_base.specs.Page.{is_clear_chair, is_clear_member, shows_reviewer, where_told}
 use Rattle.cr_base.specs.Papers.{paper_count, uploads_at}
-use Rattle.cr_base.specs.Seats.{told_of, seat_in}
+use Rattle.cr_base.specs.Seats.{told_seat, ordinal_in}
 use Rattle.cr_base.specs.Sources.{Facts, Shown, is_accepted_in, own_forms_in, standing_at, facts_of_tables, shown_in_tables, has_paper, names_in, name_in}
 use Rattle.cr_base.specs.Tables.{Tables}
 use Rattle.cr_base.specs.Ties.{BareTies, bid_in}
@@ -71,7 +71,7 @@ facts_at t user by = record {
   own_papers = 0;
   own_bytes = 0;
   own_bid = bid_in t.ties user;
-  own_seat = seat_in t.seats user;
+  own_ordinal = ordinal_in t.seats user;
   own_forms = λ p. own_forms_in t user p;
   own_comments = 0;
   accepted = is_accepted_in t;
@@ -122,15 +122,15 @@ bidders_of t bids = flat_map (λ (bid : BidTold). listed (bidder_told (lines_of 
 
 -- whoever has these seats and has not left them
 abbrev pub seated : List (Tie Seat) → List SeatTold
-seated seats = map told_of (filter (λ (seat : Tie Seat). not seat.value.vacated) seats)
+seated seats = map told_seat (filter (λ (seat : Tie Seat). not seat.value.vacated) seats)
 
 -- reviewers, as one who stands so to their paper is told of them; forms are written under some of their labels
 abbrev pub reviewers_of : Tables → Standing → (ℕ → Bool) → List SeatTold → List Reviewer
 reviewers_of t by written seats = map (reviewer_told by (lines_of t.accounts) written) seats
 
 -- the name of whoever has this seat, where it is shown and she has not left it; and a reviewer of this name, who has written or hasn't
-abbrev pub seat_name : Tables → Standing → Tie Seat → Option (List ℕ)
-seat_name t by seat = where_told (not seat.value.vacated && shows_reviewer by) (name_in (lines_of t.accounts) seat.pair.user)
+abbrev pub holder_name : Tables → Standing → Tie Seat → Option (List ℕ)
+holder_name t by seat = where_told (not seat.value.vacated && shows_reviewer by) (name_in (lines_of t.accounts) seat.pair.user)
 
 abbrev pub reviewer_of : Standing → Tie Seat → Bool → Option (List ℕ) → Option Reviewer
 reviewer_of by seat written name = if seat.value.vacated then None else Some (record {

@@ -17,7 +17,7 @@ use Rattle.cr_base.specs.Lists.{listed}
 use Rattle.cr_base.specs.Page.{shows_reviewer, where_told}
 use Rattle.cr_base.specs.Phases.{is_from}
 use Rattle.cr_base.specs.Reviews.{last_form_in, forms_discussed_in, written_told}
-use Rattle.cr_base.specs.Seats.{seat_in, seats_in}
+use Rattle.cr_base.specs.Seats.{ordinal_in, seats_in}
 use Rattle.cr_base.specs.Sources.{own_forms_in, shown_in_tables, name_in}
 use Rattle.cr_base.specs.Tables.{Tables}
 use Rattle.cr_view.specs.declared.reviews.Heading.{Heading}
@@ -64,7 +64,7 @@ label_reviews t by p o = map (review_line (heading_at t by p o)) (forms_shown t 
 -- a reviewer's own forms, without her name
 abbrev pub own_reviews : Tables → Option ℕ → Standing → ℕ → List ReviewLine
 own_reviews t user by p =
-    map (review_line (record { to_author = by.author; label = unwrap_or (seat_in t.seats user p) 0; user = None })) (own_forms_in t user p)
+    map (review_line (record { to_author = by.author; label = unwrap_or (ordinal_in t.seats user p) 0; user = None })) (own_forms_in t user p)
 
 -- the reviews that a user is told who stands so to the paper; and those that are due to her, or the first broken rule
 abbrev pub reviews_at : Tables → Option ℕ → Standing → ℕ → List ReviewLine

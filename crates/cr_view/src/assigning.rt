@@ -4,7 +4,7 @@ ghost use Rattle.cr_base.specs.Accounts.{role_at};
 ghost use Rattle.cr_base.specs.Judging.{judge_by_role};
 ghost use Rattle.cr_base.specs.Lists.{at_some};
 ghost use Rattle.cr_base.specs.Reviews.{is_written_in};
-ghost use Rattle.cr_base.specs.Seats.{seat_in};
+ghost use Rattle.cr_base.specs.Seats.{ordinal_in};
 ghost use Rattle.cr_base.specs.Sources.{standing_at};
 ghost use Rattle.cr_base.specs.Tables.{tables_from};
 ghost use Rattle.cr_base.specs.declared.command.Command.TheVariants as commands;
@@ -143,7 +143,7 @@ impl Live {
     /// does a walk over the paper's forms.
     fn has_written(&self, user: UserNo, paper: PaperNo, earlier: &[Stamped]) -> bool
         requires { AreEarlier self.now.tables earlier.now }
-        ensures { let t = tables_from self.now.tables earlier.now in result ≡ at_some (is_written_in t.reviews paper) (seat_in t.seats (Some user) paper) }
+        ensures { let t = tables_from self.now.tables earlier.now in result ≡ at_some (is_written_in t.reviews paper) (ordinal_in t.seats (Some user) paper) }
     {
         match self.seats.ordinal_behind(user, paper, earlier) {
             Some(ordinal) => self.reviews.has_form(paper, ordinal),

@@ -24,7 +24,7 @@ pub(crate) fn comments_rule(by: &Standing, there: bool) -> Result<(), Rule>
     if !there {
         return Err(Rule::NoPaper);
     }
-    match by.may_handle() {
+    match by.check_eligible() {
         Ok(()) => {}
         Err(rule) => return Err(rule),
     }

@@ -146,7 +146,7 @@ impl Live {
         if by.author || by.phase.is_from(Phase::Discussion) {
             return self.has_any_form(paper);
         }
-        match self.seat_of(user, paper) {
+        match self.ordinal_of(user, paper) {
             Some(label) => self.reviews.has_form(paper, label),
             None => false,
         }

@@ -5,7 +5,7 @@ ghost use Rattle.cr_base.specs.Accounts.{number_at, account_at, caller_at};
 ghost use Rattle.cr_base.specs.Sources.{standing_at};
 ghost use Rattle.cr_base.specs.Lists.{at_some};
 ghost use Rattle.cr_base.specs.Papers.{paper_count};
-ghost use Rattle.cr_base.specs.Seats.{seat_in};
+ghost use Rattle.cr_base.specs.Seats.{ordinal_in};
 ghost use Rattle.cr_base.specs.Tables.{no_tables, tables_after, tables_from, Fits, FitInTurn};
 ghost use Rattle.cr_base.specs.Ties.{is_author_in, is_conflicted_in, are_within, AreWithin};
 
@@ -219,7 +219,7 @@ impl Live {
 
     /// Whether the user reviews the paper; false for nobody, and where no paper is named.
     fn is_reviewer(&self, user: &Option<UserNo>, paper: &Option<PaperNo>) -> bool
-        ensures { result ≡ at_some (λ p. is_some (seat_in self.now.tables.seats user.now p)) paper.now }
+        ensures { result ≡ at_some (λ p. is_some (ordinal_in self.now.tables.seats user.now p)) paper.now }
     {
         let Some(user) = user else {
             return false;

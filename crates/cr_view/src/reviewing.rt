@@ -4,11 +4,11 @@ ghost use Rattle.cr_base.specs.Accounts.{lines_of};
 ghost use Rattle.cr_base.specs.Answering.{bidder_told};
 ghost use Rattle.cr_base.specs.Page.{gets_bid, gets_bids, gets_label, gets_reviewers, where_told};
 ghost use Rattle.cr_base.specs.Reviews.{is_written_in};
-ghost use Rattle.cr_base.specs.Seats.{seat_in, reviewers_in};
+ghost use Rattle.cr_base.specs.Seats.{ordinal_in, reviewers_in};
 ghost use Rattle.cr_base.specs.Ties.{bid_in, bids_in};
 ghost use Rattle.cr_base.specs.Words.{no_bid};
 ghost use Rattle.cr_reviews.specs.Labels.{has_label};
-ghost use Rattle.cr_view.specs.Replies.{bid_of, bidders_of, reviewer_of, reviewers_of, seat_name, seated};
+ghost use Rattle.cr_view.specs.Replies.{bid_of, bidders_of, reviewer_of, reviewers_of, holder_name, seated};
 
 use crate::lists::push_some;
 use crate::live::Live;
@@ -23,8 +23,8 @@ use std::alloc::{AllocError, Global};
 /// Her own bid and her own label.
 impl Live {
     /// The ordinal of the label under which the user reviews the paper; none for nobody.
-    pub(crate) fn seat_of(&self, user: &Option<UserNo>, paper: PaperNo) -> Option<Ordinal>
-        ensures { result ≡ seat_in self.now.tables.seats user.now paper }
+    pub(crate) fn ordinal_of(&self, user: &Option<UserNo>, paper: PaperNo) -> Option<Ordinal>
+        ensures { result ≡ ordinal_in self.now.tables.seats user.now paper }
     {
         match user {
             Some(user) => self.seats.ordinal_of(*user, paper),
@@ -60,12 +60,12 @@ impl Live {
         by: &Standing,
         paper: PaperNo,
     ) -> Option<Ordinal>
-        ensures { result ≡ where_told (gets_label by.now) (seat_in self.now.tables.seats user.now paper) }
+        ensures { result ≡ where_told (gets_label by.now) (ordinal_in self.now.tables.seats user.now paper) }
     {
         if !gets_label(by) {
             return None;
         }
-        self.seat_of(user, paper)
+        self.ordinal_of(user, paper)
     }
 }
 
@@ -153,7 +153,7 @@ impl Live {
     /// The name of who has this seat, where it is shown to who stands so to the seat's paper, unless the reviewer has
     /// left it. One read by number, where it is.
     pub fn reviewer_name(&self, by: &Standing, seat: &Tie<Seat>) -> Option<Short>
-        ensures { result ≡ seat_name self.now.tables by.now seat.now }
+        ensures { result ≡ holder_name self.now.tables by.now seat.now }
     {
         if seat.value.vacated || !shows_reviewer(by) {
             return None;

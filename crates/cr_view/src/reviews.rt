@@ -287,7 +287,7 @@ impl Live {
         ensures { IfOk result (λ lines. lines ≡ own_reviews self.now.tables user.now by.now paper) }
     {
         let mut lines = Vec::new(alloc);
-        let Some(label) = self.seat_of(user, paper) else {
+        let Some(label) = self.ordinal_of(user, paper) else {
             return Ok(ReviewLines::from_vec(lines));
         };
         let heading = Heading {

@@ -12,7 +12,7 @@ use Rattle.cr_bodies.specs.Bodies.{command_in, command_read}
 use Rattle.cr_bodies.specs.Field.{◌>>=◌, abstract_under, bid_under, comment_under, decision_under, digest_under, flag_under, grade_under, kind_under}
 use Rattle.cr_bodies.specs.Field.{mode_under, name_under, names_under, phase_under, review_text_under, role_under, title_under, user_under}
 use Rattle.cr_bodies.specs.Json.{json_of}
-use Rattle.cr_bulk.specs.Rows.{rows_spelt}
+use Rattle.cr_bulk.specs.Rows.{parse_rows}
 use Rattle.cr_routes.specs.Parts.{FoundPath}
 use Rattle.cr_wire.specs.Asked.{LooksBehindPath, ask_has_body, asked, bulk_of, command_of, commanded, tagged}
 use Rattle.cr_wire.specs.Caller.{ask_of}
@@ -96,7 +96,7 @@ by_tag ask found on each = by (tag_of found)
 
 -- so is what a query string tells
 by_query : (only_count : Bool) (read : Result (List Step) ℕ) → ask_of (searched only_count read) ≡ Some asks.Search
-by_query only_count (Err place) = refl
+by_query only_count (Err offset) = refl
 by_query only_count (Ok steps) = refl
 
 -- and what the rows of a bulk are
@@ -120,7 +120,7 @@ ask_by_ask asks.Decide found query body = by_body asks.Decide found body
 ask_by_ask asks.Tag found query body = by_tag asks.Tag found true (λ tag. refl)
 ask_by_ask asks.Untag found query body = by_tag asks.Untag found false (λ tag. refl)
 ask_by_ask asks.Search found query body = by_query (asks_count query) (search_read (search_text query))
-ask_by_ask asks.Bulk found query body = by_rows (rows_spelt body)
+ask_by_ask asks.Bulk found query body = by_rows (parse_rows body)
 ask_by_ask ask found query body = refl
 
 -- what is told by a body looks at it, whatever it tells

@@ -7,7 +7,7 @@ use Rattle.std.specs.Str.Parse.{AllDigits, ParsesUnsigned, digits_value}
 use Rattle.std.proofs.lemmas.Bool.{and_parts, ltb-true}
 use Rattle.std.proofs.lemmas.Bool.Decides.{nat_tests}
 use Rattle.std.proofs.lemmas.Str.Parse.{numerals_by_value, parse_digits, tells_digits}
-use Rattle.cr_base.proofs.SpeltLaws.{digits}
+use Rattle.cr_base.proofs.ParseLaws.{digits}
 use Rattle.cr_wire.specs.Paper.{is_number}
 
 -- a number that isn't read passes what is told

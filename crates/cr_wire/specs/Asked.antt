@@ -9,7 +9,7 @@ use Rattle.cr_base.specs.declared.command.Command.TheVariants as commands
 use Rattle.cr_base.specs.declared.command.Query.TheVariants as queries
 use Rattle.cr_base.specs.declared.report.Report.TheVariants as reports
 use Rattle.cr_bodies.specs.Bodies.{command_read}
-use Rattle.cr_bulk.specs.Rows.{rows_spelt}
+use Rattle.cr_bulk.specs.Rows.{parse_rows}
 use Rattle.cr_routes.specs.Asks.{ask_at}
 use Rattle.cr_routes.specs.Parts.{FoundPath, found_at}
 use Rattle.cr_routes.specs.Methods.{method_of}
@@ -76,7 +76,7 @@ asked asks.Decide found query body = commanded asks.Decide found body
 asked asks.AcceptedPapers found query body = Queries queries.AcceptedPapers
 asked asks.Me found query body = Queries queries.Me
 asked asks.Search found query body = search_in query
-asked asks.Bulk found query body = bulk_of (rows_spelt body)
+asked asks.Bulk found query body = bulk_of (parse_rows body)
 asked asks.PapersReport found query body = Queries (queries.Report reports.Papers)
 asked asks.ScoresReport found query body = Queries (queries.Report reports.Scores)
 asked asks.LoadReport found query body = Queries (queries.Report reports.Load)
@@ -84,12 +84,12 @@ asked asks.DecisionsReport found query body = Queries (queries.Report reports.De
 asked asks.Letter found query body = Queries (queries.Report (reports.Letter (paper_of found)))
 
 abbrev pub with_ask : FoundPath → Option Ask → List ℕ → List ℕ → What
-with_ask found None query body = WrongMethod found.place
+with_ask found None query body = WrongMethod found.resource
 with_ask found (Some ask) query body = asked ask found query body
 
 abbrev pub with_found : Option FoundPath → List ℕ → List ℕ → List ℕ → What
 with_found None method query body = NoRoute
-with_found (Some found) method query body = with_ask found (option_and_then (ask_at found.place) (method_of method)) query body
+with_found (Some found) method query body = with_ask found (option_and_then (ask_at found.resource) (method_of method)) query body
 
 abbrev pub what_of : List ℕ → List ℕ → List ℕ → What
 what_of method target body = with_found (find_at (path_of target)) method (query_of target) body

@@ -6,9 +6,9 @@ use Rattle.cr_wire.specs.declared.what.What.TheVariants.{NoRoute, WrongMethod, B
 
 abbrev pub IsBoundedWhat : What → Type 0
 IsBoundedWhat NoRoute = Unit {0}
-IsBoundedWhat (WrongMethod place) = Unit {0}
+IsBoundedWhat (WrongMethod resource) = Unit {0}
 IsBoundedWhat (BadBody ask) = Unit {0}
-IsBoundedWhat (BadQuery place) = Unit {0}
+IsBoundedWhat (BadQuery offset) = Unit {0}
 IsBoundedWhat (Command command) = IsBoundedCommand command
 IsBoundedWhat (Query query) = Unit {0}
 IsBoundedWhat (Bulk rows) = IsBoundedBulk rows

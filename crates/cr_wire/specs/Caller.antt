@@ -15,9 +15,9 @@ use Rattle.cr_wire.specs.declared.what.Wish.{Wish}
 -- what a wish's request asks for; None where it is no request of the server's
 abbrev pub ask_of : What → Option Ask
 ask_of NoRoute = None
-ask_of (WrongMethod place) = None
+ask_of (WrongMethod resource) = None
 ask_of (BadBody ask) = Some ask
-ask_of (BadQuery place) = Some asks.Search
+ask_of (BadQuery offset) = Some asks.Search
 ask_of (Commands command) = Some (command_ask command)
 ask_of (Queries query) = Some (query_ask query)
 ask_of (Bulk rows) = Some asks.Bulk

@@ -4,34 +4,34 @@ use Rattle.std.specs.Char.{is_ascii_digit}
 use Rattle.std.specs.List.{list_all}
 use Rattle.std.specs.Option.{option_map_or}
 use Rattle.std.specs.Str.Parse.{digits_value}
-use Rattle.cr_base.specs.Spelt.{paper_spelt, name_spelt}
+use Rattle.cr_base.specs.Parse.{parse_paper, parse_name}
 use Rattle.cr_base.specs.TagTexts.{is_tag}
 use Rattle.cr_routes.specs.Parts.{FoundPath}
 
 -- the paper that a path is about: its first parameter names it
 abbrev pub paper_of : FoundPath → Option ℕ
-paper_of found = option_and_then paper_spelt found.first
+paper_of found = option_and_then parse_paper found.first
 
 -- a number in decimal: digits, of which the first isn't 0
 abbrev pub is_number : List ℕ → Bool
 is_number text = nat_le 1 (length text) && not (slice_index text 0 == 48) && list_all is_ascii_digit text
 
 -- the version of a text: such a number below 2 ^ 64, and else 0, which no version has
-abbrev pub version_spelt : List ℕ → ℕ
-version_spelt text = if is_number text && nat_lt (digits_value 10 text) (2 ^ 64) then digits_value 10 text else 0
+abbrev pub parse_version : List ℕ → ℕ
+parse_version text = if is_number text && nat_lt (digits_value 10 text) (2 ^ 64) then digits_value 10 text else 0
 
 -- the version that a path is about: its second parameter names it
 abbrev pub version_of : FoundPath → ℕ
-version_of found = option_map_or version_spelt found.second 0
+version_of found = option_map_or parse_version found.second 0
 
 -- the user that a path is about: her name is its second parameter, None where that is no name
 abbrev pub user_of : FoundPath → Option (List ℕ)
-user_of found = option_and_then name_spelt found.second
+user_of found = option_and_then parse_name found.second
 
 -- the tag of a text
-abbrev pub tag_spelt : List ℕ → Option (List ℕ)
-tag_spelt text = if is_tag text then Some text else None
+abbrev pub parse_tag : List ℕ → Option (List ℕ)
+parse_tag text = if is_tag text then Some text else None
 
 -- the tag that a path is about: its second parameter, None where that is no tag
 abbrev pub tag_of : FoundPath → Option (List ℕ)
-tag_of found = option_and_then tag_spelt found.second
+tag_of found = option_and_then parse_tag found.second

@@ -47,7 +47,7 @@ is_count pair = is_named (codes "only") pair && stands_for (codes "count") pair.
 abbrev pub asks_count : List ℕ → Bool
 asks_count query = list_any is_count (raw_pairs query)
 
--- What the text of a search comes to: its steps, or the place at which it is a bad one. None counts as bad from its
+-- What the text of a search comes to: its steps, or the offset at which it is a bad one. None counts as bad from its
 -- start. A wish is a value, so this has to be a function of the text. The grammar is none: it says of steps, or of
 -- a place, whether they are a text's. So the function here is `text_read`, which computes them by the states of a
 -- reader. That it gives what the grammar says of each text, and that the grammar says nothing else of it, is
@@ -58,7 +58,7 @@ search_read (Some text) = text_read text
 
 -- what is wished by such a search
 abbrev pub searched : Bool → Result (List Step) ℕ → What
-searched only_count (Err place) = BadQuery place
+searched only_count (Err offset) = BadQuery offset
 searched only_count (Ok steps) = Queries (queries.Search steps only_count)
 
 -- what is wished by a query string

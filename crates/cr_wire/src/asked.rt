@@ -1,7 +1,7 @@
 //! From a path, a method, and a query string or a body to what is wished.
 ghost use Rattle.std.specs.Prelude.{◌≡◌, option_and_then, option_map, IfOk, IsTrue, OnErr};
-ghost use Rattle.cr_bulk.specs.Rows.{rows_spelt};
-ghost use Rattle.cr_routes.specs.Asks.{ask_at as ask_of_place};
+ghost use Rattle.cr_bulk.specs.Rows.{parse_rows};
+ghost use Rattle.cr_routes.specs.Asks.{ask_at as ask_of_resource};
 ghost use Rattle.cr_routes.specs.Methods.{method_of};
 ghost use Rattle.cr_routes.specs.Parts.{seen};
 ghost use Rattle.cr_wire.specs.Asked as spec;
@@ -16,7 +16,7 @@ use cr_base::{Ask, Command, DecodeError, PaperNo, Query, Report};
 use cr_bodies::{before_first, read_command};
 use cr_bulk::read_rows;
 use cr_http::Body;
-use cr_routes::{Matched, Method, Place, Routes};
+use cr_routes::{Matched, Method, Resource, Routes};
 use std::alloc::{AllocError, Global};
 use std::str::from_utf8;
 
@@ -30,11 +30,11 @@ fn find<'p>(routes: &Routes, path: &'p [u8]) -> Option<Matched<'p>>
     }
 }
 
-/// What a method asks for at a place.
-fn ask_at(place: Place, method: &[u8]) -> Option<Ask>
-    ensures { result ≡ option_and_then (ask_of_place place) (method_of method.now) }
+/// What a method asks for at a resource.
+fn ask_at(resource: Resource, method: &[u8]) -> Option<Ask>
+    ensures { result ≡ option_and_then (ask_of_resource resource) (method_of method.now) }
 {
-    place.ask(Method::read(method)?)
+    resource.ask(Method::read(method)?)
 }
 
 /// The command that path and body tell, of what is told by a JSON body.
@@ -77,9 +77,9 @@ fn tagged(ask: Ask, found: Matched<'_>, on: bool) -> What
 
 /// A bulk, whose rows the body spells.
 fn bulk(alloc: Global, body: &[u8]) -> Result<What, AllocError>
-    ensures told { Gives result (spec.bulk_of (rows_spelt body.now)) }
+    ensures told { Gives result (spec.bulk_of (parse_rows body.now)) }
     ensures bounded { IfOk result IsBoundedWhat }
-    ensures sure { OnErr result (spec.LooksBehindPath (spec.bulk_of (rows_spelt body.now))) }
+    ensures sure { OnErr result (spec.LooksBehindPath (spec.bulk_of (parse_rows body.now))) }
 {
     match read_rows(alloc, body) {
         Ok(rows) => Ok(What::Bulk(rows)),
@@ -166,8 +166,8 @@ pub(crate) fn what_of(
     let Some(found) = find(routes, path) else {
         return Ok(What::NoRoute);
     };
-    let Some(ask) = ask_at(found.place, method) else {
-        return Ok(What::WrongMethod(found.place));
+    let Some(ask) = ask_at(found.resource, method) else {
+        return Ok(What::WrongMethod(found.resource));
     };
     asked(alloc, ask, found, target, body)
 }

@@ -4,7 +4,7 @@ ghost use Rattle.cr_base.specs.TagTexts.{is_tag};
 ghost use Rattle.cr_routes.specs.Parts.{seen};
 ghost use Rattle.cr_wire.specs.Paper as spec;
 
-use cr_base::{PaperNo, Short, Tag, all_digits, name_spelt, paper_spelt};
+use cr_base::{PaperNo, Short, Tag, all_digits, parse_name, parse_paper};
 use cr_routes::Matched;
 
 /// Whether a text is a number in decimal, without a zero in front.
@@ -15,8 +15,8 @@ fn is_number(text: &[u8]) -> bool
 }
 
 /// The version of a text.
-fn version_spelt(text: &str) -> u64
-    ensures { result ≡ spec.version_spelt text.now }
+fn parse_version(text: &str) -> u64
+    ensures { result ≡ spec.parse_version text.now }
 {
     if !is_number(text.as_bytes()) {
         return 0;
@@ -32,7 +32,7 @@ fn version_spelt(text: &str) -> u64
 pub(crate) fn paper_of(found: Matched<'_>) -> Option<PaperNo>
     ensures { result ≡ spec.paper_of (seen found.entry) }
 {
-    paper_spelt(found.first?.as_bytes())
+    parse_paper(found.first?.as_bytes())
 }
 
 /// The version that a path is about: its second parameter, where that is a number below 2 ^ 64 in decimal, without a sign and
@@ -41,7 +41,7 @@ pub(crate) fn version_of(found: Matched<'_>) -> u64
     ensures { result ≡ spec.version_of (seen found.entry) }
 {
     match found.second {
-        Some(text) => version_spelt(text),
+        Some(text) => parse_version(text),
         None => 0,
     }
 }
@@ -51,12 +51,12 @@ pub(crate) fn version_of(found: Matched<'_>) -> u64
 pub(crate) fn user_of(found: Matched<'_>) -> Option<Short>
     ensures { result ≡ spec.user_of (seen found.entry) }
 {
-    name_spelt(found.second?.as_bytes())
+    parse_name(found.second?.as_bytes())
 }
 
 /// The tag of a text.
-fn tag_spelt(text: &[u8]) -> Option<Tag>
-    ensures value { result ≡ spec.tag_spelt text.now }
+fn parse_tag(text: &[u8]) -> Option<Tag>
+    ensures value { result ≡ spec.parse_tag text.now }
     ensures valid { IfSome result (λ tag. IsTrue (is_tag tag)) }
 {
     Tag::read(text)
@@ -68,5 +68,5 @@ pub(crate) fn tag_of(found: Matched<'_>) -> Option<Tag>
     ensures value { result ≡ spec.tag_of (seen found.entry) }
     ensures valid { IfSome result (λ tag. IsTrue (is_tag tag)) }
 {
-    tag_spelt(found.second?.as_bytes())
+    parse_tag(found.second?.as_bytes())
 }

@@ -76,7 +76,7 @@ fn searched(alloc: Global, only_count: bool, text: &[u8]) -> Result<What, AllocE
 {
     match parse(alloc, text) {
         Ok(search) => Ok(What::Query(Query::Search { search, only_count })),
-        Err(ParseError::BadQuery { place }) => Ok(What::BadQuery { place }),
+        Err(ParseError::BadQuery { offset }) => Ok(What::BadQuery { offset }),
         Err(ParseError::OutOfMemory) => Err(AllocError),
     }
 }
@@ -91,6 +91,6 @@ pub(crate) fn search_in(alloc: Global, target: &[u8]) -> Result<What, AllocError
     let only_count = asks_count(alloc, query)?;
     match value_in(alloc, b"q", query)? {
         Some(text) => searched(alloc, only_count, text.as_bytes()),
-        None => Ok(What::BadQuery { place: 0 }),
+        None => Ok(What::BadQuery { offset: 0 }),
     }
 }

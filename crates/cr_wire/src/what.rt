@@ -3,7 +3,7 @@ ghost use Rattle.std.specs.Prelude.{◌≡◌};
 
 use cr_base::{Ask, BulkRows, Command, Query};
 use cr_bodies::Credentials;
-use cr_routes::Place;
+use cr_routes::Resource;
 
 /// What a whole request wishes, by its path, its method and its body, or its query string.
 #[derive(Drop, Debug)]
@@ -11,14 +11,14 @@ pub enum What {
     /// The path is none of the server's: answered `no_route`.
     NoRoute,
     /// The path doesn't answer this method: answered `wrong_method`, with the methods that it answers.
-    WrongMethod(Place),
+    WrongMethod(Resource),
     /// The body, or the tag in the path, isn't what the request needs: answered `bad_body`.
     BadBody(Ask),
     /// The query string tells no search: answered `bad_query`.
     BadQuery {
-        /// The last place in the search's text, in bytes from 0 to 1,024, up to which that can be the beginning of a search; 0 where
+        /// The last offset in the search's text, in bytes from 0 to 1,024, up to which that can be the beginning of a search; 0 where
         /// there is no text.
-        place: usize,
+        offset: usize,
     },
     /// To change something.
     Command(Command),

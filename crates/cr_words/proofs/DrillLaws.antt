@@ -15,7 +15,7 @@ use Rattle.clap.specs.declared.error.kind.ErrorKind.{ErrorKind}
 use Rattle.clap.specs.declared.error.kind.ErrorKind.TheVariants.{ValueValidation}
 use Rattle.clap.proofs.OnLiterals.{clap_on_literals}
 use Rattle.cr_words.specs.Words.{pipe, serve, view, drill, confd_words, is_plain_text, required, with_rules, greatest_seed, most_steps, drill_word, drill_words}
-use Rattle.cr_words.specs.Numbers.{spelt, number_of, is_seed, are_steps}
+use Rattle.cr_words.specs.Numbers.{parse_number, number_of, is_seed, are_steps}
 use Rattle.cr_words.specs.Job.{AreTakenFor, NamedJob, drill_job, job_named, job_of, with_numbers}
 use Rattle.cr_words.proofs.Numbers.{is_number}
 use Rattle.cr_words.proofs.Named.{numbers_there}
@@ -78,12 +78,12 @@ module _ (words : List Text) (seed steps : Text) (b c : Bool) (first : is_seed s
 
 job_is : (words : List Text) (seed steps : Text) → is_seed seed ≡ true → are_steps steps ≡ true
     → job_by first_range second_range words ≡ with_numbers (number_of seed) (number_of steps)
-    → job_of words ≡ Some (drill_job (spelt seed) (spelt steps))
+    → job_of words ≡ Some (drill_job (parse_number seed) (parse_number steps))
 unfolding confd_words drill
 job_is words seed steps first second is =
     let a = is_number 0 greatest_seed seed (omega arith) first in
     let b = is_number 1 most_steps steps (omega arith) second in
-    is ∙ numbers_there _ _ (spelt seed) (spelt steps) a.read b.read
+    is ∙ numbers_there _ _ (parse_number seed) (parse_number steps) a.read b.read
 
 module _ (name seed steps : Text) where
   attached : (b c : Bool) → is_seed seed ≡ b → are_steps steps ≡ c
@@ -92,7 +92,7 @@ module _ (name seed steps : Text) where
       (attached_faults first_range second_range name seed steps)
 
   pub attached_taken : is_seed seed ≡ true → are_steps steps ≡ true
-      → AreTakenFor (one_word name seed steps) (drill_job (spelt seed) (spelt steps))
+      → AreTakenFor (one_word name seed steps) (drill_job (parse_number seed) (parse_number steps))
   attached_taken first second = record {
     taken = attached true true first second;
     passes = both_pass _ seed steps true true first second passes_by (attached_both first_range second_range name seed steps);
@@ -195,7 +195,7 @@ module _ (name seed steps : Text) where
   apart seed_plain steps_plain b c first second = faults_are _ seed steps b c first second (faults_apart ValueValidation ValueValidation)
       (faults first_range second_range name seed steps seed_plain steps_plain)
 
-  pub taken : is_seed seed ≡ true → are_steps steps ≡ true → AreTakenFor (two_words name seed steps) (drill_job (spelt seed) (spelt steps))
+  pub taken : is_seed seed ≡ true → are_steps steps ≡ true → AreTakenFor (two_words name seed steps) (drill_job (parse_number seed) (parse_number steps))
   taken first second =
       let seed_plain = number_plain 0 greatest_seed seed first in
       let steps_plain = number_plain 1 most_steps steps second in

@@ -17,7 +17,7 @@ use Rattle.clap.proofs.OnLiterals.{clap_on_literals}
 use Rattle.cr_words.specs.Words.{pipe, serve, view, drill, confd_words}
 use Rattle.cr_words.specs.Job.{NamedJob, serve_job, view_job, IsInRange, IsNamed, job_named, job_of, job_seen, number_at, serve_named, view_named, with_all}
 use Rattle.cr_words.specs.Job.{with_both, with_numbers, drill_job, drill_named}
-use Rattle.cr_words.specs.Numbers.{spelt, number_of, are_workers, are_connections, is_seed, are_steps}
+use Rattle.cr_words.specs.Numbers.{parse_number, number_of, are_workers, are_connections, is_seed, are_steps}
 use Rattle.cr_words.proofs.Numbers.{IsNumber, is_number}
 use Rattle.cr_words.specs.declared.read.Job.{Job}
 use Rattle.cr_words.specs.declared.read.WordsError.{WordsError}
@@ -79,7 +79,7 @@ no_kinds true k e = refl
 no_kinds false k e = cc
 
 number_there : (id : Text) (rows : List Row) (v : Text) (low high : ℕ)
-    → first_of id rows ≡ Some v → IsNumber low high v → number_at id rows ≡ Some (spelt v)
+    → first_of id rows ≡ Some v → IsNumber low high v → number_at id rows ≡ Some (parse_number v)
 number_there id rows v low high is number = ap (λ (t : Option Text). option_and_then number_of t) is ∙ number.read
 
 pub all_there : (a : Option Text) (m n : Option ℕ) (b : Option Text) (listen : Text) (workers connections : ℕ) (store : Text)
@@ -164,7 +164,7 @@ serve_is_whole rest e =
     let store = given_first Passes (codes "store") rows level.filled given.3 in
     let few = is_number 1 64 workers.0 (omega arith) (workers.2.2.0 workers.2.1) in
     let some = is_number 1 65536 connections.0 (omega arith) (connections.2.2.1 connections.2.1) in (
-      serve_job listen.0 (spelt workers.0) (spelt connections.0) store.0,
+      serve_job listen.0 (parse_number workers.0) (parse_number connections.0) store.0,
       all_there _ _ _ _ _ _ _ _ listen.1 (number_there _ rows _ 1 64 workers.1 few) (number_there _ rows _ 1 65536 connections.1 some) store.1,
       (few.low_enough, few.high_enough, some.low_enough, some.high_enough),
     )
@@ -191,7 +191,7 @@ drill_is_whole rest e =
     let steps = given_first Passes (codes "steps") rows level.filled given.1 in
     let first = is_number 0 2147483647 seed.0 (omega arith) (seed.2.2.2 seed.2.1) in
     let many = is_number 1 100000 steps.0 (omega arith) (steps.2.2.3 steps.2.1) in (
-      drill_job (spelt seed.0) (spelt steps.0),
+      drill_job (parse_number seed.0) (parse_number steps.0),
       numbers_there _ _ _ _ (number_there _ rows _ 0 2147483647 seed.1 first) (number_there _ rows _ 1 100000 steps.1 many),
       (first.high_enough, many.low_enough, many.high_enough),
     )

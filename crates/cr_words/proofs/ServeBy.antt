@@ -8,7 +8,7 @@ use Rattle.clap.specs.declared.builder.value_parser.ValueParser.TheVariants.{Uns
 use Rattle.clap.specs.declared.error.kind.ErrorKind.{ErrorKind}
 use Rattle.clap.specs.declared.error.kind.ErrorKind.TheVariants.{ValueValidation}
 use Rattle.cr_words.specs.Words.{pipe, serve, view, drill, confd_words, required, text_option, with_rules, most_workers, most_connections}
-use Rattle.cr_words.specs.Numbers.{spelt, number_of, are_workers, are_connections}
+use Rattle.cr_words.specs.Numbers.{parse_number, number_of, are_workers, are_connections}
 use Rattle.cr_words.specs.Job.{NamedJob, job_named, job_of, serve_job, with_all}
 use Rattle.cr_words.proofs.Numbers.{is_number}
 use Rattle.cr_words.proofs.Named.{all_there}
@@ -75,9 +75,9 @@ both_pass words workers connections few some is = subst (λ (a : App). takes a w
 
 pub job_is : (words : List Text) (listen workers connections file : Text) → are_workers workers ≡ true → are_connections connections ≡ true
     → job_by first_range second_range words ≡ with_all (Some listen) (number_of workers) (number_of connections) (Some file)
-    → job_of words ≡ Some (serve_job listen (spelt workers) (spelt connections) file)
+    → job_of words ≡ Some (serve_job listen (parse_number workers) (parse_number connections) file)
 unfolding confd_words serve
 job_is words listen workers connections file few some is =
     let first = is_number 1 most_workers workers (omega arith) few in
     let second = is_number 1 most_connections connections (omega arith) some in
-    is ∙ all_there _ _ _ _ listen (spelt workers) (spelt connections) file refl first.read second.read refl
+    is ∙ all_there _ _ _ _ listen (parse_number workers) (parse_number connections) file refl first.read second.read refl

@@ -16,7 +16,7 @@ use Rattle.clap.specs.declared.error.kind.ErrorKind.TheVariants.{ValueValidation
 use Rattle.clap.specs.declared.parser.matches.ValueSource.TheVariants.{CommandLine}
 use Rattle.clap.proofs.OnLiterals.{clap_on_literals}
 use Rattle.cr_words.specs.Words.{pipe, view, drill, confd_words, is_plain_text, most_workers, most_connections, serve_word, serve_words, store_words}
-use Rattle.cr_words.specs.Numbers.{spelt, number_of, are_workers, are_connections}
+use Rattle.cr_words.specs.Numbers.{parse_number, number_of, are_workers, are_connections}
 use Rattle.cr_words.specs.Job.{AreTakenFor, job_named, serve_job, with_all}
 use Rattle.cr_words.proofs.ServeBy.{serve_by, words_by, job_by, first_range, second_range, number_fault, walk_faults, faults_by}
 use Rattle.cr_words.proofs.ServeBy.{number_passes, walk_passes_by, passes_by, faults_are, both_pass, job_is}
@@ -50,7 +50,7 @@ module _ (name listen workers connections file : Text) where
   attached b c few some = faults_are _ workers connections b c few some (attached_faults first_range second_range name listen workers connections file)
 
   pub attached_taken : are_workers workers ≡ true → are_connections connections ≡ true
-      → AreTakenFor (one_word name listen workers connections file) (serve_job listen (spelt workers) (spelt connections) file)
+      → AreTakenFor (one_word name listen workers connections file) (serve_job listen (parse_number workers) (parse_number connections) file)
   attached_taken few some = record {
     taken = attached true true few some;
     passes = both_pass _ workers connections few some (attached_both first_range second_range name listen workers connections file);
@@ -193,7 +193,7 @@ module _ (name listen workers connections file : Text) (listen_plain : is_plain_
       (faults first_range second_range name listen workers connections file listen_plain workers_plain connections_plain file_plain)
 
   pub taken : are_workers workers ≡ true → are_connections connections ≡ true
-      → AreTakenFor (two_words name listen workers connections file) (serve_job listen (spelt workers) (spelt connections) file)
+      → AreTakenFor (two_words name listen workers connections file) (serve_job listen (parse_number workers) (parse_number connections) file)
   taken few some =
       let workers_plain = number_plain 1 most_workers workers few in
       let connections_plain = number_plain 1 most_connections connections some in

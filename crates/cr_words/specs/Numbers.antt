@@ -6,12 +6,12 @@ use Rattle.clap.specs.Words.{Text}
 use Rattle.cr_words.specs.Words.{most_workers, most_connections, greatest_seed, most_steps}
 
 -- the number that the digits spell
-abbrev pub spelt : Text → ℕ
-spelt text = digits_value 10 (without_leading_plus text)
+abbrev pub parse_number : Text → ℕ
+parse_number text = digits_value 10 (without_leading_plus text)
 
 -- the number that a text spells, where it is that of a `u32`
 abbrev pub number_of : Text → Option ℕ
-number_of text = if is_unsigned_in 0 4294967295 text then Some (spelt text) else None
+number_of text = if is_unsigned_in 0 4294967295 text then Some (parse_number text) else None
 
 -- clap takes the text behind `--workers`, and behind `--connections`
 abbrev pub are_workers : Text → Bool

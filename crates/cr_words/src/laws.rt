@@ -3,7 +3,7 @@ ghost use Rattle.std.specs.Prelude.{◌≡◌, [], ◌∷◌, ◌++◌, Some, No
 ghost use Rattle.clap.specs.Words.{Text, fault_of};
 ghost use Rattle.clap.specs.declared.error.kind.ErrorKind.TheVariants.{ValueValidation};
 ghost use Rattle.cr_words.specs.Job.{AreTakenFor, IsNamed, job_of, pipe_job, serve_job, view_job, drill_job};
-ghost use Rattle.cr_words.specs.Numbers.{spelt, are_workers, are_connections, is_seed, are_steps};
+ghost use Rattle.cr_words.specs.Numbers.{parse_number, are_workers, are_connections, is_seed, are_steps};
 ghost use Rattle.cr_words.specs.Words.{confd_words, is_plain_text, serve_word, serve_words, store_word, user_word, store_words, user_words};
 ghost use Rattle.cr_words.specs.Words.{drill_word, drill_words};
 
@@ -37,7 +37,7 @@ pub fn law_serve()
     ensures taken { (name listen workers connections file : Text) → is_plain_text listen ≡ true → is_plain_text file ≡ true
         → are_workers workers ≡ true → are_connections connections ≡ true
         → AreTakenFor (name ∷ codes "serve" ∷ serve_words listen workers connections file)
-        (serve_job listen (spelt workers) (spelt connections) file) }
+        (serve_job listen (parse_number workers) (parse_number connections) file) }
     ensures bad_workers { (name listen workers connections file : Text) → is_plain_text listen ≡ true → is_plain_text file ≡ true
         → is_plain_text workers ≡ true → is_plain_text connections ≡ true → are_workers workers ≡ false
         → fault_of confd_words (name ∷ codes "serve" ∷ serve_words listen workers connections file) ≡ ValueValidation ∷ [] }
@@ -50,7 +50,7 @@ pub fn law_serve()
 pub fn law_serve_attached()
     ensures taken { (name listen workers connections file : Text) → are_workers workers ≡ true → are_connections connections ≡ true
         → AreTakenFor (name ∷ codes "serve" ∷ serve_word listen workers connections file)
-        (serve_job listen (spelt workers) (spelt connections) file) }
+        (serve_job listen (parse_number workers) (parse_number connections) file) }
     ensures bad_workers { (name listen workers connections file : Text) → are_workers workers ≡ false
         → fault_of confd_words (name ∷ codes "serve" ∷ serve_word listen workers connections file) ≡ ValueValidation ∷ [] }
     ensures bad_connections { (name listen workers connections file : Text) → are_workers workers ≡ true → are_connections connections ≡ false
@@ -61,7 +61,8 @@ pub fn law_serve_attached()
 /// isn't, the words are refused.
 pub fn law_drill()
     ensures taken { (name seed steps : Text) → is_seed seed ≡ true → are_steps steps ≡ true
-        → AreTakenFor (name ∷ codes "drill" ∷ drill_words seed steps) (drill_job (spelt seed) (spelt steps)) }
+        → AreTakenFor (name ∷ codes "drill" ∷ drill_words seed steps)
+        (drill_job (parse_number seed) (parse_number steps)) }
     ensures bad_seed { (name seed steps : Text) → is_plain_text seed ≡ true → is_plain_text steps ≡ true → is_seed seed ≡ false
         → fault_of confd_words (name ∷ codes "drill" ∷ drill_words seed steps) ≡ ValueValidation ∷ [] }
     ensures bad_steps { (name seed steps : Text) → is_plain_text steps ≡ true → is_seed seed ≡ true → are_steps steps ≡ false
@@ -71,7 +72,8 @@ pub fn law_drill()
 /// `drill` with a word for each of its options: the same.
 pub fn law_drill_attached()
     ensures taken { (name seed steps : Text) → is_seed seed ≡ true → are_steps steps ≡ true
-        → AreTakenFor (name ∷ codes "drill" ∷ drill_word seed steps) (drill_job (spelt seed) (spelt steps)) }
+        → AreTakenFor (name ∷ codes "drill" ∷ drill_word seed steps)
+        (drill_job (parse_number seed) (parse_number steps)) }
     ensures bad_seed { (name seed steps : Text) → is_seed seed ≡ false
         → fault_of confd_words (name ∷ codes "drill" ∷ drill_word seed steps) ≡ ValueValidation ∷ [] }
     ensures bad_steps { (name seed steps : Text) → is_seed seed ≡ true → are_steps steps ≡ false

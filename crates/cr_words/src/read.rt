@@ -56,7 +56,7 @@ pub enum WordsError {
 }
 
 /// The value of the option `--id`, if it was given.
-fn value_of<'a>(options: &ArgMatches<'a>, id: &str) -> Option<&'a str>
+fn option_value<'a>(options: &ArgMatches<'a>, id: &str) -> Option<&'a str>
     ensures { option_map (λ s. s.now) result ≡ first_of id.now (rows_of (found_of options.now)) }
 {
     options.get_str(id)
@@ -73,17 +73,17 @@ fn number_of(text: &str) -> Option<u32>
 fn number_at(options: &ArgMatches, id: &str) -> Option<u32>
     ensures { result ≡ number_at id.now (rows_of (found_of options.now)) }
 {
-    number_of(value_of(options, id)?)
+    number_of(option_value(options, id)?)
 }
 
 /// The job of `serve`, whose options are all there.
 fn serve_job<'a>(options: &ArgMatches<'a>) -> Option<Job<'a>>
     ensures { option_map job_seen result ≡ serve_named (rows_of (found_of options.now)) }
 {
-    let listen = value_of(options, "listen")?;
+    let listen = option_value(options, "listen")?;
     let workers = number_at(options, "workers")?;
     let connections = number_at(options, "connections")?;
-    let store = value_of(options, "store")?;
+    let store = option_value(options, "store")?;
     Some(Job::Serve {
         listen,
         workers,
@@ -97,8 +97,8 @@ fn view_job<'a>(options: &ArgMatches<'a>) -> Option<Job<'a>>
     ensures { option_map job_seen result ≡ view_named (rows_of (found_of options.now)) }
 {
     Some(Job::View {
-        store: value_of(options, "store")?,
-        user: value_of(options, "user")?,
+        store: option_value(options, "store")?,
+        user: option_value(options, "user")?,
     })
 }
 
@@ -119,7 +119,7 @@ fn named_job<'a>(matches: &ArgMatches<'a>) -> Option<Job<'a>>
     let (name, options) = matches.subcommand()?;
     match name {
         "pipe" => Some(Job::Pipe {
-            store: value_of(options, "store"),
+            store: option_value(options, "store"),
         }),
         "serve" => serve_job(options),
         "view" => view_job(options),

@@ -22,7 +22,7 @@ pub enum Last {
 }
 
 /// Serves the door's next connection to its end and gives it back; or tells how the door answered that has none.
-fn serve_next<R: Wait, K: Keeper, D: Door>(
+fn serve_next_connection<R: Wait, K: Keeper, D: Door>(
     rt: &R,
     alloc: Global,
     lock: &HistoryLock<Book<K>>,
@@ -87,7 +87,7 @@ pub(crate) fn serve_door<R: Wait, K: Keeper, D: Door>(
 {
     let mut lacked = false;
     'serving: loop {
-        match serve_next(rt, alloc, lock, pass, door) {
+        match serve_next_connection(rt, alloc, lock, pass, door) {
             Ok(ending) => lacked = has_lacked(lacked, ending),
             Err(last) => return ended_by(lacked, last),
         }

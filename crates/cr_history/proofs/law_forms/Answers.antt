@@ -1,4 +1,4 @@
-use Rattle.cr_history.proofs.FormTies.{forms_tell}
+use Rattle.cr_history.proofs.FormAgreement.{forms_tell}
 use Rattle.cr_history.proofs.law_forms.Goals as goal
 
 pub returns : goal.returns

@@ -1,6 +1,6 @@
 use Rattle.std.proofs.Common.{sym}
 use Rattle.cr_policy.proofs.LegalLaws.{Legal-fits}
-use Rattle.cr_history.proofs.TableTies.{standing_of-tables}
+use Rattle.cr_history.proofs.TableAgreement.{standing_of-tables}
 use Rattle.cr_book.proofs.laws.law_standing_by_tables.Goals as goal
 
 pub returns : goal.returns

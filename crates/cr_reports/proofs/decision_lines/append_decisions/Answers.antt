@@ -4,7 +4,7 @@ use Rattle.std.specs.List.{flat_map}
 use Rattle.cr_base.specs.declared.words.Decision.{Decision}
 use Rattle.cr_base.specs.Papers.{paper_numbers}
 use Rattle.cr_base.specs.Reports.{decisions_end, is_accepting, is_undecided, is_rejecting}
-use Rattle.cr_reports.specs.Told.{decided, decision_line_at, is_open_to}
+use Rattle.cr_reports.specs.ReportLines.{decided, decision_line_at, is_open_to}
 use Rattle.cr_reports.proofs.OpenLaws.{count-step, decided-all, few-more, open-told}
 use Rattle.cr_reports.proofs.WalkLaws.{first-step, lines-step, lines-all, where_so}
 use Rattle.cr_reports.proofs.decision_lines.append_decisions.Goals as goal

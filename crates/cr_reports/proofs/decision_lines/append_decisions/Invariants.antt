@@ -1,7 +1,7 @@
 use Rattle.std.proofs.Common.{◌≡◌, ◌++◌, ◌≤◌}
 use Rattle.std.specs.List.{flat_map}
 use Rattle.cr_base.specs.Reports.{is_accepting, is_undecided, is_rejecting}
-use Rattle.cr_reports.specs.Told.{decided, decision_line_at, is_open_to}
+use Rattle.cr_reports.specs.ReportLines.{decided, decision_line_at, is_open_to}
 use Rattle.cr_reports.proofs.OpenLaws.{passing}
 use Rattle.cr_reports.proofs.WalkLaws.{first, where_so}
 use Rattle.cr_reports.proofs.decision_lines.append_decisions.Given as goal

@@ -1,7 +1,7 @@
 use Rattle.std.proofs.Common.{ℕ, List, ◌+◌, ◌++◌, ◌∙◌, append_assoc, ap, refl, arith}
 use Rattle.cr_base.specs.Labels.{by_labels}
 use Rattle.cr_view.proofs.ReviewLaws.{labels-step, labels-all}
-use Rattle.cr_reports.specs.Told.{forms_under}
+use Rattle.cr_reports.specs.ReportLines.{forms_under}
 use Rattle.cr_reports.proofs.letter_lines.append_forms.Goals as goal
 
 pub loop-before-preserved : goal.loop-before-preserved

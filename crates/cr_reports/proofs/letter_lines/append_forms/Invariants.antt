@@ -1,6 +1,6 @@
 use Rattle.std.proofs.Common.{◌≡◌, ◌++◌}
 use Rattle.cr_base.specs.Labels.{by_labels}
-use Rattle.cr_reports.specs.Told.{forms_under}
+use Rattle.cr_reports.specs.ReportLines.{forms_under}
 use Rattle.cr_reports.proofs.letter_lines.append_forms.Given as goal
 
 abbrev pub invariant-loop-before : goal.invariant-loop-before

@@ -1,5 +1,5 @@
 use Rattle.std.proofs.Common.{ℕ, List, ◌<◌, ◌≤◌, ◌++◌, ◌∙◌, ap, subst, arith}
-use Rattle.cr_reports.specs.Told.{is_open_to, scores_line_at}
+use Rattle.cr_reports.specs.ReportLines.{is_open_to, scores_line_at}
 use Rattle.cr_reports.proofs.OpenLaws.{open-told}
 use Rattle.cr_reports.proofs.WalkLaws.{lines-step, lines-all, where_so}
 use Rattle.cr_reports.proofs.score_lines.append_scores.Goals as goal

@@ -1,6 +1,6 @@
 use Rattle.std.proofs.Common.{◌≡◌, ◌++◌}
 use Rattle.std.specs.List.{flat_map}
-use Rattle.cr_reports.specs.Told.{is_open_to, scores_line_at}
+use Rattle.cr_reports.specs.ReportLines.{is_open_to, scores_line_at}
 use Rattle.cr_reports.proofs.WalkLaws.{first, where_so}
 use Rattle.cr_reports.proofs.score_lines.append_scores.Given as goal
 

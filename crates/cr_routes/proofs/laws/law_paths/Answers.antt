@@ -1,6 +1,6 @@
 use Rattle.std.proofs.Common.{refl}
 use Rattle.cr_routes.specs.Parts.{found_at}
-use Rattle.cr_routes.proofs.Places.{unrooted}
+use Rattle.cr_routes.proofs.Resources.{unrooted}
 use Rattle.cr_routes.proofs.laws.law_paths.Goals as goal
 
 pub returns-clause-listed : goal.returns-clause-listed

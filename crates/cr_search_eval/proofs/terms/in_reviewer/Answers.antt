@@ -6,7 +6,7 @@ use Rattle.cr_base.specs.declared.seat.Seat.{Seat}
 use Rattle.cr_base.specs.Pairs.{ties_of}
 use Rattle.cr_base.specs.Reviews.{is_written_in}
 use Rattle.cr_base.specs.Searching.{text_has}
-use Rattle.cr_view.specs.Replies.{seat_name}
+use Rattle.cr_view.specs.Replies.{holder_name}
 use Rattle.cr_search_eval.proofs.TermLaws.{reviewers-have}
 use Rattle.cr_search_eval.proofs.terms.in_reviewer.Goals as goal
 
@@ -16,5 +16,5 @@ returns c =
     let asked = c.args.asked.now in
     let value : List ℕ = c.args.value.now in
     c.some_seated_has.ensures
-    ∙ ap (list_any (λ (seat : Tie Seat). text_has value (seat_name t asked.by seat))) c.seats_told-seats.ensures
+    ∙ ap (list_any (λ (seat : Tie Seat). text_has value (holder_name t asked.by seat))) c.seats_told-seats.ensures
     ∙ reviewers-have t asked.by (is_written_in t.reviews asked.paper) value (ties_of ByPaper asked.paper t.seats)

@@ -1,6 +1,6 @@
 use Rattle.cr_search_parse.specs.Grammar.{symbols_of}
 use Rattle.cr_search_parse.specs.Runs.{runs_of}
-use Rattle.cr_search_parse.proofs.PlaceLaws.{one}
+use Rattle.cr_search_parse.proofs.OffsetLaws.{one}
 use Rattle.cr_search_parse.proofs.laws.law_one_tree.Goals as goal
 
 pub returns : goal.returns

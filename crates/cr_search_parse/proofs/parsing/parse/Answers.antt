@@ -1,6 +1,6 @@
 use Rattle.std.proofs.Common.{◌≡◌, ◌≤◌, inl, Bool, Err, length, if◌then◌else◌, ap, sym, ◌∙◌, arith}
 use Rattle.std.proofs.lemmas.Bool.{lt-ltb}
-use Rattle.cr_search_parse.specs.Places.{most_bytes}
+use Rattle.cr_search_parse.specs.Offsets.{most_bytes}
 use Rattle.cr_search_parse.specs.Reading.{start, runs_read}
 use Rattle.cr_search_parse.specs.Runs.{runs_of}
 use Rattle.cr_search_parse.proofs.ParseLaws.{gives-spelled, gives-spells, gives-only, not-found, told-bad, gives-exact, stops-exact}
@@ -12,7 +12,7 @@ returns-then-text-gt-MOST_BYTES-clause-only c tree spelled = absurd (omega (arit
 
 pub returns-then-text-gt-MOST_BYTES-clause-bad : goal.returns-then-text-gt-MOST_BYTES-clause-bad
 unfolding most_bytes
-returns-then-text-gt-MOST_BYTES-clause-bad c place is = let same : 1024 ≡ place = cc in inl (c.if-text-gt-MOST_BYTES.true, sym same)
+returns-then-text-gt-MOST_BYTES-clause-bad c offset is = let same : 1024 ≡ offset = cc in inl (c.if-text-gt-MOST_BYTES.true, sym same)
 
 pub from_steps-requires : goal.from_steps-requires
 from_steps-requires c = gives-spelled (runs_of c.args.text.now) c.in-Ok.steps.items c.in-Ok.ensures
@@ -32,9 +32,9 @@ returns-in-Err-clause-only c tree spelled = not-found c.args.text.now c.in-Err.e
 
 pub returns-in-Err-clause-bad : goal.returns-in-Err-clause-bad
 unfolding most_bytes
-returns-in-Err-clause-bad c place is =
+returns-in-Err-clause-bad c offset is =
     let few : length c.args.text.now ≤ 1024 = omega (arith, c.if-text-gt-MOST_BYTES.false) in
-    told-bad c.args.text.now c.in-Err.error place few c.in-Err.ensures cc
+    told-bad c.args.text.now c.in-Err.error offset few c.in-Err.ensures cc
 
 pub returns-then-text-gt-MOST_BYTES-clause-exact : goal.returns-then-text-gt-MOST_BYTES-clause-exact
 unfolding most_bytes

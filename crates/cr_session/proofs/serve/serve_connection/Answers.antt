@@ -62,24 +62,24 @@ returns-in-Some-clause-write_fault g c is =
 
 pub serving-preserved : goal.serving-preserved
 serving-preserved g c =
-    let u = world_of g.S.Source.faults g.O.Sink.taken g.O.Sink.faults c.serve_next.new.pass c.serve_next.new.source c.serve_next.new.sink in
-    let last = not_last g.S.Source.left g.S.Source.read_gives c.serving.number _ _ _ u c.in_default-serve_next.ensures.round in
+    let u = world_of g.S.Source.faults g.O.Sink.taken g.O.Sink.faults c.serve_next_request.new.pass c.serve_next_request.new.source c.serve_next_request.new.sink in
+    let last = not_last g.S.Source.left g.S.Source.read_gives c.serving.number _ _ _ u c.in_default-serve_next_request.ensures.round in
     let few = c.serving.invariant.few in
     record {
-      goes_on = goes_after g.S.Source.left g.S.Source.read_gives _ 1 _ _ _ _ _ u c.serving.invariant.goes_on c.in_default-serve_next.ensures.round;
+      goes_on = goes_after g.S.Source.left g.S.Source.read_gives _ 1 _ _ _ _ _ u c.serving.invariant.goes_on c.in_default-serve_next_request.ensures.round;
       few = omega (arith, last, few);
-      pass = stays-then c.serving.number 1 c.args.pass.now c.serving.pass c.serve_next.new.pass c.serving.invariant.pass c.serve_next.ensures.pass;
-      room = c.serve_next.ensures.room;
+      pass = stays-then c.serving.number 1 c.args.pass.now c.serving.pass c.serve_next_request.new.pass c.serving.invariant.pass c.serve_next_request.ensures.pass;
+      room = c.serve_next_request.ensures.room;
     }
 
 pub returns-in-Some-clause-own : goal.returns-in-Some-clause-own
 returns-in-Some-clause-own g c =
-    let now = stays-then c.serving.number 1 c.args.pass.now c.serving.pass c.serve_next.new.pass c.serving.invariant.pass c.in-Some.ensures.pass in
+    let now = stays-then c.serving.number 1 c.args.pass.now c.serving.pass c.serve_next_request.new.pass c.serving.invariant.pass c.in-Some.ensures.pass in
     (now.lock, now.share)
 
 pub returns-in-Some-clause-turns : goal.returns-in-Some-clause-turns
 returns-in-Some-clause-turns g c =
     let few = c.serving.invariant.few in
-    let now = stays-then c.serving.number 1 c.args.pass.now c.serving.pass c.serve_next.new.pass c.serving.invariant.pass c.in-Some.ensures.pass in
+    let now = stays-then c.serving.number 1 c.args.pass.now c.serving.pass c.serve_next_request.new.pass c.serving.invariant.pass c.in-Some.ensures.pass in
     let most = now.few in
     omega (arith, few, most)

@@ -6,13 +6,13 @@ use Rattle.cr_top.specs.Stores.{state_of}
 use Rattle.cr_top.proofs.Gated.{few-doors, few-turns, keeper-rises, listen-rises, never-reads, never-usage, serves-or-memory, stays-closed, write-rises}
 use Rattle.cr_top.proofs.serve.serve_store.Goals as goal
 
-pub serve_doors-requires-clause-at_most : goal.serve_doors-requires-clause-at_most
-serve_doors-requires-clause-at_most g c κs within =
+pub serve_open_book-requires-clause-at_most : goal.serve_open_book-requires-clause-at_most
+serve_open_book-requires-clause-at_most g c κs within =
     few-doors g.G.Door.Door.left c.args.address.workers c.args.address.connections c.in-Ok-open_gates.doors.items c.requires.workers.1
     c.in-Ok-open_gates.ensures.shared
 
-pub serve_doors-requires-clause-few : goal.serve_doors-requires-clause-few
-serve_doors-requires-clause-few g c κs within =
+pub serve_open_book-requires-clause-few : goal.serve_open_book-requires-clause-few
+serve_open_book-requires-clause-few g c κs within =
     few-turns g.G.Door.Door.left c.args.address.workers c.args.address.connections c.in-Ok-open_gates.doors.items c.requires.workers.0 c.requires.connections.1
     c.in-Ok-open_gates.ensures.shared
 
@@ -22,12 +22,12 @@ returns-in-Ok-open_gates-clause-serves g c =
     let stores = state_of g.S.Shelf.rows g.S.Shelf.faults in
     let gates_at = gates_of g.G.Gates.faults g.G.Gates.logs in
     let streams = streams_of g.G.Door.In.Source.left g.G.Door.In.Source.read_gives g.G.Door.In.Source.faults g.G.Door.Out.Sink.taken g.G.Door.Out.Sink.faults in
-    let many = c.serve_doors.ensures (stores c.args.shelf.now) c.in-Ok.ensures.opened c.args.address.workers c.args.address.connections
+    let many = c.serve_open_book.ensures (stores c.args.shelf.now) c.in-Ok.ensures.opened c.args.address.workers c.args.address.connections
     c.in-Ok-open_gates.ensures.shared in
     inr (inr (subst (λ (x : GatesState g.row.G-Door-In.Denot g.row.G-Door-Out.Denot).
-    ServesMany g.S.Keeper.Keeper.rows c.args.path.now streams c.args.address.workers c.args.address.connections c.serve_doors.result (outlet c.args.out.now)
-    (outlet c.serve_doors.new.out)
-    (stores c.args.shelf.now) (stores c.serve_doors.new.shelf) x (gates_at c.serve_doors.new.gates))
+    ServesMany g.S.Keeper.Keeper.rows c.args.path.now streams c.args.address.workers c.args.address.connections c.serve_open_book.result (outlet c.args.out.now)
+    (outlet c.serve_open_book.new.out)
+    (stores c.args.shelf.now) (stores c.serve_open_book.new.shelf) x (gates_at c.serve_open_book.new.gates))
     (λ i. record { faults = c.in-Ok-open_gates.ensures.same i; logs = c.in-Ok-open_gates.ensures.logs i }) many))
 
 pub returns-in-Ok-open_gates-clause-answers : goal.returns-in-Ok-open_gates-clause-answers

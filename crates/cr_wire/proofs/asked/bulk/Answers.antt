@@ -1,6 +1,6 @@
-use Rattle.cr_bulk.specs.Rows.{rows_spelt}
+use Rattle.cr_bulk.specs.Rows.{parse_rows}
 use Rattle.cr_wire.proofs.AskLaws.{looked_rows}
 use Rattle.cr_wire.proofs.asked.bulk.Goals as goal
 
 pub returns-in-Err-OutOfMemory-clause-sure : goal.returns-in-Err-OutOfMemory-clause-sure
-returns-in-Err-OutOfMemory-clause-sure c = looked_rows (rows_spelt c.args.body.now)
+returns-in-Err-OutOfMemory-clause-sure c = looked_rows (parse_rows c.args.body.now)

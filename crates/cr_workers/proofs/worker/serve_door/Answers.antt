@@ -15,20 +15,20 @@ pub serving-preserved : goal.serving-preserved
 serving-preserved g c =
     let streams = streams_of g.D.In.Source.left g.D.In.Source.read_gives g.D.In.Source.faults g.D.Out.Sink.taken g.D.Out.Sink.faults in
     let seen = door_of g.D.Door.left g.D.Door.is_out g.D.Door.faults g.D.Door.log in
-    subst (λ (b : Bool). ServesSoFar streams b (seen c.args.door.now) (seen c.serve_next.new.door) c.args.pass.now c.serve_next.new.pass)
+    subst (λ (b : Bool). ServesSoFar streams b (seen c.args.door.now) (seen c.serve_next_connection.new.door) c.args.pass.now c.serve_next_connection.new.pass)
     (sym c.has_lacked-lacked.ensures)
     (serves-next streams c.serving.lacked c.in-Ok.ending (seen c.args.door.now) (seen c.serving.door)
-    (seen c.serve_next.new.door) c.args.pass.now c.serving.pass c.serve_next.new.pass
+    (seen c.serve_next_connection.new.door) c.args.pass.now c.serving.pass c.serve_next_connection.new.pass
     c.serving.invariant c.in-Ok.ensures.serves c.in-Ok.ensures.pass)
 
 pub returns-in-Err-clause-serves : goal.returns-in-Err-clause-serves
 returns-in-Err-clause-serves g c =
     let streams = streams_of g.D.In.Source.left g.D.In.Source.read_gives g.D.In.Source.faults g.D.Out.Sink.taken g.D.Out.Sink.faults in
     let seen = door_of g.D.Door.left g.D.Door.is_out g.D.Door.faults g.D.Door.log in
-    subst (λ (w : Worked). ServesDoors streams w (seen c.args.door.now ∷ []) (seen c.serve_next.new.door ∷ []) c.args.pass.now c.serve_next.new.pass)
+    subst (λ (w : Worked). ServesDoors streams w (seen c.args.door.now ∷ []) (seen c.serve_next_connection.new.door ∷ []) c.args.pass.now c.serve_next_connection.new.pass)
     (sym c.ended_by.ensures)
     (serves-end streams c.serving.lacked c.in-Err.last (seen c.args.door.now) (seen c.serving.door)
-    (seen c.serve_next.new.door) c.args.pass.now c.serving.pass c.serve_next.new.pass
+    (seen c.serve_next_connection.new.door) c.args.pass.now c.serving.pass c.serve_next_connection.new.pass
     c.serving.invariant c.in-Err.ensures.serves)
 
 pub returns-in-Err-clause-pass : goal.returns-in-Err-clause-pass

@@ -14,8 +14,8 @@ pub returns-in-Named-clause-after : goal.returns-in-Named-clause-after
 returns-in-Named-clause-after c =
     let same = ap (λ (v : SeenAccounts). v.accounts) c.self.view_is in
     let fits = fits-along c.args.self.now.accounts c.self.inside.accounts.items c.args.stamped.now.entry (Named c.in-Named.user c.in-Named.role) c.requires.fits same c.in-Named.is in
-    let place = c.place.ensures.value in
-    let within : c.place.result < length c.self.inside.accounts.items = omega (arith, fits.0, fits.1, place) in
-    with_role-at c.self.inside.accounts.items c.place.result c.index_mut.result.now c.in-Named.role within c.index_mut.ensures.value
-    ∙ ap (λ k. with_role c.self.inside.accounts.items k c.in-Named.role) place
+    let index = c.from_zero.ensures.value in
+    let within : c.from_zero.result < length c.self.inside.accounts.items = omega (arith, fits.0, fits.1, index) in
+    with_role-at c.self.inside.accounts.items c.from_zero.result c.index_mut.result.now c.in-Named.role within c.index_mut.ensures.value
+    ∙ ap (λ k. with_role c.self.inside.accounts.items k c.in-Named.role) index
     ∙ after-named c.self.inside.accounts.items c.args.self.now.accounts c.args.stamped.now.entry c.in-Named.user c.in-Named.role same c.in-Named.is

@@ -2,7 +2,7 @@ use Rattle.std.proofs.Common.{◌≡◌, ◌+◌, ◌∙◌, ap, sym, subst}
 use Rattle.cr_base.specs.declared.entry.Entry.TheVariants.{Assigned}
 use Rattle.cr_base.specs.declared.pairs.Order.TheVariants.{ByPaper}
 use Rattle.cr_base.specs.Seats.{SeatsFit, seat_tie, with_seat}
-use Rattle.cr_pairs.specs.Places.{RisesBy}
+use Rattle.cr_pairs.specs.BinarySearch.{RisesBy}
 use Rattle.cr_assign.specs.Seen.{SeenSeats}
 use Rattle.cr_assign.proofs.IndexLaws.{indexed-assigned, put-in}
 use Rattle.cr_assign.proofs.seats.Seats.add.Goals as goal
@@ -14,8 +14,8 @@ put : (c : goal.After-insert-2)
 put c =
     let x = c.self.inside in
     put-in x.seats.items x.reviewing.order x.reviewing.ties c.self.invariant c.args.paper c.args.user c.args.kind c.args.ordinal
-    c.deref.result.now (c.number.result + 1) c.place_from-place.result c.taken.result c.insert.new.self.items
-    c.deref.ensures.value (ap (λ n. n + 1) c.number.ensures.value) c.place_from-place.ensures.within c.place_from-place.ensures.from
+    c.deref.result.now (c.number.result + 1) c.index_from-index.result c.taken.result c.insert.new.self.items
+    c.deref.ensures.value (ap (λ n. n + 1) c.number.ensures.value) c.index_from-index.ensures.within c.index_from-index.ensures.from
     c.taken.ensures c.in-Ok.ensures.items
 
 pub returns-clause-after : goal.returns-clause-after

@@ -4,11 +4,11 @@ use Rattle.std.specs.List.{All, list_any}
 use Rattle.cr_base.specs.declared.pairs.Order.TheVariants.{ByUser}
 use Rattle.cr_base.specs.declared.pairs.Tie.{Tie}
 use Rattle.cr_base.specs.Lists.{IsRising}
-use Rattle.cr_base.specs.Seats.{SeatsState, seat_in}
+use Rattle.cr_base.specs.Seats.{SeatsState, ordinal_in}
 use Rattle.cr_base.specs.Ties.{pair_of}
 use Rattle.cr_base.proofs.PairLaws.{list_any-others_of}
 use Rattle.cr_base.proofs.RisingLists.{rising-others_of}
-use Rattle.cr_base.proofs.TieValues.{is_some-value_of}
+use Rattle.cr_base.proofs.TieValues.{is_some-tie_value}
 use Rattle.cr_assign.specs.Seen.{SeenSeats}
 use Rattle.cr_assign.proofs.ReviewedLaws.{reviewed-under}
 use Rattle.cr_assign.proofs.seats.Seats.reviewed.Goals as goal
@@ -20,9 +20,9 @@ returns-clause-papers c =
     λ p.
     ap (λ ts. list_any (λ m. eqb p m) (map (λ t. t.pair.paper) ts)) c.of_user.ensures.ties
     ∙ list_any-others_of ByUser user p reviewing
-    ∙ sym (is_some-value_of (pair_of p user) reviewing)
+    ∙ sym (is_some-tie_value (pair_of p user) reviewing)
     ∙ ap is_some (c.self.invariant.same (pair_of p user))
-    ∙ ap (λ (v : SeenSeats). is_some (seat_in v.seats (Some user) p)) c.self.view_is
+    ∙ ap (λ (v : SeenSeats). is_some (ordinal_in v.seats (Some user) p)) c.self.view_is
 
 pub returns-clause-rising : goal.returns-clause-rising
 returns-clause-rising c =
@@ -34,7 +34,7 @@ pub returns-clause-ordinals : goal.returns-clause-ordinals
 returns-clause-ordinals c =
     let x = c.self.inside in
     let user = c.args.user in
-    let under : SeatsState → List (Tie ℕ) → Type 0 = λ seats ts. All (λ (t : Tie ℕ). seat_in seats (Some user) t.pair.paper ≡ Some t.value) ts in
+    let under : SeatsState → List (Tie ℕ) → Type 0 = λ seats ts. All (λ (t : Tie ℕ). ordinal_in seats (Some user) t.pair.paper ≡ Some t.value) ts in
     subst (λ (v : SeenSeats). under v.seats c.of_user.result.now) c.self.view_is
     (subst (under x.seats.items) (sym c.of_user.ensures.ties)
     (reviewed-under x.seats.items x.reviewing.order x.reviewing.ties c.self.invariant c.of_user.ensures.order user))

@@ -1,7 +1,7 @@
 use Rattle.std.proofs.Common.{subst, sym}
 use Rattle.cr_base.specs.declared.pairs.Order.TheVariants.{ByPaper}
 use Rattle.cr_base.specs.Ties.{BareTies}
-use Rattle.cr_pairs.specs.Places.{RisesBy}
+use Rattle.cr_pairs.specs.BinarySearch.{RisesBy}
 use Rattle.cr_conflicts.proofs.IndexLaws.{authors-rise}
 use Rattle.cr_conflicts.proofs.ties.Ties.authors.Goals as goal
 

@@ -9,7 +9,7 @@ pub invariant_of-self : goal.invariant_of-self
 invariant_of-self c =
     let x = c.self.inside in
     let u : PaperUpload = record { paper = c.args.paper; upload = record { version = c.args.version; content = c.args.content } } in
-    let at : c.args.paper ≡ c.place.result + 1 = omega (arith, c.place.ensures.value, c.number.ensures.low, c.number.ensures.value) in
+    let at : c.args.paper ≡ c.from_zero.result + 1 = omega (arith, c.from_zero.ensures.value, c.number.ensures.low, c.number.ensures.value) in
     let there : c.args.paper ≤ length x.counts.items = subst (λ (v : SeenUploads). c.args.paper ≤ v.papers) (sym c.self.view_is) c.requires.there in
     let next = subst (λ (v : SeenUploads). c.args.version ≡ length (uploads_to c.args.paper v.uploads) + 1) (sym c.self.view_is) c.requires.next in
-    indexed-push x.uploads.items _ x.counts.items x.places c.insert.new.self u c.place.result c.number.result c.len.result c.self.invariant c.number.ensures.value at there next (omega (arith, c.len.ensures, x.uploads.ok.0)) c.in-Ok.ensures.updates.0 c.push_reserved.ensures.items
+    indexed-push x.uploads.items _ x.counts.items x.indices c.insert.new.self u c.from_zero.result c.number.result c.len.result c.self.invariant c.number.ensures.value at there next (omega (arith, c.len.ensures, x.uploads.ok.0)) c.in-Ok.ensures.updates.0 c.push_reserved.ensures.items

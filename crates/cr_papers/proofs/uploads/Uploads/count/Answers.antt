@@ -9,10 +9,10 @@ use Rattle.cr_papers.proofs.uploads.Uploads.count.Goals as goal
 pub returns-clause-count : goal.returns-clause-count
 returns-clause-count c =
     let x = c.self.inside in
-    let at : c.args.paper ≡ c.place.result + 1 = let low : 1 ≤ c.args.paper = search rules in omega (arith, c.place.ensures.value, low) in
+    let at : c.args.paper ≡ c.from_zero.result + 1 = let low : 1 ≤ c.args.paper = search rules in omega (arith, c.from_zero.ensures.value, low) in
     c.count_at.ensures
-    ∙ ap (λ (ns : List ℕ). unwrap_or (slice_get ns c.place.result) 0) c.deref.ensures.value
-    ∙ count-at x.uploads.items x.counts.items x.places c.self.invariant c.args.paper c.place.result at
+    ∙ ap (λ (ns : List ℕ). unwrap_or (slice_get ns c.from_zero.result) 0) c.deref.ensures.value
+    ∙ count-at x.uploads.items x.counts.items x.indices c.self.invariant c.args.paper c.from_zero.result at
     ∙ ap (λ (s : SeenUploads). length (uploads_to c.args.paper s.uploads)) c.self.view_is
 
 pub returns-clause-few : goal.returns-clause-few

@@ -1,4 +1,4 @@
-use Rattle.cr_routes.proofs.Places.{found_is, none_is, texts_are}
+use Rattle.cr_routes.proofs.Resources.{found_is, none_is, texts_are}
 use Rattle.cr_routes.proofs.routes.Routes.find.Goals as goal
 
 pub returns-in_default : goal.returns-in_default

@@ -1,5 +1,5 @@
 use Rattle.std.proofs.Common.{length, take, ◌-◌}
-use Rattle.cr_sights.specs.Matters.{AreLast}
+use Rattle.cr_sights.specs.Series.{AreLast}
 use Rattle.cr_sights.proofs.places.Places.of.Given as goal
 
 abbrev pub invariant-places : goal.invariant-places

@@ -1,6 +1,6 @@
 use Rattle.std.proofs.Common.{◌∙◌, ℕ, ap, subst, take}
 use Rattle.cr_base.specs.History.{opens_discussion}
-use Rattle.cr_sights.specs.Matters.{AreLast}
+use Rattle.cr_sights.specs.Series.{AreLast}
 use Rattle.cr_sights.proofs.PositionLaws.{take-until}
 use Rattle.cr_sights.proofs.positions.Positions.of.Goals as goal
 

@@ -7,7 +7,7 @@ pub returns-clause-position : goal.returns-clause-position
 returns-clause-position c =
     let noted = c.requires.noted in
     let positions = c.args.self.now in
-    stands_so c.args.log.now c.args.at c.index-log-at.result c.requires.within c.matter-matter.result c.matter-matter.ensures.same c.matter-matter.ensures.alike
+    stands_so c.args.log.now c.args.at c.index-log-at.result c.requires.within c.series-series.result c.series-series.ensures.same c.series-series.ensures.alike
     positions.passed.places.items positions.all.places.items positions.early.places.items positions.opened noted.passed noted.all noted.early noted.opened _
     c.is_last_at.ensures c.is_last_at-2.ensures
     (rw (c.is_last_before.ensures, c.is_last_at-last_early.ensures) refl) refl
@@ -17,7 +17,7 @@ returns-clause-noted c =
     let noted = c.requires.noted in
     record {
       passed = noted-here c.args.log.now c.args.at c.index-log-at.result c.requires.within c.args.self.now.passed.places.items c.note.new.self.places.items
-          c.matter-matter.result c.matter-matter.ensures.same c.in_ok-note.ensures noted.passed;
+          c.series-series.result c.series-series.ensures.same c.in_ok-note.ensures noted.passed;
       all = noted.all;
       early = noted.early;
       opened = noted.opened;

@@ -4,14 +4,14 @@ use Rattle.cr_base.specs.declared.tag.SetTag.{SetTag}
 use Rattle.cr_base.specs.Filed.{filed}
 use Rattle.cr_base.specs.Tags.{IsSortedState, tag_switched}
 use Rattle.cr_tags.specs.Seen.{SeenTags}
-use Rattle.cr_tags.proofs.PlaceLaws.{removed, absent, sorted-after}
+use Rattle.cr_tags.proofs.BinarySearchLaws.{removed, absent, sorted-after}
 use Rattle.cr_tags.proofs.tags.Tags.remove.Goals as goal
 
 pub returns-in-Ok-clause-tags : goal.returns-in-Ok-clause-tags
 returns-in-Ok-clause-tags c =
     let now = c.args.self.now in
     let sorted = subst (λ (s : SeenTags). IsSortedState s.tags) c.self.view_is c.self.invariant in
-    removed c.set_at.result now.tags c.self.inside.tags.items c.remove.new.self.items c.in-Ok.place (ap (λ (s : SeenTags). s.tags) c.self.view_is)
+    removed c.set_at.result now.tags c.self.inside.tags.items c.remove.new.self.items c.in-Ok.index (ap (λ (s : SeenTags). s.tags) c.self.view_is)
     sorted c.in-Ok.ensures c.remove.ensures.items
     ∙ ap (λ (x : Filed SetTag). tag_switched false x now.tags) c.set_at.ensures
 

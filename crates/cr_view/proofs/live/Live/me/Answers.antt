@@ -5,7 +5,7 @@ use Rattle.cr_base.specs.Accounts.{role_in}
 use Rattle.cr_base.specs.Lists.{IsRising}
 use Rattle.cr_base.specs.Pairs.{papers_tied_to}
 use Rattle.cr_base.specs.Papers.{own_bytes}
-use Rattle.cr_base.specs.Seats.{seat_in}
+use Rattle.cr_base.specs.Seats.{ordinal_in}
 use Rattle.cr_base.specs.Talk.{own_comments_in}
 use Rattle.cr_base.specs.Ties.{is_author_in}
 use Rattle.cr_view.specs.Seen.{SeenTables}
@@ -24,7 +24,7 @@ returns c =
     ∙ own-conflicts t user within (subst (λ (v : SeenTables). IsRising (papers_tied_to user v.tables.ties.conflicts)) c.self.view_is c.conflicting.ensures.rising) in
     let reviewed = c.in_ok-assigned.ensures
     ∙ own-seats t user (map (λ (tie : Tie ℕ). tie.pair.paper) c.reviewed.result.now) c.law_within.ensures.seats c.reviewed.ensures.rising
-    (λ p. c.reviewed.ensures.papers p ∙ ap (λ (v : SeenTables). is_some (seat_in v.tables.seats (Some user) p)) c.self.view_is) in
+    (λ p. c.reviewed.ensures.papers p ∙ ap (λ (v : SeenTables). is_some (ordinal_in v.tables.seats (Some user) p)) c.self.view_is) in
     let role = c.standing_for.ensures ∙ ap (λ (v : SeenTables). role_in v.tables.accounts (Some user)) c.self.view_is in
     let bytes = c.bytes_of_user.ensures ∙ ap (λ (v : SeenTables). own_bytes v.tables.papers (Some user)) c.self.view_is in
     let wrote = c.count_of_user.ensures ∙ ap (λ (v : SeenTables). own_comments_in v.tables.talk (Some user)) c.self.view_is in

@@ -1,4 +1,0 @@
-use Rattle.calls.proofs.locks.+spread.Given as goal
-
-abbrev pub decreases-spread : goal.decreases-spread
-decreases-spread l = l.pass.share

@@ -1,5 +1,0 @@
-use Rattle.std.proofs.Common.{◌≡◌}
-use Rattle.calls.proofs.locks.act_often.Given as goal
-
-abbrev pub invariant-loop-step : goal.invariant-loop-step
-invariant-loop-step g l = (l.pass.lock ≡ l.fn.pass.lock) × (l.pass.share ≡ l.fn.pass.share) × (l.pass.turns ≡ l.step-counter)

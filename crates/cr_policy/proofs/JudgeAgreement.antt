@@ -1,0 +1,472 @@
+-- Where the tables tell what a history tells, judgement by a view is that by the tables.
+use Rattle.std.proofs.Common.{ℕ, Bool, true, false, cond, ◌≡◌, List, [], ◌∷◌, ◌+◌, ◌++◌, length, refl, ap, ◌∙◌, ◌||◌, ◌&&◌, eqb, arith, Option, Some}
+use Rattle.std.proofs.Common.{None, Result, Err}
+use Rattle.std.specs.Prelude.{unwrap_or, is_some, not, nat_le, nat_lt}
+use Rattle.std.specs.List.{list_any}
+use Rattle.std.specs.Option.{option_map}
+use Rattle.std.proofs.lemmas.Bool.{and_parts, not-false, or_left, or_right, true≢false}
+use Rattle.std.proofs.lemmas.Bool.Decides.{nat_tests}
+use Rattle.cr_base.specs.declared.command.Command.{Command}
+use Rattle.cr_base.specs.declared.command.Command.TheVariants as commands
+use Rattle.cr_base.specs.declared.reply.Rule.{Rule}
+use Rattle.cr_base.specs.declared.reply.Rule.TheVariants as rules
+use Rattle.cr_base.specs.declared.standing.Standing.{Standing}
+use Rattle.cr_base.specs.declared.target.Target.{Target}
+use Rattle.cr_base.specs.declared.words.Kind.{Kind}
+use Rattle.cr_base.specs.declared.words.Phase.{Phase}
+use Rattle.cr_base.specs.declared.words.Phase.TheVariants.{Submission, Bidding, Reviewing, Discussion, Notification}
+use Rattle.cr_base.specs.declared.words.Role.{Role}
+use Rattle.cr_base.specs.declared.words.Role.TheVariants.{Account, Member, Chair}
+use Rattle.cr_base.specs.Checks.{Check, ◌breaks◌, judged, is_in_committee, declare_checks, own_checks, other_checks, off_checks, conflict_case, conflict_checks}
+use Rattle.cr_base.specs.Checks.{bid_checks, reviewer_checks, assign_checks, unassign_checks}
+use Rattle.cr_base.specs.Checks.{review_checks, comment_checks, tag_checks, decide_checks}
+use Rattle.cr_base.specs.Lists.{at_some, is_number}
+use Rattle.cr_base.specs.History.{History, Upload}
+use Rattle.cr_base.specs.Page.{is_clear_member, is_clear_chair, shows_author, gets_conflicts, gets_withdrawn}
+use Rattle.cr_base.specs.Phases.{phase_rank, is_from, is_phase}
+use Rattle.cr_base.specs.Tables.{tables_of}
+use Rattle.cr_base.specs.TagTexts.{is_for_chairs}
+use Rattle.cr_base.specs.Words.{is_anonymous, is_member, is_chair}
+use Rattle.cr_base.specs.Drawn.{Drawn, revision_drawn, upload_drawn, withdrawal_drawn, conflict_drawn}
+use Rattle.cr_base.specs.Drawn.{bid_drawn, assignment_drawn, unassignment_drawn, review_drawn, comment_drawn, tag_drawn, decision_drawn}
+use Rattle.cr_base.specs.Judging.{conflict_judged, assignment_judged, unassignment_judged, judge_by, judge_by_role}
+use Rattle.cr_base.specs.Sources.{Facts, Shown, maker_of, user_among, role_among, has_paper, paper_named, standing_at, is_accepted_in}
+use Rattle.cr_base.specs.Sources.{facts_of_tables, shown_in_tables}
+use Rattle.cr_base.proofs.CheckLaws.{NoneBroken, judged-behind, asked-behind}
+use Rattle.cr_history.specs.Invariants.{Invariants}
+use Rattle.cr_history.specs.Laws.{AreTold, AreFormsTold}
+use Rattle.cr_policy.specs.View.{view}
+use Rattle.cr_policy.specs.ViewFacts.{shown_in_view}
+use Rattle.cr_policy.specs.Judge.{judge}
+use Rattle.cr_policy.proofs.FactAgreement.{facts_in_view-tables, authors-tables, withdrawn-tables, own_uploads-tables, seat-tables, labels-tables}
+use Rattle.cr_policy.proofs.PageTells.{also_accepted}
+use Rattle.cr_policy.proofs.PageAgreement.{conflicts-tables}
+use Rattle.cr_policy.proofs.ReviewAgreement.{written-tables}
+use Rattle.cr_policy.proofs.TalkAgreement.{comment_count-tables}
+
+-- ---- judgement
+
+-- the user named, of whom it is told whether she is an author of the paper, is in conflict with it, and reviews it
+abbrev named : Role → Bool → Bool → Bool → Bool → Target
+named role herself author clash reviews = record { role = role; herself = herself; author = author; conflicted = clash; reviewer = reviews }
+
+module _ (by : Standing) (drawn : Drawn) where
+  -- these lists of checks give the same answer
+  abbrev Alike : List Check → List Check → Type 0
+  Alike left right = ◌≡◌ {A = Result Drawn Rule} (judged left drawn) (judged right drawn)
+
+  abbrev begun : Bool
+  begun = is_from Bidding by.phase
+
+  abbrev still : Bool
+  still = not (is_from Notification by.phase)
+
+  -- ---- whether the paper is withdrawn
+
+  -- the page of a paper tells her if it is withdrawn
+  told-author : not by.author ≡ false → gets_withdrawn by ≡ true
+  told-author h = or_left by.author (is_member by.role && begun) (not-false by.author h)
+
+  told-member : not (is_member by.role) ≡ false → begun ≡ true → gets_withdrawn by ≡ true
+  told-member h b = or_right by.author (is_member by.role && begun) (both (is_member by.role) begun (not-false (is_member by.role) h) b)
+    where
+      both : (x y : Bool) → x ≡ true → y ≡ true → (x && y) ≡ true
+      both true y hx hy = hy
+      both false y hx hy = hx
+
+  told-chair : not (is_chair by.role) ≡ false → begun ≡ true → gets_withdrawn by ≡ true
+  told-chair h b = told-member (serves by.role h) b
+    where
+      serves : (role : Role) → not (is_chair role) ≡ false → not (is_member role) ≡ false
+      serves Account h = h
+      serves Member h = refl
+      serves Chair h = refl
+
+  in_committee : not (is_in_committee by.phase) ≡ false → begun ≡ true
+  in_committee h = (and_parts begun still (not-false (begun && still) h)).0
+
+  -- Of each list it is asked only behind rules that have let through one whom the page tells it.
+  declare-withdrawn : (v w : Bool) (user : Target) → (gets_withdrawn by ≡ true → v ≡ w) → Alike (declare_checks by v user) (declare_checks by w user)
+  declare-withdrawn v w user same =
+      asked-behind
+      (not by.author breaks rules.NotAuthor ∷ [])
+      v w rules.Withdrawn
+      (not (is_member user.role) breaks rules.NotAMember ∷ []) drawn
+      (λ none. same (told-author none.0))
+
+  own-withdrawn : (v w : Bool) → begun ≡ true → (gets_withdrawn by ≡ true → v ≡ w) → Alike (own_checks by v) (own_checks by w)
+  own-withdrawn v w b same =
+      asked-behind
+      (not (is_member by.role) breaks rules.NotMember ∷ [])
+      v w rules.Withdrawn [] drawn
+      (λ none. same (told-member none.0 b))
+
+  other-withdrawn : (v w : Bool) (user : Target) → begun ≡ true → (gets_withdrawn by ≡ true → v ≡ w) → Alike (other_checks by v user) (other_checks by w user)
+  other-withdrawn v w user b same =
+      asked-behind
+      (not (is_chair by.role) breaks rules.NotChair ∷ by.conflicted breaks rules.Conflict ∷ [])
+      v w rules.Withdrawn
+      (not (is_member user.role) breaks rules.NotAMember ∷ []) drawn
+      (λ none. same (told-chair none.0 b))
+
+  off-withdrawn : (v w : Bool) (user : Target) → (gets_withdrawn by ≡ true → v ≡ w) → Alike (off_checks by v user) (off_checks by w user)
+  off-withdrawn v w user same =
+      asked-behind
+      (not (is_chair by.role) breaks rules.NotChair ∷ by.conflicted breaks rules.Conflict
+      ∷ not (is_in_committee by.phase) breaks rules.WrongPhase ∷ [])
+      v w rules.Withdrawn
+      (not (is_member user.role) breaks rules.NotAMember ∷ user.author breaks rules.AuthorConflict ∷ []) drawn
+      (λ none. same (told-chair none.0 (in_committee none.1.1.0)))
+
+  case-withdrawn : (on bidding late : Bool) (user : Target) (v w : Bool) → begun ≡ bidding → (gets_withdrawn by ≡ true → v ≡ w)
+      → Alike (conflict_case on bidding late by v user) (conflict_case on bidding late by w user)
+  case-withdrawn false bidding late user v w b same = off-withdrawn v w user same
+  case-withdrawn true false late user v w b same = declare-withdrawn v w user same
+  case-withdrawn true true true user v w b same = refl
+  case-withdrawn true true false user v w b same = by_user user.herself
+    where
+      by_user : (herself : Bool) → Alike (cond herself (own_checks by v) (other_checks by v user)) (cond herself (own_checks by w) (other_checks by w user))
+      by_user true = own-withdrawn v w b same
+      by_user false = other-withdrawn v w user b same
+
+  -- ---- whether the user named is an author
+
+  shown : (author chair clash b member open_ : Bool) → chair ≡ true → clash ≡ false → b ≡ true
+      → (author || ((chair && not clash) && b) || ((member && not clash) && open_ && b) || false) ≡ true
+  shown author chair clash b member open_ h1 h2 h3 = grind arith
+
+  told-clear_chair : not (is_chair by.role) ≡ false → by.conflicted ≡ false → begun ≡ true → shows_author by false ≡ true
+  told-clear_chair h clear b =
+      shown by.author (is_chair by.role) by.conflicted begun (is_member by.role) (not (is_anonymous by.mode)) (not-false (is_chair by.role) h) clear b
+
+  -- this is asked only behind those that have let through one whom the view shows who is
+  off-author : (withdrawn herself : Bool) (role : Role) (x y clash clash' reviews reviews' : Bool) → (shows_author by false ≡ true → x ≡ y)
+      → Alike (off_checks by withdrawn (named role herself x clash reviews)) (off_checks by withdrawn (named role herself y clash' reviews'))
+  off-author withdrawn herself role x y clash clash' reviews reviews' same =
+      asked-behind
+      (not (is_chair by.role) breaks rules.NotChair ∷ by.conflicted breaks rules.Conflict
+      ∷ not (is_in_committee by.phase) breaks rules.WrongPhase ∷ withdrawn breaks rules.Withdrawn
+      ∷ not (is_member role) breaks rules.NotAMember ∷ [])
+      x y rules.AuthorConflict [] drawn
+      (λ none. same (told-clear_chair none.0 none.1.0 (in_committee none.1.1.0)))
+
+  -- and it is all that a conflict's rules ask of her ties
+  case-author : (on bidding late withdrawn herself : Bool) (role : Role) (x y clash clash' reviews reviews' : Bool) → (shows_author by false ≡ true → x ≡ y)
+      → Alike (conflict_case on bidding late by withdrawn (named role herself x clash reviews))
+      (conflict_case on bidding late by withdrawn (named role herself y clash' reviews'))
+  case-author false bidding late withdrawn herself role x y clash clash' reviews reviews' same =
+      off-author withdrawn herself role x y clash clash' reviews reviews' same
+  case-author true false late withdrawn herself role x y clash clash' reviews reviews' same = refl
+  case-author true true true withdrawn herself role x y clash clash' reviews reviews' same = refl
+  case-author true true false withdrawn herself role x y clash clash' reviews reviews' same = refl
+
+-- what two sources show of papers is the same as far as a caller is told it
+record Agree (facts : Facts) (shown tabled : Shown) : Type 0 where
+  withdrawn : (p : ℕ) → gets_withdrawn (facts.standing (Some p)) ≡ true → shown.withdrawn p ≡ tabled.withdrawn p
+  authors : (p : ℕ) → shows_author (facts.standing (Some p)) false ≡ true → shown.authors p ≡ tabled.authors p
+  uploads : (p : ℕ) → (facts.standing (Some p)).author ≡ true → shown.uploads p ≡ tabled.uploads p
+  conflicts : (p : ℕ) → gets_conflicts (facts.standing (Some p)) ≡ true → shown.conflicts p ≡ tabled.conflicts p
+  ordinal : (p : ℕ) → gets_conflicts (facts.standing (Some p)) ≡ true → (v : Option ℕ) → shown.ordinal v p ≡ tabled.ordinal v p
+  labels : (p : ℕ) → gets_conflicts (facts.standing (Some p)) ≡ true → shown.labels p ≡ tabled.labels p
+  written : (p : ℕ) → gets_conflicts (facts.standing (Some p)) ≡ true → (o : ℕ) → shown.written p o ≡ tabled.written p o
+  comments : (p : ℕ) → is_clear_member (facts.standing (Some p)) ≡ true → is_from Discussion (facts.standing (Some p)).phase ≡ true
+      → length (shown.comments p) ≡ length (tabled.comments p)
+
+-- a paper's authors are judged alike: whether it is withdrawn is asked, and what was uploaded is counted, only behind the
+-- rule that lets authors alone through
+module _ (facts : Facts) (shown tabled : Shown) (same : Agree facts shown tabled) (p : ℕ) where
+  abbrev by_author : Standing
+  by_author = facts.standing (Some p)
+
+  abbrev before : List Check
+  before = not (has_paper facts (Some p)) breaks rules.NoPaper ∷ not by_author.author breaks rules.NotAuthor ∷ []
+
+  abbrev behind : Bool → List Check → List Check
+  behind withdrawn more = not (is_phase by_author.phase Submission) breaks rules.WrongPhase ∷ withdrawn breaks rules.Withdrawn ∷ more
+
+  author-same : (more : List Check) (drawn : List Upload → Drawn)
+      → judged (before ++ behind (shown.withdrawn p) more) (drawn (shown.uploads p))
+      ≡ judged (before ++ behind (tabled.withdrawn p) more) (drawn (tabled.uploads p))
+  author-same more drawn =
+      judged-behind before (behind (shown.withdrawn p) more) (behind (tabled.withdrawn p) more) (drawn (shown.uploads p)) (drawn (tabled.uploads p))
+      (λ none.
+      ap (λ (withdrawn : Bool). judged (behind withdrawn more) (drawn (shown.uploads p))) (same.withdrawn p (told-author by_author (drawn []) none.1.0))
+      ∙ ap (λ (uploads : List Upload). judged (behind (tabled.withdrawn p) more) (drawn uploads)) (same.uploads p (not-false by_author.author none.1.0)))
+
+-- and matters to a conflict's judgement no further
+conflict-same : (facts : Facts) (shown tabled : Shown) (u paper target : Option ℕ) (on : Bool) → Agree facts shown tabled
+    → conflict_judged facts shown u paper target on ≡ conflict_judged facts tabled u paper target on
+conflict-same facts shown tabled u None target on same = refl
+conflict-same facts shown tabled u (Some p) target on same = by (role_among facts.accounts target)
+  where
+    standing : Standing
+    standing = facts.standing (Some p)
+
+    drawn : Drawn
+    drawn = conflict_drawn (maker_of u) p (unwrap_or target 0) on
+
+    bidding : Bool
+    bidding = is_from Bidding standing.phase
+
+    late : Bool
+    late = is_from Notification standing.phase
+
+    herself : Bool
+    herself = is_number target (maker_of u)
+
+    wrote : Shown → Bool
+    wrote source = list_any (is_number target) (source.authors p)
+
+    clash : Shown → Bool
+    clash source = wrote source || list_any (is_number target) (source.conflicts p)
+
+    reviews : Shown → Bool
+    reviews source = is_some (source.ordinal target p)
+
+    judged_by : Shown → Option Role → Result Drawn Rule
+    judged_by source role =
+        judged
+        (conflict_checks standing (paper_named facts source (Some p))
+        (option_map (λ (r : Role). named r herself (wrote source) (clash source) (reviews source)) role) on)
+        drawn
+
+    by : (role : Option Role) → judged_by shown role ≡ judged_by tabled role
+    by None = refl
+    by (Some role) =
+        ap (λ (row : Result Drawn Rule). cond (not (has_paper facts (Some p))) (Err rules.NoPaper) row)
+        (case-withdrawn standing drawn on bidding late (named role herself (wrote shown) (clash shown) (reviews shown)) (shown.withdrawn p)
+        (tabled.withdrawn p) refl (same.withdrawn p)
+        ∙ case-author standing drawn on bidding late (tabled.withdrawn p) herself role (wrote shown) (wrote tabled) (clash shown) (clash tabled)
+        (reviews shown) (reviews tabled)
+        (λ told. ap (list_any (is_number target)) (same.authors p told)))
+
+-- ---- bids, reviews, comments, tags and decisions
+
+-- whether a paper is withdrawn is asked of these only behind the rules that let through members from the bidding on
+module _ (facts : Facts) (shown tabled : Shown) (same : Agree facts shown tabled) (p : ℕ) where
+  abbrev by_member : Standing
+  by_member = facts.standing (Some p)
+
+  abbrev for_members : List Check → List Check
+  for_members more =
+      not (has_paper facts (Some p)) breaks rules.NoPaper ∷ not (is_member by_member.role) breaks rules.NotMember
+      ∷ by_member.conflicted breaks rules.Conflict ∷ more
+
+  -- it is told from each of these phases on
+  at_phase : (first : Phase) → nat_le 2 (phase_rank first) ≡ true → is_phase by_member.phase first ≡ true → is_from Bidding by_member.phase ≡ true
+  at_phase first late is = begun (phase_rank by_member.phase) (phase_rank first) late is
+    where
+      begun : (n m : ℕ) → nat_le 2 m ≡ true → eqb n m ≡ true → nat_le 2 n ≡ true
+      begun n m late is = grind (arith, nat_tests)
+
+  withdrawn-same : (before : List Check) (drawn : Drawn)
+      → (NoneBroken before → (not (is_member by_member.role) ≡ false) × (is_from Bidding by_member.phase ≡ true))
+      → judged (before ++ (shown.withdrawn p breaks rules.Withdrawn ∷ [])) drawn ≡ judged (before ++ (tabled.withdrawn p breaks rules.Withdrawn ∷ [])) drawn
+  withdrawn-same before drawn may =
+      asked-behind before (shown.withdrawn p) (tabled.withdrawn p) rules.Withdrawn [] drawn
+      (λ none. let is = may none in same.withdrawn p (told-member by_member drawn is.0 is.1))
+
+  bid-same : (drawn : Drawn)
+      → judged (bid_checks by_member (paper_named facts shown (Some p))) drawn ≡ judged (bid_checks by_member (paper_named facts tabled (Some p))) drawn
+  bid-same drawn =
+      withdrawn-same (for_members (not (is_phase by_member.phase Bidding) breaks rules.WrongPhase ∷ [])) drawn
+      (λ none. (none.1.0, at_phase Bidding refl (not-false (is_phase by_member.phase Bidding) none.1.1.1.0)))
+
+  review-same : (drawn : Drawn)
+      → judged (review_checks by_member (paper_named facts shown (Some p))) drawn ≡ judged (review_checks by_member (paper_named facts tabled (Some p))) drawn
+  review-same drawn =
+      withdrawn-same
+      (for_members (not by_member.reviewer breaks rules.NotReviewer
+      ∷ not (is_phase by_member.phase Reviewing || is_phase by_member.phase Discussion) breaks rules.WrongPhase ∷ [])) drawn
+      (λ none. (none.1.0, begun (is_phase by_member.phase Reviewing) (is_phase by_member.phase Discussion) refl refl none.1.1.1.1.0))
+    where
+      begun : (r d : Bool) → is_phase by_member.phase Reviewing ≡ r → is_phase by_member.phase Discussion ≡ d → not (r || d) ≡ false
+          → is_from Bidding by_member.phase ≡ true
+      begun true d hr hd h = at_phase Reviewing refl hr
+      begun false true hr hd h = at_phase Discussion refl hd
+      begun false false hr hd h = absurd (true≢false h)
+
+  tag-same : (for_chairs : Bool) (drawn : Drawn)
+      → judged (tag_checks by_member (paper_named facts shown (Some p)) for_chairs) drawn
+      ≡ judged (tag_checks by_member (paper_named facts tabled (Some p)) for_chairs) drawn
+  tag-same for_chairs drawn =
+      withdrawn-same
+      (not (has_paper facts (Some p)) breaks rules.NoPaper ∷ (for_chairs && not (is_chair by_member.role)) breaks rules.NotChair
+      ∷ not (is_member by_member.role) breaks rules.NotMember ∷ by_member.conflicted breaks rules.Conflict
+      ∷ not (is_in_committee by_member.phase) breaks rules.WrongPhase ∷ []) drawn
+      (λ none. (none.1.1.0, in_committee by_member drawn none.1.1.1.1.0))
+
+  -- and of a decision behind those that let through chairs in the discussion
+  decide-same : (drawn : Drawn)
+      → judged (decide_checks by_member (paper_named facts shown (Some p))) drawn
+      ≡ judged (decide_checks by_member (paper_named facts tabled (Some p))) drawn
+  decide-same drawn =
+      asked-behind
+      (not (has_paper facts (Some p)) breaks rules.NoPaper ∷ not (is_chair by_member.role) breaks rules.NotChair
+      ∷ by_member.conflicted breaks rules.Conflict ∷ not (is_phase by_member.phase Discussion) breaks rules.WrongPhase ∷ [])
+      (shown.withdrawn p) (tabled.withdrawn p) rules.Withdrawn [] drawn
+      (λ none.
+      let begun = at_phase Discussion refl (not-false (is_phase by_member.phase Discussion) none.1.1.1.0) in
+      same.withdrawn p (told-chair by_member drawn none.1.0 begun))
+
+  -- so it is of a comment, and how many there are is counted only behind those that let through members from the discussion on
+  comment-same : (own : ℕ) (drawn : ℕ → Drawn)
+      → judged (comment_checks by_member (paper_named facts shown (Some p)) own) (drawn (length (shown.comments p)))
+      ≡ judged (comment_checks by_member (paper_named facts tabled (Some p)) own) (drawn (length (tabled.comments p)))
+  comment-same own drawn =
+      judged-behind (for_members (not (is_phase by_member.phase Discussion) breaks rules.WrongPhase ∷ []))
+      (behind (shown.withdrawn p)) (behind (tabled.withdrawn p))
+      (drawn (length (shown.comments p))) (drawn (length (tabled.comments p)))
+      (λ none.
+      let now = not-false (is_phase by_member.phase Discussion) none.1.1.1.0 in
+      ap (λ (withdrawn : Bool). judged (behind withdrawn) (drawn (length (shown.comments p))))
+      (same.withdrawn p (told-member by_member (drawn 0) none.1.0 (at_phase Discussion refl now)))
+      ∙ ap (λ (n : ℕ). judged (behind (tabled.withdrawn p)) (drawn n))
+      (same.comments p (clear (is_member by_member.role) by_member.conflicted none.1.0 none.1.1.0) (discussed (phase_rank by_member.phase) now)))
+    where
+      behind : Bool → List Check
+      behind withdrawn = withdrawn breaks rules.Withdrawn ∷ nat_le 1000 own breaks rules.QuotaComments ∷ []
+
+      clear : (k c : Bool) → not k ≡ false → c ≡ false → (k && not c) ≡ true
+      clear k c hk hc = grind arith
+
+      discussed : (n : ℕ) → eqb n 4 ≡ true → nat_le 4 n ≡ true
+      discussed n h = grind (arith, nat_tests)
+
+-- ---- assignments
+
+-- what the rules on reviewers ask of the paper and of the user named, how many labels were given, which is drawn from, and whether a
+-- form is under hers
+record Asked : Type 0 where
+  withdrawn : Bool
+  user : Target
+  ordinal : Option ℕ
+  labels : ℕ
+  written : Bool
+
+-- all of it is asked only behind the rules that let through a clear chair from the bidding on
+module _ (facts : Facts) (shown tabled : Shown) (same : Agree facts shown tabled) (u : Option ℕ) (p : ℕ) (target : Option ℕ) where
+  abbrev chair : Standing
+  chair = facts.standing (Some p)
+
+  abbrev asked_of : Shown → Role → Asked
+  asked_of source role =
+      let wrote : Bool = list_any (is_number target) (source.authors p) in
+      let declared : Bool = list_any (is_number target) (source.conflicts p) in
+      record {
+        withdrawn = source.withdrawn p;
+        user = named role (is_number target (maker_of u)) wrote (wrote || declared) (is_some (source.ordinal target p));
+        ordinal = source.ordinal target p;
+        labels = source.labels p;
+        written = at_some (source.written p) (source.ordinal target p);
+      }
+
+  asked-same : (drawn : Drawn) (role : Role) → not (is_chair chair.role) ≡ false → chair.conflicted ≡ false → not (is_in_committee chair.phase) ≡ false
+      → asked_of shown role ≡ asked_of tabled role
+  asked-same drawn role h clear in_time =
+      let begun : is_from Bidding chair.phase ≡ true = in_committee chair drawn in_time in
+      let told : gets_conflicts chair ≡ true =
+      all (is_chair chair.role) chair.conflicted (is_from Bidding chair.phase) (not-false (is_chair chair.role) h) clear begun in
+      let withdrawn = same.withdrawn p (told-chair chair drawn h begun) in
+      let wrote = ap (list_any (is_number target)) (same.authors p (told-clear_chair chair drawn h clear begun)) in
+      let declared = ap (list_any (is_number target)) (same.conflicts p told) in
+      let ordinal = same.ordinal p told target in
+      let labels = same.labels p told in
+      λ i. record {
+        withdrawn = withdrawn i;
+        user = named role (is_number target (maker_of u)) (wrote i) (wrote i || declared i) (is_some (ordinal i));
+        ordinal = ordinal i;
+        labels = labels i;
+        written = at_some (λ o. same.written p told o i) (ordinal i);
+      }
+    where
+      all : (chair clash begun : Bool) → chair ≡ true → clash ≡ false → begun ≡ true → ((chair && not clash) && begun) ≡ true
+      all chair clash begun h1 h2 h3 = grind arith
+
+  -- so are the checks on an assignment, and those on taking a reviewer off
+  reviewer-same : (role : Role) (more : Asked → List Check) (drawn : Asked → Drawn)
+      → judged (reviewer_checks chair (paper_named facts shown (Some p)) (Some (asked_of shown role).user) ++ more (asked_of shown role))
+      (drawn (asked_of shown role))
+      ≡ judged (reviewer_checks chair (paper_named facts tabled (Some p)) (Some (asked_of tabled role).user) ++ more (asked_of tabled role))
+      (drawn (asked_of tabled role))
+  reviewer-same role more drawn =
+      judged-behind
+      (not (has_paper facts (Some p)) breaks rules.NoPaper ∷ false breaks rules.NoUser ∷ not (is_chair chair.role) breaks rules.NotChair
+      ∷ chair.conflicted breaks rules.Conflict ∷ not (is_in_committee chair.phase) breaks rules.WrongPhase ∷ [])
+      (behind (asked_of shown role)) (behind (asked_of tabled role)) (drawn (asked_of shown role)) (drawn (asked_of tabled role))
+      (λ none. ap (λ (asked : Asked). judged (behind asked) (drawn asked))
+      (asked-same (drawn (asked_of shown role)) role none.1.1.0 none.1.1.1.0 none.1.1.1.1.0))
+    where
+      behind : Asked → List Check
+      behind asked = asked.withdrawn breaks rules.Withdrawn ∷ more asked
+
+  assign-same : (kind : Kind) → assignment_judged facts shown u (Some p) target kind ≡ assignment_judged facts tabled u (Some p) target kind
+  assign-same kind = by (role_among facts.accounts target)
+    where
+      judged_by : Shown → Option Role → Result Drawn Rule
+      judged_by source role =
+          judged
+          (assign_checks chair (paper_named facts source (Some p)) (option_map (λ (r : Role). (asked_of source r).user) role) (source.labels p))
+          (assignment_drawn (maker_of u) p (unwrap_or target 0) kind (source.labels p + 1))
+
+      by : (role : Option Role) → judged_by shown role ≡ judged_by tabled role
+      by None = refl
+      by (Some role) =
+          reviewer-same role
+          (λ asked. not (is_member asked.user.role) breaks rules.NotAMember ∷ asked.user.conflicted breaks rules.TargetConflict
+          ∷ asked.user.reviewer breaks rules.AlreadyAssigned ∷ nat_le 26 asked.labels breaks rules.LabelsSpent ∷ [])
+          (λ asked. assignment_drawn (maker_of u) p (unwrap_or target 0) kind (asked.labels + 1))
+
+  unassign-same : unassignment_judged facts shown u (Some p) target ≡ unassignment_judged facts tabled u (Some p) target
+  unassign-same = by (role_among facts.accounts target)
+    where
+      judged_by : Shown → Option Role → Result Drawn Rule
+      judged_by source role =
+          judged
+          (unassign_checks chair (paper_named facts source (Some p)) (option_map (λ (r : Role). (asked_of source r).user) role)
+          (at_some (source.written p) (source.ordinal target p)))
+          (unassignment_drawn (maker_of u) p (unwrap_or target 0) (unwrap_or (source.ordinal target p) 0))
+
+      by : (role : Option Role) → judged_by shown role ≡ judged_by tabled role
+      by None = refl
+      by (Some role) =
+          reviewer-same role (λ asked. not asked.user.reviewer breaks rules.NotAssigned ∷ asked.written breaks rules.HasReview ∷ [])
+          (λ asked. unassignment_drawn (maker_of u) p (unwrap_or target 0) (unwrap_or asked.ordinal 0))
+
+-- so what is shown makes no other judgement than what the tables hold
+command-same : (facts : Facts) (shown tabled : Shown) (u : Option ℕ) (command : Command) → Agree facts shown tabled → judge_by facts shown u command
+    ≡ judge_by facts tabled u command
+command-same facts shown tabled u (commands.Revise (Some p) title abstract) same = author-same facts shown tabled same p [] (λ _. revision_drawn (maker_of u) p title abstract)
+command-same facts shown tabled u (commands.Upload (Some p) content) same =
+    author-same facts shown tabled same p (nat_lt 67108864 (facts.own_bytes + length content) breaks rules.QuotaBytes ∷ [])
+    (λ uploads. upload_drawn (maker_of u) p (length uploads + 1) content)
+command-same facts shown tabled u (commands.Withdraw (Some p)) same = author-same facts shown tabled same p [] (λ _. withdrawal_drawn (maker_of u) p)
+command-same facts shown tabled u (commands.SetConflict paper name on) same = conflict-same facts shown tabled u paper (user_among facts.accounts name) on same
+command-same facts shown tabled u (commands.Bid (Some p) value) same = bid-same facts shown tabled same p (bid_drawn (maker_of u) p value)
+command-same facts shown tabled u (commands.Assign (Some p) name kind) same = assign-same facts shown tabled same u p (user_among facts.accounts name) kind
+command-same facts shown tabled u (commands.Unassign (Some p) name) same = unassign-same facts shown tabled same u p (user_among facts.accounts name)
+command-same facts shown tabled u (commands.Review (Some p) form) same =
+    review-same facts shown tabled same p (review_drawn (maker_of u) p (unwrap_or (facts.own_ordinal p) 0) (length (facts.own_forms p) + 1) form)
+command-same facts shown tabled u (commands.Comment (Some p) text) same =
+    comment-same facts shown tabled same p facts.own_comments (λ n. comment_drawn (maker_of u) p (n + 1) (facts.own_ordinal p) text)
+command-same facts shown tabled u (commands.Tag (Some p) tag on) same = tag-same facts shown tabled same p (is_for_chairs tag) (tag_drawn (maker_of u) p tag on)
+command-same facts shown tabled u (commands.Decide (Some p) decision) same =
+    decide-same facts shown tabled same p (decision_drawn (maker_of u) p decision)
+command-same facts shown tabled u command same = refl
+
+-- the judgement by any user's view is the one by the tables
+pub judge-tables : (u : Option ℕ) (H : History) (command : Command) → Invariants H → AreTold H → AreFormsTold H
+    → judge u (view u H) command ≡ judge_by_role (tables_of H) u command
+judge-tables u H command kept told forms =
+    ap (λ (facts : Facts). judge_by facts (shown_in_view u (view u H)) u command) (facts_in_view-tables u H told forms)
+    ∙ command-same (facts_of_tables (tables_of H) u) (shown_in_view u (view u H)) (shown_in_tables (tables_of H)) u command (record {
+      withdrawn = λ p may. withdrawn-tables u H told p may;
+      authors = λ p may.
+          authors-tables u H told p (also_accepted (standing_at (tables_of H) u (Some p)) (is_accepted_in (tables_of H) p) may);
+      uploads = λ p may. own_uploads-tables u H told p may;
+      conflicts = λ p may. conflicts-tables u H p kept.fits told (ap gets_conflicts (told.standing u (Some p)) ∙ may);
+      ordinal = λ p may v. seat-tables u H told p may v;
+      labels = λ p may. labels-tables u H told p may;
+      written = λ p may o. written-tables u H told p (and_parts (is_clear_chair (standing_at (tables_of H) u (Some p))) _ may).0 o;
+      comments = λ p clear discussed. comment_count-tables u H told p kept.bounded clear discussed;
+    })

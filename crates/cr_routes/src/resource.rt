@@ -1,0 +1,132 @@
+//! The paths by name.
+ghost use Rattle.std.specs.Prelude.{◌≡◌, ◌≤◌, length};
+
+use crate::method::Method;
+use cr_base::Ask;
+
+/// A path that the server knows.
+#[derive(Clone, Copy, PartialEq, Eq, Debug)]
+pub enum Resource {
+    /// `/register`
+    Register,
+    /// `/accepted`
+    Accepted,
+    /// `/accounts`
+    Accounts,
+    /// `/members`
+    Members,
+    /// `/mode`
+    Mode,
+    /// `/phase`
+    Phase,
+    /// `/papers`
+    Papers,
+    /// `/papers/{p}`: one part of any bytes, at least one, follows `/papers/`.
+    Paper,
+    /// `/papers/{p}/content`: one such part stands between the slashes.
+    Content,
+    /// `/papers/{p}/content/{v}`: one such part stands between the slashes, and one at the end.
+    Version,
+    /// `/papers/{p}/conflicts`: one such part stands between the slashes.
+    Conflicts,
+    /// `/papers/{p}/bid`: one such part stands between the slashes.
+    Bid,
+    /// `/papers/{p}/reviewers`: one such part stands between the slashes.
+    Reviewers,
+    /// `/papers/{p}/reviewers/{u}`: one such part stands between the slashes, and one at the end.
+    Reviewer,
+    /// `/papers/{p}/review`: one such part stands between the slashes.
+    Review,
+    /// `/papers/{p}/reviews`: one such part stands between the slashes.
+    Reviews,
+    /// `/papers/{p}/comments`: one such part stands between the slashes.
+    Comments,
+    /// `/papers/{p}/tags/{t}`: one such part stands between the slashes, and one at the end.
+    Tag,
+    /// `/papers/{p}/decision`: one such part stands between the slashes.
+    Decision,
+    /// `/me`
+    Me,
+    /// `/search`
+    Search,
+    /// `/assign`
+    Bulk,
+    /// `/reports/papers`
+    PapersReport,
+    /// `/reports/scores`
+    ScoresReport,
+    /// `/reports/load`
+    LoadReport,
+    /// `/reports/decisions`
+    DecisionsReport,
+    /// `/reports/letter/{p}`: one part of any bytes, at least one, follows `/reports/letter/`.
+    Letter,
+}
+
+impl Resource {
+    ghost use Rattle.cr_routes.specs.Asks.{ask_at, allow_text};
+
+    /// What a method asks for at this path, or None where the path doesn't answer that method.
+    pub fn ask(self, method: Method) -> Option<Ask>
+        ensures { result ≡ ask_at self method }
+    {
+        match (self, method) {
+            (Resource::Register, Method::Post) => Some(Ask::Register),
+            (Resource::Accepted, Method::Get | Method::Head) => Some(Ask::AcceptedPapers),
+            (Resource::Accounts, Method::Get | Method::Head) => Some(Ask::Accounts),
+            (Resource::Members, Method::Post) => Some(Ask::Name),
+            (Resource::Mode, Method::Post) => Some(Ask::SetMode),
+            (Resource::Phase, Method::Get | Method::Head) => Some(Ask::Phase),
+            (Resource::Phase, Method::Post) => Some(Ask::SetPhase),
+            (Resource::Papers, Method::Post) => Some(Ask::Submit),
+            (Resource::Paper, Method::Get | Method::Head) => Some(Ask::Page),
+            (Resource::Paper, Method::Put) => Some(Ask::Revise),
+            (Resource::Paper, Method::Delete) => Some(Ask::Withdraw),
+            (Resource::Content, Method::Get | Method::Head) => Some(Ask::Content),
+            (Resource::Content, Method::Put) => Some(Ask::Upload),
+            (Resource::Version, Method::Get | Method::Head) => Some(Ask::Version),
+            (Resource::Conflicts, Method::Post) => Some(Ask::SetConflict),
+            (Resource::Bid, Method::Put) => Some(Ask::Bid),
+            (Resource::Reviewers, Method::Post) => Some(Ask::Assign),
+            (Resource::Reviewer, Method::Delete) => Some(Ask::Unassign),
+            (Resource::Review, Method::Put) => Some(Ask::Review),
+            (Resource::Reviews, Method::Get | Method::Head) => Some(Ask::Reviews),
+            (Resource::Comments, Method::Get | Method::Head) => Some(Ask::Comments),
+            (Resource::Comments, Method::Post) => Some(Ask::Comment),
+            (Resource::Tag, Method::Put) => Some(Ask::Tag),
+            (Resource::Tag, Method::Delete) => Some(Ask::Untag),
+            (Resource::Decision, Method::Put) => Some(Ask::Decide),
+            (Resource::Me, Method::Get | Method::Head) => Some(Ask::Me),
+            (Resource::Search, Method::Get | Method::Head) => Some(Ask::Search),
+            (Resource::Bulk, Method::Post) => Some(Ask::Bulk),
+            (Resource::PapersReport, Method::Get | Method::Head) => Some(Ask::PapersReport),
+            (Resource::ScoresReport, Method::Get | Method::Head) => Some(Ask::ScoresReport),
+            (Resource::LoadReport, Method::Get | Method::Head) => Some(Ask::LoadReport),
+            (Resource::DecisionsReport, Method::Get | Method::Head) => Some(Ask::DecisionsReport),
+            (Resource::Letter, Method::Get | Method::Head) => Some(Ask::Letter),
+            _ => None,
+        }
+    }
+
+    /// The value of the field `Allow` here: the path's methods, sorted as words are, `, ` between each two
+    /// (RFC 9110, section 10.2.1). At most 32 bytes.
+    pub fn allow(self) -> &'static str
+        ensures methods { result.now ≡ allow_text self }
+        ensures short { length result.now ≤ 32 }
+    {
+        match self {
+            Resource::Register | Resource::Members | Resource::Mode | Resource::Papers => "POST",
+            Resource::Conflicts | Resource::Reviewers | Resource::Bulk => "POST",
+            Resource::Bid | Resource::Review | Resource::Decision => "PUT",
+            Resource::Reviewer => "DELETE",
+            Resource::Tag => "DELETE, PUT",
+            Resource::Accepted | Resource::Accounts | Resource::Me => "GET, HEAD",
+            Resource::Version | Resource::Reviews | Resource::Search => "GET, HEAD",
+            Resource::PapersReport | Resource::ScoresReport | Resource::LoadReport => "GET, HEAD",
+            Resource::DecisionsReport | Resource::Letter => "GET, HEAD",
+            Resource::Paper => "DELETE, GET, HEAD, PUT",
+            Resource::Content => "GET, HEAD, PUT",
+            Resource::Phase | Resource::Comments => "GET, HEAD, POST",
+        }
+    }
+}

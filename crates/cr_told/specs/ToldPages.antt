@@ -1,0 +1,160 @@
+-- Told: what a view shows, some answer tells. Of each key of a paper's page, when it is there and what it holds, in a
+-- committee's words (the HotCRP manual's title, abstract, authors, conflicts, review preferences, reviewers, tags and
+-- decisions, by CoCon's phases): from what the sightings of the view show in a part, whatever the page's definition
+-- makes of them. Who is told, where a view can't show it, is said in the words of the bounds. That each sighting has
+-- its place in an answer stands in ToldPlaces.
+use Rattle.std.specs.Prelude.{ℕ, Bool, false, not, ◌≡◌, ◌&&◌, ◌||◌, ◌==◌, List, [], ◌∷◌}
+use Rattle.std.specs.Prelude.{map, filter, Option, Some, None, is_some, unwrap_or, if◌then◌else◌}
+use Rattle.std.specs.Option.{option_map}
+use Rattle.std.specs.List.{flat_map, list_any}
+use Rattle.cr_base.specs.declared.command.Query.TheVariants as queries
+use Rattle.cr_base.specs.declared.entry.EntryKind.{EntryKind}
+use Rattle.cr_base.specs.declared.entry.EntryKind.TheVariants as kinds
+use Rattle.cr_base.specs.declared.page.Page.{Page}
+use Rattle.cr_base.specs.declared.reply.AccountLine.{AccountLine}
+use Rattle.cr_base.specs.declared.reply.Reply.{Reply}
+use Rattle.cr_base.specs.declared.reply.Reply.TheVariants as replies
+use Rattle.cr_base.specs.declared.words.Decision.TheVariants.{Accept}
+use Rattle.cr_base.specs.Lists.{listed, last, last_or, is_number}
+use Rattle.cr_base.specs.History.{History}
+use Rattle.cr_base.specs.HistoryFacts.{role_of, is_author, declared_by_authors}
+use Rattle.cr_base.specs.Sources.{names_in}
+use Rattle.cr_history.specs.Invariants.{IsSubmitted}
+use Rattle.cr_policy.specs.Judge.{answer}
+use Rattle.cr_policy.specs.Legal.{Legal}
+use Rattle.cr_policy.specs.ShownTo.{is_on_committee, has_conflict, serves, is_eligible}
+use Rattle.cr_policy.specs.ShownTo.{oversees, discusses, is_notified, where_known}
+use Rattle.cr_policy.specs.Sighting.{Sighting}
+use Rattle.cr_policy.specs.View.{View, view}
+use Rattle.cr_policy.specs.ViewFacts.{only, is_user, is_kind, accounts_in_view}
+
+-- ---- what a view shows
+
+-- what the sightings on the paper show in this part, in order, whatever kinds of entry they are of
+abbrev pub shown_on : {A : Type 0} → ℕ → (Sighting → Option A) → View → List A
+shown_on p part V = flat_map (λ (s : Sighting). only (is_number s.paper p) (listed (part s))) V
+
+-- the same, of those of this kind of entry
+abbrev pub shown_by : {A : Type 0} → EntryKind → ℕ → (Sighting → Option A) → View → List A
+shown_by kind p part V = flat_map (λ (s : Sighting). only (is_kind kind s && is_number s.paper p) (listed (part s))) V
+
+-- and of those that name the user
+abbrev pub shown_of : {A : Type 0} → Option ℕ → ℕ → (Sighting → Option A) → View → List A
+shown_of u p part V = flat_map (λ (s : Sighting). only (is_number s.paper p && is_user u s.user) (listed (part s))) V
+
+-- a sighting on the paper is of this kind of entry
+abbrev pub is_shown : EntryKind → ℕ → View → Bool
+is_shown kind p V = list_any (λ (s : Sighting). is_kind kind s && is_number s.paper p) V
+
+-- the author whom a sighting of this kind shows: who submitted the paper, or who is named a co-author
+abbrev pub writer_by : EntryKind → Option ℕ → Option ℕ → Option ℕ
+writer_by kinds.Submitted by user = by
+writer_by kinds.Coauthor by user = user
+writer_by _ by user = None
+
+-- the authors of the paper that are shown, in order
+abbrev pub writers_shown : ℕ → View → List ℕ
+writers_shown p V = shown_on p (λ (s : Sighting). writer_by s.kind s.by s.user) V
+
+-- the user's conflict with the paper, as the last sighting shows it that turns it on or off
+abbrev pub is_shown_in_conflict : Option ℕ → ℕ → View → Bool
+is_shown_in_conflict u p V = last_or false (shown_of u p (λ (s : Sighting). s.on) V)
+
+-- what a sighting of this kind makes of a reviewer: one under the label of this ordinal, or none any more
+abbrev pub ordinal_by : EntryKind → Option ℕ → Option (Option ℕ)
+ordinal_by kinds.Assigned ordinal = option_map (λ (o : ℕ). Some o) ordinal
+ordinal_by kinds.Unassigned ordinal = option_map (λ (o : ℕ). None) ordinal
+ordinal_by _ ordinal = None
+
+-- the ordinal of the label under which the user reviews the paper, as the last sighting shows it that assigns her or
+-- takes her off
+abbrev pub label_shown_of : Option ℕ → ℕ → View → Option ℕ
+label_shown_of u p V = last_or None (shown_of u p (λ (s : Sighting). ordinal_by s.kind s.ordinal) V)
+
+-- the reader's own bids on the paper, and those of a user that are shown as hers
+abbrev pub own_bids_shown : ℕ → View → List ℕ
+own_bids_shown p V = flat_map (λ (s : Sighting). only (is_number s.paper p && s.mine) (listed s.value)) V
+
+abbrev pub bids_shown_of : ℕ → ℕ → View → List ℕ
+bids_shown_of v p V =
+    flat_map (λ (s : Sighting). only (is_number s.paper p && is_user (Some v) s.by) (listed s.value)) V
+
+-- the paper is shown to be accepted
+abbrev pub is_shown_accepted : ℕ → View → Bool
+is_shown_accepted p V = last_or false (shown_on p (λ (s : Sighting). s.accepted) V)
+
+-- the names of users, as the accounts shown have them
+abbrev pub names_shown : List ℕ → View → List (List ℕ)
+names_shown users V = names_in (accounts_in_view V) users
+
+-- the users of the accounts shown of whom this holds, by number
+abbrev pub users_shown : (ℕ → Bool) → View → List ℕ
+users_shown test V = filter test (map (λ (a : AccountLine). a.user) (accounts_in_view V))
+
+-- ---- what is answered
+
+-- the page, where the answer is one
+abbrev pub page_answered : Reply → Option Page
+page_answered (replies.Page page) = Some page
+page_answered _ = None
+
+-- what the paper's page has under a key: nothing where the page is refused
+abbrev pub key_in : {A : Type 0} → (Page → Option A) → Option Page → Option A
+key_in key None = None
+key_in key (Some page) = key page
+
+abbrev pub page_told : {A : Type 0} → (Page → Option A) → Option ℕ → ℕ → History → Option A
+page_told key u p H = key_in key (page_answered (answer u (view u H) (queries.Page (Some p))))
+
+-- ---- a paper's page
+
+-- she is on the committee, and in no conflict with the paper
+abbrev pub is_clear : Option ℕ → ℕ → History → Bool
+is_clear u p H = is_on_committee (role_of u H) && not (has_conflict u p H)
+
+-- the names of some users, where there are any
+abbrev pub some_names : List ℕ → View → Option (List (List ℕ))
+some_names [] V = None
+some_names (u ∷ users) V = Some (names_shown (u ∷ users) V)
+
+-- each key of the page of a paper that is there: when it is on the page, and what it holds. The page is answered to
+-- whoever is on the committee, is an author, or is shown that the paper is accepted. Title and abstract: exactly where
+-- the view shows one of the paper, and it is the last. Authors: exactly where the view shows one, and they are all that
+-- it shows, in order. Withdrawn: to authors and to those who serve, and it says whether the view shows that it was.
+-- Versions: exactly where the view shows an abstract, and they are those of the uploads that it shows. Decision: to
+-- those who discuss it, to authors who are notified, and to everyone who is shown that the paper is accepted, and then
+-- it is that; else the last one that is shown. Conflict: to the committee and to authors; she is shown to be an author,
+-- or in conflict. Conflicts: to those who oversee it; whoever is shown in conflict, by number. Declared: to authors;
+-- whom an author named, by number. Bid: to those who are eligible for it; the last of her own that is shown, else 20,
+-- for none. Label: to the committee's members in no conflict; the one under which she is shown to review it.
+pub record PageTold (u : Option ℕ) (p : ℕ) (H : History) : Type 0 where
+  pub paper : page_told (λ page. Some page.paper) u p H
+      ≡ where_known (is_on_committee (role_of u H) || is_author u p H || is_shown_accepted p (view u H)) p
+  pub title : page_told (λ page. page.title) u p H ≡ last (shown_on p (λ (s : Sighting). s.title) (view u H))
+  pub abstract_ : page_told (λ page. page.abstract_) u p H
+      ≡ last (shown_on p (λ (s : Sighting). s.abstract) (view u H))
+  pub authors : page_told (λ page. page.authors) u p H ≡ some_names (writers_shown p (view u H)) (view u H)
+  pub withdrawn : page_told (λ page. page.withdrawn) u p H
+      ≡ where_known (is_author u p H || serves u H) (is_shown kinds.Withdrawn p (view u H))
+  pub versions : page_told (λ page. page.versions) u p H
+      ≡ where_known (is_some (last (shown_on p (λ (s : Sighting). s.abstract) (view u H))))
+      (shown_by kinds.Uploaded p (λ (s : Sighting). s.version) (view u H))
+  pub decision : page_told (λ page. page.decision) u p H
+      ≡ where_known (discusses u p H || is_notified u p H || is_shown_accepted p (view u H))
+      (if is_shown_accepted p (view u H) then Some Accept
+      else last (shown_on p (λ (s : Sighting). s.decision) (view u H)))
+  pub conflict : page_told (λ page. page.conflict) u p H
+      ≡ where_known (is_on_committee (role_of u H) || is_author u p H)
+      (list_any (is_number u) (writers_shown p (view u H)) || is_shown_in_conflict u p (view u H))
+  pub conflicts : page_told (λ page. page.conflicts) u p H
+      ≡ where_known (oversees u p H)
+      (names_shown (users_shown (λ v. is_shown_in_conflict (Some v) p (view u H)) (view u H)) (view u H))
+  pub declared : page_told (λ page. page.declared) u p H
+      ≡ where_known (is_author u p H)
+      (names_shown (users_shown (λ v. list_any (λ w. w == v) (declared_by_authors p H)) (view u H)) (view u H))
+  pub bid : page_told (λ page. page.bid) u p H
+      ≡ where_known (is_eligible u p H) (unwrap_or (last (own_bids_shown p (view u H))) 20)
+  pub label : page_told (λ page. page.label) u p H ≡ (if is_clear u p H then label_shown_of u p (view u H) else None)
+
+abbrev pub PagesTold : Type 0
+PagesTold = (u : Option ℕ) (p : ℕ) (H : History) → Legal H → IsSubmitted H p → PageTold u p H

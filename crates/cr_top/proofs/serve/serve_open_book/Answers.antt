@@ -1,0 +1,50 @@
+use Rattle.std.proofs.Common.{◌∙◌, ℕ, ap, subst}
+use Rattle.std.specs.Prelude.{Bool, is_ok, map}
+use Rattle.cr_ports.specs.Writing.{outlet_of}
+use Rattle.cr_workers.specs.Connections.{streams_of}
+use Rattle.cr_workers.specs.Doors.{door_of}
+use Rattle.cr_top.specs.Exits.{exit_of_workers}
+use Rattle.cr_top.specs.Serves.{TellsEntries, gates_of}
+use Rattle.cr_top.specs.Stores.{state_of}
+use Rattle.cr_top.proofs.Gated.{back-seen, counted-seen, doors-back, new-back, serves-many, shared-seen, told-seen}
+use Rattle.cr_top.proofs.serve.serve_open_book.Goals as goal
+
+pub serve_book-ended-requires-clause-at_most : goal.serve_book-ended-requires-clause-at_most
+serve_book-ended-requires-clause-at_most g c κs within = c.requires.at_most
+
+pub serve_book-ended-requires-clause-few : goal.serve_book-ended-requires-clause-few
+serve_book-ended-requires-clause-few g c κs within = c.requires.few
+
+pub serve_book-ended-requires-clause-back : goal.serve_book-ended-requires-clause-back
+serve_book-ended-requires-clause-back g c κs within =
+    new-back g.G.Door.Door.left g.G.Door.Door.is_out g.G.Door.Door.faults g.G.Door.Door.log c.args.doors.items c.requires.new
+
+pub shut-requires : goal.shut-requires
+shut-requires g c =
+    back-seen g.G.Door.Door.left g.G.Door.Door.is_out g.G.Door.Door.faults g.G.Door.Door.log c.serve_book-ended.result.2.items
+    (doors-back _ _ _ _ _ _ c.serve_book-ended.ensures c.requires.new)
+
+pub shut-requires-2 : goal.shut-requires-2
+shut-requires-2 g c = c.requires.open
+
+pub returns : goal.returns
+returns g c s opens workers connections shared =
+    let outlet = outlet_of g.O.Sink.taken g.O.Sink.faults in
+    let stores = state_of g.S.Shelf.rows g.S.Shelf.faults in
+    let gates_at = gates_of g.G.Gates.faults g.G.Gates.logs in
+    let left = g.G.Door.Door.left in
+    let is_out = g.G.Door.Door.is_out in
+    let faults = g.G.Door.Door.faults in
+    let log = g.G.Door.Door.log in
+    let worked = c.serve_book-ended.result in
+    let o = outlet c.args.out.now in
+    let o' = outlet c.tell_entries.new.out in
+    serves-many g.S.Keeper.Keeper.rows g.S.Keeper.Keeper.faults c.args.path.now _ workers connections worked.0
+    (is_ok c.tell_entries.result) c.exit_of_workers.result
+    (c.exit_of_workers.ensures ∙ ap (λ (b : Bool). exit_of_workers worked.0 b) c.is_ok.ensures.value) c.args.book worked.1 c.close.result
+    (map (door_of left is_out faults log) c.args.doors.items) (map (door_of left is_out faults log) worked.2.items) o o'
+    s (stores c.args.shelf.now) (stores c.shut-2.new.self) (gates_at c.args.gates.now) (gates_at c.shut.new.self)
+    opens c.close.ensures.same c.close.ensures.legal c.close.ensures.kept c.shut-2.ensures.kept c.shut-2.ensures.count
+    (shared-seen left is_out faults log c.args.doors.items _ shared) c.requires.new c.serve_book-ended.ensures
+    (subst (λ (n : ℕ). TellsEntries (is_ok c.tell_entries.result) n o o') c.entries-entries.ensures.value c.tell_entries.ensures)
+    (told-seen left is_out faults log worked.2.items _ c.shut.ensures.told) (counted-seen left is_out faults log worked.2.items _ _ c.shut.ensures.count)

@@ -1,0 +1,5 @@
+use Rattle.cr_view.proofs.TargetLaws.{nobody-seat}
+use Rattle.cr_view.proofs.live.Live.ordinal_of.Goals as goal
+
+pub returns-in-None : goal.returns-in-None
+returns-in-None c = nobody-seat c.args.self.now.tables.seats c.args.user.now c.args.paper c.in-None.is

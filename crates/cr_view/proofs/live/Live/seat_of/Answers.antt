@@ -1,5 +1,0 @@
-use Rattle.cr_view.proofs.TargetLaws.{nobody-seat}
-use Rattle.cr_view.proofs.live.Live.seat_of.Goals as goal
-
-pub returns-in-None : goal.returns-in-None
-returns-in-None c = nobody-seat c.args.self.now.tables.seats c.args.user.now c.args.paper c.in-None.is

@@ -1,0 +1,4 @@
+use Rattle.tests_of_ports.proofs.locks.+spread.Given as goal
+
+abbrev pub decreases-spread : goal.decreases-spread
+decreases-spread l = l.pass.share
